@@ -1,0 +1,64 @@
+-- The public calls: from a batch to its answer.
+-- Assumes nothing.
+use mathlib.Core.Bool.{Bool}
+use mathlib.Core.List.{List}
+use mathlib.Core.Option.{none}
+use Prim.Native.Nat.{ℕ}
+use lib.ListN.{length}
+use lib.Dec.{ltb}
+use Rattle.definition.specs.Basics.{Answer, gives, _>>=_, refuse, any}
+use Rattle.definition.specs.Refusals.{Accepted, accepted}
+use Rattle.definition.specs.Recording.{recorded}
+use Rattle.definition.specs.Planning.{Planned, sorted, overlap, planned}
+use Rattle.definition.specs.Rewriting.{Note, rewritten, settled}
+use Rattle.definition.specs.Running.{World, begin, ranked, order, steps}
+use Rattle.definition.specs.Finishing.{Result, result, fitting, encoded}
+
+-- what is done, before anything is: the changes with rewritten targets and their fates, the climb steps, the notes where they settle
+pub record Plan : Type 0 where
+  pub changes : List Planned
+  pub climbs : ℕ
+  pub notes : List Note
+
+-- 8: "Replacements overlap." Then 9 and 10: "dependents from the last to the first, ... bind notes in order"
+unfoldable pub plan : Accepted → Answer Plan
+plan a = do
+  let T = a .table
+  let cs = sorted T (recorded a.calls)
+  _ ← refuse 8 (overlap T cs)
+  ps ← rewritten T a.mappings (planned T cs)
+  notes ← settled T a.mappings 0 a.notes
+  gives (record { changes = ps .0; climbs = ps .1; notes = notes })
+
+-- the performed changes in the order in which they run
+unfoldable pub performed : Accepted → Plan → List Planned
+performed a p = order (ranked a.table p.changes) (length p.changes) none
+
+-- what the current trees, paths, notes and changed elements are after all steps
+unfoldable pub ran : Accepted → Plan → Answer World
+ran a p = steps a.table p.notes (begin a.trees a.table p.notes) (performed a p)
+
+-- a batch's edit, or its refusal out of 2 to 12
+unfoldable pub edit : List ℕ → Answer Result
+edit bytes = do
+  a ← accepted bytes
+  p ← plan a
+  w ← ran a p
+  gives (result p.changes p.climbs w)
+
+-- THE EDIT: the bytes of the result, in a buffer of `room` bytes, or the refusal out of 2 to 13
+unfoldable pub edited : List ℕ → ℕ → Answer (List ℕ)
+edited bytes room = do
+  r ← edit bytes
+  r ← fitting room r
+  gives (encoded r)
+
+-- 1: "A work slice is shorter than its length in docs/": each work slice as its length and the length that it needs
+unfoldable pub tooShort : List (ℕ × ℕ) → Bool
+tooShort work = any (λ s. ltb (s .0) (s .1)) work
+
+-- an answer that needs the work slices
+unfoldable pub withWork : {A : Type 0} → List (ℕ × ℕ) → Answer A → Answer A
+withWork work answer = do
+  _ ← refuse 1 (tooShort work)
+  answer

@@ -1,0 +1,80 @@
+-- Finishing: the result, and its bytes.
+-- Assumes nothing.
+use mathlib.Core.Bool.{Bool, true, false, cond}
+use mathlib.Core.List.{List, [], _∷_, _++_, map}
+use mathlib.Core.Option.{Option, none, some, Option·map}
+use Prim.Native.Nat.{ℕ, zero, suc, _+_}
+use lib.ListN.{length, take}
+use lib.Dec.{ltb, eqb}
+use Rattle.orders.specs.Lists.{pick}
+use Rattle.definition.specs.Basics.{Answer, gives, _>>=_, refuse, keep, rising}
+use Rattle.definition.specs.Words.{written}
+use Rattle.orders.specs.Tree.{Tree, Path, list, textOf, forest, measure, children}
+use Rattle.definition.specs.Shape.{Table, table, row, descend}
+use Rattle.definition.specs.Planning.{Planned, isDiscarded}
+use Rattle.definition.specs.Rewriting.{Note}
+use Rattle.definition.specs.Running.{World}
+
+-- tree 0 as it is now, and its rows
+unfoldable pub newTree : World → List (Tree ℕ)
+newTree w = take 1 (list (children w.trees))
+
+-- what is known of each element of the new tree
+unfoldable pub newTable : World → Table
+newTable w = table 0 0 (newTree w)
+
+-- the element of the new tree to which a path leads; none in another tree
+unfoldable pub numberAt : Table → Path → Option ℕ
+numberAt F [] = none
+numberAt F (t ∷ p) = cond (eqb t 0) (descend F 0 p) none
+
+-- "those left are sorted by text start, ties by time"
+unfoldable pub changedElements : Table → World → List ℕ
+changedElements F w = rising (λ e. (row F e) .start ∷ []) (pick (numberAt F) w.changed)
+
+-- "Notes rise by number, bind by queue place, bind start, ties by time." Each with its element
+unfoldable pub noteElements : Table → World → List (Note × ℕ)
+noteElements F w =
+    rising (λ m. m .0 .number ∷ m .0 .place ∷ (row F (m .1)) .start ∷ []) (pick (λ n. Option·map (λ e. (n, e)) (numberAt F n.path)) w.notes)
+
+-- "The result: sizes (elements, text bytes, changed, notes, discarded changes, climb steps), kinds, measures, changed element numbers, note numbers,
+-- note elements, text, array after array."
+pub record Result : Type 0 where
+  pub kinds : List ℕ
+  pub measures : List ℕ
+  pub changed : List ℕ
+  pub numbers : List ℕ
+  pub noted : List ℕ
+  pub text : List ℕ
+  pub discarded : ℕ
+  pub climbs : ℕ
+
+-- the result, from the changes with their fates, the climb steps, and what the steps left
+unfoldable pub result : List Planned → ℕ → World → Result
+result ps climbs w =
+    let F = newTable w in
+    let notes = noteElements F w in
+    record {
+      kinds = map (λ r. r .kind) F;
+      measures = map (λ r. measure r.self) F;
+      changed = changedElements F w;
+      numbers = map (λ m. m .0 .number) notes;
+      noted = map (λ m. m .1) notes;
+      text = textOf (forest (newTree w));
+      discarded = length (keep (λ p. isDiscarded p.fate) ps);
+      climbs = climbs;
+    }
+
+-- "sizes (elements, text bytes, changed, notes, discarded changes, climb steps)"
+unfoldable pub sixSizes : Result → List ℕ
+sixSizes r = length r.kinds ∷ length r.text ∷ length r.changed ∷ length r.numbers ∷ r .discarded ∷ r .climbs ∷ []
+
+-- the result as bytes, "array after array"
+unfoldable pub encoded : Result → List ℕ
+encoded r = written (sixSizes r ++ r .kinds ++ r .measures ++ r .changed ++ r .numbers ++ r .noted) ++ r .text
+
+-- 13: "The result buffer is too short."
+unfoldable pub fitting : ℕ → Result → Answer Result
+fitting room r = do
+  _ ← refuse 13 (ltb room (length (encoded r)))
+  gives r

@@ -1,0 +1,97 @@
+-- Refused, in checking order: lines 2 to 7.
+-- Assumes nothing.
+use mathlib.Core.Bool.{Bool, true, false, cond, not, _&&_, _||_}
+use mathlib.Core.List.{List, [], _∷_, _++_, headD, zip}
+use mathlib.Core.Option.{Option, none, some, Option·map}
+use Prim.Native.Nat.{ℕ, zero, suc, _+_, _/_, _%_}
+use lib.ListN.{length, take, drop}
+use lib.Dec.{leb, ltb, eqb}
+use Rattle.definition.specs.Basics.{Answer, gives, _>>=_, refuse, orRefuse, any, among}
+use Rattle.orders.specs.Tree.{Tree}
+use Rattle.definition.specs.Batch.{Batch, batch}
+use Rattle.definition.specs.Shape.{Table, row, node?, root?, parent, child, spelled, table}
+
+-- ── Calls ───────────────────────────────────────────────────────────────────────────────────────────────────
+
+-- a call as the batch has it
+pub record Call : Type 0 where
+  pub operation : ℕ
+  pub target : ℕ
+  pub listed : List ℕ
+
+-- "A call word is operation + 256 × listed count": each call takes its count of the listed elements; none if "the counts do not add up to L"
+unfoldable pub calls : List (ℕ × ℕ) → List ℕ → Option (List Call)
+calls [] [] = some []
+calls [] (x ∷ l) = none
+calls (c ∷ cs) l =
+    let n = c .0 / 256 in
+    let rest = calls cs (drop n l) in
+    cond (leb n (length l)) (Option·map (λ r. record { operation = c .0 % 256; target = c .1; listed = take n l } ∷ r) rest) none
+
+-- "3: delete, nothing listed"; a 6 has "count 0"; 2 is "by one element"; 5 lists the run's end; "Insertions and 4 may list none"
+unfoldable pub wrongCount : ℕ → ℕ → Bool
+wrongCount op n = (among (3 ∷ 6 ∷ []) op && ltb 0 n) || (eqb op 2 && not (eqb n 1)) || (eqb op 5 && eqb n 0)
+
+-- two parents are one (none is a root's)
+unfoldable pub sameParent : Option ℕ → Option ℕ → Bool
+sameParent none none = true
+sameParent none (some q) = false
+sameParent (some p) none = false
+sameParent (some p) (some q) = eqb p q
+
+module _ (T : Table) where
+  -- an element without children
+  unfoldable pub childless : ℕ → Bool
+  childless e = eqb (length ((row T e) .children)) 0
+
+  -- "a run whose ends have different parents or are reversed"
+  unfoldable pub wrongRun : ℕ → ℕ → Bool
+  wrongRun from to = not (sameParent (parent T from) (parent T to)) || ltb (child T to) (child T from)
+
+  -- 6, of one call: "an unknown operation, a wrong count, a number of E or more, a token as parent, a childless parent under 0, a root under 1, 3, 4 or 5,
+  -- a token replacing a root, or a run whose ends have different parents or are reversed, a 6 whose target is not 0"
+  unfoldable pub wrongCall : Call → Bool
+  wrongCall c =
+      let op = c .operation in
+      let x = c .target in
+      let y = headD c.listed 0 in
+      ltb 6 op
+      || wrongCount op (length c.listed)
+      || any (λ e. leb (length T) e) (x ∷ c.listed)
+      || (eqb op 0 && not (node? T x))
+      || (eqb op 0 && childless x)
+      || (among (1 ∷ 3 ∷ 4 ∷ 5 ∷ []) op && root? T x)
+      || (eqb op 2 && root? T x && not (node? T y))
+      || (eqb op 5 && wrongRun x y)
+      || (eqb op 6 && not (eqb x 0))
+
+  -- 7, of one mapping (input and output): it "names no node or a root as output"
+  unfoldable pub wrongMapping : ℕ × ℕ → Bool
+  wrongMapping m = any (λ e. leb (length T) e || not (node? T e)) (m .0 ∷ m .1 ∷ []) || root? T (m .1)
+
+  -- 7, of one note (element and number): it "names no element or is numbered 0"
+  unfoldable pub wrongNote : ℕ × ℕ → Bool
+  wrongNote n = leb (length T) (n .0) || eqb (n .1) 0
+
+-- ── The batch accepted ──────────────────────────────────────────────────────────────────────────────────────
+
+-- what lines 2 to 7 accept: the trees, what is known of each element, the calls, the mappings (input, output), the notes (element, number)
+pub record Accepted : Type 0 where
+  pub trees : List (Tree ℕ)
+  pub table : Table
+  pub calls : List Call
+  pub mappings : List (ℕ × ℕ)
+  pub notes : List (ℕ × ℕ)
+
+-- lines 2 to 7, in order
+unfoldable pub accepted : List ℕ → Answer Accepted
+accepted bytes = do
+  b ← batch bytes
+  ts ← orRefuse 5 (spelled b)
+  let T = table 0 0 ts
+  cs ← orRefuse 6 (calls (zip b.calls b.targets) b.listed)
+  _ ← refuse 6 (any (wrongCall T) cs)
+  let mappings = zip b.inputs b.outputs
+  let notes = zip b.noted b.numbers
+  _ ← refuse 7 (any (wrongMapping T) mappings || any (wrongNote T) notes)
+  gives (record { trees = ts; table = T; calls = cs; mappings = mappings; notes = notes })

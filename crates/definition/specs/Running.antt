@@ -1,0 +1,155 @@
+-- Running and splicing: the order, one step, refusals 11 and 12.
+-- Assumes nothing.
+use mathlib.Core.Bool.{Bool, true, false, cond, _&&_, _||_}
+use mathlib.Core.List.{List, [], _∷_, _++_, map, flatMap}
+use mathlib.Core.Option.{Option, none, some, Option·map, Option·getD}
+use Prim.Native.Nat.{ℕ, zero, suc, _+_}
+use lib.ListN.{length, getD}
+use lib.Dec.{ltb, eqb}
+use Rattle.orders.specs.Lists.{pick}
+use Rattle.definition.specs.Basics.{Answer, refused, gives, _>>=_, refuse, orRefuse, keep, numbered, falling}
+use Rattle.orders.specs.Tree.{Tree, node, forest, Path, resolve, splice, adjust, elementsOf, textOf, deepestOf, children, last, front, strip}
+use mathlib.Core.Option.{bind}
+use Rattle.definition.specs.Shape.{Table, Row, row, root?, tree}
+use Rattle.definition.specs.Recording.{Place, firstChild, after, Change, insert, replace, delete, many, run}
+use Rattle.definition.specs.Planning.{Fate, own, dependent, discarded, Planned, target, key}
+use Rattle.definition.specs.Rewriting.{Note}
+
+-- ── The order ───────────────────────────────────────────────────────────────────────────────────────────────
+
+-- a change of this fate has this owner (or, as own, none)
+unfoldable pub owned : Option ℕ → Fate → Bool
+owned none own = true
+owned none (dependent k x r) = false
+owned none discarded = false
+owned (some i) own = false
+owned (some i) (dependent k x r) = eqb i k
+owned (some i) discarded = false
+
+-- the changes with their places, "by their rewritten targets in the batch's trees: falling start, bind falling depth, bind replace, run, insert, ties in sorted order"
+unfoldable pub ranked : Table → List Planned → List (ℕ × Planned)
+ranked T ps = falling (λ q. key T (q .1 .change)) (numbered 0 ps)
+
+-- "Dependents run before their owner": of such a list, the changes of one owner (or those without), each after its own dependents. "with remaining changes falling": n may remain
+unfoldable pub order : List (ℕ × Planned) → ℕ → Option ℕ → List Planned
+order qs zero owner = []
+order qs (suc n) owner = flatMap (λ q. order qs n (some (q .0)) ++ (q .1 ∷ [])) (keep (λ q. owned owner (q .1 .fate)) qs)
+
+-- ── The current trees ───────────────────────────────────────────────────────────────────────────────────────
+
+-- what the steps change
+pub record World : Type 0 where
+  -- all current trees, as the children of one node that is no element
+  pub trees : Tree ℕ
+  -- the present path of each element of the batch, none once it is dropped
+  pub paths : List (Option Path)
+  -- the notes, in the order in which they are held
+  pub notes : List Note
+  -- what is "recorded as changed", in the order of time
+  pub changed : List Path
+
+-- before the first step
+unfoldable pub begin : List (Tree ℕ) → Table → List Note → World
+begin ts T notes = record { trees = node 0 (forest ts); paths = map (λ r. some (r .path)) T; notes = notes; changed = [] }
+
+-- what a listed element yields: "its present elements from the current trees if its path survives, else its original ones from the batch",
+-- and "Notes at or below it", told from it
+pub record Yield : Type 0 where
+  pub tree : Tree ℕ
+  pub notes : List Note
+
+-- the note n at another path
+unfoldable pub withPath : Note → Path → Note
+withPath n p = record { path = p; number = n .number; place = n .place }
+
+-- the notes at or below the element at `top`, told from it
+unfoldable pub notesAt : Path → List Note → List Note
+notesAt top notes = pick (λ n. Option·map (withPath n) (strip top n.path)) notes
+
+-- the children a to b - 1 of the element at `parent`, in the current trees
+pub record Run : Type 0 where
+  pub parent : Path
+  pub from : ℕ
+  pub to : ℕ
+
+-- the run from the element at p to the one at q
+unfoldable pub fromTo : Path → Path → Run
+fromTo p q = record { parent = front p; from = last p; to = suc (last q) }
+
+-- the empty run before child a of the element at p
+unfoldable pub emptyAt : Path → ℕ → Run
+emptyAt p a = record { parent = p; from = a; to = a }
+
+-- the elements that go in
+unfoldable pub news : Change → List ℕ
+news (insert p x l) = l
+news (replace x y) = y ∷ []
+news (delete x) = []
+news (many x l) = l
+news (run x y l) = l
+
+-- ── One step ────────────────────────────────────────────────────────────────────────────────────────────────
+
+-- what goes in as children a and on of the element at q, each with its path
+unfoldable pub placed : Path → ℕ → List Yield → List (Path × Yield)
+placed q a [] = []
+placed q a (y ∷ ys) = (q ++ (a ∷ []), y) ∷ placed q (suc a) ys
+
+-- One splice: the run r gives way to what is yielded. "paths not strictly below the parent stay; child a to b−1 drops; child b or more becomes
+-- child + n − (b − a)"; "Recorded changes and notes move alike."
+unfoldable pub spliced : Run → List Yield → Bool → World → World
+spliced r new recorded w =
+    let move = adjust r.parent r.from r.to (length new) in
+    let places = placed r.parent r.from new in
+    record {
+      trees = splice r.parent r.from r.to (map (λ y. y .tree) new) w.trees;
+      paths = map (λ o. bind o move) w.paths;
+      notes = pick (λ n. Option·map (withPath n) (move n.path)) w.notes ++ flatMap (λ y. map (λ n. withPath n (y .0 ++ n .path)) (y .1 .notes)) places;
+      changed = pick move w.changed ++ cond recorded (map (λ y. y .0) places) [];
+    }
+
+module _ (T : Table) where
+  -- the present path of element e
+  unfoldable pub present : World → ℕ → Option Path
+  present w e = getD w.paths e none
+
+  -- where a change goes; none if its target is gone. "Replacing a root drops every old path; a call 2 on a root needs none."
+  unfoldable pub place : World → Change → Option Run
+  place w (insert firstChild x l) = bind (present w x) (λ p. some (emptyAt p 0))
+  place w (insert after x l) = bind (present w x) (λ p. some (emptyAt (front p) (suc (last p))))
+  place w (replace x y) = bind (cond (root? T x) (some ((row T x) .path)) (present w x)) (λ p. some (fromTo p p))
+  place w (delete x) = bind (present w x) (λ p. some (fromTo p p))
+  place w (many x l) = bind (present w x) (λ p. some (fromTo p p))
+  place w (run x y l) = bind (present w x) (λ p. bind (present w y) (λ q. some (fromTo p q)))
+
+  -- (a path that survives leads to an element)
+  unfoldable pub yield : List Note → World → ℕ → Yield
+  yield settled w e = elim (present w e) [
+    | none ↦ record { tree = (row T e) .self; notes = notesAt ((row T e) .path) settled }
+    | some p ↦ record { tree = Option·getD (resolve p w.trees) ((row T e) .self); notes = notesAt p w.notes }
+  ]
+
+  -- "Each element that an undependent change puts into tree 0 is recorded as changed"
+  unfoldable pub records : Planned → Bool
+  records p = owned none p.fate && eqb (tree T (target p.change)) 0
+
+  -- 12: "all current trees together exceed 4,096 elements, 16,384 text bytes, or 1,024 tracked notes, or depth 64"
+  unfoldable pub tooLarge : World → Bool
+  tooLarge w =
+      let ts = children w.trees in
+      ltb 4096 (elementsOf ts) || ltb 16384 (length (textOf ts)) || ltb 1024 (length w.notes) || ltb 64 (deepestOf ts)
+
+  -- one performed change. 11: "A step's target is gone."
+  unfoldable pub step : List Note → World → Planned → Answer World
+  step settled w p = do
+    r ← orRefuse 11 (place w p.change)
+    let next = spliced r (map (yield settled w) (news p.change)) (records p) w
+    _ ← refuse 12 (tooLarge next)
+    gives next
+
+  -- "11 and 12 come as met, step by step."
+  unfoldable pub steps : List Note → World → List Planned → Answer World
+  steps settled w [] = gives w
+  steps settled w (p ∷ ps) = do
+    next ← step settled w p
+    steps settled next ps
