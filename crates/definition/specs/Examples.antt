@@ -7,8 +7,7 @@ use Prim.Native.String.{String}
 use lib.ListN.{length}
 use Rattle.definition.specs.Basics.{Answer, refused, gives, _>>=_}
 use Rattle.definition.specs.Words.{written}
-use Rattle.orders.specs.Tree.{Tree, node, token, forest, textOf, measure}
-use Rattle.definition.specs.Shape.{table}
+use Rattle.orders.specs.Tree.{Tree, node, token, forest, label, text, measure, preorder}
 use Rattle.definition.specs.Refusals.{Call}
 use Rattle.definition.specs.Finishing.{Result}
 use Rattle.definition.specs.Answers.{edit}
@@ -27,14 +26,14 @@ pub record Told : Type 0 where
 -- the bytes of such a batch, by the layout of "The batch"
 unfoldable pub inBytes : Told → List ℕ
 inBytes b =
-    let T = table 0 0 b.trees in
-    let text = textOf (forest b.trees) in
+    let elements = flatMap preorder b.trees in
+    let text = flatMap text b.trees in
     let listed = flatMap (λ c. c .listed) b.calls in
-    let sizes : List ℕ = length b.trees ∷ length T ∷ length text ∷ length b.calls ∷ length listed ∷ length b.mappings ∷ length b.notes ∷ [] in
+    let sizes : List ℕ = length b.trees ∷ length elements ∷ length text ∷ length b.calls ∷ length listed ∷ length b.mappings ∷ length b.notes ∷ [] in
     written (
     sizes
-    ++ map (λ r. r .kind) T
-    ++ map (λ r. measure r.self) T
+    ++ map label elements
+    ++ map measure elements
     ++ map (λ c. c .operation + 256 * length c.listed) b.calls
     ++ map (λ c. c .target) b.calls
     ++ listed

@@ -72,6 +72,18 @@ splice [] a b new (node w cs) = node w (forest (take a (list cs) ++ (new ++ drop
 splice (j ∷ q) a b new (token w own) = token w own
 splice (j ∷ q) a b new (node w cs) = node w (forest (modify j (λ c. splice q a b new c) (list cs)))
 
+-- ── The elements of a tree ──────────────────────────────────────────────────────────────────────────────────
+
+-- "in preorder": each element, with what is below it
+unfoldable mutual
+  pub preorder : {A : Type 0} → Tree A → List (Tree A)
+  preorder (node w cs) = node w cs ∷ preorders cs
+  preorder (token w own) = token w own ∷ []
+
+  pub preorders : {A : Type 0} → Trees A → List (Tree A)
+  preorders nil = []
+  preorders (cons c cs) = preorder c ++ preorders cs
+
 -- ── What is measured of a tree, and of a path ───────────────────────────────────────────────────────────────
 
 module _ {A : Type 0} where
