@@ -9,18 +9,12 @@ ghost use Rattle.element_table.specs.View.{view};
 ghost use Rattle.calls.specs.Wellformed.{Wellformed};
 ghost use Rattle.calls.specs.Fits.{countFits, callFits, hasChildren, runFits};
 
-fn wide(x: u32) -> usize
-    ensures { λ r. ⌜ (r ≡ x) × (r < 2 ^ 32) ⌝ }
-{
-    x as usize
-}
-
 // Word `k` of element `e` in the element table.
 pub fn entry(table: &[u32], e: usize, k: usize) -> usize
     requires { ⌜ (k < 8) × (8 * e + 8 ≤ length (now table)) ⌝ }
     ensures { λ r. ⌜ (r ≡ getD (now (table .entry)) (8 * e + k) 0) × (r < 2 ^ 32) ⌝ }
 {
-    wide(table[8 * e + k])
+    words::word(table, 8 * e + k)
 }
 
 // Word `k` of the row of element `e`.
@@ -28,7 +22,7 @@ pub fn row_word(source: &[u32], e: usize, k: usize) -> usize
     requires { ⌜ (k < 3) × (3 * e + 6 ≤ length (now source)) ⌝ }
     ensures { λ r. ⌜ (r ≡ getD (now (source .entry)) (3 * suc e + k) 0) × (r < 2 ^ 32) ⌝ }
 {
-    wide(source[3 * e + 3 + k])
+    words::word(source, 3 * e + 3 + k)
 }
 
 // Whether element `e` is a node.

@@ -1,3 +1,5 @@
+-- `call_fits` meets its contract. One law for each answer, from the tests that led there.
+-- Assumes nothing.
 use borrow.Author.Needs.{needs}
 use Rattle.calls.proofs.Judging.{fits-first-child, fits-editor, fits-root-by, fits-root, fits-run, fits-rest}
 use Rattle.calls.proofs.call_fits.Statement.{statement}

@@ -1,3 +1,5 @@
+-- `count_fits` meets its contract. One law for each answer.
+-- Assumes nothing.
 use borrow.Author.Needs.{needs}
 use Rattle.calls.proofs.Judging.{count-one, count-none-3, count-some, count-none-6, count-any}
 use Rattle.calls.proofs.count_fits.Statement.{statement}

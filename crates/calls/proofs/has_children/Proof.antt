@@ -1,3 +1,5 @@
+-- `has_children` meets its contract. A token has none, a node as many as its measure.
+-- Assumes nothing.
 use borrow.Author.Needs.{needs}
 use Rattle.calls.proofs.Judging.{with-children, no-children}
 use Rattle.calls.proofs.has_children.Statement.{statement}

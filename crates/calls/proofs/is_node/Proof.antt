@@ -1,3 +1,5 @@
+-- `is_node` meets its contract. The kind word is the row's first.
+-- Assumes nothing.
 use borrow.Author.Needs.{needs}
 use Rattle.calls.proofs.Judging.{kind-at}
 use Rattle.calls.proofs.is_node.Statement.{statement}

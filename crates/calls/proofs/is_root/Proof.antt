@@ -1,3 +1,5 @@
+-- `is_root` meets its contract. A root names no parent.
+-- Assumes nothing.
 use borrow.Author.Needs.{needs}
 use Rattle.calls.proofs.Judging.{root-at}
 use Rattle.calls.proofs.is_root.Statement.{statement}

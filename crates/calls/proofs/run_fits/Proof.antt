@@ -1,3 +1,5 @@
+-- `run_fits` meets its contract. Two words name the parents, two the child numbers.
+-- Assumes nothing.
 use borrow.Author.Needs.{needs}
 use Rattle.calls.proofs.Judging.{run-in-order, run-apart}
 use Rattle.calls.proofs.run_fits.Statement.{statement}
