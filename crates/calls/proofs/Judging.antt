@@ -13,7 +13,7 @@ use mathlib.Core.Logic.{⊎-elim}
 use Rattle.definition.specs.Basics.{any, among}
 use Rattle.definition.specs.Elements.{Table, isNode}
 use Rattle.definition.specs.Refusals.{wrongCount, childless, sameParent, wrongRun}
-use Rattle.element_table.specs.View.{view, field, kindWord, measureWord}
+use Rattle.element_table.specs.View.{view}
 use Rattle.calls.specs.Wellformed.{Wellformed}
 use Rattle.calls.specs.Told.{elementOf, node-told, parent-told, root-told, child-told, childless-told}
 use Rattle.calls.specs.Fits.{countFits, callFits, hasChildren, runFits}
@@ -97,25 +97,25 @@ fits-editor T op x y h = rw h (rw twice)
 
 module _ (n : ℕ) (w r : List ℕ) (op x y : ℕ) (t : Bool) (W : Wellformed n w r) (hx : x < n) where
   pub fits-first-child : op ≡ 0 → t ≡ hasChildren r x → t ≡ callFits (view n w r) op x y
-  unfolding callFits among any hasChildren kindWord measureWord
-  fits-first-child h e = rw (h, node-told n w r W x hx, childless-told n w r W x hx) (e ∙ (parents (isNode (kindWord w r x)) (measureWord w r x) ∙ simp or-false))
+  unfolding callFits among any hasChildren
+  fits-first-child h e = rw (h, node-told n w r x hx, childless-told n w r x hx) (e ∙ (parents (isNode (getD r (3 * suc x) 0)) (getD r (3 * suc x + 1) 0) ∙ simp or-false))
 
   module _ (e : t ≡ eqb (getD w (8 * x + 1) 0) 0) where
     pub fits-root-by : (hy : y < n) (u : Bool) → op ≡ 2 → t ≡ true → u ≡ isNode (getD r (3 * suc y) 0) → u ≡ callFits (view n w r) op x y
-    unfolding callFits among any field kindWord
-    fits-root-by hy u h q k = rw (h, root-told n w r W x hx, ← e, q, node-told n w r W y hy) (k ∙ simp (or-false, twice))
+    unfolding callFits among any
+    fits-root-by hy u h q k = rw (h, root-told n w r (W .lines) x hx, ← e, q, node-told n w r y hy) (k ∙ simp (or-false, twice))
 
     pub fits-root : op ≤ 6 → (op ≡ 0 → ⊥) → (op ≡ 6 → ⊥) → (op ≡ 2 → ⊥) → t ≡ true → false ≡ callFits (view n w r) op x y
-    unfolding callFits field
-    fits-root h a b c q = rw (among-others op h a b c, root-told n w r W x hx, ← e, q, ne-eqb op 0 a)
+    unfolding callFits
+    fits-root h a b c q = rw (among-others op h a b c, root-told n w r (W .lines) x hx, ← e, q, ne-eqb op 0 a)
 
     pub fits-run : (hy : y < n) (u : Bool) → op ≡ 5 → t ≡ false → u ≡ runFits w x y → u ≡ callFits (view n w r) op x y
-    unfolding callFits among any field runFits wrongRun
-    fits-run hy u h q k = rw (h, root-told n w r W x hx, ← e, q, parent-told n w r W x hx, parent-told n w r W y hy, same-parent, child-told n w r W x hx, child-told n w r W y hy, or-false, ← (both (eqb (field w r 1 x) (field w r 1 y))), not-less) k
+    unfolding callFits among any runFits wrongRun
+    fits-run hy u h q k = rw (h, root-told n w r (W .lines) x hx, ← e, q, parent-told n w r (W .lines) x hx, parent-told n w r (W .lines) y hy, same-parent, child-told n w r (W .lines) x hx, child-told n w r (W .lines) y hy, or-false, ← (both (eqb (getD w (8 * x + 1) 0) (getD w (8 * y + 1) 0))), not-less) k
 
     pub fits-rest : (op ≡ 0 → ⊥) → (op ≡ 6 → ⊥) → (op ≡ 5 → ⊥) → t ≡ false → true ≡ callFits (view n w r) op x y
-    unfolding callFits field
-    fits-rest a b c q = rw (root-told n w r W x hx, ← e, q, ne-eqb op 0 a, ne-eqb op 6 b, ne-eqb op 5 c, and-false, and-false)
+    unfolding callFits
+    fits-rest a b c q = rw (root-told n w r (W .lines) x hx, ← e, q, ne-eqb op 0 a, ne-eqb op 6 b, ne-eqb op 5 c, and-false, and-false)
 
 -- ── Words ───────────────────────────────────────────────────────────────────────────────────────────────────
 
