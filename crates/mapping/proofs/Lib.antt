@@ -1,0 +1,2 @@
+-- Climbing   the loop of `upmap_to_ancestor`
+pub mod Climbing

@@ -1,0 +1,30 @@
+-- What each answer means: document 01's number for a refusal, and the values for the rest.
+-- Assumes nothing.
+use mathlib.Core.List.{List}
+use mathlib.Core.Path.{_≡_}
+use Prim.Native.Nat.{ℕ, _≤_}
+use lib.ListN.{length}
+use Rattle.orders.specs.Tree.{Path}
+use Rattle.definition.specs.Basics.{Answer, refused, gives}
+use Rattle.definition.specs.Rewriting.{trail}
+use Rattle.element_table.specs.View.{view}
+use Rattle.mapping.specs.declared.Climb.{Climb}
+use Rattle.mapping.specs.declared.Climb.the-variants.{Trail, Refused}
+use Rattle.mapping.specs.Mapped.{mappedBy}
+use Rattle.mapping.specs.Backward.{backward}
+
+-- a climb whose child numbers were written to an array, the first at its front, and are read backward
+unfoldable pub climbed : Climb → List ℕ → Answer Path
+climbed (Trail k) numbers = gives (backward k numbers)
+climbed (Refused x) numbers = refused x
+
+-- the steps of a climb
+unfoldable pub stepsOf : Climb → ℕ
+stepsOf (Trail k) = k
+stepsOf (Refused x) = 0
+
+-- the climb from x to r, of at most n steps
+pub record Climbed (n : ℕ) (table map : List ℕ) (x r : ℕ) (answer : Climb) (numbers : List ℕ) : Type 0 where
+  pub trail : (source : List ℕ) → climbed answer numbers ≡ trail (view n table source) (mappedBy map) x r
+  pub few : stepsOf answer ≤ n
+  pub long : length numbers ≡ 2049
