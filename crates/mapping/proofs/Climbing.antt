@@ -86,6 +86,10 @@ parent-some n w s x (suc p) L h q z = parent-told n w s L x h ∙ rw (← q) (ap
 pub parent-element : (n : ℕ) (w : List ℕ) (x p : ℕ) → Lines n w → x < n → p ≡ getD w (8 * x + 1) 0 → p - 1 < n
 parent-element n w x p L h q = omega (arith, L .before x h)
 
+pub parent-before : (n : ℕ) (w : List ℕ) (x p : ℕ) → Lines n w → x < n → p ≡ getD w (8 * x + 1) 0 → (p ≡ 0 → ⊥) → p - 1 < x
+parent-before n w x zero L h q z = absurd (z refl)
+parent-before n w x (suc p) L h q z = omega (arith, L .before x h)
+
 module _ (n : ℕ) (w m : List ℕ) (x₀ r : ℕ) (a : List ℕ) where
   pub climbing-same : x₀ ≡ r → length a ≡ 2049 → Climbed n w m x₀ r (Trail 0) a
   unfolding climbed stepsOf

@@ -1,2 +1,4 @@
 -- Climbing   the loop of `upmap_to_ancestor`
+-- Placing    the loop of `place_below`
 pub mod Climbing
+pub mod Placing

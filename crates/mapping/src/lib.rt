@@ -5,7 +5,7 @@ ghost use Prim.Native.Nat.{suc, _+_, _*_, _^_, _≤_, _<_};
 ghost use lib.ListN.{length, getD};
 ghost use Rattle.calls.specs.Wellformed.{Lines, Wellformed};
 ghost use Rattle.mapping.specs.Mapped.{mappedBy, Mapped};
-ghost use Rattle.mapping.specs.Answers.{Climbed};
+ghost use Rattle.mapping.specs.Answers.{Placed, Climbed};
 
 // The mapped node of element `e`, or `e`.
 pub fn upmap_node_single(map: &[u32], n: usize, e: usize) -> usize
@@ -18,6 +18,32 @@ pub fn upmap_node_single(map: &[u32], n: usize, e: usize) -> usize
         return e;
     }
     y - 1
+}
+
+// Where an element stands below another: how many child numbers lead there, or that it is neither that element nor below it.
+pub enum Below {
+    Numbers(usize),
+    Elsewhere,
+}
+
+// The child numbers from `x` down to `e`. They are written to `place`, upward.
+pub fn place_below(table: &[u32], n: usize, x: usize, e: usize, place: &mut [u32; 64]) -> Below
+    requires { ⌜ Lines n (now table) ⌝ }
+    requires { ⌜ (x < n) × (e < n) × (length (now place) ≡ 64) ⌝ }
+    ensures { λ r. ⌜ Placed n (now (table .entry)) x e r (now (place .exit)) ⌝ }
+{
+    let mut at = e;
+    let mut k: usize = 0;
+    while at != x {
+        let p = calls::entry(table, at, 1);
+        if p == 0 {
+            return Below::Elsewhere;
+        }
+        place[k] = table[8 * at + 2];
+        k += 1;
+        at = p - 1;
+    }
+    Below::Numbers(k)
 }
 
 // A climb: how many child numbers its trail has, or a refusal.
