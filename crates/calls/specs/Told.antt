@@ -21,6 +21,10 @@ unfoldable pub elementOf : ℕ → Option ℕ
 elementOf zero = none
 elementOf (suc e) = some e
 
+-- how many children element e has, by its row: a token none, a node as many as its measure
+unfoldable pub childCount : List ℕ → ℕ → ℕ
+childCount source e = cond (isNode (getD source (3 * suc e) 0)) (getD source (3 * suc e + 1) 0) 0
+
 -- ── Rows ────────────────────────────────────────────────────────────────────────────────────────────────────
 
 map-from : {A : Type 0} (f : ℕ → A) (k n e : ℕ) (d : A) → e < n → getD (map f (upFrom k n)) e d ≡ f (k + e)
@@ -170,8 +174,10 @@ module _ (n : ℕ) (w r : List ℕ) (e : ℕ) (h : e < n) where
   unfolding node? rowAt kindWord
   node-told = rw (row-view n w r e h)
 
-  pub childless-told : childless (view n w r) e ≡ eqb (cond (isNode (getD r (3 * suc e) 0)) (getD r (3 * suc e + 1) 0) 0) 0
-  unfolding childless rowAt kindWord measureWord
-  childless-told =
-      rw (row-view n w r e h)
-      (ap (λ (k : ℕ). eqb k 0) (length-siblings w r (cond (isNode (getD r (3 * suc e) 0)) (getD r (3 * suc e + 1) 0) 0) (suc e)))
+  pub children-told : (row (view n w r) e) .children ≡ siblings w r (childCount r e) (suc e)
+  unfolding rowAt kindWord measureWord childCount
+  children-told = rw (row-view n w r e h)
+
+  pub childless-told : childless (view n w r) e ≡ eqb (childCount r e) 0
+  unfolding childless
+  childless-told = rw children-told (ap (λ (k : ℕ). eqb k 0) (length-siblings w r (childCount r e) (suc e)))

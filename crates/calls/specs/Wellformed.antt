@@ -1,13 +1,11 @@
 -- What an accepted batch guarantees of the words of the element table and of the batch's rows (View of element_table says what each word is).
 -- Assumes nothing.
-use mathlib.Core.Bool.{true}
 use mathlib.Core.List.{List}
 use mathlib.Core.Path.{_≡_}
 use Prim.Native.Nat.{ℕ, suc, _+_, _*_, _≤_, _<_}
 use lib.ListN.{length, getD}
 use Rattle.orders.specs.Lists.{All}
-use Rattle.definition.specs.Elements.{isNode}
-use Rattle.element_table.specs.View.{kindWord, measureWord, siblings}
+use Rattle.element_table.specs.View.{rowAt}
 
 -- The table of n elements. Word 8 e + 1 is the parent's number + 1 (0 for a root), 8 e + 2 the child number, 8 e + 3 the depth, 8 e + 7 the tree.
 pub record Lines (n : ℕ) (table : List ℕ) : Type 0 where
@@ -27,5 +25,5 @@ pub record Lines (n : ℕ) (table : List ℕ) : Type 0 where
 pub record Wellformed (n : ℕ) (table source : List ℕ) : Type 0 where
   pub lines : Lines n table
   pub long : 3 * n + 3 ≤ length source
-  -- the children of a node are elements
-  pub children : (e : ℕ) → e < n → isNode (kindWord table source e) ≡ true → All (λ c. c < n) (siblings table source (measureWord table source e) (suc e))
+  -- children are elements
+  pub children : (e : ℕ) → e < n → All (λ c. c < n) ((rowAt table source e) .children)

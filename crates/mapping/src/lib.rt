@@ -5,7 +5,8 @@ ghost use Prim.Native.Nat.{suc, _+_, _*_, _^_, _≤_, _<_};
 ghost use lib.ListN.{length, getD};
 ghost use Rattle.calls.specs.Wellformed.{Lines, Wellformed};
 ghost use Rattle.mapping.specs.Mapped.{mappedBy, Mapped};
-ghost use Rattle.mapping.specs.Answers.{Placed, Climbed};
+ghost use Rattle.mapping.specs.Backward.{backward};
+ghost use Rattle.mapping.specs.Answers.{Placed, Climbed, FoundChild, Descended, Landed};
 
 // The mapped node of element `e`, or `e`.
 pub fn upmap_node_single(map: &[u32], n: usize, e: usize) -> usize
@@ -91,4 +92,79 @@ pub fn upmap_to_ancestor(
         k += 1;
     }
     outcome
+}
+
+// An element, or that there is none.
+pub enum Found {
+    At(usize),
+    Missing,
+}
+
+// Child number `i` of element `e`.
+pub fn nth_child(table: &[u32], source: &[u32], n: usize, e: usize, i: usize) -> Found
+    requires { ⌜ Wellformed n (now table) (now source) ⌝ }
+    requires { ⌜ e < n ⌝ }
+    ensures { λ r. ⌜ FoundChild n (now (table .entry)) (now (source .entry)) e i r ⌝ }
+{
+    if calls::child_count(source, e) <= i {
+        return Found::Missing;
+    }
+    let mut c = e + 1;
+    let mut j: usize = 0;
+    while j < i {
+        c = calls::entry(table, c, 6);
+        j += 1;
+    }
+    Found::At(c)
+}
+
+// The element to which the first `k` child numbers lead from `r`, read backward.
+pub fn descend(
+    table: &[u32],
+    source: &[u32],
+    n: usize,
+    r: usize,
+    numbers: &[u32],
+    k: usize,
+) -> Found
+    requires { ⌜ Wellformed n (now table) (now source) ⌝ }
+    requires { ⌜ (r < n) × (k ≤ length (now numbers)) ⌝ }
+    ensures { λ q. ⌜ Descended n (now (table .entry)) (now (source .entry)) r (backward k (now (numbers .entry))) q ⌝ }
+{
+    let mut at = r;
+    let mut left = k;
+    while 0 < left {
+        left -= 1;
+        let Found::At(c) = nth_child(table, source, n, at, words::word(numbers, left)) else {
+            return Found::Missing;
+        };
+        at = c;
+    }
+    Found::At(at)
+}
+
+// Where `e` lands, down `k` child numbers from `r`: a node lands on no token.
+pub fn land(
+    table: &[u32],
+    source: &[u32],
+    n: usize,
+    e: usize,
+    r: usize,
+    numbers: &[u32],
+    k: usize,
+) -> Found
+    requires { ⌜ Wellformed n (now table) (now source) ⌝ }
+    requires { ⌜ (e < n) × (r < n) × (k ≤ length (now numbers)) ⌝ }
+    ensures { λ q. ⌜ Landed n (now (table .entry)) (now (source .entry)) e r (backward k (now (numbers .entry))) q ⌝ }
+{
+    let Found::At(to) = descend(table, source, n, r, numbers, k) else {
+        return Found::Missing;
+    };
+    if calls::is_node(source, to) {
+        return Found::At(to);
+    }
+    if calls::is_node(source, e) {
+        return Found::Missing;
+    }
+    Found::At(to)
 }
