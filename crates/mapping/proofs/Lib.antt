@@ -1,6 +1,8 @@
 -- Climbing     the loop of `upmap_to_ancestor`
 -- Placing      the loop of `place_below`
 -- Descending   the loops of `nth_child` and `descend`, and the landing
+-- Moving       the answers of `upmap_below` and `upmap_child`
 pub mod Climbing
 pub mod Placing
 pub mod Descending
+pub mod Moving

@@ -42,7 +42,7 @@ module _ (n : ℕ) (w : List ℕ) (x e : ℕ) (L : Lines n w) (he : e < n) (a : 
     placing-done q =
         record {
           place = λ s. sym (C .rest s ∙ rw (place-here n w s L x at hx (C .here) q));
-          few = C .few;
+          room = omega (arith, C .few, C .long);
           long = C .long;
         }
 
@@ -52,7 +52,7 @@ module _ (n : ℕ) (w : List ℕ) (x e : ℕ) (L : Lines n w) (he : e < n) (a : 
       placing-none y =
           record {
             place = λ s. sym (C .rest s ∙ rw (place-root n w s L x at hx (C .here) z (sym q ∙ y)));
-            few = omega arith;
+            room = omega arith;
             long = C .long;
           }
 

@@ -1,19 +1,21 @@
 -- What each answer means: document 01's number for a refusal, and the values for the rest.
 -- Assumes nothing.
-use mathlib.Core.List.{List}
+use mathlib.Core.List.{List, _++_}
 use mathlib.Core.Option.{Option, none, some}
 use mathlib.Core.Path.{_≡_}
 use Prim.Native.Nat.{ℕ, _≤_, _<_}
 use lib.ListN.{length, getElem?}
 use Rattle.orders.specs.Tree.{Path}
-use Rattle.definition.specs.Basics.{Answer, refused, gives, orRefuse}
-use Rattle.definition.specs.Elements.{row, placeBelow, descend}
-use Rattle.definition.specs.Rewriting.{trail, land}
+use Rattle.definition.specs.Basics.{Answer, refused, gives, _>>=_, orRefuse}
+use Rattle.definition.specs.Elements.{Table, row, placeBelow, descend}
+use Rattle.definition.specs.Rewriting.{trail, land, moved}
 use Rattle.element_table.specs.View.{view}
 use Rattle.mapping.specs.declared.Below.{Below}
 use Rattle.mapping.specs.declared.Below.the-variants.{Numbers, Elsewhere}
 use Rattle.mapping.specs.declared.Found.{Found}
 use Rattle.mapping.specs.declared.Found.the-variants.{At, Missing}
+use Rattle.mapping.specs.declared.Moved.{Moved}
+use Rattle.mapping.specs.declared.Moved.the-variants.{To, Refused as RefusedMove}
 use Rattle.mapping.specs.declared.Climb.{Climb}
 use Rattle.mapping.specs.declared.Climb.the-variants.{Trail, Refused}
 use Rattle.mapping.specs.Mapped.{mappedBy}
@@ -34,8 +36,12 @@ depthOf Elsewhere = 0
 -- where e stands below x
 pub record Placed (n : ℕ) (table : List ℕ) (x e : ℕ) (answer : Below) (numbers : List ℕ) : Type 0 where
   pub place : (source : List ℕ) → below answer numbers ≡ placeBelow (view n table source) x e
-  pub few : depthOf answer ≤ 64
+  pub room : depthOf answer ≤ length numbers
   pub long : length numbers ≡ 64
+
+pub place-room : {n : ℕ} {table : List ℕ} {x e : ℕ} {answer : Below} {numbers : List ℕ} {k : ℕ} → Placed n table x e answer numbers → answer ≡ Numbers k → k ≤ length numbers
+unfolding depthOf
+place-room P q = rw q at (P .room)
 
 -- ── A climb ─────────────────────────────────────────────────────────────────────────────────────────────────
 
@@ -53,7 +59,12 @@ stepsOf (Refused x) = 0
 pub record Climbed (n : ℕ) (table map : List ℕ) (x r : ℕ) (answer : Climb) (numbers : List ℕ) : Type 0 where
   pub trail : (source : List ℕ) → climbed answer numbers ≡ trail (view n table source) (mappedBy map) x r
   pub few : stepsOf answer ≤ n
+  pub room : stepsOf answer ≤ length numbers
   pub long : length numbers ≡ 2049
+
+pub trail-room : {n : ℕ} {table map : List ℕ} {x r : ℕ} {answer : Climb} {numbers : List ℕ} {k : ℕ} → Climbed n table map x r answer numbers → answer ≡ Trail k → (k ≤ n) × (k ≤ length numbers)
+unfolding stepsOf
+trail-room C q = (rw q at (C .few), rw q at (C .room))
 
 -- ── The way down ────────────────────────────────────────────────────────────────────────────────────────────
 
@@ -83,3 +94,30 @@ pub record Descended (n : ℕ) (table source : List ℕ) (r : ℕ) (path : Path)
 pub record Landed (n : ℕ) (table source : List ℕ) (e r : ℕ) (path : Path) (answer : Found) : Type 0 where
   pub landing : (mapped : ℕ → Option ℕ) → orRefuse 9 (found answer) ≡ land (view n table source) mapped e r path
   pub within : Within n answer
+
+-- ── A move ──────────────────────────────────────────────────────────────────────────────────────────────────
+
+unfoldable pub movedBy : Moved → Answer (ℕ × ℕ)
+movedBy (To e steps) = gives (e, steps)
+movedBy (RefusedMove x) = refused x
+
+-- where the element goes is one of n, and the steps are at most n
+abbrev pub MovedWithin : ℕ → Moved → Type 0
+MovedWithin n (To e steps) = (e < n) × (steps ≤ n)
+MovedWithin n (RefusedMove x) = Unit
+
+-- where e goes that stands below x by the path p: what `moved` does once the place is known
+unfoldable pub movedFrom : Table → (ℕ → Option ℕ) → ℕ → ℕ → ℕ → Path → Answer (ℕ × ℕ)
+movedFrom T mapped x r e p = do
+  q ← trail T mapped x r
+  to ← land T mapped e r (q ++ p)
+  gives (to, length q)
+
+pub record MovedFrom (n : ℕ) (table source map : List ℕ) (x r e : ℕ) (path : Path) (answer : Moved) : Type 0 where
+  pub move : movedBy answer ≡ movedFrom (view n table source) (mappedBy map) x r e path
+  pub within : MovedWithin n answer
+
+-- where e goes when x is replaced by r
+pub record MovedTo (n : ℕ) (table source map : List ℕ) (x r e : ℕ) (answer : Moved) : Type 0 where
+  pub move : movedBy answer ≡ moved (view n table source) (mappedBy map) x r e
+  pub within : MovedWithin n answer

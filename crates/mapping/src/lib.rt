@@ -6,7 +6,7 @@ ghost use lib.ListN.{length, getD};
 ghost use Rattle.calls.specs.Wellformed.{Lines, Wellformed};
 ghost use Rattle.mapping.specs.Mapped.{mappedBy, Mapped};
 ghost use Rattle.mapping.specs.Backward.{backward};
-ghost use Rattle.mapping.specs.Answers.{Placed, Climbed, FoundChild, Descended, Landed};
+ghost use Rattle.mapping.specs.Answers.{Placed, Climbed, FoundChild, Descended, Landed, MovedFrom, MovedTo};
 
 // The mapped node of element `e`, or `e`.
 pub fn upmap_node_single(map: &[u32], n: usize, e: usize) -> usize
@@ -167,4 +167,66 @@ pub fn land(
         return Found::Missing;
     }
     Found::At(to)
+}
+
+// Where an element goes and how many climb steps were taken, or a refusal.
+pub enum Moved {
+    To(usize, usize),
+    Refused(usize),
+}
+
+// Where `child` goes that stands below `input` by the first `depth` numbers of `place`: from `output` down the trail of `input`, then down
+// that place.
+fn upmap_below(
+    table: &[u32],
+    source: &[u32],
+    map: &[u32],
+    n: usize,
+    child: usize,
+    input: usize,
+    output: usize,
+    place: &[u32],
+    depth: usize,
+) -> Moved
+    requires { ⌜ Wellformed n (now table) (now source) ⌝ }
+    requires { ⌜ Mapped n (now map) ⌝ }
+    requires { ⌜ (child < n) × (input < n) × (output < n) × (depth ≤ length (now place)) ⌝ }
+    ensures { λ r. ⌜ MovedFrom n (now (table .entry)) (now (source .entry)) (now (map .entry)) input output child (backward depth (now (place .entry))) r ⌝ }
+{
+    let mut trail = [0u32; 2049];
+    let climb = upmap_to_ancestor(table, map, n, input, output, &mut trail);
+    match climb {
+        Climb::Refused(number) => Moved::Refused(number),
+        Climb::Trail(k) => {
+            let Found::At(x) = descend(table, source, n, output, &trail, k) else {
+                return Moved::Refused(9);
+            };
+            let Found::At(to) = land(table, source, n, child, x, place, depth) else {
+                return Moved::Refused(9);
+            };
+            Moved::To(to, k)
+        }
+    }
+}
+
+// Where `child` goes when `input` is replaced by `output`.
+pub fn upmap_child(
+    table: &[u32],
+    source: &[u32],
+    map: &[u32],
+    n: usize,
+    child: usize,
+    input: usize,
+    output: usize,
+) -> Moved
+    requires { ⌜ Wellformed n (now table) (now source) ⌝ }
+    requires { ⌜ Mapped n (now map) ⌝ }
+    requires { ⌜ (child < n) × (input < n) × (output < n) ⌝ }
+    ensures { λ r. ⌜ MovedTo n (now (table .entry)) (now (source .entry)) (now (map .entry)) input output child r ⌝ }
+{
+    let mut place = [0u32; 64];
+    let Below::Numbers(depth) = place_below(table, n, input, child, &mut place) else {
+        return Moved::Refused(9);
+    };
+    upmap_below(table, source, map, n, child, input, output, &place, depth)
 }
