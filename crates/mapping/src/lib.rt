@@ -7,6 +7,7 @@ ghost use Rattle.calls.specs.Wellformed.{Lines, Wellformed};
 ghost use Rattle.mapping.specs.Mapped.{mappedBy, Mapped};
 ghost use Rattle.mapping.specs.Backward.{backward};
 ghost use Rattle.mapping.specs.Answers.{Placed, Climbed, FoundChild, Descended, Landed, MovedFrom, MovedTo};
+ghost use Rattle.mapping.specs.Settling.{Nearest, OneMove, SettledAt};
 
 // The mapped node of element `e`, or `e`.
 pub fn upmap_node_single(map: &[u32], n: usize, e: usize) -> usize
@@ -229,4 +230,75 @@ pub fn upmap_child(
         return Moved::Refused(9);
     };
     upmap_below(table, source, map, n, child, input, output, &place, depth)
+}
+
+// The nearest ancestor of `e`, or `e` itself, that is mapped.
+fn nearest_mapped(table: &[u32], map: &[u32], n: usize, e: usize) -> Found
+    requires { ⌜ Lines n (now table) ⌝ }
+    requires { ⌜ Mapped n (now map) ⌝ }
+    requires { ⌜ e < n ⌝ }
+    ensures { λ r. ⌜ Nearest n (now (table .entry)) (now (map .entry)) e r ⌝ }
+{
+    let mut at = e;
+    while words::word(map, at) == 0 {
+        let p = calls::entry(table, at, 1);
+        if p == 0 {
+            return Found::Missing;
+        }
+        at = p - 1;
+    }
+    Found::At(at)
+}
+
+// Where a note's element settles, or a refusal.
+pub enum Settled {
+    At(usize),
+    Refused(usize),
+}
+
+// One move of `e`, which stands at or below `a`, to the same place under the output of `a`.
+fn upmap_from(table: &[u32], source: &[u32], map: &[u32], n: usize, a: usize, e: usize) -> Settled
+    requires { ⌜ Wellformed n (now table) (now source) ⌝ }
+    requires { ⌜ Mapped n (now map) ⌝ }
+    requires { ⌜ (a < n) × (e < n) ⌝ }
+    ensures { λ r. ⌜ OneMove n (now (table .entry)) (now (source .entry)) (now (map .entry)) a e r ⌝ }
+{
+    let output = upmap_node_single(map, n, a);
+    if calls::entry(table, output, 1) == a + 1 {
+        return Settled::Refused(10);
+    }
+    let mut place = [0u32; 64];
+    let Below::Numbers(depth) = place_below(table, n, a, e, &mut place) else {
+        return Settled::Refused(9);
+    };
+    let Found::At(to) = land(table, source, n, e, output, &place, depth) else {
+        return Settled::Refused(9);
+    };
+    Settled::At(to)
+}
+
+// Where a note on `e` settles: it moves until neither its element nor an ancestor is mapped.
+pub fn upmap_element(table: &[u32], source: &[u32], map: &[u32], n: usize, e: usize) -> Settled
+    requires { ⌜ Wellformed n (now table) (now source) ⌝ }
+    requires { ⌜ Mapped n (now map) ⌝ }
+    requires { ⌜ e < n ⌝ }
+    ensures { λ r. ⌜ SettledAt n (now (table .entry)) (now (source .entry)) (now (map .entry)) e r ⌝ }
+{
+    let mut at = e;
+    let mut left = n;
+    loop {
+        let Found::At(a) = nearest_mapped(table, map, n, at) else {
+            return Settled::At(at);
+        };
+        if left == 0 {
+            return Settled::Refused(10);
+        }
+        match upmap_from(table, source, map, n, a, at) {
+            Settled::Refused(number) => return Settled::Refused(number),
+            Settled::At(to) => {
+                at = to;
+                left -= 1;
+            }
+        }
+    }
 }
