@@ -2,10 +2,10 @@
 -- Assumes nothing.
 use native.Mathlib.Omega.{arith}
 use borrow.Author.Needs.{needs}
-use Rattle.mapping.proofs.Descending.{landing-none, landing-on-node, landing-refused, landing-of-token}
-use Rattle.mapping.specs.Answers.{within-at}
-use Rattle.mapping.proofs.land.Statement.{statement}
-use Rattle.mapping.proofs.land.Tie as tie
+use Rattle.upmap.proofs.Descending.{landing-none, landing-on-node, landing-refused, landing-of-token}
+use Rattle.upmap.specs.Answers.{within-at}
+use Rattle.upmap.proofs.land.Statement.{statement}
+use Rattle.upmap.proofs.land.Tie as tie
 
 descend-requires : tie.Need-descend-requires
 descend-requires c κs = search needs

@@ -1,10 +1,10 @@
 -- `upmap_child` meets its contract. One law for each answer.
 -- Assumes nothing.
 use borrow.Author.Needs.{needs}
 use Rattle.mapping.specs.Answers.{place-room}
-use Rattle.mapping.proofs.Moving.{moving-elsewhere, moving-from}
-use Rattle.mapping.proofs.upmap_child.Statement.{statement}
-use Rattle.mapping.proofs.upmap_child.Tie as tie
+use Rattle.upmap.proofs.Moving.{moving-elsewhere, moving-from}
+use Rattle.upmap.proofs.upmap_child.Statement.{statement}
+use Rattle.upmap.proofs.upmap_child.Tie as tie
 
 place-below-requires : tie.Need-place-below-requires
 place-below-requires c κs = search needs

@@ -1,10 +1,10 @@
 -- `upmap_from` meets its contract. One law for each answer.
 -- Assumes nothing.
 use borrow.Author.Needs.{needs}
-use Rattle.mapping.proofs.Notes.{move-stays, move-elsewhere, move-nowhere, move-to}
+use Rattle.upmap.proofs.Notes.{move-stays, move-elsewhere, move-nowhere, move-to}
 use Rattle.mapping.specs.Answers.{place-room}
-use Rattle.mapping.proofs.upmap_from.Statement.{statement}
-use Rattle.mapping.proofs.upmap_from.Tie as tie
+use Rattle.upmap.proofs.upmap_from.Statement.{statement}
+use Rattle.upmap.proofs.upmap_from.Tie as tie
 
 upmap-node-single-requires : tie.Need-upmap-node-single-requires
 upmap-node-single-requires c κs = search needs

@@ -1,10 +1,10 @@
 -- `nearest_mapped` meets its contract. At the loop's head the rest of the way up stands before it.
 -- Assumes nothing.
 use borrow.Author.Needs.{needs}
-use Rattle.mapping.proofs.Notes.{Rising, rising-start, rising-found, rising-none, rising-next}
+use Rattle.upmap.proofs.Notes.{Rising, rising-start, rising-found, rising-none, rising-next}
 use Rattle.mapping.proofs.Climbing.{parent-before}
-use Rattle.mapping.proofs.nearest_mapped.Statement.{statement}
-use Rattle.mapping.proofs.nearest_mapped.Tie as tie
+use Rattle.upmap.proofs.nearest_mapped.Statement.{statement}
+use Rattle.upmap.proofs.nearest_mapped.Tie as tie
 
 abbrev Inv-loop : tie.InvT-loop
 Inv-loop table map n e at₀ at = Rising n table map e at

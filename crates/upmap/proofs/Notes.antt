@@ -16,16 +16,17 @@ use Rattle.definition.specs.Rewriting.{mappedOr, nearest, isParent, noteFrom, s
 use Rattle.element_table.specs.View.{view, field, lineFrom, rowAt}
 use Rattle.calls.specs.Wellformed.{Lines}
 use Rattle.calls.specs.Told.{elementOf, row-view, parent-below, parent-told}
 use Rattle.mapping.specs.declared.Below.{Below}
 use Rattle.mapping.specs.declared.Below.the-variants.{Numbers, Elsewhere}
-use Rattle.mapping.specs.declared.Found.{Found}
-use Rattle.mapping.specs.declared.Found.the-variants.{At, Missing}
-use Rattle.mapping.specs.declared.Settled.{Settled}
-use Rattle.mapping.specs.declared.Settled.the-variants.{At as Rests, Refused}
+use Rattle.upmap.specs.declared.Found.{Found}
+use Rattle.upmap.specs.declared.Found.the-variants.{At, Missing}
+use Rattle.upmap.specs.declared.Settled.{Settled}
+use Rattle.upmap.specs.declared.Settled.the-variants.{At as Rests, Refused}
 use Rattle.mapping.specs.Mapped.{mappedBy}
 use Rattle.mapping.specs.Backward.{backward}
-use Rattle.mapping.specs.Answers.{below, Placed, found, within-at, Landed}
-use Rattle.mapping.specs.Settling.{Nearest, settledBy, settled-at, OneMove, SettledAt}
+use Rattle.mapping.specs.Answers.{below, Placed}
+use Rattle.upmap.specs.Answers.{found, within-at, Landed}
+use Rattle.upmap.specs.Settling.{Nearest, settledBy, settled-at, OneMove, SettledAt}
 
 -- ── The nearest mapped ancestor ─────────────────────────────────────────────────────────────────────────────
 

@@ -1,10 +1,10 @@
 -- `upmap_element` meets its contract. At the loop's head the rest of the definition's moves stands before it, with as many left.
 -- Assumes nothing.
 use borrow.Author.Needs.{needs}
-use Rattle.mapping.proofs.Notes.{Settling, settling-start, settling-done, settling-10, settling-refused, settling-next}
-use Rattle.mapping.specs.Answers.{within-at}
-use Rattle.mapping.proofs.upmap_element.Statement.{statement}
-use Rattle.mapping.proofs.upmap_element.Tie as tie
+use Rattle.upmap.proofs.Notes.{Settling, settling-start, settling-done, settling-10, settling-refused, settling-next}
+use Rattle.upmap.specs.Answers.{within-at}
+use Rattle.upmap.proofs.upmap_element.Statement.{statement}
+use Rattle.upmap.proofs.upmap_element.Tie as tie
 
 abbrev Inv-loop : tie.InvT-loop
 Inv-loop table source map n e at₀ left₀ at left = Settling n table source map e at left

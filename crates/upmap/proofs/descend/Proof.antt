@@ -1,9 +1,9 @@
 -- `descend` meets its contract. At the loop's head the way down from where it stands is left.
 -- Assumes nothing.
 use borrow.Author.Needs.{needs}
-use Rattle.mapping.proofs.Descending.{Descending, descending-start, descending-none, descending-next, descending-done}
-use Rattle.mapping.proofs.descend.Statement.{statement}
-use Rattle.mapping.proofs.descend.Tie as tie
+use Rattle.upmap.proofs.Descending.{Descending, descending-start, descending-none, descending-next, descending-done}
+use Rattle.upmap.proofs.descend.Statement.{statement}
+use Rattle.upmap.proofs.descend.Tie as tie
 
 abbrev Inv-loop : tie.InvT-loop
 Inv-loop table source n r numbers k at₀ left₀ at left = Descending n table source r numbers k at left

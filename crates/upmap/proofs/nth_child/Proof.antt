@@ -1,10 +1,10 @@
 -- `nth_child` meets its contract. At the loop's head the siblings from where it stands are left.
 -- Assumes nothing.
 use borrow.Author.Needs.{needs}
-use Rattle.mapping.proofs.Descending.{Siblings, no-child-beyond, siblings-start, siblings-next, siblings-done}
+use Rattle.upmap.proofs.Descending.{Siblings, no-child-beyond, siblings-start, siblings-next, siblings-done}
 use Prim.Native.Nat.{_-_}
-use Rattle.mapping.proofs.nth_child.Statement.{statement}
-use Rattle.mapping.proofs.nth_child.Tie as tie
+use Rattle.upmap.proofs.nth_child.Statement.{statement}
+use Rattle.upmap.proofs.nth_child.Tie as tie
 
 abbrev Inv-loop : tie.InvT-loop
 Inv-loop table source n e i c₀ j₀ c j = Siblings n table source e i c j

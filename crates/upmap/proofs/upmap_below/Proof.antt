@@ -1,10 +1,11 @@
 -- `upmap_below` meets its contract. One law for each answer.
 -- Assumes nothing.
 use borrow.Author.Needs.{needs}
-use Rattle.mapping.proofs.Moving.{moving-refused, moving-missing, moving-nowhere, moving-to}
-use Rattle.mapping.specs.Answers.{within-at, trail-room}
-use Rattle.mapping.proofs.upmap_below.Statement.{statement}
-use Rattle.mapping.proofs.upmap_below.Tie as tie
+use Rattle.upmap.proofs.Moving.{moving-refused, moving-missing, moving-nowhere, moving-to}
+use Rattle.mapping.specs.Answers.{trail-room}
+use Rattle.upmap.specs.Answers.{within-at}
+use Rattle.upmap.proofs.upmap_below.Statement.{statement}
+use Rattle.upmap.proofs.upmap_below.Tie as tie
 
 upmap-to-ancestor-requires : tie.Need-upmap-to-ancestor-requires
 upmap-to-ancestor-requires c κs = search needs

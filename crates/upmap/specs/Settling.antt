@@ -6,11 +6,11 @@ use Prim.Native.Nat.{ℕ, _<_}
 use Rattle.definition.specs.Basics.{Answer, refused, gives}
 use Rattle.definition.specs.Rewriting.{nearest, noteFrom, settle}
 use Rattle.element_table.specs.View.{view}
-use Rattle.mapping.specs.declared.Found.{Found}
-use Rattle.mapping.specs.declared.Settled.{Settled}
-use Rattle.mapping.specs.declared.Settled.the-variants.{At, Refused}
+use Rattle.upmap.specs.declared.Found.{Found}
+use Rattle.upmap.specs.declared.Settled.{Settled}
+use Rattle.upmap.specs.declared.Settled.the-variants.{At, Refused}
 use Rattle.mapping.specs.Mapped.{mappedBy}
-use Rattle.mapping.specs.Answers.{found, Within}
+use Rattle.upmap.specs.Answers.{found, Within}
 
 -- the nearest mapped ancestor of e, or e
 pub record Nearest (n : ℕ) (table map : List ℕ) (e : ℕ) (answer : Found) : Type 0 where

@@ -16,10 +16,10 @@ use Rattle.definition.specs.Rewriting.{land}
 use Rattle.element_table.specs.View.{view, field, siblings}
 use Rattle.calls.specs.Wellformed.{Wellformed}
 use Rattle.calls.specs.Told.{row-view, node-told, childCount, children-told, length-siblings}
-use Rattle.mapping.specs.declared.Found.{Found}
-use Rattle.mapping.specs.declared.Found.the-variants.{At, Missing}
+use Rattle.upmap.specs.declared.Found.{Found}
+use Rattle.upmap.specs.declared.Found.the-variants.{At, Missing}
 use Rattle.mapping.specs.Backward.{backward, backward-none, backward-read}
-use Rattle.mapping.specs.Answers.{found, within-at, FoundChild, Descended, Landed}
+use Rattle.upmap.specs.Answers.{found, within-at, FoundChild, Descended, Landed}
 
 -- ── Siblings ────────────────────────────────────────────────────────────────────────────────────────────────
 

@@ -10,17 +10,18 @@ use Rattle.definition.specs.Basics.{refused, gives, _>>=_, orRefuse}
 use Rattle.definition.specs.Elements.{Table, row, descend}
 use Rattle.definition.specs.Rewriting.{trail, land, moved}
 use Rattle.element_table.specs.View.{view}
 use Rattle.mapping.specs.declared.Below.{Below}
 use Rattle.mapping.specs.declared.Below.the-variants.{Numbers, Elsewhere}
 use Rattle.mapping.specs.declared.Climb.{Climb}
 use Rattle.mapping.specs.declared.Climb.the-variants.{Trail, Refused}
-use Rattle.mapping.specs.declared.Found.{Found}
-use Rattle.mapping.specs.declared.Found.the-variants.{At, Missing}
-use Rattle.mapping.specs.declared.Moved.{Moved}
-use Rattle.mapping.specs.declared.Moved.the-variants.{To, Refused as RefusedMove}
+use Rattle.upmap.specs.declared.Found.{Found}
+use Rattle.upmap.specs.declared.Found.the-variants.{At, Missing}
+use Rattle.upmap.specs.declared.Moved.{Moved}
+use Rattle.upmap.specs.declared.Moved.the-variants.{To, Refused as RefusedMove}
 use Rattle.mapping.specs.Mapped.{mappedBy}
 use Rattle.mapping.specs.Backward.{backward, length-backward}
-use Rattle.mapping.specs.Answers.{below, Placed, climbed, Climbed, trail-room, found, within-at, Descended, Landed, movedBy, movedFrom, MovedFrom, MovedTo}
+use Rattle.mapping.specs.Answers.{below, Placed, climbed, Climbed, trail-room}
+use Rattle.upmap.specs.Answers.{found, within-at, Descended, Landed, movedBy, movedFrom, MovedFrom, MovedTo}
 
 -- down one path, and then down another
 descend-append : (T : Table) (r : ℕ) (q p : Path) → descend T r (q ++ p) ≡ bind (descend T r q) (λ x. descend T x p)
