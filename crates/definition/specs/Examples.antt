@@ -110,6 +110,7 @@ onZ calls = record {
 abbrev Short : Type 0
 Short = Answer (List ℕ × List ℕ × ℕ)
 
+-- that much of an answer
 unfoldable pub short : Answer Result → Short
 short answer = answer >>= λ r. gives (r .text, r .changed, r .discarded)
 
