@@ -1,5 +1,11 @@
 -- Laws of document 01's definitions, each stated once for all later work.
+--     Basics     lists
+--     Measures   elements, text and depth of trees as a list
+--     Spelling   kind words, measures and text in preorder spell the trees, and no others
 --     Sorting    the sorted order is a stable permutation, also where places are sorted and not the elements
 --     Regions    the last region that contains a change is the one that popping finds
+pub mod Basics
+pub mod Measures
+pub mod Spelling
 pub mod Sorting
 pub mod Regions
