@@ -4,6 +4,7 @@
 --     Spelling   kind words, measures and text in preorder spell the trees, and no others
 --     Rows       which element each row of the table tells, and that it tells each
 --     Kin        paths, parents, children and descents, as the table tells them
+--     Moves      what survives of paths, whatever the splices
 --     Sorting    the sorted order is a stable permutation, also where places are sorted and not the elements
 --     Regions    the last region that contains a change is the one that popping finds
 pub mod Basics
@@ -11,5 +12,6 @@ pub mod Measures
 pub mod Spelling
 pub mod Rows
 pub mod Kin
+pub mod Moves
 pub mod Sorting
 pub mod Regions
