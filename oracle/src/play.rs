@@ -16,6 +16,9 @@ use crate::{
     syntax_editor::{Position, SyntaxAnnotation, SyntaxEdit, SyntaxEditor, SyntaxMappingBuilder},
 };
 
+/// The most tracked notes that document 01 allows.
+const MOST_NOTES: usize = 1_024;
+
 /// The answer in document 01's printed form or in a word, and a remark on how it came about.
 pub struct Answer {
     pub printed: String,
@@ -41,27 +44,24 @@ pub fn answer(data: &[u8]) -> Answer {
     let data = &data[..data.len().min(MOST_BYTES)];
     let batch = match read(data) {
         Ok(batch) => batch,
-        Err(number) => {
-            return Answer { printed: format!("refused {number}\n"), remark: "reader".to_owned() };
-        }
+        Err(number) => return Answer { printed: format!("refused {number}\n"), remark: "reader".to_owned() },
     };
     watch::reset();
     let roots = batch.roots.iter().map(|&it| SyntaxNode::new_root(green_node(&batch, it))).collect::<Vec<_>>();
-    let editor = Player { batch: &batch, roots: &roots }.editor();
-    let recorded = editor.recorded();
-    watch::begin(batch.elements.len() as u64, recorded as u64, batch.notes.len() as u64);
+    let player = Player { batch: &batch, roots: &roots };
+    let editor = player.editor(0);
+    let recorded = editor.recorded() as u64;
+    watch::begin(batch.elements.len() as u64, recorded, batch.notes.len() as u64);
     let outcome = catch_unwind(AssertUnwindSafe(|| editor.finish()));
     let seen = watch::end();
     let childless = if seen.childless { "childless " } else { "" };
     let (printed, remark) = match outcome {
         _ if seen.reported => ("overlap\n".to_owned(), report(outcome.ok())),
-        Ok(edit) => {
-            let discarded = recorded as u64 - seen.steps;
-            (print(&batch, &edit, discarded, seen.climb_steps), find(&batch, &roots[0], &edit))
-        }
+        Ok(_) if player.too_many_notes() => ("large\n".to_owned(), "notes".to_owned()),
+        Ok(edit) => (print(&batch, &edit, recorded - seen.steps, seen.climb_steps), find(&batch, &roots[0], &edit)),
         Err(payload) => match payload.downcast::<watch::Stop>() {
             Ok(why) if matches!(*why, watch::Stop::Loop) => ("loop\n".to_owned(), String::new()),
-            Ok(_) => ("large\n".to_owned(), String::new()),
+            Ok(_) => ("large\n".to_owned(), "trees".to_owned()),
             Err(_) => ("panic\n".to_owned(), PANIC.take()),
         },
     };
@@ -103,11 +103,12 @@ impl Player<'_> {
     }
 
     /// One editor for each part of the calls between operations 6, with its share of the mappings and notes, all merged into the first.
-    fn editor(&self) -> SyntaxEditor {
+    /// `home` is the tree whose outcome is asked for.
+    fn editor(&self, home: usize) -> SyntaxEditor {
         let parts = self.batch.calls.split(|call| call.operation == 6).collect::<Vec<_>>();
         let share = |len: usize, i: usize| len * i / parts.len()..len * (i + 1) / parts.len();
         let mut editors = parts.iter().enumerate().map(|(i, calls)| {
-            let (editor, _) = SyntaxEditor::new(self.roots[0].clone());
+            let (editor, _) = SyntaxEditor::new(self.roots[home].clone());
             for (place, call) in calls.iter().enumerate() {
                 self.call(&editor, call, place);
             }
@@ -122,6 +123,17 @@ impl Player<'_> {
         let first = editors.next().expect("one part at least");
         editors.for_each(|it| first.merge(it));
         first
+    }
+
+    /// Whether all trees together hold more notes after an accepted batch than document 01 allows. The Rust shows the notes of one tree, so
+    /// each tree is asked in turn, if copies of notes can have come to so many at all.
+    fn too_many_notes(&self) -> bool {
+        let copies = self.batch.calls.iter().map(|it| 1 + it.listed.len()).fold(1, usize::saturating_mul);
+        if self.batch.notes.len().saturating_mul(copies) <= MOST_NOTES {
+            return false;
+        }
+        let edits = (0..self.roots.len()).map(|home| self.editor(home).finish());
+        edits.map(|edit| notes(self.batch, &edit).len()).sum::<usize>() > MOST_NOTES
     }
 
     fn map(&self, editor: &SyntaxEditor, input: usize, output: usize) {
@@ -161,17 +173,20 @@ fn annotation(number: u32) -> SyntaxAnnotation {
     SyntaxAnnotation::numbered(NonZeroU32::new(number).expect("no note is numbered 0"))
 }
 
+/// Note numbers and elements in the order of the answer.
+fn notes(batch: &Batch, edit: &SyntaxEdit) -> Vec<(u32, usize)> {
+    let numbers = batch.notes.iter().map(|it| it.1).collect::<BTreeSet<_>>();
+    let found = |number| edit.find_annotation(annotation(number)).iter().map(move |it| (number, it.number()));
+    numbers.into_iter().flat_map(found).collect()
+}
+
 /// The printed form of an accepted batch.
 fn print(batch: &Batch, edit: &SyntaxEdit, discarded: u64, climb_steps: u64) -> String {
     let root = edit.new_root();
     let elements = (0..root.tree_len()).map(|it| root.element(it)).collect::<Vec<_>>();
     let text = elements.iter().flat_map(|it| it.own_text()).map(|it| format!("{it:02x}")).collect::<String>();
     let changed = edit.changed_elements();
-    let numbers = batch.notes.iter().map(|it| it.1).collect::<BTreeSet<_>>();
-    let notes = numbers
-        .into_iter()
-        .flat_map(|number| edit.find_annotation(annotation(number)).iter().map(move |it| (number, it.number())))
-        .collect::<Vec<_>>();
+    let notes = notes(batch, edit);
     let (n, b, c, a) = (elements.len(), text.len() / 2, changed.len(), notes.len());
     let mut out = format!("ok {n} {b} {c} {a} {discarded} {climb_steps}\n");
     for element in &elements {
