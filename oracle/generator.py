@@ -358,31 +358,34 @@ def growing(d):
     return batch
 
 
-def exact(d):
-    """Insertions of copies that reach a limit of line 12 exactly, or miss it by one."""
-    sort, copies, over = d.below(4), d.between(4, 9), d.between(-1, 1)
-    small, big = node(1, node(1, token(1, b"a"))), node(1)
-    notes = []
-    if sort == 0:  # elements: those of both trees, and the copies
+ELEMENTS, TEXT, DEPTH, NOTES = range(4)
+
+
+def reach(sort, copies, over):
+    """Insertions of so many copies (4 to 9) that come to a limit of line 12 and `over` more (-1 to 1)."""
+    small, big, notes = node(1, node(1, token(1, b"a"))), node(1, token(2)), []
+    place_after, part = small.children[0], 0
+    if sort == ELEMENTS:  # those of both trees, and the copies
         part = 4000 // (copies + 1)
         big.children = [token(2) for _ in range(part - 1)]
         small.children += [token(3) for _ in range(4096 + over - part * (copies + 1) - 3)]
-    elif sort == 1:  # text
+    elif sort == TEXT:
         part = 16000 // (copies + 1)
         big.children = [token(2, b"x" * part)]
         small.children.append(token(3, b"y" * (16384 + over - part * (copies + 1) - 1)))
-    elif sort == 2:  # depth: the copies come to stand at depth 2
-        big.children = [token(2)]
+    elif sort == DEPTH:  # the copies stand at depth 3
         for _ in range(60 + over):
             big.children = [node(1, *big.children)]
-    else:  # notes
+        place_after = place_after.children[0]
+    else:
         part = 1000 // (copies + 1)
-        big.children = [token(2)]
         notes = [(big.children[0], 1)] * part + [(small, 2)] * (1024 + over - part * (copies + 1))
-    calls = [(AFTER, small.children[0], [big]) for _ in range(copies)]
-    if sort == 2 and over == 1:
-        calls.append((AFTER, small.children[0].children[0], [big]))
-    return Batch([small, big], calls, notes=notes)
+    return Batch([small, big], [(AFTER, place_after, [big]) for _ in range(copies)], notes=notes)
+
+
+def exact(d):
+    """Insertions of copies that reach a limit of line 12 exactly, or miss it by one."""
+    return reach(d.below(4), d.between(4, 9), d.between(-1, 1))
 
 
 def large(d):

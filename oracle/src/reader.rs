@@ -2,8 +2,7 @@
 
 pub const MOST_BYTES: usize = 65_536;
 const NODE: u32 = 1 << 31;
-const LIMITS: [(u64, u64); 7] =
-    [(1, 16), (0, 2_048), (0, 16_384), (0, 256), (0, 1_024), (0, 1_024), (0, 256)];
+const LIMITS: [(u64, u64); 7] = [(1, 16), (0, 2_048), (0, 16_384), (0, 256), (0, 1_024), (0, 1_024), (0, 256)];
 const MOST_DEPTH: usize = 64;
 
 pub struct Element {

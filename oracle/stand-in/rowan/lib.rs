@@ -135,11 +135,7 @@ impl GreenElement {
 
 impl GreenNodeData {
     /// This node with `range` of its children replaced.
-    pub fn splice_children(
-        &self,
-        range: Range<usize>,
-        replace_with: impl IntoIterator<Item = GreenElement>,
-    ) -> GreenNode {
+    pub fn splice_children(&self, range: Range<usize>, replace_with: impl IntoIterator<Item = GreenElement>) -> GreenNode {
         let mut children = self.0.children.clone();
         children.splice(range, replace_with);
         GreenNode::new(self.0.kind, children)
