@@ -1,4 +1,4 @@
--- The public calls: from a batch to its answer.
+-- The public calls: from a batch to its answer; refusal 1.
 -- Assumes nothing.
 use mathlib.Core.Bool.{Bool}
 use mathlib.Core.List.{List}
@@ -6,11 +6,11 @@ use mathlib.Core.Option.{none}
 use Prim.Native.Nat.{ℕ}
 use lib.ListN.{length}
 use lib.Dec.{ltb}
-use Rattle.definition.specs.Basics.{Answer, gives, _>>=_, refuse, any}
+use Rattle.definition.specs.Basics.{Answer, gives, _>>=_, refuse, isSome, any}
 use Rattle.definition.specs.Refusals.{Accepted, accepted}
 use Rattle.definition.specs.Recording.{recorded}
 use Rattle.definition.specs.Planning.{Planned, sorted, overlap, planned}
-use Rattle.definition.specs.Rewriting.{Note, rewritten, settled}
+use Rattle.definition.specs.Rewriting.{Note, mapping, rewritten, settled}
 use Rattle.definition.specs.Running.{World, begin, ranked, order, steps}
 use Rattle.definition.specs.Finishing.{Result, result, fitting, encoded}
 
@@ -20,23 +20,28 @@ pub record Plan : Type 0 where
   pub climbs : ℕ
   pub notes : List Note
 
--- 8: "Replacements overlap." Then 9 and 10: "dependents from the last to the first, ... bind notes in order"
+-- 8: "Replacements overlap." Then 9 and 10: "dependents from the last to the first, ... then notes in order"
 unfoldable pub plan : Accepted → Answer Plan
 plan a = do
   let T = a .table
   let cs = sorted T (recorded a.calls)
-  _ ← refuse 8 (overlap T cs)
-  ps ← rewritten T a.mappings (planned T cs)
-  notes ← settled T a.mappings 0 a.notes
+  _ ← refuse 8 (isSome (overlap T cs))
+  let mapped = mapping a.mappings
+  ps ← rewritten T mapped (planned T cs)
+  notes ← settled T mapped 0 a.notes
   gives (record { changes = ps .0; climbs = ps .1; notes = notes })
 
 -- the performed changes in the order in which they run
 unfoldable pub performed : Accepted → Plan → List Planned
 performed a p = order (ranked a.table p.changes) (length p.changes) none
 
--- what the current trees, paths, notes and changed elements are after all steps
+-- what the current trees, paths, notes and changed elements are before the first step
+unfoldable pub atFirst : Accepted → Plan → World
+atFirst a p = begin a.trees a.table p.notes
+
+-- what they are after all steps
 unfoldable pub ran : Accepted → Plan → Answer World
-ran a p = steps a.table p.notes (begin a.trees a.table p.notes) (performed a p)
+ran a p = steps a.table (atFirst a p) (atFirst a p) (performed a p)
 
 -- a batch's edit, or its refusal out of 2 to 12
 unfoldable pub edit : List ℕ → Answer Result
@@ -45,13 +50,6 @@ edit bytes = do
   p ← plan a
   w ← ran a p
   gives (result p.changes p.climbs w)
-
--- THE EDIT: the bytes of the result, in a buffer of `room` bytes, or the refusal out of 2 to 13
-unfoldable pub edited : List ℕ → ℕ → Answer (List ℕ)
-edited bytes room = do
-  r ← edit bytes
-  r ← fitting room r
-  gives (encoded r)
 
 -- 1: "A work slice is shorter than its length in docs/": each work slice as its length and the length that it needs
 unfoldable pub tooShort : List (ℕ × ℕ) → Bool
@@ -62,3 +60,10 @@ unfoldable pub withWork : {A : Type 0} → List (ℕ × ℕ) → Answer A → An
 withWork work answer = do
   _ ← refuse 1 (tooShort work)
   answer
+
+-- THE EDIT: the bytes of the result, in a buffer of `room` bytes, or the refusal out of 1 to 13
+unfoldable pub edited : List (ℕ × ℕ) → List ℕ → ℕ → Answer (List ℕ)
+edited work bytes room = withWork work (do
+  r ← edit bytes
+  r ← fitting room r
+  gives (encoded r))

@@ -1,11 +1,13 @@
 -- What every part uses: an answer or a refusal, tests on lists, the stable sort.
 -- Assumes nothing.
 use mathlib.Core.Bool.{Bool, true, false, cond, _&&_, _||_}
-use mathlib.Core.List.{List, [], _∷_, _++_}
+use mathlib.Core.List.{List, [], _∷_}
 use mathlib.Core.Option.{Option, none, some}
-use Prim.Native.Nat.{ℕ, zero, suc, _+_}
+use Prim.Native.Nat.{ℕ, suc}
+use lib.Dec.{ltb, eqb}
 use Rattle.orders.specs.Lists.{pick}
-use lib.Dec.{leb, ltb, eqb}
+
+-- ── Answers ─────────────────────────────────────────────────────────────────────────────────────────────────
 
 -- "A refusal returns its number only"
 pub data Answer (A : Type 0) : Type 0 where
@@ -26,6 +28,13 @@ refuse n wrong = cond wrong (refused n) (gives tt)
 unfoldable pub orRefuse : {A : Type 0} → ℕ → Option A → Answer A
 orRefuse n none = refused n
 orRefuse n (some a) = gives a
+
+-- there is something
+unfoldable pub isSome : {A : Type 0} → Option A → Bool
+isSome none = false
+isSome (some a) = true
+
+-- ── Lists ───────────────────────────────────────────────────────────────────────────────────────────────────
 
 -- some element passes the test
 unfoldable pub any : {A : Type 0} → (A → Bool) → List A → Bool
@@ -50,23 +59,25 @@ unfoldable pub numbered : {A : Type 0} → ℕ → List A → List (ℕ × A)
 numbered n [] = []
 numbered n (x ∷ l) = (n, x) ∷ numbered (suc n) l
 
+-- ── Sorting ─────────────────────────────────────────────────────────────────────────────────────────────────
+
 -- a key is lower than another: number by number, the first that differs decides
 unfoldable pub lower : List ℕ → List ℕ → Bool
 lower [] l = false
 lower (a ∷ k) [] = false
 lower (a ∷ k) (b ∷ l) = ltb a b || (eqb a b && lower k l)
 
--- sorted, stably, so that no element `comes` before one that stands to its left
+-- x put before all that do not `come` before it
 unfoldable pub insertBy : {A : Type 0} → (A → A → Bool) → A → List A → List A
 insertBy comes x [] = x ∷ []
 insertBy comes x (y ∷ l) = let later = y ∷ insertBy comes x l in cond (comes y x) later (x ∷ y ∷ l)
 
--- the whole list so sorted
+-- sorted, stably, so that no element comes before one that stands to its left
 unfoldable pub sortBy : {A : Type 0} → (A → A → Bool) → List A → List A
 sortBy comes [] = []
 sortBy comes (x ∷ l) = insertBy comes x (sortBy comes l)
 
--- keys rise; keys fall
+-- from the lowest key to the highest, stably
 unfoldable pub rising : {A : Type 0} → (A → List ℕ) → List A → List A
 rising key l = sortBy (λ x y. lower (key x) (key y)) l
 

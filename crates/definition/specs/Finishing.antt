@@ -1,21 +1,23 @@
--- Finishing: the result, and its bytes.
+-- Finishing: the result, and its bytes; refusal 13.
 -- Assumes nothing.
 use mathlib.Core.Bool.{Bool, true, false, cond}
-use mathlib.Core.List.{List, [], _∷_, _++_, map}
+use mathlib.Core.List.{List, [], _∷_, _++_, map, flatMap}
 use mathlib.Core.Option.{Option, none, some, Option·map}
-use Prim.Native.Nat.{ℕ, zero, suc, _+_}
+use Prim.Native.Nat.{ℕ}
 use lib.ListN.{length, take}
 use lib.Dec.{ltb, eqb}
 use Rattle.orders.specs.Lists.{pick}
+use Rattle.orders.specs.Tree.{Tree, Path, list, label, text, measure, children, preorder}
 use Rattle.definition.specs.Basics.{Answer, gives, _>>=_, refuse, keep, rising}
 use Rattle.definition.specs.Words.{written}
-use Rattle.orders.specs.Tree.{Tree, Path, list, textOf, forest, measure, children}
-use Rattle.definition.specs.Shape.{Table, table, row, descend}
+use Rattle.definition.specs.Elements.{Table, table, row, descend}
 use Rattle.definition.specs.Planning.{Planned, isDiscarded}
 use Rattle.definition.specs.Rewriting.{Note}
 use Rattle.definition.specs.Running.{World}
 
--- tree 0 as it is now, and its rows
+-- ── The new tree ────────────────────────────────────────────────────────────────────────────────────────────
+
+-- tree 0 as it is now (a list of one)
 unfoldable pub newTree : World → List (Tree ℕ)
 newTree w = take 1 (list (children w.trees))
 
@@ -32,10 +34,12 @@ numberAt F (t ∷ p) = cond (eqb t 0) (descend F 0 p) none
 unfoldable pub changedElements : Table → World → List ℕ
 changedElements F w = rising (λ e. (row F e) .start ∷ []) (pick (numberAt F) w.changed)
 
--- "Notes rise by number, bind by queue place, bind start, ties by time." Each with its element
+-- "Notes rise by number, then by queue place, then start, ties by time." Each with its element
 unfoldable pub noteElements : Table → World → List (Note × ℕ)
 noteElements F w =
     rising (λ m. m .0 .number ∷ m .0 .place ∷ (row F (m .1)) .start ∷ []) (pick (λ n. Option·map (λ e. (n, e)) (numberAt F n.path)) w.notes)
+
+-- ── The result ──────────────────────────────────────────────────────────────────────────────────────────────
 
 -- "The result: sizes (elements, text bytes, changed, notes, discarded changes, climb steps), kinds, measures, changed element numbers, note numbers,
 -- note elements, text, array after array."
@@ -52,15 +56,16 @@ pub record Result : Type 0 where
 -- the result, from the changes with their fates, the climb steps, and what the steps left
 unfoldable pub result : List Planned → ℕ → World → Result
 result ps climbs w =
+    let elements = flatMap preorder (newTree w) in
     let F = newTable w in
     let notes = noteElements F w in
     record {
-      kinds = map (λ r. r .kind) F;
-      measures = map (λ r. measure r.self) F;
+      kinds = map label elements;
+      measures = map measure elements;
       changed = changedElements F w;
       numbers = map (λ m. m .0 .number) notes;
       noted = map (λ m. m .1) notes;
-      text = textOf (forest (newTree w));
+      text = flatMap text (newTree w);
       discarded = length (keep (λ p. isDiscarded p.fate) ps);
       climbs = climbs;
     }

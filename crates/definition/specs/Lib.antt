@@ -1,26 +1,24 @@
--- Document 01, as definitions that compute. In reading order:
+-- Document 01, as definitions that compute, on the trees, paths and splices of `orders`. In reading order:
 --     Basics       an answer or a refusal, tests on lists, the stable sort
---     Words        words in bytes
---     Tree         trees, paths, splices (from demand 3's study), and what is measured of them
---     Batch        the batch: sizes, limits, arrays                          refusals 2, 3, 4
---     Shape        the batch: the trees it spells, and what is known of each element   5
---     Refusals     calls, mappings, notes; a batch accepted                  6, 7
+--     Words        the batch: words in bytes
+--     Batch        the batch: sizes, limits, arrays                                  refusals 2, 3, 4
+--     Elements     the batch: the trees it spells, and what is known of each element            5
+--     Refusals     calls, mappings, notes; a batch accepted                                  6, 7
 --     Recording    from calls to changes
---     Planning     sorting, overlap, owners and discarded changes            8
---     Rewriting    a dependent's targets, and the notes                      9, 10
---     Running      the order, and one step                                   11, 12
---     Finishing    the result and its bytes                                  13
---     Answers      THE EDIT, all in a row                                    1
+--     Planning     sorting, overlap, owners and discarded changes                               8
+--     Rewriting    a dependent's targets, and the notes                                     9, 10
+--     Running      the order, and one step                                                 11, 12
+--     Finishing    the result and its bytes                                                    13
+--     Answers      THE EDIT, all in a row                                                       1
 --     FindElement  `find_element`
+--     Performed    the splices that a batch performs on tree 0, as demand 3 speaks of them
 --     Printed      what the edit program prints
---     Splices      splices, one go, apart: the words of demand 3
---     Performed    the splices that a batch performs
 --     Computing    every definition opened, for examples
 --     Examples     the printed case and the marked examples, one table
 pub mod Basics
 pub mod Words
 pub mod Batch
-pub mod Shape
+pub mod Elements
 pub mod Refusals
 pub mod Recording
 pub mod Planning
@@ -29,7 +27,7 @@ pub mod Running
 pub mod Finishing
 pub mod Answers
 pub mod FindElement
-pub mod Printed
 pub mod Performed
+pub mod Printed
 pub mod Computing
 pub mod Examples

@@ -1,14 +1,14 @@
 -- Planning: sorting, refusal 8, and what becomes of each change.
 -- Assumes nothing.
-use mathlib.Core.Bool.{Bool, true, false, cond, not, _&&_, _||_}
-use mathlib.Core.List.{List, [], _∷_, _++_}
+use mathlib.Core.Bool.{Bool, true, false, cond, not, _&&_}
+use mathlib.Core.List.{List, [], _∷_}
 use mathlib.Core.Option.{Option, none, some}
-use Prim.Native.Nat.{ℕ, zero, suc, _-_}
+use Prim.Native.Nat.{ℕ, suc, _-_}
 use lib.ListN.{getD, set, replicate}
 use lib.Dec.{leb, ltb, eqb}
-use Rattle.definition.specs.Basics.{keep, first, rising}
-use Rattle.definition.specs.Shape.{Table, row, node?, root?, depth, tree}
-use Rattle.definition.specs.Recording.{Place, firstChild, after, Change, insert, replace, delete, many, run}
+use Rattle.definition.specs.Basics.{keep, first, numbered, rising}
+use Rattle.definition.specs.Elements.{Table, row, node?, root?, depth, tree}
+use Rattle.definition.specs.Recording.{Place, firstChild, after, Change, insert, replace, delete, replaceWithMany, replaceAll}
 
 -- ── Sorting ─────────────────────────────────────────────────────────────────────────────────────────────────
 
@@ -17,16 +17,16 @@ unfoldable pub target : Change → ℕ
 target (insert p x l) = x
 target (replace x y) = x
 target (delete x) = x
-target (many x l) = x
-target (run x y l) = x
+target (replaceWithMany x l) = x
+target (replaceAll x y l) = x
 
--- "bind insert, run, replace (3 and 4 count as replace)"
+-- "then insert, run, replace (3 and 4 count as replace)"
 unfoldable pub rank : Change → ℕ
 rank (insert p x l) = 0
-rank (run x y l) = 1
+rank (replaceAll x y l) = 1
 rank (replace x y) = 2
 rank (delete x) = 2
-rank (many x l) = 2
+rank (replaceWithMany x l) = 2
 
 module _ (T : Table) where
   -- the start of its range: "An insertion has an empty range: at the end of its target, or at the start of the first child" (which is where its parent starts)
@@ -35,8 +35,8 @@ module _ (T : Table) where
   from (insert after x l) = (row T x) .end
   from (replace x y) = (row T x) .start
   from (delete x) = (row T x) .start
-  from (many x l) = (row T x) .start
-  from (run x y l) = (row T x) .start
+  from (replaceWithMany x l) = (row T x) .start
+  from (replaceAll x y l) = (row T x) .start
 
   -- the end of its range
   unfoldable pub to : Change → ℕ
@@ -44,8 +44,8 @@ module _ (T : Table) where
   to (insert after x l) = (row T x) .end
   to (replace x y) = (row T x) .end
   to (delete x) = (row T x) .end
-  to (many x l) = (row T x) .end
-  to (run x y l) = (row T y) .end
+  to (replaceWithMany x l) = (row T x) .end
+  to (replaceAll x y l) = (row T y) .end
 
   -- the depth of x's parent; of a root, its own
   unfoldable pub above : ℕ → ℕ
@@ -57,14 +57,14 @@ module _ (T : Table) where
   parentDepth (insert after x l) = above x
   parentDepth (replace x y) = above x
   parentDepth (delete x) = above x
-  parentDepth (many x l) = above x
-  parentDepth (run x y l) = above x
+  parentDepth (replaceWithMany x l) = above x
+  parentDepth (replaceAll x y l) = above x
 
-  -- "range start, bind depth of target parent, bind insert, run, replace"
+  -- "range start, then depth of target parent, then insert, run, replace"
   unfoldable pub key : Change → List ℕ
   key c = from c ∷ parentDepth c ∷ rank c ∷ []
 
-  -- "Changes are sorted, stably, by range start, bind depth of target parent, bind insert, run, replace"
+  -- "Changes are sorted, stably, by range start, then depth of target parent, then insert, run, replace"
   unfoldable pub sorted : List Change → List Change
   sorted cs = rising key cs
 
@@ -74,27 +74,36 @@ module _ (T : Table) where
   unfoldable pub peers : Change → Change → Bool
   peers c d = eqb (tree T (target c)) (tree T (target d)) && eqb (parentDepth c) (parentDepth d)
 
-  -- the end of c exceeds the start of the next, if there is one
-  unfoldable pub exceeds : Change → Option Change → Bool
-  exceeds c none = false
-  exceeds c (some d) = ltb (from d) (to c)
+  -- the end of the earlier one, if there is one, exceeds the start of c
+  unfoldable pub exceeds : Option (ℕ × Change) → Change → Bool
+  exceeds none c = false
+  exceeds (some d) c = ltb (from c) (to (d .1))
 
-  -- 8: "among replacements and runs of the same tree and depth of target parent, the earlier end exceeds the next start"
-  unfoldable pub overlapping : List Change → Bool
-  overlapping [] = false
-  overlapping (c ∷ cs) = exceeds c (first (peers c) cs) || overlapping cs
+  -- of changes with their places, those before it `seen`, the last first: the first that the one before it among its peers exceeds, as both places
+  unfoldable pub overlapping : List (ℕ × Change) → List (ℕ × Change) → Option (ℕ × ℕ)
+  overlapping seen [] = none
+  overlapping seen (c ∷ cs) =
+      let before = first (λ d. peers (c .1) (d .1)) seen in
+      let later = overlapping (c ∷ seen) cs in
+      cond (exceeds before (c .1)) (elim before [ none ↦ none | some d ↦ some (d .0, c .0) ]) later
 
-  -- the same of all changes: insertions (rank 0) are left out
-  unfoldable pub overlap : List Change → Bool
-  overlap cs = overlapping (keep (λ c. not (eqb (rank c) 0)) cs)
+  -- 8: "among replacements and runs of the same tree and depth of target parent, the earlier end exceeds the next start": such a pair, insertions (rank 0) left out
+  unfoldable pub overlap : List Change → Option (ℕ × ℕ)
+  overlap cs = overlapping [] (keep (λ c. not (eqb (rank (c .1)) 0)) (numbered 0 cs))
 
 -- ── Regions ─────────────────────────────────────────────────────────────────────────────────────────────────
 
--- what becomes of a change: it has no owner; it depends on the change at place k, which replaces the node x by the node r (`dependent k x r`); it is discarded
+-- what becomes of a change: it has no owner; it depends on the change at place k; it is discarded under the change at place k
 pub data Fate : Type 0 where
   own : Fate
-  dependent : ℕ → ℕ → ℕ → Fate
-  discarded : Fate
+  dependent : ℕ → Fate
+  discarded : ℕ → Fate
+
+-- the fate is to be discarded
+unfoldable pub isDiscarded : Fate → Bool
+isDiscarded own = false
+isDiscarded (dependent k) = false
+isDiscarded (discarded k) = true
 
 -- the range of a change, and what it makes of inner changes
 pub record Region : Type 0 where
@@ -102,22 +111,20 @@ pub record Region : Type 0 where
   pub to : ℕ
   pub inner : Fate
 
+-- a region "whose range contains" a to b, "ends included"
+abbrev pub contains : ℕ → ℕ → Region → Bool
+contains a b r = leb r.from a && leb b r.to
+
 -- "A change belongs to the last region whose range contains its own, ends included; later regions are removed. If none contains it, the stack is emptied."
 -- (the last region stands first)
 unfoldable pub around : ℕ → ℕ → List Region → List Region
 around a b [] = []
-around a b (r ∷ rs) = cond (leb r.from a && leb b r.to) (r ∷ rs) (around a b rs)
+around a b (r ∷ rs) = cond (contains a b r) (r ∷ rs) (around a b rs)
 
 -- what the last region makes of a change in it
 unfoldable pub fate : List Region → Fate
 fate [] = own
 fate (r ∷ rs) = r .inner
-
--- the fate is to be discarded
-unfoldable pub isDiscarded : Fate → Bool
-isDiscarded own = false
-isDiscarded (dependent k x r) = false
-isDiscarded discarded = true
 
 -- a change and what becomes of it
 pub record Planned : Type 0 where
@@ -130,28 +137,32 @@ module _ (T : Table) where
   addsRegion (insert p x l) = false
   addsRegion (replace x y) = node? T x
   addsRegion (delete x) = node? T x
-  addsRegion (many x l) = node? T x
-  addsRegion (run x y l) = true
+  addsRegion (replaceWithMany x l) = node? T x
+  addsRegion (replaceAll x y l) = true
 
-  -- "Only an undiscarded call 2 of a node by a node makes inner changes dependent; all other regions discard them." (the change has place i and fate f)
+  -- a "call 2 of a node by a node"
+  unfoldable pub nodeByNode : Change → Bool
+  nodeByNode (insert p x l) = false
+  nodeByNode (replace x y) = node? T x && node? T y
+  nodeByNode (delete x) = false
+  nodeByNode (replaceWithMany x l) = false
+  nodeByNode (replaceAll x y l) = false
+
+  -- "Only an undiscarded call 2 of a node by a node makes inner changes dependent; all other regions discard them." (the change c has place k and fate f)
   unfoldable pub inner : ℕ → Fate → Change → Fate
-  inner i f (replace x y) = cond (not (isDiscarded f) && node? T x && node? T y) (dependent i x y) discarded
-  inner i f (insert p x l) = discarded
-  inner i f (delete x) = discarded
-  inner i f (many x l) = discarded
-  inner i f (run x y l) = discarded
+  inner k f c = cond (not (isDiscarded f) && nodeByNode c) (dependent k) (discarded k)
 
-  -- the stack after the change c at place i, whose regions around it are rs
+  -- the stack after the change c at place k, whose regions around it are rs
   unfoldable pub pushed : ℕ → Change → List Region → List Region
-  pushed i c rs = cond (addsRegion c) (record { from = from T c; to = to T c; inner = inner i (fate rs) c } ∷ rs) rs
+  pushed k c rs = cond (addsRegion c) (record { from = from T c; to = to T c; inner = inner k (fate rs) c } ∷ rs) rs
 
-  -- "Regions stand in a stack per tree": sorted changes from place i on, with the stacks
+  -- "Regions stand in a stack per tree": sorted changes from place k on, with the stacks
   unfoldable pub fates : ℕ → List (List Region) → List Change → List Planned
-  fates i stacks [] = []
-  fates i stacks (c ∷ cs) =
+  fates k stacks [] = []
+  fates k stacks (c ∷ cs) =
       let t = tree T (target c) in
       let rs = around (from T c) (to T c) (getD stacks t []) in
-      record { change = c; fate = fate rs } ∷ fates (suc i) (set stacks t (pushed i c rs)) cs
+      record { change = c; fate = fate rs } ∷ fates (suc k) (set stacks t (pushed k c rs)) cs
 
   -- at most 16 trees, each with an empty stack at first
   unfoldable pub planned : List Change → List Planned

@@ -1,17 +1,25 @@
 -- Refused, in checking order: lines 2 to 7.
 -- Assumes nothing.
 use mathlib.Core.Bool.{Bool, true, false, cond, not, _&&_, _||_}
-use mathlib.Core.List.{List, [], _∷_, _++_, headD, zip}
+use mathlib.Core.List.{List, [], _∷_, headD, zip}
 use mathlib.Core.Option.{Option, none, some, Option·map}
-use Prim.Native.Nat.{ℕ, zero, suc, _+_, _/_, _%_}
+use Prim.Native.Nat.{ℕ, _/_, _%_}
 use lib.ListN.{length, take, drop}
 use lib.Dec.{leb, ltb, eqb}
-use Rattle.definition.specs.Basics.{Answer, gives, _>>=_, refuse, orRefuse, any, among}
 use Rattle.orders.specs.Tree.{Tree}
+use Rattle.definition.specs.Basics.{Answer, gives, _>>=_, refuse, orRefuse, any, among}
 use Rattle.definition.specs.Batch.{Batch, batch}
-use Rattle.definition.specs.Shape.{Table, row, node?, root?, parent, child, spelled, table}
+use Rattle.definition.specs.Elements.{Table, row, node?, root?, parent, child, spelled, table}
 
 -- ── Calls ───────────────────────────────────────────────────────────────────────────────────────────────────
+
+-- "A call word is operation + 256 × listed count.": its operation
+unfoldable pub operationOf : ℕ → ℕ
+operationOf word = word % 256
+
+-- its listed count
+unfoldable pub countOf : ℕ → ℕ
+countOf word = word / 256
 
 -- a call as the batch has it
 pub record Call : Type 0 where
@@ -19,14 +27,14 @@ pub record Call : Type 0 where
   pub target : ℕ
   pub listed : List ℕ
 
--- "A call word is operation + 256 × listed count": each call takes its count of the listed elements; none if "the counts do not add up to L"
+-- from call words with their targets, and the listed elements: each call takes its count of them; none if "the counts do not add up to L"
 unfoldable pub calls : List (ℕ × ℕ) → List ℕ → Option (List Call)
 calls [] [] = some []
 calls [] (x ∷ l) = none
 calls (c ∷ cs) l =
-    let n = c .0 / 256 in
+    let n = countOf (c .0) in
     let rest = calls cs (drop n l) in
-    cond (leb n (length l)) (Option·map (λ r. record { operation = c .0 % 256; target = c .1; listed = take n l } ∷ r) rest) none
+    cond (leb n (length l)) (Option·map (λ r. record { operation = operationOf (c .0); target = c .1; listed = take n l } ∷ r) rest) none
 
 -- "3: delete, nothing listed"; a 6 has "count 0"; 2 is "by one element"; 5 lists the run's end; "Insertions and 4 may list none"
 unfoldable pub wrongCount : ℕ → ℕ → Bool

@@ -91,6 +91,18 @@ pub record HasRun {A : Type 0} (t : Tree A) (p : Path) (a b : ℕ) : Type 0 wher
   pub ordered : a ≤ b
   pub within : b ≤ length (list children)
 
+-- ── The elements of a tree ──────────────────────────────────────────────────────────────────────────────────
+
+-- "in preorder": each element, with what is below it
+unfoldable mutual
+  pub preorder : {A : Type 0} → Tree A → List (Tree A)
+  preorder (node w cs) = node w cs ∷ preorders cs
+  preorder (token w own) = token w own ∷ []
+
+  pub preorders : {A : Type 0} → Trees A → List (Tree A)
+  preorders nil = []
+  preorders (cons c cs) = preorder c ++ preorders cs
+
 -- ── What is measured of a tree, and of a path ───────────────────────────────────────────────────────────────
 
 module _ {A : Type 0} where

@@ -1,14 +1,13 @@
 -- The batch: what the elements spell, and what is known of each; refusal 5.
 -- Assumes nothing.
-use mathlib.Core.Bool.{Bool, true, false, cond, not, _&&_, _||_}
+use mathlib.Core.Bool.{Bool, true, false, cond, not, _||_}
 use mathlib.Core.List.{List, [], _∷_, _++_, headD, tail, zip}
-use mathlib.Core.Option.{Option, none, some, Option·map}
+use mathlib.Core.Option.{Option, none, some, Option·map, bind}
 use Prim.Native.Nat.{ℕ, zero, suc, _+_, _%_}
 use lib.ListN.{length, take, drop, getD, getElem?}
 use lib.Dec.{leb, ltb, eqb}
+use Rattle.orders.specs.Tree.{Tree, Trees, node, token, nil, cons, forest, Path, elements, text, textOf, deepest, last, strip}
 use Rattle.definition.specs.Basics.{any}
-use Rattle.orders.specs.Tree.{Tree, Trees, node, token, nil, cons, list, forest, Path, elements, text, textOf, deepest, last, strip}
-use mathlib.Core.Option.{bind}
 use Rattle.definition.specs.Batch.{Batch}
 
 -- ── Kind words ──────────────────────────────────────────────────────────────────────────────────────────────
@@ -42,14 +41,14 @@ pieces (e ∷ es) t =
     let rest = pieces es (drop n t) in
     cond (leb n (length t)) (Option·map (λ ps. record { kind = e .0; measure = e .1; own = take n t } ∷ ps) rest) none
 
--- the trees, read from the last element to the first: a node takes as many of the trees that follow it as its measure says; none if there are too few
+-- an element put before the trees that follow it: a node takes as many of them as its measure says; none if there are too few
 unfoldable pub plant : Piece → List (Tree ℕ) → Option (List (Tree ℕ))
 plant p ts =
     cond (isNode p.kind)
     (cond (leb p.measure (length ts)) (some (node p.kind (forest (take p.measure ts)) ∷ drop p.measure ts)) none)
     (some (token p.kind p.own ∷ ts))
 
--- all the trees that pieces spell
+-- all the trees that pieces spell, read from the last element to the first
 unfoldable pub grow : List Piece → Option (List (Tree ℕ))
 grow [] = some []
 grow (p ∷ ps) = bind (grow ps) (λ ts. plant p ts)
@@ -74,17 +73,15 @@ spelled b = bind (pieces (zip b.kinds b.measures) b.text) (λ ps. bind (grow ps)
 pub record Row : Type 0 where
   -- its kind word
   pub kind : ℕ
-  -- its number, bind its parent's, and so on up to its root's
+  -- its number, then its parent's, and so on up to its root's
   pub line : List ℕ
-  -- the number of its tree, bind the child numbers
+  -- the number of its tree, then the child numbers
   pub path : Path
   -- its range: "byte offsets from the start of the element's own tree"
   pub start : ℕ
   pub end : ℕ
   -- the numbers of its children
   pub children : List ℕ
-  -- itself, with all that is below it
-  pub self : Tree ℕ
 
 -- all elements, by number
 abbrev pub Table : Type 0
@@ -99,9 +96,8 @@ numbers n (cons c cs) = n ∷ numbers (n + elements c) cs
 unfoldable mutual
   pub rows : Tree ℕ → ℕ → List ℕ → Path → ℕ → Table
   rows (node w cs) n above p s =
-      record { kind = w; line = n ∷ above; path = p; start = s; end = s + length (textOf cs); children = numbers (suc n) cs; self = node w cs } ∷ rowsBelow cs (suc n) (n ∷ above) p 0 s
-  rows (token w own) n above p s =
-      record { kind = w; line = n ∷ above; path = p; start = s; end = s + length own; children = []; self = token w own } ∷ []
+      record { kind = w; line = n ∷ above; path = p; start = s; end = s + length (textOf cs); children = numbers (suc n) cs } ∷ rowsBelow cs (suc n) (n ∷ above) p 0 s
+  rows (token w own) n above p s = record { kind = w; line = n ∷ above; path = p; start = s; end = s + length own; children = [] } ∷ []
 
   -- those of the children from number i on of the element with path p
   pub rowsBelow : Trees ℕ → ℕ → List ℕ → Path → ℕ → ℕ → Table
@@ -115,7 +111,7 @@ table n t (c ∷ cs) = rows c n [] (t ∷ []) 0 ++ table (n + elements c) (suc t
 
 -- what an element that is none would have
 unfoldable pub noRow : Row
-noRow = record { kind = 0; line = []; path = []; start = 0; end = 0; children = []; self = token 0 [] }
+noRow = record { kind = 0; line = []; path = []; start = 0; end = 0; children = [] }
 
 module _ (T : Table) where
   -- the row of element e

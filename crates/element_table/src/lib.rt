@@ -1,0 +1,1 @@
+// The element table: see specs/View.antt for what its words tell.
