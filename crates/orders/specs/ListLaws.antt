@@ -198,6 +198,12 @@ module _ {A : Type 0} (f : A → A) where
   modify-split (y ∷ l) zero x e = rw (some-inj e)
   modify-split (y ∷ l) (suc i) x e = ap {B = List A} (λ r. y ∷ r) (modify-split l i x e)
 
+  pub modify-left : (xs ys : List A) (i : ℕ) → i < length xs → modify i f (xs ++ ys) ≡ modify i f xs ++ ys
+  unfolding modify
+  modify-left [] ys i h = absurd (not-suc-le-zero h)
+  modify-left (x ∷ xs) ys zero h = refl
+  modify-left (x ∷ xs) ys (suc i) h = ap {B = List A} (λ r. x ∷ r) (modify-left xs ys i (le-of-suc-le-suc h))
+
   pub modify-right : (xs ys : List A) (i n : ℕ) → length xs + n ≡ i → modify i f (xs ++ ys) ≡ xs ++ modify n f ys
   unfolding modify
   modify-right [] ys i n e = ap (λ k. modify k f ys) (omega arith)
@@ -217,6 +223,20 @@ module _ {A : Type 0} (f : A → A) where
   take-modify-before (suc c) [] i h = refl
   take-modify-before (suc c) (x ∷ xs) zero h = absurd (not-suc-le-zero h)
   take-modify-before (suc c) (x ∷ xs) (suc i) h = ap {B = List A} (λ r. x ∷ r) (take-modify-before c xs i (le-of-suc-le-suc h))
+
+  pub drop-modify : (c : ℕ) (xs : List A) (i n : ℕ) → c + n ≡ i → drop c (modify i f xs) ≡ modify n f (drop c xs)
+  unfolding modify
+  drop-modify zero xs i n e = ap (λ k. modify k f xs) (omega arith)
+  drop-modify (suc c) [] i n e = refl
+  drop-modify (suc c) (x ∷ xs) zero n e = absurd (omega arith)
+  drop-modify (suc c) (x ∷ xs) (suc i) n e = drop-modify c xs i n (omega arith)
+
+  pub drop-modify-before : (c : ℕ) (xs : List A) (i : ℕ) → i < c → drop c (modify i f xs) ≡ drop c xs
+  unfolding modify
+  drop-modify-before zero xs i h = absurd (not-suc-le-zero h)
+  drop-modify-before (suc c) [] i h = refl
+  drop-modify-before (suc c) (x ∷ xs) zero h = refl
+  drop-modify-before (suc c) (x ∷ xs) (suc i) h = drop-modify-before c xs i (le-of-suc-le-suc h)
 
 -- ── A list with each element changed ────────────────────────────────────────────────────────────────────────
 
