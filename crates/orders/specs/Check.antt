@@ -17,11 +17,12 @@ use Rattle.orders.specs.ListLaws.{bool-absurd, both-true, none-some}
 
 -- ── The test ────────────────────────────────────────────────────────────────────────────────────────────────
 
--- each element passes; each passes with each later one
+-- each element passes
 unfoldable pub each : {X : Type 0} → (X → Bool) → List X → Bool
 each p [] = true
 each p (x ∷ l) = p x && each p l
 
+-- each element passes with each later one
 unfoldable pub pairs : {X : Type 0} → (X → X → Bool) → List X → Bool
 pairs p [] = true
 pairs p (x ∷ l) = each (p x) l && pairs p l
@@ -39,9 +40,11 @@ module _ {A : Type 0} where
   run? a b (some (token w text)) = false
   run? a b (some (node w cs)) = leb a b && leb b (length (list cs))
 
+  -- s fits the old tree
   unfoldable pub fits? : Tree A → Splice A → Bool
   fits? old s = run? (s .from) (s .to) (resolve (s .parent) old)
 
+  -- two splices are apart
   unfoldable pub apart? : Splice A → Splice A → Bool
   apart? s t =
       not (eqb (s .number) (t .number))
@@ -49,6 +52,7 @@ module _ {A : Type 0} where
       && (not (enters? (t .parent) (t .from) (t .to) (s .parent))
       && not (samePath (s .parent) (t .parent) && (ltb (s .from) (t .to) && ltb (t .from) (s .to)))))
 
+  -- splices of the old tree are all apart
   unfoldable pub allApart? : Tree A → List (Splice A) → Bool
   allApart? old S = each (fits? old) S && pairs apart? S
 

@@ -44,6 +44,7 @@ module _ {A : Type 0} where
   unfolding insertByLeft
   insert-second s h H e = rw e
 
+  -- each splice is left of each later one
   abbrev pub Sorted : List (Splice A) → Type 0
   Sorted H = Pairs (λ h t. leftOf h t ≡ true) H
 

@@ -3,16 +3,17 @@
 use mathlib.Core.Path.{_≡_, refl}
 use mathlib.Core.Bool.{Bool, false}
 use mathlib.Core.List.{List, [], _∷_, _++_, map, List·Permᴰ}
-use mathlib.Core.Option.{Option, none, some, bind}
+use mathlib.Core.Option.{Option·map, Option, none, some, bind}
 use lib.ListN.{length, replicate}
 use Prim.Native.Nat.{ℕ}
 use Rattle.orders.specs.Lists.{pick, any, total}
-use Rattle.orders.specs.Tree.{Tree, node, token, nil, cons, list, forest, Path, resolve, zone, adjust, modify, splice, text}
+use Rattle.orders.specs.Tree.{Tree, node, token, nil, cons, list, forest, Path, resolve, zone, adjust, modify, splice, text, front, last}
 use Rattle.orders.specs.Splices.{samePath, Splice, inserted, deleted, leftOf, begin, leftIn, start, runNow, performAt, perform, performs, under, fromRoot, fromChild, atRoot, below, insertByLeft, leftToRight, newChildren, oneGo, AllApart}
 use Rattle.orders.specs.Numbers.{holds}
 use Rattle.orders.specs.Demand.{Demanded, demand}
 use Rattle.orders.specs.Gaps.{startingAt, walk}
 use Rattle.orders.specs.Check.{each, pairs, enters?, run?, fits?, apart?, allApart?, says-all-apart}
+use Rattle.orders.specs.Target.{afterChild, runByTarget, performByTargets}
 
 -- a token whose kind word and text are this letter, a number
 abbrev letter : ℕ → Tree ℕ
@@ -107,6 +108,25 @@ unfolding told allApart? each pairs fits? run? apart? enters? resolve result old
 needed = record { one-number = refl; strictly-inside = refl; shared-child = refl; parent-gone = refl; token-parent = refl }
 
 -- a run that ends before it starts: the one go writes children twice
-reversed-run : (allApart? old (sp 0 [] 3 1 (7 ∷ []) ∷ []) ≡ false) × ((result (sp 0 [] 3 1 (7 ∷ []) ∷ [])) .letters ≡ 1 ∷ 2 ∷ 3 ∷ 7 ∷ 4 ∷ []) × (text (oneGo (sp 0 [] 3 1 (7 ∷ []) ∷ []) old) ≡ 1 ∷ 2 ∷ 3 ∷ 7 ∷ 2 ∷ 3 ∷ 4 ∷ [])
+reversed-run : (allApart? old (sp 0 [] 3 1 (7 ∷ []) ∷ []) ≡ false)
+    × ((result (sp 0 [] 3 1 (7 ∷ []) ∷ [])) .letters ≡ 1 ∷ 2 ∷ 3 ∷ 7 ∷ 4 ∷ [])
+    × (text (oneGo (sp 0 [] 3 1 (7 ∷ []) ∷ []) old) ≡ 1 ∷ 2 ∷ 3 ∷ 7 ∷ 2 ∷ 3 ∷ 4 ∷ [])
 unfolding allApart? each pairs fits? run? apart? enters? resolve oneGo atRoot below pick fromRoot fromChild under leftToRight insertByLeft newChildren result oldPaths text performs perform runNow performAt start inserted deleted leftIn leftOf total samePath begin splice adjust modify zone bind list forest
 reversed-run = (refl, refl, refl)
+
+-- ── Placed by targets ───────────────────────────────────────────────────────────────────────────────────────
+
+-- 7 after X, then 8 after X: "putting later insertions at one spot to the right" would be a slip
+afterX : ℕ → ℕ → List (Splice ℕ)
+afterX m n = sp m [] 3 3 (7 ∷ []) ∷ sp n [] 3 3 (8 ∷ []) ∷ []
+
+-- the letters, where each finds its place by the present path of X
+byTargets : (m n : ℕ) → Option (List ℕ)
+unfolding afterX
+byTargets m n = Option·map (λ now. text (now .tree)) (performByTargets (afterX m n) (afterChild 2 refl refl, (afterChild 2 refl refl, tt)) (begin old))
+
+-- numbered as performed, both ways agree; numbered otherwise, they do not
+numbered-as-performed : (byTargets 0 1 ≡ some (1 ∷ 2 ∷ 3 ∷ 8 ∷ 7 ∷ 4 ∷ [])) × ((result (afterX 0 1)) .letters ≡ 1 ∷ 2 ∷ 3 ∷ 8 ∷ 7 ∷ 4 ∷ [])
+    × (byTargets 1 0 ≡ some (1 ∷ 2 ∷ 3 ∷ 8 ∷ 7 ∷ 4 ∷ [])) × ((result (afterX 1 0)) .letters ≡ 1 ∷ 2 ∷ 3 ∷ 7 ∷ 8 ∷ 4 ∷ [])
+unfolding byTargets afterX performByTargets runByTarget front last result oldPaths text performs perform runNow performAt start inserted deleted leftIn leftOf total samePath begin splice adjust modify zone bind list forest
+numbered-as-performed = (refl, refl, refl, refl)

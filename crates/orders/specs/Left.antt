@@ -11,6 +11,7 @@ use Rattle.orders.specs.Splices.{Splice, leftOf, Overlap}
 use Rattle.orders.specs.ListLaws.{lt-or-le, both-true, either-true, bool?}
 
 module _ {A : Type 0} where
+  -- a run does not end before it starts
   abbrev pub Ordered : Splice A → Type 0
   Ordered s = s .from ≤ s .to
 

@@ -18,21 +18,23 @@ use Rattle.orders.specs.TreeLaws.{shift-before, shift-inside, shift-afte
 use Rattle.orders.specs.Left.{Ordered, left-le, left-if, Sep, first, second}
 
 module _ {A : Type 0} where
-  -- the run of t ends at child i or before; t deletes child i; the run of t lies in x..y
+  -- the run of t ends at child i or before it
   unfoldable pub past : ℕ → Splice A → Bool
   past i t = leb (t .to) i
 
+  -- t deletes child i
   unfoldable pub holds : ℕ → Splice A → Bool
   holds i t = leb (t .from) i && ltb i (t .to)
 
+  -- the run of t lies in x..y
   unfoldable lies : ℕ → ℕ → Splice A → Bool
   lies x y t = leb x (t .from) && leb (t .to) y
 
-  -- the splices H are all in one node: the new number of its child i, if they keep it. It moves by inserted minus deleted of those past which it is
+  -- H are splices in one node: the new number of its child i, if they keep it. It moves by inserted minus deleted of those whose run is past
   unfoldable pub number : List (Splice A) → ℕ → ℕ
   number H i = i + total (past i) inserted H - total (past i) deleted H
 
-  -- none if they delete it
+  -- the new number of child i, none if they delete it
   unfoldable pub newNumber : List (Splice A) → ℕ → Option ℕ
   newNumber H i = cond (any (holds i) H) none (some (number H i))
 

@@ -109,7 +109,8 @@ module _ {A : Type 0} where
       resolve-forest a (newChildren 0 (leftToRight (atRoot S)) (oneGoAll S 0 cs)) j q (oneGo (below i S) c) (get-child (length (list cs)) (atRoot S) (oneGoAll S 0 cs) (root-level a cs S h) i j p (oneGo (below i S) c) (get-rewritten S 0 cs i i c (zero-add i) g))
 
   -- the old subtree, rewritten by the splices in it
-  pub resolve-one-go : (e : Path) (old t : Tree A) (S : List (Splice A)) (q : Path) → AllApart old S → resolve e old ≡ some t → oneGoPath S e ≡ some q → resolve q (oneGo S old) ≡ some (oneGo (splicesIn e S) t)
+  pub resolve-one-go : (e : Path) (old t : Tree A) (S : List (Splice A)) (q : Path) → AllApart old S → resolve e old ≡ some t → oneGoPath S e ≡ some q
+      → resolve q (oneGo S old) ≡ some (oneGo (splicesIn e S) t)
   unfolding oneGoPath resolve splicesIn
   resolve-one-go [] old t S q h f g = rw (← some-inj g, some-inj f)
   resolve-one-go (i ∷ e) (token a text) t S q h f g = none-some f

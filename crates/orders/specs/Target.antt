@@ -2,7 +2,7 @@
 -- Assumes nothing.
 use mathlib.Core.Path.{_≡_, refl, sym, ap, _∙_, subst}
 use mathlib.Core.Bool.{true, false}
-use mathlib.Core.List.{List, [], _∷_, _++_, reverseAux, Permᴰ·symm}
+use mathlib.Core.List.{List, [], _∷_, _++_, reverseAux, Permᴰ·refl, Permᴰ·symm}
 use mathlib.Core.Logic.{_⊎_, inl, inr}
 use mathlib.Core.Option.{Option, none, some, Option·map, bind}
 use Prim.Native.Nat.{ℕ, suc, _+_, _-_, _≤_, _<_}
@@ -18,6 +18,7 @@ use Rattle.orders.specs.Parts.{fromRoot-some, fromChild-some, below-in, 
 use Rattle.orders.specs.Paths.{oneGoPath, down}
 use Rattle.orders.specs.Order.{apart-perm}
 use Rattle.orders.specs.Done.{After, Ready, ready, perform-at, perform-after, apart-done, begin-after, reversed}
+use Rattle.orders.specs.Demand.{Demanded, demand}
 
 -- ── Performed by targets ────────────────────────────────────────────────────────────────────────────────────
 
@@ -125,7 +126,12 @@ module _ {A : Type 0} (old : Tree A) (D : List (Splice A)) (s : Splice A) (now :
   unfolding under newNumber
   run-child-path q i e a b =
       let H = own (s .parent) D in
-      k .path (s .parent ++ (i ∷ [])) ∙ rw (child-path (s .parent) D q i (sym (k .path (s .parent)) ∙ e), run-kept (under [] s) H (ordered .0) (ordered .1) (seps .1) (seps .0) i a b, run-number (under [] s) H (ordered .0) (ordered .1) (seps .1) (seps .0) i a b, own-start (s .parent) D s)
+      k .path (s .parent ++ (i ∷ [])) ∙ rw (
+        child-path (s .parent) D q i (sym (k .path (s .parent)) ∙ e),
+        run-kept (under [] s) H (ordered .0) (ordered .1) (seps .1) (seps .0) i a b,
+        run-number (under [] s) H (ordered .0) (ordered .1) (seps .1) (seps .0) i a b,
+        own-start (s .parent) D s,
+      )
 
   -- after a child that is kept
   pub after-child-path : All (λ t. t .number < s .number) D → (q p : Path) (i : ℕ) → now .path (s .parent) ≡ some q → s .from ≡ suc i → s .to ≡ suc i → now .path (s .parent ++ (i ∷ [])) ≡ some p
@@ -186,10 +192,16 @@ module _ {A : Type 0} where
       performed old S (s ∷ D) (T .1) (perform s now) final h (n .1) (All-map₂ (λ t a b. (a, b)) S (n .0) (l .1)) (perform-after old D s now g k) (rw z y)
 
   -- Splices that are apart, numbered as performed and placed by their targets' present paths: if no target is gone, the same is done as by shifted starts.
-  pub performed-by-targets : (old : Tree A) (S : List (Splice A)) (T : All Target S) (final : State A) → AllApart old S → Rising S → performByTargets S T (begin old) ≡ some final → final ≡ performs S (begin old)
+  pub performed-by-targets : (old : Tree A) (S : List (Splice A)) (T : All Target S) (final : State A) → AllApart old S → Rising S
+      → performByTargets S T (begin old) ≡ some final → final ≡ performs S (begin old)
   performed-by-targets old S T final h n e =
       performed old S [] T (begin old) final (apart-perm old S (reverseAux S []) (Permᴰ·symm (reversed S)) h) n (nothing S) (begin-after old) e
     where
       nothing : (S : List (Splice A)) → All (λ s. All (λ (t : Splice A). t .number < s .number) []) S
       nothing [] = tt
       nothing (s ∷ S) = (tt, nothing S)
+
+  -- So all that demand 3 says holds of what they make.
+  pub demanded-by-targets : (old : Tree A) (S : List (Splice A)) (T : All Target S) (final : State A) → AllApart old S → Rising S
+      → performByTargets S T (begin old) ≡ some final → Demanded old S final
+  demanded-by-targets old S T final h n e = rw (performed-by-targets old S T final h n e) (demand old S S h (Permᴰ·refl S))

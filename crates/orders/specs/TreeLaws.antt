@@ -205,7 +205,8 @@ module _ {A : Type 0} (a b : ℕ) (new : List (Tree A)) where
   splice-deep k cs j i q e c g = resolve-forest k (modify j (λ x. splice q a b new x) (list cs)) i e c g
 
   -- An adjusted path leads to the element that it led to before; what is below that is as it was, unless the parent is that element or below it.
-  pub resolve-splice : (q : Path) (t : Tree A) (e : Path) (v : Tree A) (e′ : Path) → HasRun t q a b → resolve e t ≡ some v → adjust q a b (length new) e ≡ some e′ → resolve e′ (splice q a b new t) ≡ some (spliceIn (strip e q) v)
+  pub resolve-splice : (q : Path) (t : Tree A) (e : Path) (v : Tree A) (e′ : Path) → HasRun t q a b → resolve e t ≡ some v → adjust q a b (length new) e ≡ some e′
+      → resolve e′ (splice q a b new t) ≡ some (spliceIn (strip e q) v)
   unfolding resolve strip spliceIn
   resolve-splice q t [] v e′ h f s = rw (some-inj (sym s ∙ adjust-root a b (length new) q), some-inj f)
   resolve-splice [] (token k own) (i ∷ e) v e′ h f s = none-some f
