@@ -13,7 +13,7 @@ use Rattle.orders.specs.Lists.{All, Pairs, total}
 use Rattle.orders.specs.Tree.{Tree, modify}
 use Rattle.orders.specs.Splices.{Splice, inserted, deleted, leftOf, insertByLeft, leftToRight, newChildren}
 use Rattle.orders.specs.ListLaws.{Zone, before, inside, after, zone?, bool-absurd, parts, parts₂, All-map, All-map₂, All-perm, total-none, total-one, total-perm, none-passes, get-lt, get-split, get-right, modify-split, modify-right, part-out}
-use Rattle.orders.specs.Left.{Ordered, left-le, left-trans, left-asym, Sep, first, second}
+use Rattle.orders.specs.Left.{Ordered, left-le, left-trans, left-asym, OneLeft, first, second}
 use Rattle.orders.specs.Numbers.{past, holds, past-yes, past-no, holds-yes, newNumber, number-some, number-exact, startAmong, start-exact}
 
 -- ── From left to right ──────────────────────────────────────────────────────────────────────────────────────
@@ -56,19 +56,19 @@ module _ {A : Type 0} where
   none-left : (s t : Splice A) (H : List (Splice A)) → Ordered s → All Ordered (t ∷ H) → leftOf s t ≡ true → Sorted (t ∷ H) → All (λ u. leftOf u s ≡ false) (t ∷ H)
   none-left s t H os o e k = (left-asym s t os (o .0) e, All-map₂ (λ u ou l. left-asym s u os ou l) H (o .1) (left-of-rest s t H os o e (k .0)))
 
-  sorted-insert : (s : Splice A) (H : List (Splice A)) → Ordered s → All Ordered H → All (Sep s) H → Sorted H → Sorted (insertByLeft s H)
+  sorted-insert : (s : Splice A) (H : List (Splice A)) → Ordered s → All Ordered H → All (OneLeft s) H → Sorted H → Sorted (insertByLeft s H)
   unfolding insertByLeft
   sorted-insert s [] os o h k = (tt, tt)
   sorted-insert s (t ∷ H) os o h k = go (h .0) (sorted-insert s H os (o .1) (h .1) (k .1))
     where
-      go : Sep s t → Sorted (insertByLeft s H) → Sorted (insertByLeft s (t ∷ H))
+      go : OneLeft s t → Sorted (insertByLeft s H) → Sorted (insertByLeft s (t ∷ H))
       go (first p q) r = rw (insert-first s t H p) ((p, left-of-rest s t H os o p (k .0)), k)
       go (second p q) r = rw (insert-second s t H q) (All-perm (λ u. leftOf t u ≡ true) (Permᴰ·symm (insert-perm s H)) (p, k .0), r)
 
-  pub sorted : (S : List (Splice A)) → All Ordered S → Pairs Sep S → Sorted (leftToRight S)
+  pub sorted : (S : List (Splice A)) → All Ordered S → Pairs OneLeft S → Sorted (leftToRight S)
   unfolding leftToRight
   sorted [] o h = tt
-  sorted (s ∷ S) o h = sorted-insert s (leftToRight S) (o .0) (All-sort Ordered S (o .1)) (All-sort (Sep s) S (h .0)) (sorted S (o .1) (h .1))
+  sorted (s ∷ S) o h = sorted-insert s (leftToRight S) (o .0) (All-sort Ordered S (o .1)) (All-sort (OneLeft s) S (h .0)) (sorted S (o .1) (h .1))
 
   -- the runs follow one another from n on, as far as m
   abbrev pub Chain : ℕ → ℕ → List (Splice A) → Type 0
@@ -159,7 +159,7 @@ module _ {A : Type 0} where
           is = rw (insert-second s t H l′, r .is) (simp append-assoc);
         }
 
-  pub around : (n m : ℕ) (H : List (Splice A)) (s : Splice A) (xs : List (Tree A)) → n + length xs ≡ m → Chain n m H → n ≤ s .from → s .from ≤ s .to → s .to ≤ m → Sorted H → All (Sep s) H → Around n H s xs
+  pub around : (n m : ℕ) (H : List (Splice A)) (s : Splice A) (xs : List (Tree A)) → n + length xs ≡ m → Chain n m H → n ≤ s .from → s .from ≤ s .to → s .to ≤ m → Sorted H → All (OneLeft s) H → Around n H s xs
   unfolding newChildren insertByLeft total deleted inserted
   around n m [] s xs e c a b d o h =
       let m≡ : (s .from - n) + (s .to - s .from) ≡ s .to - n = omega arith in
@@ -174,7 +174,7 @@ module _ {A : Type 0} where
       }
   around n m (t ∷ H) s xs e c a b d o h = go (h .0) (λ l. around (t .to) m H s (drop (t .to - n) xs) (left-over n m t H xs e c) (c .2) (left-le t s l) b d (o .1) (h .1))
     where
-      go : Sep s t → (leftOf t s ≡ true → Around (t .to) H s (drop (t .to - n) xs)) → Around n (t ∷ H) s xs
+      go : OneLeft s t → (leftOf t s ≡ true → Around (t .to) H s (drop (t .to - n) xs)) → Around n (t ∷ H) s xs
       go (first p q) k = around-first n m t H s xs e c a b p o
       go (second p q) k = around-second n m t H s xs e c a b p q (k p)
 
@@ -226,7 +226,7 @@ module _ {A : Type 0} where
 pub record Level {A : Type 0} (m : ℕ) (H : List (Splice A)) : Type 0 where
   pub ordered : All Ordered H
   pub within : All (λ t. t .to ≤ m) H
-  pub apart : Pairs Sep H
+  pub apart : Pairs OneLeft H
 
 module _ {A : Type 0} (m : ℕ) (H : List (Splice A)) (xs : List (Tree A)) where
   pub level-chain : Level m H → Chain 0 m (leftToRight H)
@@ -240,7 +240,7 @@ module _ {A : Type 0} (m : ℕ) (H : List (Splice A)) (xs : List (Tree A)) where
   unfolding leftToRight
   splice-children s l e =
       let r : Level m H = record { ordered = l .ordered .1; within = l .within .1; apart = l .apart .1 } in
-      let k = around 0 m (leftToRight H) s xs (zero-add _ ∙ e) (level-chain r) (omega arith) (l .ordered .0) (l .within .0) (sorted H (r .ordered) (r .apart)) (All-sort (Sep s) H (l .apart .0)) in
+      let k = around 0 m (leftToRight H) s xs (zero-add _ ∙ e) (level-chain r) (omega arith) (l .ordered .0) (l .within .0) (sorted H (r .ordered) (r .apart)) (All-sort (OneLeft s) H (l .apart .0)) in
       let a : length (k .L) ≡ startAmong H s = omega (arith, k .place, start-exact H (r .ordered) (r .apart) s, total-perm (λ t. leftOf t s) deleted (sort-perm H), total-perm (λ t. leftOf t s) inserted (sort-perm H)) in
       (rw (k .was, length-append (k .L) (k .M ++ k .R), length-append (k .M) (k .R)) (omega (arith, a, k .size)), rw (k .was, part-out (k .L) (k .M) (k .R) (s .prepared) (startAmong H s) (deleted s) a (k .size), k .is))
 

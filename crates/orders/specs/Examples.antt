@@ -24,31 +24,35 @@ abbrev old : Tree ℕ
 old = node 0 (cons (letter 1) (cons (letter 2) (cons (node 0 (cons (letter 3) nil)) (cons (letter 4) nil))))
 
 -- number, parent, run, and the letters that come
-abbrev sp : ℕ → Path → ℕ → ℕ → List ℕ → Splice ℕ
-sp n p a b new = record { number = n; parent = p; from = a; to = b; prepared = map letter new }
+abbrev exchange : ℕ → Path → ℕ → ℕ → List ℕ → Splice ℕ
+exchange n p a b new = record { number = n; parent = p; from = a; to = b; prepared = map letter new }
 
--- all orders of a list
+-- a list with x at each place
 everywhere : Splice ℕ → List (Splice ℕ) → List (List (Splice ℕ))
 everywhere x [] = (x ∷ []) ∷ []
 everywhere x (y ∷ l) = (x ∷ y ∷ l) ∷ map (λ m. y ∷ m) (everywhere x l)
 
+-- each list of some with x at each place
 each-everywhere : Splice ℕ → List (List (Splice ℕ)) → List (List (Splice ℕ))
 each-everywhere x [] = []
 each-everywhere x (l ∷ ls) = everywhere x l ++ each-everywhere x ls
 
+-- all orders of a list
 orders : List (Splice ℕ) → List (List (Splice ℕ))
 orders [] = [] ∷ []
 orders (x ∷ l) = each-everywhere x (orders l)
 
--- what a list of splices makes, done in this order: the text, the present path of each old element but the root, and how many splices were done
-pub record Result : Type 0 where
-  pub letters : List ℕ
-  pub paths : List (Option Path)
-  pub done : ℕ
+-- the text, the present path of each old element but the root, and how many splices were done
+record Result : Type 0 where
+  letters : List ℕ
+  paths : List (Option Path)
+  done : ℕ
 
+-- the old paths of 1, 2, X, 3 and 4
 oldPaths : List Path
 oldPaths = (0 ∷ []) ∷ (1 ∷ []) ∷ (2 ∷ []) ∷ (2 ∷ 0 ∷ []) ∷ (3 ∷ []) ∷ []
 
+-- what a list of splices makes, done in this order
 result : List (Splice ℕ) → Result
 result S =
     let now = performs S (begin old) in
@@ -58,7 +62,7 @@ result S =
 
 -- two empty runs at one place, a run that starts there, and one that ends there
 abbrev four : List (Splice ℕ)
-four = sp 0 [] 1 1 (7 ∷ []) ∷ sp 1 [] 1 1 (8 ∷ []) ∷ sp 2 [] 1 2 (5 ∷ 6 ∷ []) ∷ sp 3 [] 0 1 (9 ∷ []) ∷ []
+four = exchange 0 [] 1 1 (7 ∷ []) ∷ exchange 1 [] 1 1 (8 ∷ []) ∷ exchange 2 [] 1 2 (5 ∷ 6 ∷ []) ∷ exchange 3 [] 0 1 (9 ∷ []) ∷ []
 
 -- each order gives the same: 9 in the place of 1, then 8 (the higher number) and 7, then 5 and 6 in the place of 2; X is child 5 now
 all-orders : map result (orders four)
@@ -80,7 +84,7 @@ four-demanded : (order : List (Splice ℕ)) → List·Permᴰ four order → Dem
 four-demanded order r = demand old four order four-apart r
 
 -- a splice in X, done before or after its parent moves
-moved-parent : result (sp 0 [] 0 1 [] ∷ sp 1 (2 ∷ []) 1 1 (7 ∷ []) ∷ []) ≡ result (sp 1 (2 ∷ []) 1 1 (7 ∷ []) ∷ sp 0 [] 0 1 [] ∷ [])
+moved-parent : result (exchange 0 [] 0 1 [] ∷ exchange 1 (2 ∷ []) 1 1 (7 ∷ []) ∷ []) ≡ result (exchange 1 (2 ∷ []) 1 1 (7 ∷ []) ∷ exchange 0 [] 0 1 [] ∷ [])
 unfolding result oldPaths text performs perform runNow performAt start inserted deleted leftIn leftOf total samePath begin splice adjust modify zone bind list forest
 moved-parent = refl
 
@@ -93,24 +97,24 @@ told s t = (allApart? old (s ∷ t ∷ []), map (λ l. ((result l) .letters, (re
 -- each condition is needed
 record Needed : Type 0 where
   -- one number for two empty runs at one place: which is left depends on the order
-  one-number : told (sp 0 [] 1 1 (7 ∷ [])) (sp 0 [] 1 1 (8 ∷ [])) ≡ (false, (1 ∷ 8 ∷ 7 ∷ 2 ∷ 3 ∷ 4 ∷ [], 2) ∷ (1 ∷ 7 ∷ 8 ∷ 2 ∷ 3 ∷ 4 ∷ [], 2) ∷ [])
+  one-number : told (exchange 0 [] 1 1 (7 ∷ [])) (exchange 0 [] 1 1 (8 ∷ [])) ≡ (false, (1 ∷ 8 ∷ 7 ∷ 2 ∷ 3 ∷ 4 ∷ [], 2) ∷ (1 ∷ 7 ∷ 8 ∷ 2 ∷ 3 ∷ 4 ∷ [], 2) ∷ [])
   -- an empty run strictly inside another
-  strictly-inside : told (sp 0 [] 0 2 (7 ∷ [])) (sp 1 [] 1 1 (8 ∷ [])) ≡ (false, (7 ∷ 8 ∷ 3 ∷ 4 ∷ [], 2) ∷ (7 ∷ 2 ∷ 3 ∷ 4 ∷ [], 2) ∷ [])
+  strictly-inside : told (exchange 0 [] 0 2 (7 ∷ [])) (exchange 1 [] 1 1 (8 ∷ [])) ≡ (false, (7 ∷ 8 ∷ 3 ∷ 4 ∷ [], 2) ∷ (7 ∷ 2 ∷ 3 ∷ 4 ∷ [], 2) ∷ [])
   -- runs that share a child
-  shared-child : told (sp 0 [] 0 2 (7 ∷ [])) (sp 1 [] 1 3 (8 ∷ [])) ≡ (false, (7 ∷ 8 ∷ [], 2) ∷ (7 ∷ 4 ∷ [], 2) ∷ [])
+  shared-child : told (exchange 0 [] 0 2 (7 ∷ [])) (exchange 1 [] 1 3 (8 ∷ [])) ≡ (false, (7 ∷ 8 ∷ [], 2) ∷ (7 ∷ 4 ∷ [], 2) ∷ [])
   -- a parent in a deleted child: in the one order it is gone, and its splice is not done
-  parent-gone : told (sp 0 [] 2 3 (7 ∷ [])) (sp 1 (2 ∷ []) 0 0 (8 ∷ [])) ≡ (false, (1 ∷ 2 ∷ 7 ∷ 4 ∷ [], 1) ∷ (1 ∷ 2 ∷ 7 ∷ 4 ∷ [], 2) ∷ [])
+  parent-gone : told (exchange 0 [] 2 3 (7 ∷ [])) (exchange 1 (2 ∷ []) 0 0 (8 ∷ [])) ≡ (false, (1 ∷ 2 ∷ 7 ∷ 4 ∷ [], 1) ∷ (1 ∷ 2 ∷ 7 ∷ 4 ∷ [], 2) ∷ [])
   -- a parent that is a token: nothing is written
-  token-parent : told (sp 0 (0 ∷ []) 0 0 (7 ∷ [])) (sp 1 [] 4 4 (8 ∷ [])) ≡ (false, (1 ∷ 2 ∷ 3 ∷ 4 ∷ 8 ∷ [], 2) ∷ (1 ∷ 2 ∷ 3 ∷ 4 ∷ 8 ∷ [], 2) ∷ [])
+  token-parent : told (exchange 0 (0 ∷ []) 0 0 (7 ∷ [])) (exchange 1 [] 4 4 (8 ∷ [])) ≡ (false, (1 ∷ 2 ∷ 3 ∷ 4 ∷ 8 ∷ [], 2) ∷ (1 ∷ 2 ∷ 3 ∷ 4 ∷ 8 ∷ [], 2) ∷ [])
 
 needed : Needed
 unfolding told allApart? each pairs fits? run? apart? enters? resolve result oldPaths text performs perform runNow performAt start inserted deleted leftIn leftOf total samePath begin splice adjust modify zone bind list forest
 needed = record { one-number = refl; strictly-inside = refl; shared-child = refl; parent-gone = refl; token-parent = refl }
 
 -- a run that ends before it starts: the one go writes children twice
-reversed-run : (allApart? old (sp 0 [] 3 1 (7 ∷ []) ∷ []) ≡ false)
-    × ((result (sp 0 [] 3 1 (7 ∷ []) ∷ [])) .letters ≡ 1 ∷ 2 ∷ 3 ∷ 7 ∷ 4 ∷ [])
-    × (text (oneGo (sp 0 [] 3 1 (7 ∷ []) ∷ []) old) ≡ 1 ∷ 2 ∷ 3 ∷ 7 ∷ 2 ∷ 3 ∷ 4 ∷ [])
+reversed-run : (allApart? old (exchange 0 [] 3 1 (7 ∷ []) ∷ []) ≡ false)
+    × ((result (exchange 0 [] 3 1 (7 ∷ []) ∷ [])) .letters ≡ 1 ∷ 2 ∷ 3 ∷ 7 ∷ 4 ∷ [])
+    × (text (oneGo (exchange 0 [] 3 1 (7 ∷ []) ∷ []) old) ≡ 1 ∷ 2 ∷ 3 ∷ 7 ∷ 2 ∷ 3 ∷ 4 ∷ [])
 unfolding allApart? each pairs fits? run? apart? enters? resolve oneGo atRoot below pick fromRoot fromChild under leftToRight insertByLeft newChildren result oldPaths text performs perform runNow performAt start inserted deleted leftIn leftOf total samePath begin splice adjust modify zone bind list forest
 reversed-run = (refl, refl, refl)
 
@@ -118,7 +122,7 @@ reversed-run = (refl, refl, refl)
 
 -- 7 after X, then 8 after X: "putting later insertions at one spot to the right" would be a slip
 afterX : ℕ → ℕ → List (Splice ℕ)
-afterX m n = sp m [] 3 3 (7 ∷ []) ∷ sp n [] 3 3 (8 ∷ []) ∷ []
+afterX m n = exchange m [] 3 3 (7 ∷ []) ∷ exchange n [] 3 3 (8 ∷ []) ∷ []
 
 -- the letters, where each finds its place by the present path of X
 byTargets : (m n : ℕ) → Option (List ℕ)

@@ -57,29 +57,29 @@ module _ {A : Type 0} where
       go (inr q) = q
 
   -- just one of the two is left of the other
-  pub data Sep (s t : Splice A) : Type 0 where
-    first : leftOf s t ≡ true → leftOf t s ≡ false → Sep s t
-    second : leftOf t s ≡ true → leftOf s t ≡ false → Sep s t
+  pub data OneLeft (s t : Splice A) : Type 0 where
+    first : leftOf s t ≡ true → leftOf t s ≡ false → OneLeft s t
+    second : leftOf t s ≡ true → leftOf s t ≡ false → OneLeft s t
 
-  pub sep : (s t : Splice A) → Ordered s → Ordered t → s .number ≢ t .number → ¬ Overlap s t → Sep s t
-  sep s t hs ht ne clear = go (lt-or-le (s .from) (t .to)) (lt-or-le (t .from) (s .to)) (lt-or-le (t .number) (s .number))
+  pub one-left : (s t : Splice A) → Ordered s → Ordered t → s .number ≢ t .number → ¬ Overlap s t → OneLeft s t
+  one-left s t hs ht ne clear = go (lt-or-le (s .from) (t .to)) (lt-or-le (t .from) (s .to)) (lt-or-le (t .number) (s .number))
     where
-      one : leftOf s t ≡ true → Sep s t
+      one : leftOf s t ≡ true → OneLeft s t
       one e = first e (left-asym s t hs ht e)
 
-      two : leftOf t s ≡ true → Sep s t
+      two : leftOf t s ≡ true → OneLeft s t
       two e = second e (left-asym t s ht hs e)
 
-      go : (s .from < t .to) ⊎ (t .to ≤ s .from) → (t .from < s .to) ⊎ (s .to ≤ t .from) → (t .number < s .number) ⊎ (s .number ≤ t .number) → Sep s t
+      go : (s .from < t .to) ⊎ (t .to ≤ s .from) → (t .from < s .to) ⊎ (s .to ≤ t .from) → (t .number < s .number) ⊎ (s .number ≤ t .number) → OneLeft s t
       go (inl h) (inl k) z = absurd (clear (h, k))
       go (inl h) (inr k) z = one (left-if s t k (inl h))
       go (inr h) (inl k) z = two (left-if t s h (inl k))
       go (inr h) (inr k) (inl z) = one (left-if s t k (inr z))
       go (inr h) (inr k) (inr z) = two (left-if t s h (inr (omega arith)))
 
-  pub sep-sym : (s t : Splice A) → Sep s t → Sep t s
-  sep-sym s t (first p q) = second p q
-  sep-sym s t (second p q) = first p q
+  pub one-left-sym : (s t : Splice A) → OneLeft s t → OneLeft t s
+  one-left-sym s t (first p q) = second p q
+  one-left-sym s t (second p q) = first p q
 
 -- ── What the paper says ─────────────────────────────────────────────────────────────────────────────────────
 

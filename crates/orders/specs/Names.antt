@@ -22,44 +22,45 @@ use Rattle.orders.specs.Done.{After, ready, perform-at, perform-after, a
 -- ── Prepared lists changed throughout ───────────────────────────────────────────────────────────────────────
 
 module _ {A B : Type 0} (g : Tree A → Tree B) where
-  prep : List (Splice A) → List (Splice B)
-  prep S = map (mapPrepared g) S
+  -- splices with each prepared tree changed by g
+  changed : List (Splice A) → List (Splice B)
+  changed S = map (mapPrepared g) S
 
-  insert-prep : (s : Splice A) (H : List (Splice A)) → insertByLeft (mapPrepared g s) (prep H) ≡ prep (insertByLeft s H)
-  unfolding insertByLeft prep leftOf mapPrepared
-  insert-prep s [] = refl
-  insert-prep s (t ∷ H) = go (leftOf s t) (insert-prep s H)
+  insert-changed : (s : Splice A) (H : List (Splice A)) → insertByLeft (mapPrepared g s) (changed H) ≡ changed (insertByLeft s H)
+  unfolding insertByLeft changed leftOf mapPrepared
+  insert-changed s [] = refl
+  insert-changed s (t ∷ H) = go (leftOf s t) (insert-changed s H)
     where
-      go : (b : Bool) → insertByLeft (mapPrepared g s) (prep H) ≡ prep (insertByLeft s H)
-          → cond b (mapPrepared g s ∷ mapPrepared g t ∷ prep H) (mapPrepared g t ∷ insertByLeft (mapPrepared g s) (prep H)) ≡ prep (cond b (s ∷ t ∷ H) (t ∷ insertByLeft s H))
+      go : (b : Bool) → insertByLeft (mapPrepared g s) (changed H) ≡ changed (insertByLeft s H)
+          → cond b (mapPrepared g s ∷ mapPrepared g t ∷ changed H) (mapPrepared g t ∷ insertByLeft (mapPrepared g s) (changed H)) ≡ changed (cond b (s ∷ t ∷ H) (t ∷ insertByLeft s H))
       go true e = refl
       go false e = rw e
 
-  sort-prep : (S : List (Splice A)) → leftToRight (prep S) ≡ prep (leftToRight S)
-  unfolding leftToRight prep
-  sort-prep [] = refl
-  sort-prep (s ∷ S) = rw (sort-prep S, insert-prep s (leftToRight S))
+  sort-changed : (S : List (Splice A)) → leftToRight (changed S) ≡ changed (leftToRight S)
+  unfolding leftToRight changed
+  sort-changed [] = refl
+  sort-changed (s ∷ S) = rw (sort-changed S, insert-changed s (leftToRight S))
 
-  pick-prep : (f : Splice A → Option (Splice A)) (f′ : Splice B → Option (Splice B)) → ((s : Splice A) → f′ (mapPrepared g s) ≡ Option·map (mapPrepared g) (f s)) → (S : List (Splice A)) → pick f′ (prep S) ≡ prep (pick f S)
-  unfolding pick prep
-  pick-prep f f′ h [] = refl
-  pick-prep f f′ h (s ∷ S) = rw (h s, pick-prep f f′ h S) (go (f s))
+  pick-changed : (f : Splice A → Option (Splice A)) (f′ : Splice B → Option (Splice B)) → ((s : Splice A) → f′ (mapPrepared g s) ≡ Option·map (mapPrepared g) (f s)) → (S : List (Splice A)) → pick f′ (changed S) ≡ changed (pick f S)
+  unfolding pick changed
+  pick-changed f f′ h [] = refl
+  pick-changed f f′ h (s ∷ S) = rw (h s, pick-changed f f′ h S) (go (f s))
     where
-      go : (o : Option (Splice A)) → more (Option·map (mapPrepared g) o) (prep (pick f S)) ≡ prep (more o (pick f S))
+      go : (o : Option (Splice A)) → more (Option·map (mapPrepared g) o) (changed (pick f S)) ≡ changed (more o (pick f S))
       go none = refl
       go (some t) = refl
 
-  root-prep : (S : List (Splice A)) → atRoot (prep S) ≡ prep (atRoot S)
+  root-changed : (S : List (Splice A)) → atRoot (changed S) ≡ changed (atRoot S)
   unfolding atRoot fromRoot mapPrepared under
-  root-prep S = pick-prep fromRoot fromRoot (λ s. go s (s .parent)) S
+  root-changed S = pick-changed fromRoot fromRoot (λ s. go s (s .parent)) S
     where
       go : (s : Splice A) (p : Path) → fromRoot (mapPrepared g (under p s)) ≡ Option·map (mapPrepared g) (fromRoot (under p s))
       go s [] = refl
       go s (i ∷ p) = refl
 
-  below-prep : (i : ℕ) (S : List (Splice A)) → below i (prep S) ≡ prep (below i S)
+  below-changed : (i : ℕ) (S : List (Splice A)) → below i (changed S) ≡ changed (below i S)
   unfolding below fromChild mapPrepared under
-  below-prep i S = pick-prep (fromChild i) (fromChild i) (λ s. go s (s .parent)) S
+  below-changed i S = pick-changed (fromChild i) (fromChild i) (λ s. go s (s .parent)) S
     where
       on : (s : Splice A) (b : Bool) → cond b (some (mapPrepared g s)) none ≡ Option·map (mapPrepared g) (cond b (some s) none)
       on s true = refl
@@ -69,24 +70,24 @@ module _ {A B : Type 0} (g : Tree A → Tree B) where
       go s [] = refl
       go s (j ∷ p) = on (under p s) (eqb j i)
 
-  number-prep : (H : List (Splice A)) (i : ℕ) → newNumber (prep H) i ≡ newNumber H i
-  unfolding newNumber number prep holds past inserted deleted mapPrepared
-  number-prep H i =
+  number-changed : (H : List (Splice A)) (i : ℕ) → newNumber (changed H) i ≡ newNumber H i
+  unfolding newNumber number changed holds past inserted deleted mapPrepared
+  number-changed H i =
       rw (
         any-over (mapPrepared g) (holds i) (holds i) (λ s. refl) H,
         total-over (mapPrepared g) (past i) inserted (past i) inserted (λ s. refl) (λ s. length-map (s .prepared) g) H,
         total-over (mapPrepared g) (past i) deleted (past i) deleted (λ s. refl) (λ s. refl) H,
       )
 
-  path-prep : (S : List (Splice A)) (e : Path) → oneGoPath (prep S) e ≡ oneGoPath S e
+  path-changed : (S : List (Splice A)) (e : Path) → oneGoPath (changed S) e ≡ oneGoPath S e
   unfolding oneGoPath
-  path-prep S [] = refl
-  path-prep S (i ∷ e) = rw (root-prep S, number-prep (atRoot S) i, below-prep i S, path-prep (below i S) e)
+  path-changed S [] = refl
+  path-changed S (i ∷ e) = rw (root-changed S, number-changed (atRoot S) i, below-changed i S, path-changed (below i S) e)
 
-  children-prep : (n : ℕ) (H : List (Splice A)) (xs : List (Tree A)) → map g (newChildren n H xs) ≡ newChildren n (prep H) (map g xs)
-  unfolding newChildren prep mapPrepared
-  children-prep n [] xs = refl
-  children-prep n (h ∷ H) xs = simp (map-append, children-prep (h .to) H (drop (h .to - n) xs), map-take, map-drop)
+  children-changed : (n : ℕ) (H : List (Splice A)) (xs : List (Tree A)) → map g (newChildren n H xs) ≡ newChildren n (changed H) (map g xs)
+  unfolding newChildren changed mapPrepared
+  children-changed n [] xs = refl
+  children-changed n (h ∷ H) xs = simp (map-append, children-changed (h .to) H (drop (h .to - n) xs), map-take, map-drop)
 
 -- ── Without the names ───────────────────────────────────────────────────────────────────────────────────────
 
@@ -99,15 +100,15 @@ module _ {A B : Type 0} (f : A → B) where
   mutual
     unfolding oneGo relabel
 
-    relabel-one-go : (S : List (Splice A)) (t : Tree A) → relabel f (oneGo S t) ≡ oneGo (prep (relabel f) S) (relabel f t)
+    relabel-one-go : (S : List (Splice A)) (t : Tree A) → relabel f (oneGo S t) ≡ oneGo (changed (relabel f) S) (relabel f t)
     relabel-one-go S (node a cs) =
         let H : List (Splice A) = leftToRight (atRoot S) in
-        rw (relabelAll-forest (newChildren 0 H (oneGoAll S 0 cs)), children-prep (relabel f) 0 H (oneGoAll S 0 cs), root-prep (relabel f) S, sort-prep (relabel f) (atRoot S), relabel-one-goes S 0 cs)
+        rw (relabelAll-forest (newChildren 0 H (oneGoAll S 0 cs)), children-changed (relabel f) 0 H (oneGoAll S 0 cs), root-changed (relabel f) S, sort-changed (relabel f) (atRoot S), relabel-one-goes S 0 cs)
     relabel-one-go S (token a text) = refl
 
-    relabel-one-goes : (S : List (Splice A)) (n : ℕ) (cs : Trees A) → map (relabel f) (oneGoAll S n cs) ≡ oneGoAll (prep (relabel f) S) n (relabelAll f cs)
+    relabel-one-goes : (S : List (Splice A)) (n : ℕ) (cs : Trees A) → map (relabel f) (oneGoAll S n cs) ≡ oneGoAll (changed (relabel f) S) n (relabelAll f cs)
     relabel-one-goes S n nil = refl
-    relabel-one-goes S n (cons c cs) = rw (relabel-one-go (below n S) c, relabel-one-goes S (suc n) cs, below-prep (relabel f) n S)
+    relabel-one-goes S n (cons c cs) = rw (relabel-one-go (below n S) c, relabel-one-goes S (suc n) cs, below-changed (relabel f) n S)
 
 module _ {A : Type 0} where
   mutual
@@ -136,15 +137,15 @@ module _ {A : Type 0} where
   unnamed-all [] = refl
   unnamed-all (x ∷ xs) = rw (unnamed-nameless x, unnamed-all xs)
 
-  unnamed-prep : (S : List (Splice A)) → prep unnamed (prep nameless S) ≡ S
-  unfolding prep mapPrepared
-  unnamed-prep [] = refl
-  unnamed-prep (s ∷ S) = rw (unnamed-all (s .prepared), unnamed-prep S)
+  unnamed-changed : (S : List (Splice A)) → changed unnamed (changed nameless S) ≡ S
+  unfolding changed mapPrepared
+  unnamed-changed [] = refl
+  unnamed-changed (s ∷ S) = rw (unnamed-all (s .prepared), unnamed-changed S)
 
   -- the walk that carries names is the walk
   pub unnamed-one-go : (S : List (Splice A)) (old : Tree A) → unnamed (oneGoNamed S old) ≡ oneGo S old
-  unfolding oneGoNamed unnamed prep
-  unnamed-one-go S old = relabel-one-go (λ x. x .0) (prep nameless S) (named [] old) ∙ rw (unnamed-prep S, unnamed-named [] old)
+  unfolding oneGoNamed unnamed changed
+  unnamed-one-go S old = relabel-one-go (λ x. x .0) (changed nameless S) (named [] old) ∙ rw (unnamed-changed S, unnamed-named [] old)
 
 -- ── Where the names are ─────────────────────────────────────────────────────────────────────────────────────
 
@@ -186,28 +187,28 @@ module _ {A : Type 0} where
     within = rw (length-named (s .parent) 0 (f .children)) (f .within);
   }
 
-  enters-prep : (s : Splice A) (e : Path) → Enters (mapPrepared nameless s) e → Enters s e
+  enters-changed : (s : Splice A) (e : Path) → Enters (mapPrepared nameless s) e → Enters s e
   unfolding mapPrepared
-  enters-prep s e h = record { child = h .child; rest = h .rest; leads = h .leads; low = h .low; high = h .high }
+  enters-changed s e h = record { child = h .child; rest = h .rest; leads = h .leads; low = h .low; high = h .high }
 
-  apart-prep : (s t : Splice A) → Apart s t → Apart (mapPrepared nameless s) (mapPrepared nameless t)
+  apart-changed : (s t : Splice A) → Apart s t → Apart (mapPrepared nameless s) (mapPrepared nameless t)
   unfolding mapPrepared
-  apart-prep s t h = record { numbers = h .numbers; kept = λ z. h .kept (enters-prep s (t .parent) z); kept′ = λ z. h .kept′ (enters-prep t (s .parent) z); clear = h .clear }
+  apart-changed s t h = record { numbers = h .numbers; kept = λ z. h .kept (enters-changed s (t .parent) z); kept′ = λ z. h .kept′ (enters-changed t (s .parent) z); clear = h .clear }
 
-  named-apart : (old : Tree A) (S : List (Splice A)) → AllApart old S → AllApart (named [] old) (prep nameless S)
-  unfolding prep
+  named-apart : (old : Tree A) (S : List (Splice A)) → AllApart old S → AllApart (named [] old) (changed nameless S)
+  unfolding changed
   named-apart old S h = record {
     fits = All-over (mapPrepared nameless) (Fits old) (Fits (named [] old)) (fits-named old) S (h .fits);
-    apart = Pairs-over (mapPrepared nameless) Apart Apart apart-prep S (h .apart);
+    apart = Pairs-over (mapPrepared nameless) Apart Apart apart-changed S (h .apart);
   }
 
   -- the path of an old element finds it
   pub finds : (old t : Tree A) (S : List (Splice A)) (e q : Path) → AllApart old S → resolve e old ≡ some t → oneGoPath S e ≡ some q → Finds S old e q
-  unfolding oneGoNamed prep
+  unfolding oneGoNamed changed
   finds old t S e q h f g = record {
-    element = oneGo (splicesIn e (prep nameless S)) (named e t);
-    there = resolve-one-go e (named [] old) (named e t) (prep nameless S) q (named-apart old S h) (resolve-named e [] old ∙ rw f) (path-prep nameless S e ∙ g);
-    name = rw (label-one-go (splicesIn e (prep nameless S)) (named e t), label-named e t);
+    element = oneGo (splicesIn e (changed nameless S)) (named e t);
+    there = resolve-one-go e (named [] old) (named e t) (changed nameless S) q (named-apart old S h) (resolve-named e [] old ∙ rw f) (path-changed nameless S e ∙ g);
+    name = rw (label-one-go (splicesIn e (changed nameless S)) (named e t), label-named e t);
   }
 
 -- ── No element elsewhere ────────────────────────────────────────────────────────────────────────────────────
@@ -282,8 +283,8 @@ module _ {A : Type 0} where
       go : (u : Tree (Named A)) {o : Option (Tree A)} → (w : Tree A) × (o ≡ some w) × (relabel bare w ≡ u) → (label u) .1 ≡ none
       go u r = rw (← r .2, label-relabel bare (r .0))
 
-  all-nameless : (S : List (Splice A)) → All (λ s. All (Everywhere Unnamed) (s .prepared)) (prep nameless S)
-  unfolding prep mapPrepared
+  all-nameless : (S : List (Splice A)) → All (λ s. All (Everywhere Unnamed) (s .prepared)) (changed nameless S)
+  unfolding changed mapPrepared
   all-nameless [] = tt
   all-nameless (s ∷ S) = (nameless-everywhere (s .prepared), all-nameless S)
 
@@ -292,11 +293,11 @@ module _ {A : Type 0} where
 
   -- the walk wrote the old element of path e nowhere but where that path leads
   pub finds-only : (old : Tree A) (S : List (Splice A)) (e q : Path) → AllApart old S → Finds S old e q → oneGoPath S e ≡ some q
-  unfolding oneGoNamed prep begin AllFrom Unnamed
+  unfolding oneGoNamed changed begin AllFrom Unnamed
   finds-only old S e q h f = go (all q (f .element) (rw (k .0) (f .there)))
     where
       T : List (Splice (Named A))
-      T = prep nameless S
+      T = changed nameless S
 
       O : Tree (Named A)
       O = named [] old
@@ -313,5 +314,5 @@ module _ {A : Type 0} where
       go : From Unnamed O now q (f .element) → oneGoPath S e ≡ some q
       go (before d w y z x) =
           let e≡ : e ≡ d = some-inj (sym (f .name) ∙ (ap (λ (n : Named A). n .1) x ∙ name-at old d w y)) in
-          rw e≡ (sym (path-prep nameless S d) ∙ (sym (k .1 d) ∙ z))
+          rw e≡ (sym (path-changed nameless S d) ∙ (sym (k .1 d) ∙ z))
       go (prepared x) = none-some (sym x ∙ f .name)

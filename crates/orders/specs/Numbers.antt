@@ -15,7 +15,7 @@ use Rattle.orders.specs.Tree.{shift}
 use Rattle.orders.specs.Splices.{Splice, inserted, deleted, leftOf}
 use Rattle.orders.specs.ListLaws.{bool-absurd, bool?, both-true, Zone, before, inside, after, zone?, All-map, All-map₂, total-none, total-same, none-passes, passes-none, some-inj, none-some}
 use Rattle.orders.specs.TreeLaws.{shift-before, shift-inside, shift-after}
-use Rattle.orders.specs.Left.{Ordered, left-le, left-if, Sep, first, second}
+use Rattle.orders.specs.Left.{Ordered, left-le, left-if, OneLeft, first, second}
 
 module _ {A : Type 0} where
   -- the run of t ends at child i or before it
@@ -109,12 +109,12 @@ module _ {A : Type 0} where
       go (neither a b) k = rw (a, b) (omega (arith, k .0), omega (arith, k .1))
 
   -- runs in x..y that do not overlap have at most as many children
-  room : (H : List (Splice A)) → All Ordered H → Pairs Sep H → (x y : ℕ) → x ≤ y → total (lies x y) deleted H ≤ y - x
+  room : (H : List (Splice A)) → All Ordered H → Pairs OneLeft H → (x y : ℕ) → x ≤ y → total (lies x y) deleted H ≤ y - x
   unfolding total deleted
   room [] o h x y k = omega arith
   room (t ∷ H) o h x y k = go (bool? (lies x y t)) (room H (o .1) (h .1))
     where
-      split : x ≤ t .from → t .to ≤ y → (u : Splice A) → Sep t u → Grows (lies x (t .from) u) (lies x y u) (lies (t .to) y u)
+      split : x ≤ t .from → t .to ≤ y → (u : Splice A) → OneLeft t u → Grows (lies x (t .from) u) (lies x y u) (lies (t .to) y u)
       split a b u s = grows _ _ _ (λ e. let l = lies-in x (t .from) u e in lies-yes x y u (l .0) (omega (arith, l .1, o .0))) (λ e. let l = lies-in x y u e in elim s [
         | first p q ↦ inr (lies-yes (t .to) y u (left-le t u p) (l .1))
         | second p q ↦ inl (lies-yes x (t .from) u (l .0) (left-le u t p))
@@ -128,7 +128,7 @@ module _ {A : Type 0} where
       go (inr e) r = rw e (omega (arith, r x y k))
 
   -- The place y, moved by what passes q, is no further left than the place x, moved by what passes p, where q passes besides that only runs in x..y.
-  no-crossing : (H : List (Splice A)) → All Ordered H → Pairs Sep H → (x y : ℕ) → x ≤ y → (p q : Splice A → Bool) → All (λ t. Grows (p t) (q t) (lies x y t)) H
+  no-crossing : (H : List (Splice A)) → All Ordered H → Pairs OneLeft H → (x y : ℕ) → x ≤ y → (p q : Splice A → Bool) → All (λ t. Grows (p t) (q t) (lies x y t)) H
       → x + total p inserted H + total q deleted H ≤ y + total q inserted H + total p deleted H
   no-crossing H o h x y k p q g = omega (arith, total-grows p q (lies x y) inserted H g .0, total-grows p q (lies x y) deleted H g .1, room H o h x y k)
 
@@ -136,7 +136,7 @@ module _ {A : Type 0} where
   none-first y q f t = grows _ _ _ (λ e. bool-absurd e refl) (λ e. inr (lies-yes 0 y t (omega arith) (f t e)))
 
   -- so no place moves below 0
-  enough : (H : List (Splice A)) → All Ordered H → Pairs Sep H → (y : ℕ) (q : Splice A → Bool) → ((t : Splice A) → q t ≡ true → t .to ≤ y) → total q deleted H ≤ y + total q inserted H
+  enough : (H : List (Splice A)) → All Ordered H → Pairs OneLeft H → (y : ℕ) (q : Splice A → Bool) → ((t : Splice A) → q t ≡ true → t .to ≤ y) → total q deleted H ≤ y + total q inserted H
   enough H o h y q f =
       let z = no-crossing H o h 0 y (omega arith) (λ t. false) q (All-map (λ t k. none-first y q f t) H o) in
       let e = total-none (λ t. false) inserted H (All-map (λ t k. refl) H o) in
@@ -150,16 +150,16 @@ module _ {A : Type 0} where
   unfoldable pub startAmong : List (Splice A) → Splice A → ℕ
   startAmong H s = s .from + total (λ t. leftOf t s) inserted H - total (λ t. leftOf t s) deleted H
 
-  pub number-exact : (H : List (Splice A)) → All Ordered H → Pairs Sep H → (i : ℕ) → number H i + total (past i) deleted H ≡ i + total (past i) inserted H
+  pub number-exact : (H : List (Splice A)) → All Ordered H → Pairs OneLeft H → (i : ℕ) → number H i + total (past i) deleted H ≡ i + total (past i) inserted H
   unfolding number
   number-exact H o h i = omega (arith, enough H o h i (past i) (past-le i))
 
-  pub start-exact : (H : List (Splice A)) → All Ordered H → Pairs Sep H → (s : Splice A) → startAmong H s + total (λ t. leftOf t s) deleted H ≡ s .from + total (λ t. leftOf t s) inserted H
+  pub start-exact : (H : List (Splice A)) → All Ordered H → Pairs OneLeft H → (s : Splice A) → startAmong H s + total (λ t. leftOf t s) deleted H ≡ s .from + total (λ t. leftOf t s) inserted H
   unfolding startAmong
   start-exact H o h s = omega (arith, enough H o h (s .from) (λ t. leftOf t s) (λ t e. left-le t s e))
 
   -- where child i is kept, a child behind it stays behind it
-  pub number-rises : (H : List (Splice A)) → All Ordered H → Pairs Sep H → (i k : ℕ) → i < k → any (holds i) H ≡ false → number H i < number H k
+  pub number-rises : (H : List (Splice A)) → All Ordered H → Pairs OneLeft H → (i k : ℕ) → i < k → any (holds i) H ≡ false → number H i < number H k
   number-rises H o h i k l n = omega (arith, number-exact H o h i, number-exact H o h k, no-crossing H o h (suc i) k l (past i) (past k) (All-map₂ g H o (none-passes (holds i) H n)))
     where
       g : (t : Splice A) → Ordered t → holds i t ≡ false → Grows (past i t) (past k t) (lies (suc i) k t)
@@ -169,7 +169,18 @@ module _ {A : Type 0} where
         | after w u ↦ inl (past-yes i t u)
       ])
 
-  module _ (s : Splice A) (H : List (Splice A)) (os : Ordered s) (o : All Ordered H) (h : Pairs Sep H) (k : All (Sep s) H) (i : ℕ) where
+  -- two children are not written at one place
+  pub number-inj : (H : List (Splice A)) → All Ordered H → Pairs OneLeft H → (i k j : ℕ) → newNumber H i ≡ some j → newNumber H k ≡ some j → i ≡ k
+  number-inj H o h i k j e f =
+      let (x, y) = number-some H i j e in
+      let (x′, y′) = number-some H k j f in
+      elim (zone? i k (suc k)) [
+        | before l ↦ absurd (omega (arith, number-rises H o h i k l x))
+        | inside l m ↦ omega arith
+        | after l m ↦ absurd (omega (arith, number-rises H o h k i m x′))
+      ]
+
+  module _ (s : Splice A) (H : List (Splice A)) (os : Ordered s) (o : All Ordered H) (h : Pairs OneLeft H) (k : All (OneLeft s) H) (i : ℕ) where
     before-run : any (holds i) H ≡ false → i < s .from → number H i < startAmong H s
     before-run n l = omega (arith, number-exact H o h i, start-exact H o h s, no-crossing H o h (suc i) (s .from) l (past i) (λ t. leftOf t s) (All-map₂ g H o (none-passes (holds i) H n)))
       where
@@ -184,7 +195,7 @@ module _ {A : Type 0} where
     unfolding deleted
     after-run l = omega (arith, number-exact H o h i, start-exact H o h s, no-crossing H o h (s .to) i l (λ t. leftOf t s) (past i) (All-map g H k))
       where
-        g : (t : Splice A) → Sep s t → Grows (leftOf t s) (past i t) (lies (s .to) i t)
+        g : (t : Splice A) → OneLeft s t → Grows (leftOf t s) (past i t) (lies (s .to) i t)
         g t z = grows _ _ _ (λ e. past-yes i t (omega (arith, left-le t s e))) (λ e. elim z [
           | first p q ↦ inr (lies-yes (s .to) i t (left-le s t p) (past-le i t e))
           | second p q ↦ inl p
@@ -200,7 +211,7 @@ module _ {A : Type 0} where
     pub run-number : s .from ≤ i → i < s .to → number H i ≡ startAmong H s + (i - s .from)
     run-number a b = omega (arith, number-exact H o h i, start-exact H o h s, total-same (past i) inserted (λ t. leftOf t s) H (All-map₂ g H o k), total-same (past i) deleted (λ t. leftOf t s) H (All-map₂ g H o k))
       where
-        g : (t : Splice A) → Ordered t → Sep s t → past i t ≡ leftOf t s
+        g : (t : Splice A) → Ordered t → OneLeft s t → past i t ≡ leftOf t s
         g t ot (first p q) = past-no i t (omega (arith, left-le s t p)) ∙ sym q
         g t ot (second p q) = past-yes i t (omega (arith, left-le t s p)) ∙ sym p
 

@@ -15,7 +15,7 @@ use Rattle.orders.specs.Tree.{Tree, Trees, node, list, Path, HasRun}
 use Rattle.orders.specs.Splices.{samePath, Splice, inserted, deleted, leftOf, leftIn, start, under, fromRoot, fromChild, atRoot, below, Enters, Fits, Apart, AllApart}
 use Rattle.orders.specs.ListLaws.{some-inj, none-some, pick-none, pick-some, All-pick, Pairs-pick, Pairs-with, All-map}
 use Rattle.orders.specs.TreeLaws.{run-here, run-child}
-use Rattle.orders.specs.Left.{Ordered, Sep, sep}
+use Rattle.orders.specs.Left.{Ordered, OneLeft, one-left}
 use Rattle.orders.specs.Numbers.{startAmong}
 use Rattle.orders.specs.Children.{Level}
 
@@ -82,15 +82,15 @@ module _ {A : Type 0} where
   unfolding atRoot
   root-ordered S h = All-pick fromRoot Ordered Ordered (λ x y e o. subst Ordered (fromRoot-some x y e .1) o) S (h .ordered)
 
-  sep-root : (x y x′ y′ : Splice A) → fromRoot x ≡ some y → fromRoot x′ ≡ some y′ → Ordered x × Ordered x′ × Apart x x′ → Sep y y′
-  sep-root x y x′ y′ e e′ f =
+  one-left-root : (x y x′ y′ : Splice A) → fromRoot x ≡ some y → fromRoot x′ ≡ some y′ → Ordered x × Ordered x′ × Apart x x′ → OneLeft y y′
+  one-left-root x y x′ y′ e e′ f =
       let (r, q) = fromRoot-some x y e in
       let (r′, q′) = fromRoot-some x′ y′ e′ in
-      rw q at (rw q′ at (sep x x′ (f .0) (f .1) (f .2 .numbers) (f .2 .clear (r ∙ sym r′))))
+      rw q at (rw q′ at (one-left x x′ (f .0) (f .1) (f .2 .numbers) (f .2 .clear (r ∙ sym r′))))
 
-  pub root-apart : (S : List (Splice A)) → Neat S → Pairs Sep (atRoot S)
+  pub root-apart : (S : List (Splice A)) → Neat S → Pairs OneLeft (atRoot S)
   unfolding atRoot
-  root-apart S h = Pairs-pick fromRoot (λ x x′. Ordered x × Ordered x′ × Apart x x′) Sep sep-root S (Pairs-with Ordered Apart S (h .ordered) (h .apart))
+  root-apart S h = Pairs-pick fromRoot (λ x x′. Ordered x × Ordered x′ × Apart x x′) OneLeft one-left-root S (Pairs-with Ordered Apart S (h .ordered) (h .apart))
 
   within-root : (a : A) (cs : Trees A) (x y : Splice A) → fromRoot x ≡ some y → Fits (node a cs) x → y .to ≤ length (list cs)
   within-root a cs x y e f =

@@ -14,10 +14,10 @@ use borrow.Author.Tests.{eqb-true, eqb-false}
 use Rattle.orders.specs.Lists.{All, Pairs}
 use Rattle.orders.specs.Tree.{Tree, Trees, node, token, nil, cons, list, forest, Path, resolve, adjust, shift, modify, splice, HasRun}
 use Rattle.orders.specs.Splices.{Splice, under, atRoot, below, leftToRight, newChildren, oneGo, oneGoAll, inserted, deleted, start, AllApart}
-use Rattle.orders.specs.ListLaws.{some-inj, bind-none, before, inside, after, zone?}
+use Rattle.orders.specs.ListLaws.{some-inj, bind-none}
 use Rattle.orders.specs.TreeLaws.{list-forest, run-child, run-token, adjust-root, adjust-shift, adjust-in, adjust-out}
-use Rattle.orders.specs.Left.{Ordered, Sep}
-use Rattle.orders.specs.Numbers.{newNumber, number-some, number-rises, moved}
+use Rattle.orders.specs.Left.{Ordered, OneLeft}
+use Rattle.orders.specs.Numbers.{newNumber, number-inj, moved}
 use Rattle.orders.specs.Children.{Level, splice-children, modify-child}
 use Rattle.orders.specs.Parts.{below-in, below-out, below-root, atRoot-root, atRoot-child, Neat, root-ordered, root-apart, root-level, below-apart, below-neat, start-below, start-root}
 use Rattle.orders.specs.Paths.{oneGoPath, Down, down, length-children, get-rewritten, rewritten-child}
@@ -154,19 +154,8 @@ module _ {A : Type 0} where
   path-root S s h [] = adjust-root _ _ _ []
   path-root S s h (i ∷ e) =
       let o : All Ordered (under [] s ∷ atRoot S) = rw atRoot-root at (root-ordered (under [] s ∷ S) h) in
-      let k : Pairs Sep (under [] s ∷ atRoot S) = rw atRoot-root at (root-apart (under [] s ∷ S) h) in
+      let k : Pairs OneLeft (under [] s ∷ atRoot S) = rw atRoot-root at (root-apart (under [] s ∷ S) h) in
       rw (atRoot-root s S, below-root i s S, start-root s S, moved (under [] s) (atRoot S) (o .0) (o .1) (k .1) (k .0) i) (adjust-first _ _ _ (newNumber (atRoot S) i) (oneGoPath (below i S) e))
-
-  -- two children are not written at one place
-  number-inj : (H : List (Splice A)) → All Ordered H → Pairs Sep H → (i k j : ℕ) → newNumber H i ≡ some j → newNumber H k ≡ some j → i ≡ k
-  number-inj H o h i k j e f =
-      let (x, y) = number-some H i j e in
-      let (x′, y′) = number-some H k j f in
-      elim (zone? i k (suc k)) [
-        | before l ↦ absurd (omega (arith, number-rises H o h i k l x))
-        | inside l m ↦ omega arith
-        | after l m ↦ absurd (omega (arith, number-rises H o h k i m x′))
-      ]
 
   module _ (i : ℕ) (P : Path) (S : List (Splice A)) (s : Splice A) (h : Neat S) (q : Path) (d : Down S i P q) where
     path-child : ((e : Path) → bind (oneGoPath (below i S) e) (adjust (d .rest) (start (below i S) (under P s)) (start (below i S) (under P s) + deleted s) (inserted s)) ≡ oneGoPath (under P s ∷ below i S) e)

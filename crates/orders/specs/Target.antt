@@ -12,7 +12,7 @@ use Rattle.orders.specs.Tree.{Tree, Path, Run, front, last}
 use Rattle.orders.specs.Splices.{Splice, State, inserted, deleted, leftOf, start, begin, runNow, performAt, perform, performs, under, fromRoot, fromChild, atRoot, below, splicesIn, AllApart}
 use Rattle.orders.specs.ListLaws.{some-inj, map-some, bind-some, bool-absurd, bool?, before, inside, after, zone?, All-map, All-map₂, All-pick, total-none, total-same, none-passes}
 use Rattle.orders.specs.TreeLaws.{front-child, last-child}
-use Rattle.orders.specs.Left.{Ordered, left-why, left-if, Sep}
+use Rattle.orders.specs.Left.{Ordered, left-why, left-if, OneLeft}
 use Rattle.orders.specs.Numbers.{past, past-yes, past-no, holds, holds-yes, number, newNumber, number-some, startAmong, number-exact, start-exact, run-kept, run-number}
 use Rattle.orders.specs.Parts.{fromRoot-some, fromChild-some, below-in, Neat, neat, below-neat, root-ordered, root-apart, atRoot-root, start-below, start-root}
 use Rattle.orders.specs.Paths.{oneGoPath, down}
@@ -42,7 +42,7 @@ module _ {A : Type 0} where
 
 -- ── One node ────────────────────────────────────────────────────────────────────────────────────────────────
 
-module _ {A : Type 0} (H : List (Splice A)) (o : All Ordered H) (h : Pairs Sep H) (s : Splice A) (l : All (λ t. t .number < s .number) H) where
+module _ {A : Type 0} (H : List (Splice A)) (o : All Ordered H) (h : Pairs OneLeft H) (s : Splice A) (l : All (λ t. t .number < s .number) H) where
   -- no splice that is done has a higher number: an empty run just behind child i is behind it still
   after-number : (i : ℕ) → s .from ≡ suc i → s .to ≡ suc i → any (holds i) H ≡ false → startAmong H s ≡ suc (number H i)
   after-number i a b n = omega (arith, number-exact H o h i, start-exact H o h s, total-same (past i) inserted (λ t. leftOf t s) H g, total-same (past i) deleted (λ t. leftOf t s) H g)
@@ -117,9 +117,9 @@ module _ {A : Type 0} (old : Tree A) (D : List (Splice A)) (s : Splice A) (now :
   unfolding own under
   ordered = rw atRoot-root at (root-ordered (under [] s ∷ splicesIn (s .parent) D) (own-neat (s .parent) D s (neat old (s ∷ D) h)))
 
-  seps : Pairs Sep (under [] s ∷ own (s .parent) D)
+  one-lefts : Pairs OneLeft (under [] s ∷ own (s .parent) D)
   unfolding own under
-  seps = rw atRoot-root at (root-apart (under [] s ∷ splicesIn (s .parent) D) (own-neat (s .parent) D s (neat old (s ∷ D) h)))
+  one-lefts = rw atRoot-root at (root-apart (under [] s ∷ splicesIn (s .parent) D) (own-neat (s .parent) D s (neat old (s ∷ D) h)))
 
   -- a child of a run that is not empty
   pub run-child-path : (q : Path) (i : ℕ) → now .path (s .parent) ≡ some q → s .from ≤ i → i < s .to → now .path (s .parent ++ (i ∷ [])) ≡ some (q ++ ((start D s + (i - s .from)) ∷ []))
@@ -128,8 +128,8 @@ module _ {A : Type 0} (old : Tree A) (D : List (Splice A)) (s : Splice A) (now :
       let H = own (s .parent) D in
       k .path (s .parent ++ (i ∷ [])) ∙ rw (
         child-path (s .parent) D q i (sym (k .path (s .parent)) ∙ e),
-        run-kept (under [] s) H (ordered .0) (ordered .1) (seps .1) (seps .0) i a b,
-        run-number (under [] s) H (ordered .0) (ordered .1) (seps .1) (seps .0) i a b,
+        run-kept (under [] s) H (ordered .0) (ordered .1) (one-lefts .1) (one-lefts .0) i a b,
+        run-number (under [] s) H (ordered .0) (ordered .1) (one-lefts .1) (one-lefts .0) i a b,
         own-start (s .parent) D s,
       )
 
@@ -141,12 +141,12 @@ module _ {A : Type 0} (old : Tree A) (D : List (Splice A)) (s : Splice A) (now :
       let H = own (s .parent) D in
       let r = map-some (λ j. q ++ (j ∷ [])) (newNumber H i) (sym (child-path (s .parent) D q i (sym (k .path (s .parent)) ∙ e)) ∙ (sym (k .path (s .parent ++ (i ∷ []))) ∙ f)) in
       let (x, y) = number-some H i (r .0) (r .1) in
-      (r .0, sym (r .2), own-start (s .parent) D s ∙ (after-number H (ordered .1) (seps .1) (under [] s) (lower (s .number) (s .parent) D l) i a b x ∙ ap suc y))
+      (r .0, sym (r .2), own-start (s .parent) D s ∙ (after-number H (ordered .1) (one-lefts .1) (under [] s) (lower (s .number) (s .parent) D l) i a b x ∙ ap suc y))
 
   -- before the first child
   pub first-child-start : All (λ t. t .number < s .number) D → s .from ≡ 0 → s .to ≡ 0 → start D s ≡ 0
   unfolding under
-  first-child-start l a b = own-start (s .parent) D s ∙ first-number (own (s .parent) D) (ordered .1) (seps .1) (under [] s) (lower (s .number) (s .parent) D l) a b
+  first-child-start l a b = own-start (s .parent) D s ∙ first-number (own (s .parent) D) (ordered .1) (one-lefts .1) (under [] s) (lower (s .number) (s .parent) D l) a b
 
   -- So the run that the target tells is the run of the splice.
   pub target-run : All (λ t. t .number < s .number) D → (t : Target s) (r : Run) → runByTarget (now .path) s t ≡ some r → runNow now s ≡ some r
