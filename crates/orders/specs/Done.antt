@@ -9,7 +9,7 @@ use Rattle.orders.specs.Lists.{pick, any, total}
 use Rattle.orders.specs.Tree.{Tree, Path, Run, HasRun}
 use Rattle.orders.specs.Splices.{Splice, under, atRoot, below, oneGo, start, deleted, State, begin, runNow, performAt, perform, performs, Apart, AllApart}
 use Rattle.orders.specs.ListLaws.{All-mem}
-use Rattle.orders.specs.Numbers.{number, newNumber}
+use Rattle.orders.specs.Numbers.{startAmong, newNumber}
 use Rattle.orders.specs.Parts.{neat}
 use Rattle.orders.specs.Paths.{oneGoPath, dropped-enters, rewrite-nothing}
 use Rattle.orders.specs.Step.{apart-rest, step-tree, step-path, step-run}
@@ -17,7 +17,7 @@ use Rattle.orders.specs.Order.{one-go-same, path-same, apart-perm}
 
 -- with nothing done, each path leads to itself
 path-nothing : (A : Type 0) (e : Path) → oneGoPath {A = A} [] e ≡ some e
-unfolding oneGoPath newNumber number atRoot below pick any total bind
+unfolding oneGoPath newNumber startAmong atRoot below pick any total bind
 path-nothing A [] = refl
 path-nothing A (i ∷ e) = rw (path-nothing A e, sub-zero, add-zero)
 

@@ -125,7 +125,7 @@ module _ {A : Type 0} where
     walk-one-go S (node a cs) h =
         rw (
           walks-one-go S (leftToRight (atRoot S)) 0 cs (λ k i c e g. below-apart a cs i c S (rw (← e, zero-add k) g) h),
-          gaps-children 0 (length (list cs)) (leftToRight (atRoot S)) (oneGoAll S 0 cs) (level-chain (length (list cs)) (atRoot S) (oneGoAll S 0 cs) (root-level a cs S h)) (zero-add _ ∙ length-children S 0 cs),
+          gaps-children 0 (length (list cs)) (leftToRight (atRoot S)) (oneGoAll S 0 cs) (level-chain (length (list cs)) (atRoot S) (root-level a cs S h)) (zero-add _ ∙ length-children S 0 cs),
         )
 
     walks-one-go : (S H : List (Splice A)) (n : ℕ) (cs : Trees A) → ((k i : ℕ) (c : Tree A) → n + k ≡ i → getElem? (list cs) k ≡ some c → AllApart c (below i S)) → walkAll S H n cs ≡ gapByGap H n (oneGoAll S n cs)

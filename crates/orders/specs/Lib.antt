@@ -9,8 +9,8 @@
 --     TreeLaws   on trees, paths and one splice: where an adjusted path leads, where each element of the new tree comes from, how many there are
 -- The proof, each file resting on those above it:
 --     Left       of two splices in one parent, just one is left of the other; what the paper says of that
---     Numbers    one node: the new numbers of its children, and what one more splice does to them
---     Children   one node: its new children, and what one more splice, or another child in the place of one, does to them
+--     Numbers    one node: where a run starts after other splices, and the new numbers of the children (a child is a run of one)
+--     Children   one node: its new children, and what one more splice, or a child that is changed, does to them
 --     Parts      a list of splices, parted by the root's children
 --     Paths      where the one go writes the element of an old path: which paths are dropped, what stands where the others lead
 --     Step       THE KEY: one more splice done is one more splice in the one go, in the tree and in the paths

@@ -10,7 +10,7 @@ use native.Mathlib.Omega.{arith}
 use native.Mathlib.Nat.{zero-add, le-of-suc-le-suc, not-suc-le-zero}
 use lib.Dec.{ltb}
 use lib.ListN.{length, take, drop, getElem?, length-append, length-drop, take-append-drop}
-use lib.Seq.{take-at, drop-at, take-add, drop-drop, length-take-le, take-append-le, take-take}
+use lib.Seq.{take-at, drop-at, drop-drop, length-take-le, take-append-le, take-take}
 use borrow.Author.Tests.{ltb-true, ltb-false, lt-ltb, le-ltb}
 use Rattle.orders.specs.Lists.{more, pick, any, All, Pairs, total}
 use Rattle.orders.specs.Tree.{zone, modify}
@@ -140,9 +140,6 @@ module _ {ℓ} {A : Type ℓ} where
 module _ {ℓ} {A : Type ℓ} where
   pub parts : (b c : ℕ) (xs : List A) → xs ≡ take b xs ++ (take c (drop b xs) ++ drop (b + c) xs)
   parts b c xs = sym (rw (← drop-drop c b xs, take-append-drop c (drop b xs), take-append-drop b xs))
-
-  pub parts₂ : (b c d : ℕ) (xs : List A) → take (b + (c + d)) xs ≡ take b xs ++ (take c (drop b xs) ++ take d (drop (b + c) xs))
-  parts₂ b c d xs = rw (take-add b (c + d) xs, take-add c d (drop b xs), drop-drop c b xs)
 
   -- of a list in three parts, the middle one gives way
   pub part-out : (L M R new : List A) (a d : ℕ) → length L ≡ a → length M ≡ d → take a (L ++ (M ++ R)) ++ (new ++ drop (a + d) (L ++ (M ++ R))) ≡ L ++ (new ++ R)

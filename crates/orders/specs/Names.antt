@@ -14,7 +14,7 @@ use Rattle.orders.specs.Tree.{Tree, Trees, node, token, nil, cons, list,
 use Rattle.orders.specs.Splices.{Splice, inserted, deleted, leftOf, under, fromRoot, fromChild, atRoot, below, insertByLeft, leftToRight, newChildren, oneGo, oneGoAll, State, begin, performAt, perform, performs, Enters, Apart, Fits, AllApart, splicesIn, relabel, relabelAll, Named, named, namedAll, nameless, unnamed, mapPrepared, oneGoNamed, Finds}
 use Rattle.orders.specs.ListLaws.{some-inj, none-some, map-some, map-append, map-take, map-drop, All-over, Pairs-over, All-mem, get-mem, any-over, total-over}
 use Rattle.orders.specs.TreeLaws.{Origin, kept, came, splice-origin, label-spliceIn}
-use Rattle.orders.specs.Numbers.{past, holds, number, newNumber}
+use Rattle.orders.specs.Numbers.{child, holds, startAmong, newNumber}
 use Rattle.orders.specs.Paths.{oneGoPath, resolve-one-go, label-one-go}
 use Rattle.orders.specs.Order.{apart-perm}
 use Rattle.orders.specs.Done.{After, ready, perform-at, perform-after, apart-done, begin-after, reversed, performs-one-go}
@@ -71,12 +71,12 @@ module _ {A B : Type 0} (g : Tree A → Tree B) where
       go s (j ∷ p) = on (under p s) (eqb j i)
 
   number-changed : (H : List (Splice A)) (i : ℕ) → newNumber (changed H) i ≡ newNumber H i
-  unfolding newNumber number changed holds past inserted deleted mapPrepared
+  unfolding newNumber startAmong changed holds leftOf inserted deleted mapPrepared
   number-changed H i =
       rw (
         any-over (mapPrepared g) (holds i) (holds i) (λ s. refl) H,
-        total-over (mapPrepared g) (past i) inserted (past i) inserted (λ s. refl) (λ s. length-map (s .prepared) g) H,
-        total-over (mapPrepared g) (past i) deleted (past i) deleted (λ s. refl) (λ s. refl) H,
+        total-over (mapPrepared g) (λ t. leftOf t (child i)) inserted (λ t. leftOf t (child i)) inserted (λ s. refl) (λ s. length-map (s .prepared) g) H,
+        total-over (mapPrepared g) (λ t. leftOf t (child i)) deleted (λ t. leftOf t (child i)) deleted (λ s. refl) (λ s. refl) H,
       )
 
   path-changed : (S : List (Splice A)) (e : Path) → oneGoPath (changed S) e ≡ oneGoPath S e

@@ -9,7 +9,7 @@ use Rattle.orders.specs.Tree.{Tree, Trees, node, token, nil, cons, Path}
 use Rattle.orders.specs.Splices.{Splice, leftOf, fromRoot, fromChild, atRoot, below, insertByLeft, leftToRight, oneGo, oneGoAll, inserted, deleted, Fits, Apart, AllApart}
 use Rattle.orders.specs.ListLaws.{All-perm, Pairs-perm, any-perm, total-perm, pick-perm}
 use Rattle.orders.specs.Left.{Ordered, left-trans, left-asym, OneLeft, first, second, one-left-sym}
-use Rattle.orders.specs.Numbers.{past, holds, number, newNumber}
+use Rattle.orders.specs.Numbers.{child, holds, startAmong, newNumber}
 use Rattle.orders.specs.Children.{All-sort}
 use Rattle.orders.specs.Parts.{Neat, root-ordered, root-apart, below-neat}
 use Rattle.orders.specs.Paths.{oneGoPath}
@@ -61,11 +61,11 @@ module _ {A : Type 0} where
     one-goes-same S T r h n (cons c cs) = rw (one-go-same (below n S) (below n T) (below-perm n r) (below-neat n S h) c, one-goes-same S T r h (suc n) cs)
 
   pub path-same : (S T : List (Splice A)) → List·Permᴰ S T → (e : Path) → oneGoPath S e ≡ oneGoPath T e
-  unfolding oneGoPath newNumber number atRoot
+  unfolding oneGoPath newNumber startAmong atRoot
   path-same S T r [] = refl
   path-same S T r (i ∷ e) =
       let d = pick-perm fromRoot r in
-      rw (any-perm (holds i) d, total-perm (past i) inserted d, total-perm (past i) deleted d, path-same (below i S) (below i T) (below-perm i r) e)
+      rw (any-perm (holds i) d, total-perm (λ t. leftOf t (child i)) inserted d, total-perm (λ t. leftOf t (child i)) deleted d, path-same (below i S) (below i T) (below-perm i r) e)
 
   pub apart-perm : (old : Tree A) (S T : List (Splice A)) → List·Permᴰ S T → AllApart old S → AllApart old T
   apart-perm old S T r h = record { fits = All-perm (Fits old) r (h .fits); apart = Pairs-perm Apart apart-sym r (h .apart) }

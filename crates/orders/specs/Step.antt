@@ -76,15 +76,15 @@ module _ {A : Type 0} (i : ℕ) (P : Path) (a : A) (cs : Trees A) (S : List (Spl
   child-level : Level (length (list cs)) (atRoot S)
   child-level = root-level a cs S (apart-rest (node a cs) (under (i ∷ P) s) S h)
 
-  pub child : (c : Tree A) × (getElem? (list cs) i ≡ some c)
+  childAt : (c : Tree A) × (getElem? (list cs) i ≡ some c)
   unfolding under
-  child = let r = run-child a cs i P (s .from) (s .to) (h .fits .0) in (r .0, r .1)
+  childAt = let r = run-child a cs i P (s .from) (s .to) (h .fits .0) in (r .0, r .1)
 
-  pub child-apart : AllApart (child .0) (under P s ∷ below i S)
-  child-apart = rw below-in at (below-apart a cs i (child .0) (under (i ∷ P) s ∷ S) (child .1) h)
+  child-apart : AllApart (childAt .0) (under P s ∷ below i S)
+  child-apart = rw below-in at (below-apart a cs i (childAt .0) (under (i ∷ P) s ∷ S) (childAt .1) h)
 
   module _ (q : Path) (d : Down S i P q) where
-    tree-child : splice (d .rest) (start (below i S) (under P s)) (start (below i S) (under P s) + deleted s) (s .prepared) (oneGo (below i S) (child .0)) ≡ oneGo (under P s ∷ below i S) (child .0)
+    tree-child : splice (d .rest) (start (below i S) (under P s)) (start (below i S) (under P s) + deleted s) (s .prepared) (oneGo (below i S) (childAt .0)) ≡ oneGo (under P s ∷ below i S) (childAt .0)
         → splice q (start S (under (i ∷ P) s)) (start S (under (i ∷ P) s) + deleted s) (s .prepared) (oneGo S (node a cs)) ≡ oneGo (under (i ∷ P) s ∷ S) (node a cs)
     unfolding splice oneGo
     tree-child ih =
@@ -93,9 +93,9 @@ module _ {A : Type 0} (i : ℕ) (P : Path) (a : A) (cs : Trees A) (S : List (Spl
           ← d .is,
           start-below i P s S,
           list-forest (newChildren 0 (leftToRight (atRoot S)) (oneGoAll S 0 cs)),
-          modify-child (length (list cs)) (atRoot S) (oneGoAll S 0 cs) child-level i (d .j) (d .at) (oneGo (below i S) (child .0)) (get-rewritten S 0 cs i i (child .0) (zero-add i) (child .1)) f,
+          modify-child (length (list cs)) (atRoot S) (oneGoAll S 0 cs) child-level i (d .j) (d .at) (oneGo (below i S) (childAt .0)) (get-rewritten S 0 cs i i (childAt .0) (zero-add i) (childAt .1)) f,
           atRoot-child i P s S,
-          children-modified S (under (i ∷ P) s ∷ S) f i (child .0) (λ k z. below-out k i P s S z) (rw (below-in i P s S) (sym ih)) 0 i cs (zero-add i) (child .1),
+          children-modified S (under (i ∷ P) s ∷ S) f i (childAt .0) (λ k z. below-out k i P s S z) (rw (below-in i P s S) (sym ih)) 0 i cs (zero-add i) (childAt .1),
         )
 
 -- ── In the tree ─────────────────────────────────────────────────────────────────────────────────────────────
@@ -109,7 +109,7 @@ module _ {A : Type 0} where
   step-tree (i ∷ P) (token a text) S s q h e = absurd (run-token a text (i ∷ P) _ _ (h .fits .0))
   step-tree (i ∷ P) (node a cs) S s q h e =
       let d = down S i P q e in
-      tree-child i P a cs S s h q d (step-tree P (child i P a cs S s h .0) (below i S) s (d .rest) (child-apart i P a cs S s h) (d .on))
+      tree-child i P a cs S s h q d (step-tree P (childAt i P a cs S s h .0) (below i S) s (d .rest) (child-apart i P a cs S s h) (d .on))
 
   -- the run is really there
   pub step-run : (P : Path) (old : Tree A) (S : List (Splice A)) (s : Splice A) (q : Path) → AllApart old (under P s ∷ S) → oneGoPath S P ≡ some q
@@ -120,7 +120,7 @@ module _ {A : Type 0} where
   step-run (i ∷ P) (token a text) S s q h e = absurd (run-token a text (i ∷ P) _ _ (h .fits .0))
   step-run (i ∷ P) (node a cs) S s q h e =
       let d = down S i P q e in
-      let (c, g) = child i P a cs S s h in
+      let (c, g) = childAt i P a cs S s h in
       let r = step-run P c (below i S) s (d .rest) (child-apart i P a cs S s h) (d .on) in
       rw (← d .is, start-below i P s S) (record { kind = r .kind; children = r .children; found = rewritten-child a cs S (apart-rest (node a cs) (under (i ∷ P) s) S h) i c (d .j) (d .rest) g (d .at) ∙ r .found; ordered = r .ordered; within = r .within })
 

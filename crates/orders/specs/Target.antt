@@ -10,10 +10,10 @@ use native.Mathlib.Omega.{arith}
 use Rattle.orders.specs.Lists.{any, All, Pairs}
 use Rattle.orders.specs.Tree.{Tree, Path, Run, front, last}
 use Rattle.orders.specs.Splices.{Splice, State, inserted, deleted, leftOf, start, begin, runNow, performAt, perform, performs, under, fromRoot, fromChild, atRoot, below, splicesIn, AllApart}
-use Rattle.orders.specs.ListLaws.{some-inj, map-some, bind-some, bool-absurd, bool?, before, inside, after, zone?, All-map, All-map₂, All-pick, total-none, total-same, none-passes}
+use Rattle.orders.specs.ListLaws.{some-inj, map-some, bind-some, bool?, All-map, All-map₂, All-pick, total-none, total-same}
 use Rattle.orders.specs.TreeLaws.{front-child, last-child}
-use Rattle.orders.specs.Left.{Ordered, left-why, left-if, OneLeft}
-use Rattle.orders.specs.Numbers.{past, past-yes, past-no, holds, holds-yes, number, newNumber, number-some, startAmong, number-exact, start-exact, run-kept, run-number}
+use Rattle.orders.specs.Left.{Ordered, left-le, left-why, left-if, OneLeft, first, second}
+use Rattle.orders.specs.Numbers.{child, holds, newNumber, number-some, all-apart, startAmong, start-exact, run-kept, run-number}
 use Rattle.orders.specs.Parts.{fromRoot-some, fromChild-some, below-in, Neat, neat, below-neat, root-ordered, root-apart, atRoot-root, start-below, start-root}
 use Rattle.orders.specs.Paths.{oneGoPath, down}
 use Rattle.orders.specs.Order.{apart-perm}
@@ -44,22 +44,19 @@ module _ {A : Type 0} where
 
 module _ {A : Type 0} (H : List (Splice A)) (o : All Ordered H) (h : Pairs OneLeft H) (s : Splice A) (l : All (λ t. t .number < s .number) H) where
   -- no splice that is done has a higher number: an empty run just behind child i is behind it still
-  after-number : (i : ℕ) → s .from ≡ suc i → s .to ≡ suc i → any (holds i) H ≡ false → startAmong H s ≡ suc (number H i)
-  after-number i a b n = omega (arith, number-exact H o h i, start-exact H o h s, total-same (past i) inserted (λ t. leftOf t s) H g, total-same (past i) deleted (λ t. leftOf t s) H g)
+  after-number : (i : ℕ) → s .from ≡ suc i → s .to ≡ suc i → any (holds i) H ≡ false → startAmong H s ≡ suc (startAmong H (child i))
+  after-number i a b n = omega (arith, start-exact H o h (child i), start-exact H o h s, total-same (λ t. leftOf t (child i)) inserted (λ t. leftOf t s) H g, total-same (λ t. leftOf t (child i)) deleted (λ t. leftOf t s) H g)
     where
       not-left : (t : Splice A) → t .number < s .number → i < t .from → (leftOf t s ≡ true) ⊎ (leftOf t s ≡ false) → leftOf t s ≡ false
       not-left t m w (inl e) = absurd (elim (left-why t s e) [ inl x ↦ omega arith | inr x ↦ omega arith ])
       not-left t m w (inr e) = e
 
-      same : (t : Splice A) → Ordered t → holds i t ≡ false → t .number < s .number → past i t ≡ leftOf t s
-      same t ot z m = elim (zone? i (t .from) (t .to)) [
-        | before w ↦ past-no i t (omega arith) ∙ sym (not-left t m w (bool? (leftOf t s)))
-        | inside w u ↦ bool-absurd (holds-yes i t w u) z
-        | after w u ↦ past-yes i t u ∙ sym (left-if t s (omega arith) (inl (omega arith)))
-      ]
+      same : (t : Splice A) → Ordered t → t .number < s .number → OneLeft (child i) t → leftOf t (child i) ≡ leftOf t s
+      same t ot m (first p q) = q ∙ sym (not-left t m (left-le (child i) t p) (bool? (leftOf t s)))
+      same t ot m (second p q) = p ∙ sym (left-if t s (omega (arith, left-le t (child i) p)) (inl (omega (arith, left-le t (child i) p))))
 
-      g : All (λ t. past i t ≡ leftOf t s) H
-      g = All-map₂ {P = λ t. Ordered t × (holds i t ≡ false)} (λ t z m. same t (z .0) (z .1) m) H (All-map₂ (λ t ot z. (ot, z)) H o (none-passes (holds i) H n)) l
+      g : All (λ t. leftOf t (child i) ≡ leftOf t s) H
+      g = All-map₂ {P = λ t. Ordered t × (t .number < s .number)} (λ t z k. same t (z .0) (z .1) k) H (All-map₂ (λ t x y. (x, y)) H o l) (all-apart i H o n)
 
   -- and one before the first child is before it still
   first-number : s .from ≡ 0 → s .to ≡ 0 → startAmong H s ≡ 0
