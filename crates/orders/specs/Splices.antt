@@ -117,7 +117,7 @@ module _ {A : Type 0} where
   insertByLeft s [] = s ∷ []
   insertByLeft s (t ∷ T) = cond (leftOf s t) (s ∷ t ∷ T) (t ∷ insertByLeft s T)
 
-  -- splices of one parent, from left to right
+  -- splices of one parent, from left to right: sorted, one inserted after the other
   unfoldable pub leftToRight : List (Splice A) → List (Splice A)
   leftToRight [] = []
   leftToRight (s ∷ S) = insertByLeft s (leftToRight S)
