@@ -5,17 +5,94 @@ use mathlib.Core.Bool.{Bool, true, false, cond, not, _&&_, _||_}
 use mathlib.Core.List.{List, [], _∷_, map, zip}
 use mathlib.Core.Logic.{_⊎_, inl, inr}
 use mathlib.Core.Option.{Option, none, some, Option·map, bind}
-use Prim.Native.Nat.{ℕ, zero, suc, _+_, _≤_, _<_, max}
+use Prim.Native.Nat.{ℕ, zero, suc, _+_, _≤_, _<_, _%_, max}
 use native.Mathlib.Omega.{arith}
 use lib.Dec.{leb, ltb, eqb, leb·zero, leb·suc-suc, leb·suc-zero, eqb·zero-suc, eqb·suc-zero, eqb·suc-suc}
 use lib.ListN.{length, take, drop, length-drop}
-use borrow.Author.Tests.{le-leb, lt-leb, lt-ltb, le-ltb, eq-eqb, ne-eqb}
-use Rattle.orders.specs.ListLaws.{lt-or-le}
+use borrow.Author.Tests.{le-leb, lt-leb, lt-ltb, le-ltb, eq-eqb, ne-eqb, leb-true}
+use Rattle.orders.specs.ListLaws.{lt-or-le, both-true}
 use Rattle.orders.specs.Tree.{Tree, node, token, forest, deepest, deepestOf}
 use Rattle.definition.specs.Basics.{any, isSome}
 use Rattle.definition.specs.Batch.{Batch}
 use Rattle.definition.specs.Elements.{Piece, isNode, malformed, pieces, plant, grow, startsWithToken, unspelled, spelled}
 use Rattle.element_table.specs.Spelling.{childrenOf, lengthOf, stands, settled, noneOpen, opened, fills, accepts}
+
+-- ── Truth values ────────────────────────────────────────────────────────────────────────────────────────────
+
+and-no : (a : Bool) → (a && false) ≡ false
+and-no true = refl
+and-no false = refl
+
+-- ── One element ─────────────────────────────────────────────────────────────────────────────────────────────
+
+module _ (k m : ℕ) where
+  pub children-token : k < 0x8000_0000 → childrenOf k m ≡ 0
+  unfolding childrenOf isNode
+  children-token h = rw (lt-leb 0x8000_0000 k h)
+
+  pub children-node : 0x8000_0000 ≤ k → childrenOf k m ≡ m
+  unfolding childrenOf isNode
+  children-node h = rw (le-leb 0x8000_0000 k h)
+
+  pub length-token : k < 0x8000_0000 → lengthOf k m ≡ m
+  unfolding lengthOf isNode
+  length-token h = rw (lt-leb 0x8000_0000 k h)
+
+  pub length-node : 0x8000_0000 ≤ k → lengthOf k m ≡ 0
+  unfolding lengthOf isNode
+  length-node h = rw (le-leb 0x8000_0000 k h)
+
+module _ (k d : ℕ) where
+  pub stands-malformed : 0x1_0000 ≤ k % 0x8000_0000 → stands k d ≡ false
+  unfolding stands malformed
+  stands-malformed h = rw (le-leb 0x1_0000 (k % 0x8000_0000) h)
+
+  pub stands-deep : 64 < d → stands k d ≡ false
+  unfolding stands
+  stands-deep h = rw (lt-leb d 64 h) (and-no (not (malformed k)))
+
+  module _ (h : k % 0x8000_0000 < 0x1_0000) (l : d ≤ 64) where
+    pub stands-node : 0x8000_0000 ≤ k → stands k d ≡ true
+    unfolding stands malformed isNode
+    stands-node n = rw (lt-leb 0x1_0000 (k % 0x8000_0000) h, le-leb d 64 l, le-leb 0x8000_0000 k n)
+
+    pub stands-token : k < 0x8000_0000 → stands k d ≡ ltb 1 d
+    unfolding stands malformed isNode
+    stands-token n = rw (lt-leb 0x1_0000 (k % 0x8000_0000) h, le-leb d 64 l, lt-leb 0x8000_0000 k n)
+
+  -- an element that may stand is no deeper than 64
+  pub stands-shallow : stands k d ≡ true → d ≤ 64
+  unfolding stands
+  stands-shallow h = leb-true d 64 (both-true (leb d 64) _ (both-true (not (malformed k)) _ h .1) .0)
+
+-- ── A turn of the machine ───────────────────────────────────────────────────────────────────────────────────
+
+module _ (bytes : ℕ) where
+  -- an element to which no child is to come is closed
+  pub fills-close : (s : List ℕ) (sum : ℕ) (es : List (ℕ × ℕ)) → fills bytes (0 ∷ s) sum es ≡ fills bytes s sum es
+  unfolding fills
+  fills-close s sum [] = refl
+  fills-close s sum (e ∷ es) = refl
+
+  -- the next element is opened
+  pub fills-open : (l : ℕ) (s : List ℕ) (sum k m : ℕ) (es : List (ℕ × ℕ)) (d : ℕ) → suc (length s) ≡ d
+      → fills bytes (suc l ∷ s) sum ((k, m) ∷ es) ≡ (stands k d && fills bytes (childrenOf k m ∷ l ∷ s) (sum + lengthOf k m) es)
+  unfolding fills
+  fills-open l s sum k m es d h = rw (← h)
+
+  -- a child is to come, and no element is left
+  pub fills-short : (l : ℕ) (s : List ℕ) (sum : ℕ) → fills bytes (suc l ∷ s) sum [] ≡ false
+  unfolding fills
+  fills-short l s sum = refl
+
+  -- none is open, and an element is left
+  pub fills-long : (sum : ℕ) (e : ℕ × ℕ) (es : List (ℕ × ℕ)) → fills bytes [] sum (e ∷ es) ≡ false
+  unfolding fills
+  fills-long sum e es = refl
+
+  pub fills-end : (sum : ℕ) → fills bytes [] sum [] ≡ eqb sum bytes
+  unfolding fills
+  fills-end sum = refl
 
 -- ── The trees that elements spell ───────────────────────────────────────────────────────────────────────────
 
@@ -66,10 +143,6 @@ shared-pop s none = refl
 shared-pop s (some ts) = rw (leb·zero (length ts))
 
 -- ── Truth values ────────────────────────────────────────────────────────────────────────────────────────────
-
-and-no : (a : Bool) → (a && false) ≡ false
-and-no true = refl
-and-no false = refl
 
 and-yes : (a : Bool) → (a && true) ≡ a
 and-yes true = refl
