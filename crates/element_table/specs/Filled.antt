@@ -16,10 +16,10 @@ use Rattle.definition.specs.Basics.{any, isSome}
 use Rattle.definition.specs.Batch.{Batch}
 use Rattle.definition.specs.Elements.{malformed, startsWithToken, unspelled, spelled, table}
 use Rattle.element_table.specs.View.{view}
-use Rattle.element_table.specs.Spelling.{accepts}
-use Rattle.element_table.specs.SpellingLaws.{kindsOf, measuresOf, kinds-zip, measures-zip, grown, spelled-grown, accepts-spelled}
+use Rattle.spelling.specs.Spelling.{accepts}
+use Rattle.spelling.specs.SpellingLaws.{kindsOf, measuresOf, kinds-zip, measures-zip, grown, spelled-grown, accepts-spelled}
 use Rattle.element_table.specs.Filling.{tableOf, sourceOf}
-use Rattle.element_table.specs.Preorder.{kinds-flats, measures-flats, length-flats, Spelt, spelt}
+use Rattle.spelling.specs.Preorder.{kinds-flats, measures-flats, length-flats, Spelt, spelt}
 use Rattle.element_table.specs.FillingLaws.{wordsAll, length-all, table-words, length-source}
 use Rattle.element_table.specs.ViewLaws.{told-all}
 

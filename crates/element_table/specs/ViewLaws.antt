@@ -13,9 +13,9 @@ use Rattle.orders.specs.ListLaws.{map-append}
 use Rattle.orders.specs.Tree.{Tree, Trees, node, token, nil, cons, list, forest, Path, elements, elementsOf, text, textOf}
 use Rattle.definition.specs.Elements.{isNode, numbers, rows, rowsBelow, table}
 use Rattle.element_table.specs.View.{upFrom, field, lineFrom, pathTo, kindWord, measureWord, siblings, rowAt}
-use Rattle.element_table.specs.Spelling.{lengthOf}
+use Rattle.spelling.specs.Spelling.{lengthOf}
 use Rattle.element_table.specs.Filling.{rowsFrom, sourceOf}
-use Rattle.element_table.specs.Preorder.{flat, flats, flat-node, flat-token, flats-cons, length-flat, Worded, WordedAll}
+use Rattle.spelling.specs.Preorder.{flat, flats, flat-node, flat-token, flats-cons, length-flat, Worded, WordedAll}
 use Rattle.element_table.specs.FillingLaws.{wordsOf, wordsBelow, wordsAll, length-words}
 
 -- ── Single words ────────────────────────────────────────────────────────────────────────────────────────────

@@ -8,6 +8,7 @@ use native.Mathlib.Omega.{arith}
 use lib.ListN.{length, getD, set, drop, length-set}
 use lib.Seq.{getD-set-same, getD-set-other, drop-drop}
 use Rattle.definition.specs.Words.{word, words}
+use Rattle.spelling.specs.Spelling.{elementsAt}
 
 -- ── A stack ─────────────────────────────────────────────────────────────────────────────────────────────────
 
@@ -45,8 +46,8 @@ module _ (b : List ℕ) (kinds measures n : ℕ) where
   unfoldable pub elementsFrom : ℕ → List (ℕ × ℕ)
   elementsFrom i = zip (words (n - i) (drop (kinds + 4 * i) b)) (words (n - i) (drop (measures + 4 * i) b))
 
-  pub elements-all : elementsFrom 0 ≡ zip (words n (drop kinds b)) (words n (drop measures b))
-  unfolding elementsFrom
+  pub elements-all : elementsFrom 0 ≡ elementsAt b kinds measures n
+  unfolding elementsFrom elementsAt
   elements-all =
       let e : n - 0 ≡ n = omega arith in
       let f : (x : ℕ) → x + 4 * 0 ≡ x = λ x. omega arith in

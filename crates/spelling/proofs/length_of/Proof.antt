@@ -2,9 +2,9 @@
 -- Assumes nothing.
 use mathlib.Core.Path.{sym}
 use native.Mathlib.Omega.{arith}
-use Rattle.element_table.specs.SpellingLaws.{length-token, length-node}
-use Rattle.element_table.proofs.length_of.Statement.{statement}
-use Rattle.element_table.proofs.length_of.Tie as tie
+use Rattle.spelling.specs.SpellingLaws.{length-token, length-node}
+use Rattle.spelling.proofs.length_of.Statement.{statement}
+use Rattle.spelling.proofs.length_of.Tie as tie
 
 returns : tie.Need-returns
 returns c = (sym (length-token _ _ (c .if1 .taken)), omega arith)

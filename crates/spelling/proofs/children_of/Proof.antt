@@ -1,9 +1,9 @@
 -- `children_of` meets its contract.
 -- Assumes nothing.
 use mathlib.Core.Path.{sym}
-use Rattle.element_table.specs.SpellingLaws.{children-token, children-node}
-use Rattle.element_table.proofs.children_of.Statement.{statement}
-use Rattle.element_table.proofs.children_of.Tie as tie
+use Rattle.spelling.specs.SpellingLaws.{children-token, children-node}
+use Rattle.spelling.proofs.children_of.Statement.{statement}
+use Rattle.spelling.proofs.children_of.Tie as tie
 
 returns : tie.Need-returns
 returns c = sym (children-token _ _ (c .if1 .taken))

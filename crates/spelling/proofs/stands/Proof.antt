@@ -1,9 +1,9 @@
 -- `stands` meets its contract.
 -- Assumes nothing.
 use mathlib.Core.Path.{sym}
-use Rattle.element_table.specs.SpellingLaws.{stands-malformed, stands-deep, stands-node, stands-token}
-use Rattle.element_table.proofs.stands.Statement.{statement}
-use Rattle.element_table.proofs.stands.Tie as tie
+use Rattle.spelling.specs.SpellingLaws.{stands-malformed, stands-deep, stands-node, stands-token}
+use Rattle.spelling.proofs.stands.Statement.{statement}
+use Rattle.spelling.proofs.stands.Tie as tie
 
 returns : tie.Need-returns
 returns c = sym (stands-malformed _ _ (c .if1 .taken))

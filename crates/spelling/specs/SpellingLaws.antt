@@ -15,7 +15,7 @@ use Rattle.orders.specs.Tree.{Tree, node, token, forest, deepest, deepestOf}
 use Rattle.definition.specs.Basics.{any, isSome}
 use Rattle.definition.specs.Batch.{Batch}
 use Rattle.definition.specs.Elements.{Piece, isNode, malformed, pieces, plant, grow, startsWithToken, unspelled, spelled}
-use Rattle.element_table.specs.Spelling.{childrenOf, lengthOf, stands, settled, noneOpen, opened, fills, accepts}
+use Rattle.spelling.specs.Spelling.{childrenOf, lengthOf, stands, settled, noneOpen, opened, fills, accepts}
 
 -- ── Truth values ────────────────────────────────────────────────────────────────────────────────────────────
 

@@ -1,11 +1,16 @@
 -- Line 5, element by element: a machine that reads kind words and measures from the first to the last and holds a stack of counts.
 -- Assumes nothing.
 use mathlib.Core.Bool.{Bool, true, false, cond, not, _&&_, _||_}
-use mathlib.Core.List.{List, [], _∷_}
+use mathlib.Core.List.{List, [], _∷_, zip}
 use Prim.Native.Nat.{ℕ, zero, suc, _+_}
-use lib.ListN.{length}
+use lib.ListN.{length, drop}
 use lib.Dec.{leb, ltb, eqb}
+use Rattle.definition.specs.Words.{words}
 use Rattle.definition.specs.Elements.{isNode, malformed}
+
+-- the n elements of a batch whose kind words and measures stand at these bytes: kind word and measure of each
+unfoldable pub elementsAt : List ℕ → ℕ → ℕ → ℕ → List (ℕ × ℕ)
+elementsAt b kinds measures n = zip (words n (drop kinds b)) (words n (drop measures b))
 
 -- "A node's measure is its count of direct children, a token's its text length": the children, and the text, of an element alone
 unfoldable pub childrenOf : ℕ → ℕ → ℕ

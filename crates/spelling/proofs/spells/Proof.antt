@@ -5,10 +5,10 @@ use native.Mathlib.Omega.{arith}
 use mathlib.Core.Path.{sym, _∙_}
 use Prim.Native.Nat.{_+_, _-_}
 use borrow.Author.Tests.{not-false}
-use Rattle.element_table.specs.SpellingLaws.{stands-shallow}
-use Rattle.element_table.proofs.Reading.{Reading, reading-start, reading-close, reading-long, reading-end, reading-short, reading-wrong, reading-open}
-use Rattle.element_table.proofs.spells.Statement.{statement}
-use Rattle.element_table.proofs.spells.Tie as tie
+use Rattle.spelling.specs.SpellingLaws.{stands-shallow}
+use Rattle.spelling.proofs.Reading.{Reading, reading-start, reading-close, reading-long, reading-end, reading-short, reading-wrong, reading-open}
+use Rattle.spelling.proofs.spells.Statement.{statement}
+use Rattle.spelling.proofs.spells.Tie as tie
 
 abbrev Inv-loop : tie.InvT-loop
 Inv-loop b kinds measures n trees bytes left₀ d₀ sum₀ i₀ left d sum i = Reading b kinds measures n trees bytes left d sum i

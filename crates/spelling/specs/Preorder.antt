@@ -13,8 +13,8 @@ use Rattle.orders.specs.ListLaws.{map-append, bind-some, some-inj, none-some}
 use Rattle.orders.specs.Tree.{Tree, Trees, node, token, nil, cons, list, forest, label, measure, preorder, preorders, elements, elementsOf, text, textOf}
 use Rattle.orders.specs.TreeLaws.{list-forest}
 use Rattle.definition.specs.Elements.{isNode, pieces, plant, grow}
-use Rattle.element_table.specs.Spelling.{lengthOf}
-use Rattle.element_table.specs.SpellingLaws.{kindsOf, measuresOf, grown, pieceAt, grown-more}
+use Rattle.spelling.specs.Spelling.{lengthOf}
+use Rattle.spelling.specs.SpellingLaws.{kindsOf, measuresOf, grown, pieceAt, grown-more}
 
 -- ── The elements of trees ───────────────────────────────────────────────────────────────────────────────────
 
