@@ -16,7 +16,7 @@ use Rattle.definition.specs.Planning.{Fate, own, dependent, discarded}
 use Rattle.definition.specs.Running.{owned}
 use Rattle.edit_plan.specs.Lists.{length-insert, all, total-le, total-add, total-zero, total-count, total-most, total-swap, length-kept}
 use Rattle.edit_plan.specs.Rows.{rowAt, rowFate}
-use Rattle.edit_plan.specs.Sorting.{sortFrom, comesAt, rankedPlaces}
+use Rattle.edit_plan.specs.Sorting.{sortFrom, comesAt, sortedPlaces, rankedPlaces}
 use Rattle.edit_plan.specs.Order.{ordered, runningPlaces}
 
 -- ── How often a place runs ──────────────────────────────────────────────────────────────────────────────────
@@ -123,6 +123,14 @@ unfolding sortFrom
 length-sortFrom comes i zero = refl
 length-sortFrom comes i (suc n) = length-insert comes i (sortFrom comes (suc i) n) ∙ ap suc (length-sortFrom comes (suc i) n)
 
+pub length-sorted : (w : List ℕ) (n : ℕ) → length (sortedPlaces w n) ≡ n
+unfolding sortedPlaces
+length-sorted w n = length-sortFrom (comesAt false w) 0 n
+
+pub length-ranked : (w : List ℕ) (n : ℕ) → length (rankedPlaces w n) ≡ n
+unfolding rankedPlaces
+length-ranked w n = length-sortFrom (comesAt true w) 0 n
+
 times-insert : (comes : ℕ → ℕ → Bool) (y x : ℕ) (l : List ℕ) → times y (insertBy comes x l) ≡ cond (eqb x y) 1 0 + times y l
 unfolding insertBy total
 times-insert comes y x [] = refl
@@ -151,7 +159,7 @@ times-sorted comes i (suc n) y = rw (times-insert comes y i (sortFrom comes (suc
 pub running-most : (w : List ℕ) (n : ℕ) → length (runningPlaces w n) ≤ n
 unfolding runningPlaces rankedPlaces
 running-most w n =
-    omega (arith, ordered-most (λ k. rowFate (rowAt w k)) (rankedPlaces w n) (λ y. times-sorted (comesAt true w) 0 n y) n, length-sortFrom (comesAt true w) 0 n)
+    omega (arith, ordered-most (λ k. rowFate (rowAt w k)) (rankedPlaces w n) (λ y. times-sorted (comesAt true w) 0 n y) n, length-ranked w n)
 
 -- ── Fewer may remain ────────────────────────────────────────────────────────────────────────────────────────
 

@@ -8,7 +8,7 @@ use Prim.Native.Nat.{ℕ, zero, suc}
 use Rattle.orders.specs.ListLaws.{map-append}
 use Rattle.definition.specs.Basics.{keep, numbered, falling}
 use Rattle.definition.specs.Elements.{Table}
-use Rattle.definition.specs.Planning.{Fate, Planned, key}
+use Rattle.definition.specs.Planning.{Planned, key}
 use Rattle.definition.specs.Running.{owned, ranked, order}
 use Rattle.syntax_editor.specs.ChangeRow.{ChangeRow, rowsOf}
 use Rattle.edit_plan.specs.Lists.{map-numbered, map-keep, map-falling, flatMap-map}
