@@ -4,15 +4,18 @@ use mathlib.Core.Path.{_≡_, refl, sym}
 use mathlib.Core.Bool.{Bool, false, cond, not, _&&_}
 use mathlib.Core.List.{List, [], _∷_, map}
 use mathlib.Core.Option.{Option, none, some, Option·map}
-use Prim.Native.Nat.{ℕ}
+use Prim.Native.Nat.{ℕ, zero, suc, _-_, _*_}
+use lib.ListN.{drop}
 use lib.Dec.{ltb, eqb}
 use Rattle.definition.specs.Basics.{keep, first, numbered}
 use Rattle.definition.specs.Elements.{Table}
 use Rattle.definition.specs.Recording.{Change}
 use Rattle.definition.specs.Planning.{rank, peers, exceeds, overlapping, overlap}
-use Rattle.syntax_editor.specs.ChangeRow.{ChangeRow}
+use Rattle.syntax_editor.specs.ChangeRow.{ChangeRow, rowsOf}
 use Rattle.edit_plan.specs.Lists.{map-numbered, map-keep, map-first}
-use Rattle.edit_plan.specs.Rows.{Tells}
+use Rattle.edit_plan.specs.Rows.{rowAt, Tells}
+use Rattle.edit_plan.specs.declared.Replacements.{Replacements}
+use Rattle.edit_plan.specs.declared.Replacements.the-variants.{Disjoint, Overlap}
 
 -- ── On rows ─────────────────────────────────────────────────────────────────────────────────────────────────
 
@@ -80,3 +83,38 @@ module _ (T : Table) {X : Type 0} (row : X → ChangeRow) (change : X → Change
         ← map-keep changed keeps (λ c. not (eqb (rank (c .1)) 0)) (λ q. refl) (numbered 0 xs),
       )
       (overlapping-told [] (keep keeps (numbered 0 xs)))
+
+-- ── On rows in words ────────────────────────────────────────────────────────────────────────────────────────
+
+-- a replacement or a run in this tree and at this depth
+unfoldable pub isPeer : ℕ → ℕ → ChangeRow → Bool
+isPeer t d r = removes r && (eqb t r.tree && eqb d r.depth)
+
+-- the replacements and runs before place k, the last first
+unfoldable pub removersBefore : List ℕ → ℕ → List (ℕ × ChangeRow)
+removersBefore w zero = []
+removersBefore w (suc j) = cond (removes (rowAt w j)) ((j, rowAt w j) ∷ removersBefore w j) (removersBefore w j)
+
+-- the last of them among the peers of the row at place k
+unfoldable pub peerBefore : List ℕ → ℕ → Option (ℕ × ChangeRow)
+peerBefore w k = first (λ s. rowPeers (rowAt w k) (s .1)) (removersBefore w k)
+
+-- a place told as one more, 0 if there is none
+unfoldable pub placeAfter : Option (ℕ × ChangeRow) → ℕ
+placeAfter none = 0
+placeAfter (some s) = suc (s .0)
+
+-- the place, told so, of the peer before the row at place k that exceeds it
+unfoldable pub exceeding : List ℕ → ℕ → ℕ
+exceeding w k =
+    let before = peerBefore w k in
+    cond (removes (rowAt w k) && rowExceeds before (rowAt w k)) (placeAfter before) 0
+
+-- what is left to find of n rows, from place k on
+unfoldable pub overlapFrom : List ℕ → ℕ → ℕ → Option (ℕ × ℕ)
+overlapFrom w n k = rowsOverlapping (removersBefore w k) (keep (λ r. removes (r .1)) (numbered k (rowsOf (n - k) (drop (13 * k) w))))
+
+-- the answer that the code gives
+unfoldable pub replacements : Option (ℕ × ℕ) → Replacements
+replacements none = Disjoint
+replacements (some p) = Overlap (p .0) (p .1)
