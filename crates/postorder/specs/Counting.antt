@@ -14,10 +14,10 @@ use Rattle.orders.specs.Lists.{total}
 use Rattle.definition.specs.Basics.{keep, insertBy}
 use Rattle.definition.specs.Planning.{Fate, own, dependent, discarded}
 use Rattle.definition.specs.Running.{owned}
-use Rattle.edit_plan.specs.Lists.{length-insert, all, total-le, total-add, total-zero, total-count, total-most, total-swap, length-kept}
+use Rattle.edit_plan.specs.Lists.{all, total-le, total-add, total-zero, total-count, total-most, total-swap, length-kept}
 use Rattle.edit_plan.specs.Rows.{rowAt, rowFate}
-use Rattle.edit_plan.specs.Sorting.{sortFrom, comesAt, sortedPlaces, rankedPlaces}
-use Rattle.edit_plan.specs.Order.{ordered, runningPlaces}
+use Rattle.edit_plan.specs.Sorting.{sortFrom, comesAt, rankedPlaces, length-ranked}
+use Rattle.postorder.specs.Order.{ordered, runningPlaces}
 
 -- ── How often a place runs ──────────────────────────────────────────────────────────────────────────────────
 
@@ -117,19 +117,6 @@ module _ (fateAt : ℕ → Fate) where
     ordered-most m = omega (arith, length-ordered m none, total-most (below m none) (below-none m) qs)
 
 -- ── The places of rows ──────────────────────────────────────────────────────────────────────────────────────
-
-pub length-sortFrom : (comes : ℕ → ℕ → Bool) (i n : ℕ) → length (sortFrom comes i n) ≡ n
-unfolding sortFrom
-length-sortFrom comes i zero = refl
-length-sortFrom comes i (suc n) = length-insert comes i (sortFrom comes (suc i) n) ∙ ap suc (length-sortFrom comes (suc i) n)
-
-pub length-sorted : (w : List ℕ) (n : ℕ) → length (sortedPlaces w n) ≡ n
-unfolding sortedPlaces
-length-sorted w n = length-sortFrom (comesAt false w) 0 n
-
-pub length-ranked : (w : List ℕ) (n : ℕ) → length (rankedPlaces w n) ≡ n
-unfolding rankedPlaces
-length-ranked w n = length-sortFrom (comesAt true w) 0 n
 
 times-insert : (comes : ℕ → ℕ → Bool) (y x : ℕ) (l : List ℕ) → times y (insertBy comes x l) ≡ cond (eqb x y) 1 0 + times y l
 unfolding insertBy total

@@ -1,0 +1,2 @@
+-- What becomes of each change, on sorted rows.
+pub mod Fates
