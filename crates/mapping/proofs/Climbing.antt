@@ -12,8 +12,8 @@ use Rattle.definition.specs.Basics.{refused, gives}
 use Rattle.definition.specs.Elements.{Table, parent, child}
 use Rattle.definition.specs.Rewriting.{mappedOr, climb, trail}
 use Rattle.element_table.specs.View.{view}
-use Rattle.calls.specs.Wellformed.{Lines}
-use Rattle.calls.specs.Told.{elementOf, length-view, parent-told, child-told}
+use Rattle.element_table.specs.Wellformed.{Lines}
+use Rattle.element_table.specs.Told.{elementOf, length-view, parent-told, child-told}
 use Rattle.mapping.specs.declared.Climb.{Climb}
 use Rattle.mapping.specs.declared.Climb.the-variants.{Trail, Refused}
 use Rattle.mapping.specs.Mapped.{mappedBy, Mapped}

@@ -9,8 +9,8 @@ use lib.ListN.{length, getD, set, length-set}
 use Rattle.orders.specs.Tree.{Path}
 use Rattle.definition.specs.Elements.{placeBelow}
 use Rattle.element_table.specs.View.{view}
-use Rattle.calls.specs.Wellformed.{Lines}
-use Rattle.calls.specs.Told.{parent-below, deep}
+use Rattle.element_table.specs.Wellformed.{Lines}
+use Rattle.element_table.specs.Told.{parent-below, deep}
 use Rattle.mapping.specs.declared.Below.the-variants.{Numbers, Elsewhere}
 use Rattle.mapping.specs.Backward.{backward, backward-none, backward-set}
 use Rattle.mapping.specs.Paths.{place-here, place-root, place-up}

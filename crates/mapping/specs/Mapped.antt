@@ -14,7 +14,7 @@ use mathlib.Core.Logic.{⊎-elim}
 use Rattle.orders.specs.Lists.{All}
 use Rattle.orders.specs.ListLaws.{lt-or-le}
 use Rattle.definition.specs.Rewriting.{mapping}
-use Rattle.calls.specs.Told.{elementOf}
+use Rattle.element_table.specs.Told.{elementOf}
 
 -- the output of element e, if it is mapped
 unfoldable pub mappedBy : List ℕ → ℕ → Option ℕ

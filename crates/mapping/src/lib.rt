@@ -4,7 +4,7 @@ ghost use mathlib.Core.Option.{Option·getD};
 ghost use Prim.Native.Nat.{suc, _+_, _*_, _^_, _≤_, _<_};
 ghost use lib.ListN.{length, getD, drop};
 ghost use mathlib.Core.List.{zip};
-ghost use Rattle.calls.specs.Wellformed.{Lines};
+ghost use Rattle.element_table.specs.Wellformed.{Lines};
 ghost use Rattle.definition.specs.Words.{words};
 ghost use Rattle.mapping.specs.Mapped.{mappedBy, Mapped, Bounded, mappingWords};
 ghost use Rattle.mapping.specs.Answers.{Placed, Climbed};

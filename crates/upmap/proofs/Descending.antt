@@ -14,8 +14,8 @@ use Rattle.definition.specs.Basics.{_>>=_, refuse, orRefuse}
 use Rattle.definition.specs.Elements.{row, isNode, descend}
 use Rattle.definition.specs.Rewriting.{land}
 use Rattle.element_table.specs.View.{view, field, siblings}
-use Rattle.calls.specs.Wellformed.{Wellformed}
-use Rattle.calls.specs.Told.{row-view, node-told, childCount, children-told, length-siblings}
+use Rattle.element_table.specs.Wellformed.{Wellformed}
+use Rattle.element_table.specs.Told.{row-view, node-told, childCount, children-told, length-siblings}
 use Rattle.upmap.specs.declared.Found.{Found}
 use Rattle.upmap.specs.declared.Found.the-variants.{At, Missing}
 use Rattle.mapping.specs.Backward.{backward, backward-none, backward-read}

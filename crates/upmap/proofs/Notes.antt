@@ -14,8 +14,8 @@ use Rattle.definition.specs.Basics.{refused, gives, _>>=_, refuse, orRefuse, is
 use Rattle.definition.specs.Elements.{Table, row, parent}
 use Rattle.definition.specs.Rewriting.{mappedOr, nearest, isParent, noteFrom, settle}
 use Rattle.element_table.specs.View.{view, field, lineFrom, rowAt}
-use Rattle.calls.specs.Wellformed.{Lines}
-use Rattle.calls.specs.Told.{elementOf, row-view, parent-below, parent-told}
+use Rattle.element_table.specs.Wellformed.{Lines}
+use Rattle.element_table.specs.Told.{elementOf, row-view, parent-below, parent-told}
 use Rattle.mapping.specs.declared.Below.{Below}
 use Rattle.mapping.specs.declared.Below.the-variants.{Numbers, Elsewhere}
 use Rattle.upmap.specs.declared.Found.{Found}

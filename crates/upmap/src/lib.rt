@@ -2,7 +2,7 @@
 ghost use mathlib.Core.Path.{_≡_};
 ghost use Prim.Native.Nat.{_≤_, _<_};
 ghost use lib.ListN.{length};
-ghost use Rattle.calls.specs.Wellformed.{Lines, Wellformed};
+ghost use Rattle.element_table.specs.Wellformed.{Lines, Wellformed};
 ghost use Rattle.mapping.specs.Mapped.{Mapped};
 ghost use Rattle.mapping.specs.Backward.{backward};
 ghost use Rattle.upmap.specs.Answers.{FoundChild, Descended, Landed, MovedFrom, MovedTo};
