@@ -1,4 +1,2 @@
--- Ending      the answers of `upmap_ends`
--- Measuring   what planning goes by, of a change with other ends
+-- Ending   the answers of `upmap_ends`
 pub mod Ending
-pub mod Measuring

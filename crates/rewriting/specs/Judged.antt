@@ -13,7 +13,7 @@ use Rattle.definition.specs.Refusals.{wrongCount, wrongCall}
 use Rattle.definition.specs.Recording.{call}
 use Rattle.element_table.specs.View.{view}
 use Rattle.calls.specs.Fits.{countFits, callFits, judged}
-use Rattle.rewriting.specs.Stated.{changeBy}
+use Rattle.change_row.specs.Stated.{changeBy}
 
 -- its counts are right, and it is judged by its target and, of a call 2, the replacement, of a run, the end
 pub wrong-by : (n : ℕ) (w s : List ℕ) (op x y z : ℕ) (new : List ℕ) → op ≤ 5 → x < n → y < n → (op ≡ 2 → z < n) → All (λ e. e < n) new

@@ -18,7 +18,7 @@ use Rattle.definition.specs.Rewriting.{replacement, moved, retarget, rewriteInt
 use Rattle.definition.specs.Running.{news}
 use Rattle.syntax_editor.specs.ChangeRow.{ChangeRow, operation, endOf, changeRow}
 use Rattle.edit_plan.specs.Rows.{rowFate, withFate, fate-stated}
-use Rattle.rewriting.specs.Stated.{changeBy, newOf, changeOf, planOf, Stated}
+use Rattle.change_row.specs.Stated.{changeBy, newOf, changeOf, planOf, Stated}
 
 -- ── Rewriting on rows ───────────────────────────────────────────────────────────────────────────────────────
 

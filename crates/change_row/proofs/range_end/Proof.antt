@@ -1,9 +1,9 @@
 -- `range_end` meets its contract. One word or the other.
 -- Assumes nothing.
 use borrow.Author.Needs.{needs}
-use Rattle.rewriting.proofs.Measuring.{chosen, not-chosen}
-use Rattle.rewriting.proofs.range_end.Statement.{statement}
-use Rattle.rewriting.proofs.range_end.Tie as tie
+use Rattle.change_row.proofs.Measuring.{chosen, not-chosen}
+use Rattle.change_row.proofs.range_end.Statement.{statement}
+use Rattle.change_row.proofs.range_end.Tie as tie
 
 entry-requires : tie.Need-entry-requires
 entry-requires c κs = search needs

@@ -1,20 +1,24 @@
 -- What planning goes by, of a change with other ends.
 -- Assumes nothing.
 use mathlib.Core.Bool.{Bool, true, false, cond}
-use mathlib.Core.List.{List}
+use mathlib.Core.List.{List, [], _∷_}
 use mathlib.Core.Path.{_≡_, sym, ap, _∙_}
 use Prim.Native.Nat.{ℕ, suc, _+_, _-_, _*_, _^_, _≤_, _<_}
 use native.Mathlib.Omega.{arith}
-use lib.ListN.{getD}
+use lib.ListN.{length, getD, take, drop, length-drop}
+use lib.Seq.{paste, take-take, length-take-le}
 use lib.Dec.{eqb}
 use borrow.Author.Tests.{eq-eqb, ne-eqb, lt-ltb, le-ltb}
-use Rattle.definition.specs.Elements.{isNode, row}
+use Rattle.definition.specs.Elements.{Table, isNode, row}
 use Rattle.definition.specs.Planning.{above}
 use Rattle.element_table.specs.View.{view, field, rowAt}
 use Rattle.element_table.specs.Wellformed.{Lines, Wellformed}
 use Rattle.element_table.specs.Told.{row-view, root-told, depth-told, tree-told, node-told}
-use Rattle.rewriting.specs.Answers.{DepthTold, RegionTold, Measured}
-use Rattle.rewriting.specs.Stated.{fromBy, toBy, depthBy, regionBy}
+use Rattle.change_row.specs.Measured.{DepthTold, RegionTold, Measured}
+use Rattle.syntax_editor.specs.ChangeRow.{rowWords, rowOf}
+use Rattle.edit_plan.specs.Rows.{rowAt as rowIn}
+use Rattle.change_row.specs.declared.Measures.{Measures}
+use Rattle.change_row.specs.Stated.{fromBy, toBy, depthBy, regionBy, rowAnew}
 
 module _ (n : ℕ) (w : List ℕ) (op x d : ℕ) (L : Lines n w) (h : x < n) (q : d ≡ getD w (8 * x + 3) 0) (b : d < 2 ^ 32) where
   pub depth-first : op ≡ 0 → DepthTold n w op x d
@@ -93,3 +97,20 @@ measured n w s op x y z t f u d g W hx hy qt qf qu qd qg =
       region = qg .region w;
       small = record { tree = qt .1; from = qf .1; to = qu .1; depth = qd .small; region = qg .small };
     }
+
+-- ── A row with other ends ───────────────────────────────────────────────────────────────────────────────────
+
+pub words-anew : (T : Table) (w : List ℕ) (i x y z op list count rank fate owner : ℕ) (m : Measures) → Measured T op x y z m
+    → op ≡ getD (drop (13 * i) w) 0 0 → list ≡ getD (drop (13 * i) w) 3 0 → count ≡ getD (drop (13 * i) w) 4 0
+    → rank ≡ getD (drop (13 * i) w) 9 0 → fate ≡ getD (drop (13 * i) w) 11 0 → owner ≡ getD (drop (13 * i) w) 12 0
+    → op ∷ x ∷ y ∷ list ∷ count ∷ m .tree ∷ m .from ∷ m .to ∷ m .depth ∷ rank ∷ m .region ∷ fate ∷ owner ∷ [] ≡ rowWords (rowAnew T (rowIn w i) x y z)
+unfolding rowWords rowAnew rowIn rowOf
+words-anew T w i x y z op list count rank fate owner m M a b c d e f =
+    rw (M .tree, M .from, M .to, M .depth, M .region, b, c, d, e, f, ← a)
+
+-- a row passed as a part of its slice
+pub row-copied : (out w : List ℕ) (a b : ℕ) → b ≡ a + 13 → b ≤ length w → paste out a (take (b - a) (drop a w)) (length (take (b - a) (drop a w))) ≡ paste out a (drop a w) 13
+row-copied out w a b e h =
+    let k : b - a ≡ 13 = omega arith in
+    let l : length (take 13 (drop a w)) ≡ 13 = length-take-le 13 (drop a w) (omega (arith, length-drop a w)) in
+    rw (k, l, take-take 13 13 (drop a w) (omega arith))

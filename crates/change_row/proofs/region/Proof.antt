@@ -1,9 +1,9 @@
 -- `region` meets its contract. One law for each answer.
 -- Assumes nothing.
 use borrow.Author.Needs.{needs}
-use Rattle.rewriting.proofs.Measuring.{region-none, region-run, region-other, region-by-node, region-by-token, region-token}
-use Rattle.rewriting.proofs.region.Statement.{statement}
-use Rattle.rewriting.proofs.region.Tie as tie
+use Rattle.change_row.proofs.Measuring.{region-none, region-run, region-other, region-by-node, region-by-token, region-token}
+use Rattle.change_row.proofs.region.Statement.{statement}
+use Rattle.change_row.proofs.region.Tie as tie
 
 returns : tie.Need-returns
 returns c = search (region-none, needs)

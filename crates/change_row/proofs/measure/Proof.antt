@@ -1,9 +1,9 @@
 -- `measure` meets its contract. Each word is what the view says.
 -- Assumes nothing.
 use borrow.Author.Needs.{needs}
-use Rattle.rewriting.proofs.Measuring.{measured}
-use Rattle.rewriting.proofs.measure.Statement.{statement}
-use Rattle.rewriting.proofs.measure.Tie as tie
+use Rattle.change_row.proofs.Measuring.{measured}
+use Rattle.change_row.proofs.measure.Statement.{statement}
+use Rattle.change_row.proofs.measure.Tie as tie
 
 entry-requires : tie.Need-entry-requires
 entry-requires c κs = search needs

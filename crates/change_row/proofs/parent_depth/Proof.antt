@@ -3,9 +3,9 @@
 use native.Mathlib.Omega.{arith}
 use borrow.Author.Needs.{needs}
 use Rattle.element_table.specs.Told.{deep}
-use Rattle.rewriting.proofs.Measuring.{depth-first, depth-root, depth-below}
-use Rattle.rewriting.proofs.parent_depth.Statement.{statement}
-use Rattle.rewriting.proofs.parent_depth.Tie as tie
+use Rattle.change_row.proofs.Measuring.{depth-first, depth-root, depth-below}
+use Rattle.change_row.proofs.parent_depth.Statement.{statement}
+use Rattle.change_row.proofs.parent_depth.Tie as tie
 
 entry-requires : tie.Need-entry-requires
 entry-requires c κs = search needs
