@@ -48,6 +48,29 @@ pub record Stated (n : ℕ) (listed : List ℕ) (r : ChangeRow) : Type 0 where
   pub counted : r .count ≡ length (news (changeOf listed r))
   pub ranked : r .rank ≡ rank (changeOf listed r)
 
+-- r depends on o, which is a call 2
+pub record Dependent (n : ℕ) (listed : List ℕ) (o r : ChangeRow) : Type 0 where
+  pub elements : All (λ e. e < n) listed
+  pub owner : Stated n listed o
+  pub replaces : o .operation ≡ 2
+  pub itself : Stated n listed r
+  pub fated : r .fate ≡ 1
+
+-- the dependent r may have these ends: elements, and one and the same if it is no run
+pub record NewEnds (n : ℕ) (listed : List ℕ) (r : ChangeRow) (x y : ℕ) : Type 0 where
+  pub elements : All (λ e. e < n) listed
+  pub itself : Stated n listed r
+  pub fated : r .fate ≡ 1
+  pub target : x < n
+  pub end : y < n
+  pub alike : (r .operation ≡ 5 → ⊥) → y ≡ x
+
+-- the row at place i is one of 256 and states a change; as a dependent it has an owner
+pub record Fated (n : ℕ) (listed w : List ℕ) (i : ℕ) : Type 0 where
+  pub few : i < 256
+  pub long : 13 * i + 13 ≤ length w
+  pub owned : (rowAt w i) .fate ≡ 1 → ((rowAt w i) .owner < 256) × Dependent n listed (rowAt w ((rowAt w i) .owner)) (rowAt w i)
+
 -- c rows that state changes, each dependent with a call 2 as owner
 pub record Rewritable (n : ℕ) (listed w : List ℕ) (c : ℕ) : Type 0 where
   pub few : c ≤ 256
@@ -55,6 +78,16 @@ pub record Rewritable (n : ℕ) (listed w : List ℕ) (c : ℕ) : Type 0 where
   pub elements : All (λ e. e < n) listed
   pub stated : (i : ℕ) → i < c → Stated n listed (rowAt w i)
   pub owned : (i : ℕ) → i < c → (rowAt w i) .fate ≡ 1 → ((rowAt w i) .owner < c) × ((rowAt w ((rowAt w i) .owner)) .operation ≡ 2)
+
+pub fated-row : (n : ℕ) (listed w : List ℕ) (c i : ℕ) → Rewritable n listed w c → i < c → Fated n listed w i
+fated-row n listed w c i R h =
+    record {
+      few = omega (arith, R .few);
+      long = omega (arith, R .long);
+      owned = λ f.
+          let o = R .owned i h f in
+          (omega (arith, o .0, R .few), record { elements = R .elements; owner = R .stated ((rowAt w i) .owner) (o .0); replaces = o .1; itself = R .stated i h; fated = f });
+    }
 
 -- ── The row anew ────────────────────────────────────────────────────────────────────────────────────────────
 

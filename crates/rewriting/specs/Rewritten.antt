@@ -1,6 +1,6 @@
 -- The rows rewritten, and that they are what the definition says.
 -- Assumes nothing.
-use mathlib.Core.Bool.{Bool, true, false}
+use mathlib.Core.Bool.{Bool, true, false, cond}
 use mathlib.Core.List.{List, [], _∷_, map}
 use mathlib.Core.Option.{Option}
 use mathlib.Core.Path.{_≡_, refl, sym, ap}
@@ -17,7 +17,7 @@ use Rattle.definition.specs.Planning.{Fate, own, dependent, discarded, Planned,
 use Rattle.definition.specs.Rewriting.{replacement, moved, retarget, rewriteInto, rewriteOne, rewriting}
 use Rattle.definition.specs.Running.{news}
 use Rattle.syntax_editor.specs.ChangeRow.{ChangeRow, operation, endOf, changeRow}
-use Rattle.edit_plan.specs.Rows.{rowFate, withFate, fate-stated}
+use Rattle.edit_plan.specs.Rows.{rowAt, rowFate, withFate, fate-stated}
 use Rattle.change_row.specs.Stated.{changeBy, newOf, changeOf, planOf, Stated}
 
 -- ── Rewriting on rows ───────────────────────────────────────────────────────────────────────────────────────
@@ -64,6 +64,10 @@ module _ (T : Table) (mapped : ℕ → Option ℕ) (listed : List ℕ) where
     m ← rewriteRow rs r
     gives (m .0 ∷ l .0, m .1 + l .1)
 
+  -- the same of the row at place i of sorted rows in words
+  unfoldable pub rewriteAt : List ℕ → ℕ → Answer (ChangeRow × ℕ)
+  rewriteAt w i = cond (eqb ((rowAt w i) .fate) 1) (rewriteUnder (changeOf listed (rowAt w ((rowAt w i) .owner))) (rowAt w i)) (gives (rowAt w i, 0))
+
 -- ── A change by its number, rewritten ───────────────────────────────────────────────────────────────────────
 
 -- where the target and, of a run, the end go, and the steps
@@ -75,6 +79,10 @@ movedEnds f op x y = do
 -- the change with the new target and end
 abbrev pub withEnds : ℕ → ℕ → List ℕ → ℕ × ℕ × ℕ → Answer (Change × ℕ)
 withEnds op z new q = gives (changeBy op (q .0) (q .1) z new, q .2)
+
+-- "a rewritten call that 6 would refuse: 9"
+abbrev pub judgedEnds : Table → ℕ → ℕ → List ℕ → ℕ × ℕ × ℕ → Answer (Change × ℕ)
+judgedEnds T op z new q = _>>=_ {B = Change × ℕ} (refuse 9 (wrongCall T (call (changeBy op (q .0) (q .1) z new)))) (λ _. withEnds op z new q)
 
 one-end : (g : ℕ → Change) (k : ℕ × ℕ × ℕ → Answer (Change × ℕ)) (a : Answer (ℕ × ℕ)) → ((m : ℕ × ℕ) → k (m .0, m .0, m .1) ≡ gives (g (m .0), m .1))
     → _>>=_ {B = Change × ℕ} a (λ m. gives (g (m .0), m .1)) ≡ _>>=_ {A = ℕ × ℕ × ℕ} (_>>=_ {B = ℕ × ℕ × ℕ} a (λ m. gives (m .0, m .0, m .1))) k
@@ -101,17 +109,13 @@ module _ (T : Table) (mapped : ℕ → Option ℕ) where
   retarget-by f (suc (suc (suc (suc (suc zero))))) x y z new h = two-ends (λ e d. replaceAll e d new) (withEnds 5 z new) (f x) (f y) (λ m n. refl)
   retarget-by f (suc (suc (suc (suc (suc (suc op)))))) x y z new h = absurd (omega arith)
 
-  -- "a rewritten call that 6 would refuse: 9"
-  abbrev pub judgedEnds : ℕ → ℕ → List ℕ → ℕ × ℕ × ℕ → Answer (Change × ℕ)
-  judgedEnds op z new q = _>>=_ {B = Change × ℕ} (refuse 9 (wrongCall T (call (changeBy op (q .0) (q .1) z new)))) (λ _. withEnds op z new q)
-
   into-by : (op z : ℕ) (new : List ℕ) (a : Answer (ℕ × ℕ × ℕ))
-      → _>>=_ {A = Change × ℕ} {B = Change × ℕ} (a >>= withEnds op z new) (λ m. refuse 9 (wrongCall T (call (m .0))) >>= λ _. gives m) ≡ a >>= judgedEnds op z new
+      → _>>=_ {A = Change × ℕ} {B = Change × ℕ} (a >>= withEnds op z new) (λ m. refuse 9 (wrongCall T (call (m .0))) >>= λ _. gives m) ≡ a >>= judgedEnds T op z new
   unfolding _>>=_
   into-by op z new (refused n) = refl
   into-by op z new (gives q) = refl
 
-  pub rewriteInto-by : (x r op t e z : ℕ) (new : List ℕ) → op ≤ 5 → rewriteInto T mapped x r (changeBy op t e z new) ≡ movedEnds (moved T mapped x r) op t e >>= judgedEnds op z new
+  pub rewriteInto-by : (x r op t e z : ℕ) (new : List ℕ) → op ≤ 5 → rewriteInto T mapped x r (changeBy op t e z new) ≡ movedEnds (moved T mapped x r) op t e >>= judgedEnds T op z new
   unfolding rewriteInto
   rewriteInto-by x r op t e z new h = rw (retarget-by (moved T mapped x r) op t e z new h) (into-by op z new (movedEnds (moved T mapped x r) op t e))
 
@@ -158,8 +162,8 @@ plannedWith f m = gives (record { change = m .0; fate = f }, m .1)
 
 module _ (T : Table) (mapped : ℕ → Option ℕ) (listed : List ℕ) where
   judged-told : (r : ChangeRow) (a : Answer (ℕ × ℕ × ℕ)) → r .operation ≤ 5
-      → _>>=_ {A = Change × ℕ} {B = Planned × ℕ} (a >>= judgedEnds T mapped (r .operation) (getD listed (r .list) 0) (newOf listed r)) (plannedWith (rowFate r))
-      ≡ toldRow listed (_>>=_ {A = Change × ℕ} {B = ChangeRow × ℕ} (a >>= judgedEnds T mapped (r .operation) (getD listed (r .list) 0) (newOf listed r)) (λ m. gives (withFate (changeRow T (r .list) (m .0)) (rowFate r), m .1)))
+      → _>>=_ {A = Change × ℕ} {B = Planned × ℕ} (a >>= judgedEnds T (r .operation) (getD listed (r .list) 0) (newOf listed r)) (plannedWith (rowFate r))
+      ≡ toldRow listed (_>>=_ {A = Change × ℕ} {B = ChangeRow × ℕ} (a >>= judgedEnds T (r .operation) (getD listed (r .list) 0) (newOf listed r)) (λ m. gives (withFate (changeRow T (r .list) (m .0)) (rowFate r), m .1)))
   unfolding _>>=_ toldRow refuse newOf
   judged-told r (refused n) h = refl
   judged-told r (gives q) h = go (wrongCall T (call (changeBy (r .operation) (q .0) (q .1) (getD listed (r .list) 0) (newOf listed r))))
