@@ -8,14 +8,14 @@ use native.Mathlib.Omega.{arith}
 use lib.ListN.{length, set, drop, replicate, length-set, length-replicate}
 use lib.Seq.{drop-drop}
 use Rattle.definition.specs.Words.{word, words}
-use Rattle.mapping.specs.Mapped.{noted, mappingWords, Bounded}
+use Rattle.mapping.specs.Mapped.{wordsAt, noted, mappingWords, Bounded}
 
 -- n mappings whose inputs and outputs stand at two places
 abbrev pub mappingsAt : List ℕ → ℕ → ℕ → ℕ → List (ℕ × ℕ)
-mappingsAt b inputs outputs n = zip (words n (drop inputs b)) (words n (drop outputs b))
+mappingsAt b inputs outputs n = zip (wordsAt b inputs n) (wordsAt b outputs n)
 
 mappings-cons : (b : List ℕ) (p q p′ q′ k l : ℕ) → k ≡ suc l → p′ ≡ p + 4 → q′ ≡ q + 4 → mappingsAt b p q k ≡ (word (drop p b), word (drop q b)) ∷ mappingsAt b p′ q′ l
-unfolding zip zipWith words
+unfolding zip zipWith words wordsAt
 mappings-cons b p q p′ q′ k l h e f = rw (h, e, f, drop-drop 4 p b, drop-drop 4 q b)
 
 pub record Filling (b : List ℕ) (inputs outputs m k : ℕ) (map : List ℕ) (i : ℕ) : Type 0 where
@@ -36,7 +36,7 @@ module _ (b : List ℕ) (inputs outputs m : ℕ) where
 
   module _ (k : ℕ) (map : List ℕ) (i : ℕ) (F : Filling b inputs outputs m k map i) where
     pub filling-done : (map₀ map₁ : List ℕ) → map₁ ≡ replicate (length map₀) 0 → k ≡ length map₁ → m ≤ i → map ≡ mappingWords (length map₀) (mappingsAt b inputs outputs m)
-    unfolding words zip zipWith
+    unfolding words zip zipWith wordsAt
     filling-done map₀ map₁ q z h =
         let g : m - i ≡ 0 = omega arith in
         let l : k ≡ length map₀ = z ∙ (ap length q ∙ length-replicate (length map₀) 0) in

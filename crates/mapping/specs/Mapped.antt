@@ -6,18 +6,23 @@ use mathlib.Core.Option.{Option, none, some}
 use mathlib.Core.Path.{_≡_, refl, sym, ap, _∙_, fun-ext}
 use Prim.Native.Nat.{ℕ, zero, suc, _+_, _≤_, _<_}
 use native.Mathlib.Omega.{arith}
-use lib.ListN.{length, getD, set, replicate, length-set, length-replicate}
+use lib.ListN.{length, getD, drop, set, replicate, length-set, length-replicate}
 use lib.Seq.{set-out, getD-set-same, getD-set-other}
 use lib.Dec.{eqb, leb}
 use borrow.Author.Tests.{eqb-true, eqb-false, leb-false}
 use mathlib.Core.Logic.{⊎-elim}
 use Rattle.orders.specs.Lists.{All}
 use Rattle.orders.specs.ListLaws.{lt-or-le, bool-absurd}
+use Rattle.definition.specs.Words.{words}
 use Rattle.definition.specs.Basics.{any}
 use Rattle.definition.specs.Elements.{Table, node?, root?}
 use Rattle.definition.specs.Refusals.{wrongMapping}
 use Rattle.definition.specs.Rewriting.{mapping}
 use Rattle.element_table.specs.Told.{elementOf}
+
+-- the k words that stand at a place of some bytes
+unfoldable pub wordsAt : List ℕ → ℕ → ℕ → List ℕ
+wordsAt b at k = words k (drop at b)
 
 -- the output of element e, if it is mapped
 unfoldable pub mappedBy : List ℕ → ℕ → Option ℕ

@@ -2,18 +2,17 @@
 ghost use mathlib.Core.Path.{_≡_};
 ghost use mathlib.Core.Option.{Option·getD};
 ghost use Prim.Native.Nat.{suc, _+_, _*_, _^_, _≤_, _<_};
-ghost use lib.ListN.{length, getD, drop};
+ghost use lib.ListN.{length, getD};
 ghost use mathlib.Core.List.{zip};
 ghost use Rattle.element_table.specs.Wellformed.{Lines};
-ghost use Rattle.definition.specs.Words.{words};
-ghost use Rattle.mapping.specs.Mapped.{mappedBy, Mapped, Bounded, mappingWords};
+ghost use Rattle.mapping.specs.Mapped.{wordsAt, mappedBy, Mapped, Bounded, mappingWords};
 ghost use Rattle.mapping.specs.Answers.{Placed, Climbed};
 
 // The array of the `m` mappings of the batch `b` whose inputs and outputs stand at these places: the later mapping of one input wins.
 pub fn fill_mapping(b: &[u8], inputs: usize, outputs: usize, m: usize, map: &mut [u32])
     requires { ⌜ (inputs + 4 * m ≤ length (now b)) × (outputs + 4 * m ≤ length (now b)) ⌝ }
-    requires { ⌜ Bounded (length (now map)) 2048 (zip (words m (drop inputs (now b))) (words m (drop outputs (now b)))) ⌝ }
-    ensures { λ _. ⌜ now (map .exit) ≡ mappingWords (length (now (map .entry))) (zip (words m (drop inputs (now (b .entry)))) (words m (drop outputs (now (b .entry))))) ⌝ }
+    requires { ⌜ Bounded (length (now map)) 2048 (zip (wordsAt (now b) inputs m) (wordsAt (now b) outputs m)) ⌝ }
+    ensures { λ _. ⌜ now (map .exit) ≡ mappingWords (length (now (map .entry))) (zip (wordsAt (now (b .entry)) inputs m) (wordsAt (now (b .entry)) outputs m)) ⌝ }
 {
     words::clear(map);
     let mut i = 0;

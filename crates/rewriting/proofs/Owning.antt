@@ -19,12 +19,13 @@ use Rattle.syntax_editor.specs.ChangeRow.{ChangeRow, rowOf}
 use Rattle.edit_plan.specs.Rows.{rowAt}
 use Rattle.change_row.specs.Stated.{changeBy, newOf, changeOf, Stated, Dependent, target-by}
 use Rattle.rewriting.specs.declared.Ends.{Ends}
-use Rattle.rewriting.specs.Answers.{listedAt, MovedEnds, OwnedEnds}
+use Rattle.mapping.specs.Mapped.{wordsAt}
+use Rattle.rewriting.specs.Answers.{MovedEnds, OwnedEnds}
 
 -- ── Listed elements ─────────────────────────────────────────────────────────────────────────────────────────
 
-pub listed-at : (b : List ℕ) (at l i v : ℕ) → i < l → v ≡ word (drop (at + 4 * i) b) → v ≡ getD (listedAt b at l) i 0
-unfolding listedAt
+pub listed-at : (b : List ℕ) (at l i v : ℕ) → i < l → v ≡ word (drop (at + 4 * i) b) → v ≡ getD (wordsAt b at l) i 0
+unfolding wordsAt
 listed-at b at l i v h q = q ∙ sym (getD-words l (drop at b) i h ∙ ap word (drop-drop (4 * i) at b))
 
 pub all-at : (n : ℕ) (l : List ℕ) (i : ℕ) → All (λ e. e < n) l → i < length l → getD l i 0 < n
@@ -66,24 +67,24 @@ owned-from n ws s m listed o r a D M =
 
 -- ── By the words ────────────────────────────────────────────────────────────────────────────────────────────
 
-module _ (n : ℕ) (b : List ℕ) (at l : ℕ) (w : List ℕ) (k i : ℕ) (D : Dependent n (listedAt b at l) (rowAt w k) (rowAt w i)) where
+module _ (n : ℕ) (b : List ℕ) (at l : ℕ) (w : List ℕ) (k i : ℕ) (D : Dependent n (wordsAt b at l) (rowAt w k) (rowAt w i)) where
   pub owner-lists : (v : ℕ) → v ≡ getD (drop (13 * k) w) 3 0 → v < l
-  unfolding rowAt rowOf listedAt
-  owner-lists v q = omega (arith, one-listed n (listedAt b at l) (rowAt w k) (D .owner) (D .replaces), length-words l (drop at b))
+  unfolding rowAt rowOf wordsAt
+  owner-lists v q = omega (arith, one-listed n (wordsAt b at l) (rowAt w k) (D .owner) (D .replaces), length-words l (drop at b))
 
-  module _ (x v r op t e : ℕ) (qx : x ≡ getD (drop (13 * k) w) 1 0) (qv : v ≡ getD (drop (13 * k) w) 3 0) (qr : r ≡ getD (listedAt b at l) v 0)
+  module _ (x v r op t e : ℕ) (qx : x ≡ getD (drop (13 * k) w) 1 0) (qv : v ≡ getD (drop (13 * k) w) 3 0) (qr : r ≡ getD (wordsAt b at l) v 0)
       (qo : op ≡ getD (drop (13 * i) w) 0 0) (qt : t ≡ getD (drop (13 * i) w) 1 0) (qe : e ≡ getD (drop (13 * i) w) 2 0) where
     pub ends-elements : (x < n) × (r < n) × (t < n) × (e < n)
     unfolding rowAt rowOf
     ends-elements = (
       rw qx (D .owner .target),
-      rw (qr, qv) (all-at n (listedAt b at l) (getD (drop (13 * k) w) 3 0) (D .elements) (one-listed n (listedAt b at l) (rowAt w k) (D .owner) (D .replaces))),
+      rw (qr, qv) (all-at n (wordsAt b at l) (getD (drop (13 * k) w) 3 0) (D .elements) (one-listed n (wordsAt b at l) (rowAt w k) (D .owner) (D .replaces))),
       rw qt (D .itself .target),
       rw qe (D .itself .end),
     )
 
-    pub owned-ends : (ws s m : List ℕ) (a : Ends) → MovedEnds n ws s m x r op t e a → OwnedEnds n ws s m (listedAt b at l) (rowAt w k) (rowAt w i) a
+    pub owned-ends : (ws s m : List ℕ) (a : Ends) → MovedEnds n ws s m x r op t e a → OwnedEnds n ws s m (wordsAt b at l) (rowAt w k) (rowAt w i) a
     unfolding rowAt rowOf
     owned-ends ws s m a M =
-        owned-from n ws s m (listedAt b at l) (rowAt w k) (rowAt w i) a D
+        owned-from n ws s m (wordsAt b at l) (rowAt w k) (rowAt w i) a D
         (rw (qx, qr, qv, qo, qt, qe) at M)

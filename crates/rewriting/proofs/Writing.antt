@@ -23,7 +23,8 @@ use Rattle.edit_plan.specs.Rows.{rowAt, row-ext}
 use Rattle.change_row.specs.Stated.{newOf, changeBy, NewEnds, rowAnew, row-anew}
 use Rattle.rewriting.specs.declared.Rewritten.the-variants.{Steps, Refused}
 use Rattle.rewriting.specs.Judged.{wrong-by}
-use Rattle.rewriting.specs.Answers.{listedAt, rewrittenBy, stepsOf, RowRewritten, judgedRow}
+use Rattle.mapping.specs.Mapped.{wordsAt}
+use Rattle.rewriting.specs.Answers.{rewrittenBy, stepsOf, RowRewritten, judgedRow}
 use Rattle.rewriting.proofs.Owning.{all-at, one-listed}
 
 -- ── A row written at its place ──────────────────────────────────────────────────────────────────────────────
@@ -93,38 +94,38 @@ module _ (n : ℕ) (w s : List ℕ) (listed : List ℕ) (r : ChangeRow) (x y k :
 
 -- ── By the words ────────────────────────────────────────────────────────────────────────────────────────────
 
-module _ (n : ℕ) (b : List ℕ) (at l : ℕ) (v : List ℕ) (i x y : ℕ) (E : NewEnds n (listedAt b at l) (rowAt v i) x y) (op list : ℕ) (qo : op ≡ getD (drop (13 * i) v) 0 0) (ql : list ≡ getD (drop (13 * i) v) 3 0) where
+module _ (n : ℕ) (b : List ℕ) (at l : ℕ) (v : List ℕ) (i x y : ℕ) (E : NewEnds n (wordsAt b at l) (rowAt v i) x y) (op list : ℕ) (qo : op ≡ getD (drop (13 * i) v) 0 0) (ql : list ≡ getD (drop (13 * i) v) 3 0) where
   pub lists-one : op ≡ 2 → list < l
-  unfolding rowAt rowOf listedAt
-  lists-one h = omega (arith, one-listed n (listedAt b at l) (rowAt v i) (E .itself) (sym qo ∙ h), length-words l (drop at b))
+  unfolding rowAt rowOf wordsAt
+  lists-one h = omega (arith, one-listed n (wordsAt b at l) (rowAt v i) (E .itself) (sym qo ∙ h), length-words l (drop at b))
 
-  module _ (z : ℕ) (qz : z ≡ cond (eqb op 2) (getD (listedAt b at l) list 0) y) where
-    judge-is : z ≡ judge (listedAt b at l) (rowAt v i) y
+  module _ (z : ℕ) (qz : z ≡ cond (eqb op 2) (getD (wordsAt b at l) list 0) y) where
+    judge-is : z ≡ judge (wordsAt b at l) (rowAt v i) y
     unfolding rowAt rowOf judge
     judge-is = qz ∙ rw (qo, ql)
 
     pub call-known : (op ≤ 6) × (x < n) × (z < n)
     unfolding rowAt rowOf
-    call-known = (omega (arith, E .itself .known), E .target, rw judge-is (judge-low n (listedAt b at l) (rowAt v i) x y E))
+    call-known = (omega (arith, E .itself .known), E .target, rw judge-is (judge-low n (wordsAt b at l) (rowAt v i) x y E))
 
     module _ (w s : List ℕ) (k : ℕ) (before : List ℕ) (t : Bool) (q : t ≡ callFits (view n w s) op x z) where
-      fits-is : t ≡ callFits (view n w s) ((rowAt v i) .operation) x (judge (listedAt b at l) (rowAt v i) y)
+      fits-is : t ≡ callFits (view n w s) ((rowAt v i) .operation) x (judge (wordsAt b at l) (rowAt v i) y)
       unfolding rowAt rowOf
       fits-is = q ∙ rw (judge-is, qo)
 
       pub row-written : t ≡ true → (after : List ℕ) → after ≡ paste before (13 * i) (rowWords (rowAnew (view n w s) (rowAt v i) x y z)) 13 → 13 * i + 13 ≤ length before → k ≤ 2 * n → Wellformed n w s
-          → RowRewritten (judgedRow (view n w s) (listedAt b at l) (rowAt v i) (x, y, k)) i before after (Steps k)
+          → RowRewritten (judgedRow (view n w s) (wordsAt b at l) (rowAt v i) (x, y, k)) i before after (Steps k)
       unfolding rewrittenBy stepsOf rowWords rowOf
       row-written h after e g f W =
           let a : List ℕ = rowWords (rowAnew (view n w s) (rowAt v i) x y z) in
           record {
             row =
                 ap {B = Answer (ChangeRow × ℕ)} (λ p. gives (p, k)) (ap (λ (m : List ℕ). rowAt m i) e ∙ (row-there before a i g (omega arith) ∙ ap (λ (j : ℕ). rowAnew (view n w s) (rowAt v i) x y j) judge-is))
-                ∙ sym (row-of-fitting n w s (listedAt b at l) (rowAt v i) x y k E (sym fits-is ∙ h));
+                ∙ sym (row-of-fitting n w s (wordsAt b at l) (rowAt v i) x y k E (sym fits-is ∙ h));
             behind = rw e (rows-behind before a i g (omega arith));
             few = omega (arith, W .lines .few);
           }
 
-      pub row-refused : t ≡ false → RowRewritten (judgedRow (view n w s) (listedAt b at l) (rowAt v i) (x, y, k)) i before before (Refused 9)
+      pub row-refused : t ≡ false → RowRewritten (judgedRow (view n w s) (wordsAt b at l) (rowAt v i) (x, y, k)) i before before (Refused 9)
       unfolding rewrittenBy stepsOf
-      row-refused h = record { row = sym (row-of-wrong n w s (listedAt b at l) (rowAt v i) x y k E (sym fits-is ∙ h)); behind = refl; few = omega arith }
+      row-refused h = record { row = sym (row-of-wrong n w s (wordsAt b at l) (rowAt v i) x y k E (sym fits-is ∙ h)); behind = refl; few = omega arith }

@@ -5,7 +5,6 @@ use mathlib.Core.Path.{_≡_}
 use lib.ListN.{getD, drop}
 use Prim.Native.Nat.{ℕ, suc, _*_, _≤_, _<_}
 use Rattle.definition.specs.Basics.{Answer, refused, gives, _>>=_}
-use Rattle.definition.specs.Words.{words}
 use Rattle.definition.specs.Elements.{Table}
 use Rattle.definition.specs.Planning.{target}
 use Rattle.definition.specs.Rewriting.{replacement, moved}
@@ -19,10 +18,6 @@ use Rattle.rewriting.specs.declared.Ends.the-variants.{To, Refused}
 use Rattle.rewriting.specs.declared.Rewritten.{Rewritten}
 use Rattle.rewriting.specs.declared.Rewritten.the-variants.{Steps, Refused as NotRewritten}
 use Rattle.rewriting.specs.Rewritten.{movedEnds, judgedEnds, rewriteRows}
-
--- the l listed elements that stand at a place of the batch
-unfoldable pub listedAt : List ℕ → ℕ → ℕ → List ℕ
-listedAt b at l = words l (drop at b)
 
 -- ── Where the ends of a change go ───────────────────────────────────────────────────────────────────────────
 

@@ -1,18 +1,16 @@
 // Rewriting dependents: the targets of a change inside a replaced node move into the replacement, and its row is made anew.
 ghost use mathlib.Core.Path.{_≡_};
 ghost use mathlib.Core.Bool.{cond};
-ghost use mathlib.Core.List.{List, [], _∷_};
-ghost use Prim.Native.Nat.{ℕ, _+_, _*_, _^_, _≤_, _<_};
-ghost use lib.ListN.{length, getD, take, drop};
-ghost use lib.Seq.{paste};
+ghost use Prim.Native.Nat.{_+_, _*_, _≤_, _<_};
+ghost use lib.ListN.{length, getD};
 ghost use lib.Dec.{eqb};
 ghost use Rattle.element_table.specs.View.{view};
-ghost use Rattle.element_table.specs.Wellformed.{Lines, Wellformed};
-ghost use Rattle.mapping.specs.Mapped.{mappedBy, Mapped};
+ghost use Rattle.element_table.specs.Wellformed.{Wellformed};
+ghost use Rattle.mapping.specs.Mapped.{wordsAt, mappedBy, Mapped};
 ghost use Rattle.edit_plan.specs.Rows.{rowAt};
 ghost use Rattle.change_row.specs.Stated.{changeOf, Dependent, NewEnds, Fated, Rewritable};
 ghost use Rattle.rewriting.specs.Rewritten.{rewriteUnder, rewriteAt};
-ghost use Rattle.rewriting.specs.Answers.{listedAt, MovedEnds, OwnedEnds, RowRewritten, judgedRow, RowsRewritten};
+ghost use Rattle.rewriting.specs.Answers.{MovedEnds, OwnedEnds, RowRewritten, judgedRow, RowsRewritten};
 use upmap::Moved;
 
 // Where the ends of a change go and how many climb steps were taken, or a refusal.
@@ -61,7 +59,7 @@ pub enum Rewritten {
 // Listed element `i` of the `l` that stand at `listed` in the batch `b`.
 pub fn listed_element(b: &[u8], listed: usize, l: usize, i: usize) -> usize
     requires { ⌜ (listed + 4 * l ≤ length (now b)) × (i < l) ⌝ }
-    ensures { λ r. ⌜ r ≡ getD (listedAt (now (b .entry)) listed l) i 0 ⌝ }
+    ensures { λ r. ⌜ r ≡ getD (wordsAt (now (b .entry)) listed l) i 0 ⌝ }
 {
     words::read_word(b, listed + 4 * i)
 }
@@ -69,7 +67,7 @@ pub fn listed_element(b: &[u8], listed: usize, l: usize, i: usize) -> usize
 // By what a call is judged beside its target: a call 2 by its listed element, a run by its end `y`.
 fn judged_by(b: &[u8], listed: usize, l: usize, operation: usize, list: usize, y: usize) -> usize
     requires { ⌜ (listed + 4 * l ≤ length (now b)) × (operation ≡ 2 → list < l) ⌝ }
-    ensures { λ r. ⌜ r ≡ cond (eqb operation 2) (getD (listedAt (now (b .entry)) listed l) list 0) y ⌝ }
+    ensures { λ r. ⌜ r ≡ cond (eqb operation 2) (getD (wordsAt (now (b .entry)) listed l) list 0) y ⌝ }
 {
     if operation == 2 {
         return listed_element(b, listed, l, list);
@@ -93,8 +91,8 @@ fn upmap_dependent(
     requires { ⌜ Wellformed n (now table) (now source) ⌝ }
     requires { ⌜ Mapped n (now map) ⌝ }
     requires { ⌜ (listed + 4 * l ≤ length (now b)) × (i < 256) × (k < 256) ⌝ }
-    requires { ⌜ Dependent n (listedAt (now b) listed l) (rowAt (now rows) k) (rowAt (now rows) i) ⌝ }
-    ensures { λ r. ⌜ OwnedEnds n (now (table .entry)) (now (source .entry)) (now (map .entry)) (listedAt (now (b .entry)) listed l) (rowAt (now (rows .entry)) k) (rowAt (now (rows .entry)) i) r ⌝ }
+    requires { ⌜ Dependent n (wordsAt (now b) listed l) (rowAt (now rows) k) (rowAt (now rows) i) ⌝ }
+    ensures { λ r. ⌜ OwnedEnds n (now (table .entry)) (now (source .entry)) (now (map .entry)) (wordsAt (now (b .entry)) listed l) (rowAt (now (rows .entry)) k) (rowAt (now (rows .entry)) i) r ⌝ }
 {
     let input = edit_plan::field(rows, k, 1);
     let output = listed_element(b, listed, l, edit_plan::field(rows, k, 3));
@@ -121,8 +119,8 @@ fn write_judged(
 ) -> Rewritten
     requires { ⌜ Wellformed n (now table) (now source) ⌝ }
     requires { ⌜ (listed + 4 * l ≤ length (now b)) × (i < 256) × (13 * i + 13 ≤ length (now out)) × (steps ≤ 2 * n) ⌝ }
-    requires { ⌜ NewEnds n (listedAt (now b) listed l) (rowAt (now rows) i) x y ⌝ }
-    ensures { λ r. ⌜ RowRewritten (judgedRow (view n (now (table .entry)) (now (source .entry))) (listedAt (now (b .entry)) listed l) (rowAt (now (rows .entry)) i) (x, y, steps)) i (now (out .entry)) (now (out .exit)) r ⌝ }
+    requires { ⌜ NewEnds n (wordsAt (now b) listed l) (rowAt (now rows) i) x y ⌝ }
+    ensures { λ r. ⌜ RowRewritten (judgedRow (view n (now (table .entry)) (now (source .entry))) (wordsAt (now (b .entry)) listed l) (rowAt (now (rows .entry)) i) (x, y, steps)) i (now (out .entry)) (now (out .exit)) r ⌝ }
 {
     let operation = edit_plan::field(rows, i, 0);
     let list = edit_plan::field(rows, i, 3);
@@ -151,8 +149,8 @@ fn rewrite_dependent_target(
     requires { ⌜ Wellformed n (now table) (now source) ⌝ }
     requires { ⌜ Mapped n (now map) ⌝ }
     requires { ⌜ (listed + 4 * l ≤ length (now b)) × (i < 256) × (k < 256) × (13 * i + 13 ≤ length (now out)) ⌝ }
-    requires { ⌜ Dependent n (listedAt (now b) listed l) (rowAt (now rows) k) (rowAt (now rows) i) ⌝ }
-    ensures { λ r. ⌜ RowRewritten (rewriteUnder (view n (now (table .entry)) (now (source .entry))) (mappedBy (now (map .entry))) (listedAt (now (b .entry)) listed l) (changeOf (listedAt (now (b .entry)) listed l) (rowAt (now (rows .entry)) k)) (rowAt (now (rows .entry)) i)) i (now (out .entry)) (now (out .exit)) r ⌝ }
+    requires { ⌜ Dependent n (wordsAt (now b) listed l) (rowAt (now rows) k) (rowAt (now rows) i) ⌝ }
+    ensures { λ r. ⌜ RowRewritten (rewriteUnder (view n (now (table .entry)) (now (source .entry))) (mappedBy (now (map .entry))) (wordsAt (now (b .entry)) listed l) (changeOf (wordsAt (now (b .entry)) listed l) (rowAt (now (rows .entry)) k)) (rowAt (now (rows .entry)) i)) i (now (out .entry)) (now (out .exit)) r ⌝ }
 {
     match upmap_dependent(table, source, map, n, b, listed, l, rows, i, k) {
         Ends::Refused(number) => Rewritten::Refused(number),
@@ -178,8 +176,8 @@ fn rewrite_row(
     requires { ⌜ Wellformed n (now table) (now source) ⌝ }
     requires { ⌜ Mapped n (now map) ⌝ }
     requires { ⌜ (listed + 4 * l ≤ length (now b)) × (13 * i + 13 ≤ length (now out)) ⌝ }
-    requires { ⌜ Fated n (listedAt (now b) listed l) (now rows) i ⌝ }
-    ensures { λ r. ⌜ RowRewritten (rewriteAt (view n (now (table .entry)) (now (source .entry))) (mappedBy (now (map .entry))) (listedAt (now (b .entry)) listed l) (now (rows .entry)) i) i (now (out .entry)) (now (out .exit)) r ⌝ }
+    requires { ⌜ Fated n (wordsAt (now b) listed l) (now rows) i ⌝ }
+    ensures { λ r. ⌜ RowRewritten (rewriteAt (view n (now (table .entry)) (now (source .entry))) (mappedBy (now (map .entry))) (wordsAt (now (b .entry)) listed l) (now (rows .entry)) i) i (now (out .entry)) (now (out .exit)) r ⌝ }
 {
     if edit_plan::field(rows, i, 11) == 1 {
         let k = edit_plan::field(rows, i, 12);
@@ -206,8 +204,8 @@ pub fn rewrite_dependents(
     requires { ⌜ Wellformed n (now table) (now source) ⌝ }
     requires { ⌜ Mapped n (now map) ⌝ }
     requires { ⌜ (listed + 4 * l ≤ length (now b)) × (13 * c ≤ length (now out)) ⌝ }
-    requires { ⌜ Rewritable n (listedAt (now b) listed l) (now rows) c ⌝ }
-    ensures { λ r. ⌜ RowsRewritten n (now (table .entry)) (now (source .entry)) (now (map .entry)) (listedAt (now (b .entry)) listed l) (now (rows .entry)) c (now (out .exit)) r ⌝ }
+    requires { ⌜ Rewritable n (wordsAt (now b) listed l) (now rows) c ⌝ }
+    ensures { λ r. ⌜ RowsRewritten n (now (table .entry)) (now (source .entry)) (now (map .entry)) (wordsAt (now (b .entry)) listed l) (now (rows .entry)) c (now (out .exit)) r ⌝ }
 {
     let mut steps: usize = 0;
     let mut i = c;

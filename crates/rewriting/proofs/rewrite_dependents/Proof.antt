@@ -3,7 +3,7 @@
 use borrow.Author.Needs.{needs}
 use Rattle.rewriting.proofs.Rows.{few-steps}
 use Rattle.change_row.specs.Stated.{fated-row}
-use Rattle.rewriting.specs.Answers.{listedAt}
+use Rattle.mapping.specs.Mapped.{wordsAt}
 use Rattle.rewriting.proofs.Rows.{Rewriting, rewriting-start, rewriting-done, rewriting-next, rewriting-refused}
 use native.Mathlib.Omega.{arith}
 use lib.ListN.{length}
@@ -12,7 +12,7 @@ use Rattle.rewriting.proofs.rewrite_dependents.Statement.{statement}
 use Rattle.rewriting.proofs.rewrite_dependents.Tie as tie
 
 abbrev Inv-loop : tie.InvT-loop
-Inv-loop table source map n b listed l rows c out₀ steps₀ i₀ out steps i = Rewriting n table source map (listedAt b listed l) rows c out i steps × (length out ≡ length out₀)
+Inv-loop table source map n b listed l rows c out₀ steps₀ i₀ out steps i = Rewriting n table source map (wordsAt b listed l) rows c out i steps × (length out ≡ length out₀)
 
 abbrev μ-loop : tie.MeasureT-loop
 μ-loop table source map n b listed l rows c out₀ steps₀ i₀ out steps i = i
