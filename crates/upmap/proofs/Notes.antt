@@ -1,17 +1,16 @@
 -- The nearest mapped ancestor, one move, and the loop of `upmap_element`.
 -- Assumes nothing.
 use mathlib.Core.Bool.{true, false}
-use mathlib.Core.List.{List, [], _∷_, _++_, append-nil}
+use mathlib.Core.List.{List, [], _∷_}
 use mathlib.Core.Option.{Option, none, some, Option·getD}
-use mathlib.Core.Path.{_≡_, refl, sym, ap, _∙_}
-use Prim.Native.Nat.{ℕ, zero, suc, _+_, _-_, _*_, _≤_, _<_}
+use mathlib.Core.Path.{_≡_, refl, sym, _∙_}
+use Prim.Native.Nat.{ℕ, zero, suc, _+_, _-_, _*_, _<_}
 use native.Mathlib.Numerals.{add-one}
 use native.Mathlib.Omega.{arith}
-use lib.ListN.{length, getD, set, take, drop, length-set}
-use lib.Seq.{drop-drop, drop-set-lt, take-suc-set, append-snoc}
+use lib.ListN.{getD}
 use lib.Dec.{eqb, eqb·zero-suc, eqb·suc-suc}
 use borrow.Author.Tests.{eq-eqb, ne-eqb}
-use Rattle.definition.specs.Basics.{Answer, refused, gives, _>>=_, refuse, orRefuse, isSome, first}
+use Rattle.definition.specs.Basics.{refused, gives, _>>=_, refuse, orRefuse, isSome, first}
 use Rattle.definition.specs.Elements.{Table, row, parent}
 use Rattle.definition.specs.Rewriting.{mappedOr, nearest, isParent, noteFrom, settle}
 use Rattle.element_table.specs.View.{view, field, lineFrom, rowAt}
@@ -21,17 +20,13 @@ use Rattle.mapping.specs.declared.Below.{Below}
 use Rattle.mapping.specs.declared.Below.the-variants.{Numbers, Elsewhere}
 use Rattle.upmap.specs.declared.Found.{Found}
 use Rattle.upmap.specs.declared.Found.the-variants.{At, Missing}
-use Rattle.upmap.specs.declared.Noted.the-variants.{All, Refused as NoneNoted}
 use Rattle.upmap.specs.declared.Settled.{Settled}
 use Rattle.upmap.specs.declared.Settled.the-variants.{At as Rests, Refused}
-use Rattle.orders.specs.Lists.{All as EachOf}
-use Rattle.words.specs.Bytes.{length-words}
-use Rattle.definition.specs.Words.{word, words}
-use Rattle.mapping.specs.Mapped.{wordsAt, mappedBy}
+use Rattle.mapping.specs.Mapped.{mappedBy}
 use Rattle.mapping.specs.Backward.{backward}
 use Rattle.mapping.specs.Answers.{below, Placed}
 use Rattle.upmap.specs.Answers.{found, within-at, Landed}
-use Rattle.upmap.specs.Settling.{Nearest, settledBy, settled-at, OneMove, SettledAt, settleAll, notedBy, NotesSettled}
+use Rattle.upmap.specs.Settling.{Nearest, settledBy, settled-at, OneMove, SettledAt}
 
 -- ── The nearest mapped ancestor ─────────────────────────────────────────────────────────────────────────────
 
@@ -180,72 +175,3 @@ module _ (n : ℕ) (w s m : List ℕ) (e at left : ℕ) (S : Settling n w s m e 
       pub settling-next : (to : ℕ) → o ≡ Rests to → Settling n w s m e to (left - 1)
       unfolding settledBy _>>=_
       settling-next to y = record { here = settled-at (M .within) y; rest = S .rest ∙ (onward ∙ rw y) }
-
--- ── All notes ───────────────────────────────────────────────────────────────────────────────────────────────
-
-words-cons : (b : List ℕ) (p p′ k l : ℕ) → k ≡ suc l → p′ ≡ p + 4 → wordsAt b p k ≡ word (drop p b) ∷ wordsAt b p′ l
-unfolding words wordsAt
-words-cons b p p′ k l h e = rw (h, e, drop-drop 4 p b)
-
--- the first i of a notes are settled in `out`
-pub record SettlingAll (n : ℕ) (w s m b : List ℕ) (at a : ℕ) (before out : List ℕ) (i : ℕ) : Type 0 where
-  pub inside : i ≤ a
-  pub long : length out ≡ length before
-  pub room : a ≤ length before
-  pub behind : drop a out ≡ drop a before
-  pub low : EachOf (λ e. e < n) (wordsAt b (at + 4 * i) (a - i))
-  pub rest : settleAll (settle (view n w s) (mappedBy m) n) (wordsAt b at a) ≡ _>>=_ {B = List ℕ} (settleAll (settle (view n w s) (mappedBy m) n) (wordsAt b (at + 4 * i) (a - i))) (λ xs. gives (take i out ++ xs))
-
-module _ (n : ℕ) (w s m b : List ℕ) (at a : ℕ) where
-  all-settled : (x : Answer (List ℕ)) → x ≡ _>>=_ {B = List ℕ} x (λ xs. gives ([] ++ xs))
-  unfolding _>>=_
-  all-settled (refused k) = refl
-  all-settled (gives xs) = refl
-
-  -- one more element behind those settled
-  one-further : (x : Answer (List ℕ)) (to : ℕ) (p p′ : List ℕ) → p′ ≡ p ++ (to ∷ [])
-      → _>>=_ {B = List ℕ} (_>>=_ {B = List ℕ} x (λ r. gives (to ∷ r))) (λ xs. gives (p ++ xs)) ≡ _>>=_ {B = List ℕ} x (λ r. gives (p′ ++ r))
-  unfolding _>>=_
-  one-further (refused k) to p p′ e = refl
-  one-further (gives r) to p p′ e = ap {B = Answer (List ℕ)} gives (sym (ap (λ (l : List ℕ). l ++ r) e ∙ append-snoc p to r))
-
-  pub settling-all-start : (out : List ℕ) → a ≤ length out → EachOf (λ e. e < n) (wordsAt b at a) → SettlingAll n w s m b at a out out 0
-  settling-all-start out h l =
-      let e : at + 4 * 0 ≡ at = omega arith in
-      let f : a - 0 ≡ a = omega arith in
-      record { inside = omega arith; long = refl; room = h; behind = refl; low = rw (e, f) l; rest = rw (e, f) (all-settled (settleAll (settle (view n w s) (mappedBy m) n) (wordsAt b at a))) }
-
-  module _ (before out : List ℕ) (i : ℕ) (S : SettlingAll n w s m b at a before out i) where
-    pub settling-all-done : a ≤ i → NotesSettled n w s m (wordsAt b at a) before out All
-    unfolding notedBy settleAll _>>=_ wordsAt words
-    settling-all-done h =
-        let f : a - i ≡ 0 = omega (arith, S .inside) in
-        let g : i ≡ a = omega (arith, S .inside) in
-        let l : length (wordsAt b at a) ≡ a = length-words a (drop at b) in
-        record { settled = rw l (ap {B = Answer (List ℕ)} gives (ap (λ (k : ℕ). take k out) (sym g) ∙ sym (append-nil (take i out))) ∙ sym (S .rest ∙ rw f)); behind = rw l (S .behind) }
-
-    module _ (e : ℕ) (h : i < a) (q : e ≡ word (drop (at + 4 * i) b)) where
-      onward-all : wordsAt b (at + 4 * i) (a - i) ≡ e ∷ wordsAt b (at + 4 * (i + 1)) (a - (i + 1))
-      onward-all = rw q (words-cons b (at + 4 * i) (at + 4 * (i + 1)) (a - i) (a - (i + 1)) (omega arith) (omega arith))
-
-      pub noted-element : e < n
-      noted-element = (rw onward-all at (S .low)) .0
-
-      module _ (o : Settled) (T : SettledAt n w s m e o) where
-        pub settling-all-refused : (x : ℕ) → o ≡ Refused x → NotesSettled n w s m (wordsAt b at a) before out (NoneNoted x)
-        unfolding notedBy settleAll settledBy _>>=_ wordsAt
-        settling-all-refused x z =
-            let l : length (wordsAt b at a) ≡ a = length-words a (drop at b) in
-            record { settled = sym (S .rest ∙ rw (onward-all, ← (T .place), z)); behind = rw l (S .behind) }
-
-        pub settling-all-next : (to : ℕ) → o ≡ Rests to → SettlingAll n w s m b at a before (set out i to) (i + 1)
-        unfolding settleAll settledBy _>>=_
-        settling-all-next to z =
-            record {
-              inside = omega arith;
-              long = length-set out i to ∙ S .long;
-              room = S .room;
-              behind = drop-set-lt a out i to h ∙ S .behind;
-              low = (rw onward-all at (S .low)) .1;
-              rest = S .rest ∙ rw (onward-all, ← (T .place), z) (one-further (settleAll (settle (view n w s) (mappedBy m) n) (wordsAt b (at + 4 * (i + 1)) (a - (i + 1)))) to (take i out) (take (i + 1) (set out i to)) (rw (add-one i) (take-suc-set out i to (omega (arith, S .long, S .room)))));
-            }

@@ -1,13 +1,12 @@
 // Mapping elements into a replacement: the way down by child numbers, where a dependent's target goes, where a note's element settles.
 ghost use mathlib.Core.Path.{_≡_};
-ghost use Prim.Native.Nat.{_+_, _*_, _≤_, _<_};
+ghost use Prim.Native.Nat.{_≤_, _<_};
 ghost use lib.ListN.{length};
 ghost use Rattle.element_table.specs.Wellformed.{Lines, Wellformed};
-ghost use Rattle.orders.specs.Lists.{All};
-ghost use Rattle.mapping.specs.Mapped.{wordsAt, Mapped};
+ghost use Rattle.mapping.specs.Mapped.{Mapped};
 ghost use Rattle.mapping.specs.Backward.{backward};
 ghost use Rattle.upmap.specs.Answers.{FoundChild, Descended, Landed, MovedFrom, MovedTo};
-ghost use Rattle.upmap.specs.Settling.{Nearest, OneMove, SettledAt, NotesSettled};
+ghost use Rattle.upmap.specs.Settling.{Nearest, OneMove, SettledAt};
 use mapping::Below;
 use mapping::Climb;
 
@@ -217,41 +216,4 @@ pub fn upmap_element(table: &[u32], source: &[u32], map: &[u32], n: usize, e: us
             }
         }
     }
-}
-
-// Whether all notes settle, or the first refusal.
-pub enum Noted {
-    All,
-    Refused(usize),
-}
-
-// Where the `a` notes settle whose elements stand at `noted` in the batch `b`, in order.
-pub fn settle_notes(
-    table: &[u32],
-    source: &[u32],
-    map: &[u32],
-    n: usize,
-    b: &[u8],
-    noted: usize,
-    a: usize,
-    out: &mut [u32],
-) -> Noted
-    requires { ⌜ Wellformed n (now table) (now source) ⌝ }
-    requires { ⌜ Mapped n (now map) ⌝ }
-    requires { ⌜ (noted + 4 * a ≤ length (now b)) × (a ≤ length (now out)) ⌝ }
-    requires { ⌜ All (λ e. e < n) (wordsAt (now b) noted a) ⌝ }
-    ensures { λ r. ⌜ NotesSettled n (now (table .entry)) (now (source .entry)) (now (map .entry)) (wordsAt (now (b .entry)) noted a) (now (out .entry)) (now (out .exit)) r ⌝ }
-{
-    let mut i = 0;
-    while i < a {
-        let e = words::read_word(b, noted + 4 * i);
-        match upmap_element(table, source, map, n, e) {
-            Settled::Refused(number) => return Noted::Refused(number),
-            Settled::At(to) => {
-                out[i] = to as u32;
-                i += 1;
-            }
-        }
-    }
-    Noted::All
 }
