@@ -5,6 +5,7 @@
 --     Rows       which element each row of the table tells, and that it tells each
 --     Kin        paths, parents, children and descents, as the table tells them
 --     Moves      what survives of paths, whatever the splices
+--     Right      what is known of the targets of calls that line 6 accepts
 --     Sorting    the sorted order is a stable permutation, also where places are sorted and not the elements
 --     Regions    the last region that contains a change is the one that popping finds
 pub mod Basics
@@ -13,5 +14,6 @@ pub mod Spelling
 pub mod Rows
 pub mod Kin
 pub mod Moves
+pub mod Right
 pub mod Sorting
 pub mod Regions
