@@ -1,5 +1,6 @@
 -- Laws of document 01's definitions, each stated once for all later work.
 --     Basics     lists
+--     Answers    what is not refused
 --     Measures   elements, text and depth of trees as a list
 --     Spelling   kind words, measures and text in preorder spell the trees, and no others
 --     Rows       which element each row of the table tells, and that it tells each
@@ -8,7 +9,9 @@
 --     Right      what is known of the targets of calls that line 6 accepts
 --     Sorting    the sorted order is a stable permutation, also where places are sorted and not the elements
 --     Regions    the last region that contains a change is the one that popping finds
+--     Stages     what each stage from calls to performed changes keeps of every change
 pub mod Basics
+pub mod Answers
 pub mod Measures
 pub mod Spelling
 pub mod Rows
@@ -17,3 +20,4 @@ pub mod Moves
 pub mod Right
 pub mod Sorting
 pub mod Regions
+pub mod Stages
