@@ -18,6 +18,10 @@ unfolding _>>=_
 both-given (refused n) f e = refused-gives e
 both-given (gives a) f e = (a, refl, e)
 
+-- the same for what follows from it
+pub given {ℓ} : {A B : Type 0} {X : Type ℓ} (o : Answer A) (f : A → Answer B) {b : B} → (o >>= f) ≡ gives b → ((a : A) → o ≡ gives a → f a ≡ gives b → X) → X
+given o f e k = let r = both-given o f e in k (r .0) (r .1) (r .2)
+
 pub not-wrong : (n : ℕ) (wrong : Bool) {u : Unit {0}} → refuse n wrong ≡ gives u → wrong ≡ false
 unfolding refuse
 not-wrong n true e = refused-gives e

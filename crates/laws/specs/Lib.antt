@@ -10,6 +10,7 @@
 --     Sorting    the sorted order is a stable permutation, also where places are sorted and not the elements
 --     Regions    the last region that contains a change is the one that popping finds
 --     Stages     what each stage from calls to performed changes keeps of every change
+--     Accepted   what is known of a batch that is accepted, and of its changes
 pub mod Basics
 pub mod Answers
 pub mod Measures
@@ -21,3 +22,4 @@ pub mod Right
 pub mod Sorting
 pub mod Regions
 pub mod Stages
+pub mod Accepted
