@@ -10,7 +10,8 @@
 --     Sorting    the sorted order is a stable permutation, also where places are sorted and not the elements
 --     Regions    the last region that contains a change is the one that popping finds
 --     Stages     what each stage from calls to performed changes keeps of every change
---     Accepted   what is known of a batch that is accepted, and of its changes
+--     Accepted   what is known of a batch that lines 2 to 7 accept
+--     Plans      what is known of its plan: changes, climb steps, notes
 pub mod Basics
 pub mod Answers
 pub mod Measures
@@ -23,3 +24,4 @@ pub mod Sorting
 pub mod Regions
 pub mod Stages
 pub mod Accepted
+pub mod Plans
