@@ -6,8 +6,9 @@ use mathlib.Core.Option.{Option, none, some}
 use mathlib.Core.List.{List, [], _∷_, _++_, map, flatMap, zip, append-assoc}
 use Prim.Native.Nat.{ℕ, zero, suc, _+_, _≤_, _<_}
 use native.Mathlib.Omega.{arith}
-use lib.ListN.{length, getD}
+use lib.ListN.{length, take, drop, getD, take-append-drop}
 use Rattle.orders.specs.Lists.{more, pick, All, total}
+use Rattle.orders.specs.Tree.{modify}
 use Rattle.orders.specs.ListLaws.{some-inj, none-some, map-append}
 use Rattle.definition.specs.Basics.{keep, first}
 
@@ -32,6 +33,18 @@ module _ {A : Type 0} (P : A → Type 0) where
   pub append-All : (l m : List A) → All P (l ++ m) → All P l × All P m
   append-All [] m h = (tt, h)
   append-All (x ∷ l) m h = let r = append-All l m (h .1) in ((h .0, r .0), r .1)
+
+  pub All-take : (n : ℕ) (l : List A) → All P l → All P (take n l)
+  All-take n l h = (append-All (take n l) (drop n l) (rw (take-append-drop n l) h)) .0
+
+  pub All-drop : (n : ℕ) (l : List A) → All P l → All P (drop n l)
+  All-drop n l h = (append-All (take n l) (drop n l) (rw (take-append-drop n l) h)) .1
+
+  pub All-modify : (f : A → A) → ((x : A) → P x → P (f x)) → (n : ℕ) (l : List A) → All P l → All P (modify n f l)
+  unfolding modify
+  All-modify f k n [] h = tt
+  All-modify f k zero (x ∷ l) h = (k x (h .0), h .1)
+  All-modify f k (suc n) (x ∷ l) h = (h .0, All-modify f k n l (h .1))
 
   pub All-keep : (p : A → Bool) (l : List A) → All P l → All P (keep p l)
   unfolding keep pick

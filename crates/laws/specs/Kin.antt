@@ -175,6 +175,15 @@ module _ (ts : List (Tree ℕ)) where
       go [] e g = none-some g
       go (t ∷ p) e g = (e .tree, sym (element-tree ts t p w) ∙ ap (Option·map (λ d. d .tree)) g, refl)
 
+  -- it is not empty
+  pub path-long : (n : ℕ) → n < length T → 0 < length ((row T n) .path)
+  unfolding rowOf element
+  path-long n h = let s = stands n h in rw (s .told) (go (s .here .path) (s .here) (s .at))
+    where
+      go : (p : Path) (e : Element) → element ts p ≡ some e → 0 < length p
+      go [] e g = none-some g
+      go (t ∷ p) e g = omega arith
+
   -- two elements have two paths
   pub path-tells : (m n : ℕ) → m < length T → n < length T → (row T m) .path ≡ (row T n) .path → m ≡ n
   unfolding rowOf

@@ -12,6 +12,7 @@
 --     Stages     what each stage from calls to performed changes keeps of every change
 --     Accepted   what is known of a batch that lines 2 to 7 accept
 --     Plans      what is known of its plan: changes, climb steps, notes
+--     Running    what holds of the current trees and the present paths, whatever steps are performed
 pub mod Basics
 pub mod Answers
 pub mod Measures
@@ -25,3 +26,4 @@ pub mod Regions
 pub mod Stages
 pub mod Accepted
 pub mod Plans
+pub mod Running
