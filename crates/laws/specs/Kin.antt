@@ -62,7 +62,7 @@ element-path ts (t ∷ p) e g =
     let (c, f, h) = map-some _ (getElem? ts t) a in
     elementAt-path r e p b ∙ ap (λ x. x .path ++ p) (sym h)
 
-resolve-down : (i : ℕ) (p : Path) (t : Tree ℕ) → resolve (i ∷ p) t ≡ bind (getElem? (list (children t)) i) (λ c. resolve p c)
+pub resolve-down : (i : ℕ) (p : Path) (t : Tree ℕ) → resolve (i ∷ p) t ≡ bind (getElem? (list (children t)) i) (λ c. resolve p c)
 unfolding resolve children list bind
 resolve-down i p (node w cs) = refl
 resolve-down i p (token w own) = refl

@@ -13,6 +13,7 @@
 --     Accepted   what is known of a batch that lines 2 to 7 accept
 --     Plans      what is known of its plan: changes, climb steps, notes
 --     Running    what holds of the current trees and the present paths, whatever steps are performed
+--     Held       notes and changed elements stand in the current trees, whatever steps are performed
 --     Limits     an accepted answer's sizes are within the limits, and its bytes as many as the sizes tell
 pub mod Basics
 pub mod Answers
@@ -28,4 +29,5 @@ pub mod Stages
 pub mod Accepted
 pub mod Plans
 pub mod Running
+pub mod Held
 pub mod Limits

@@ -30,10 +30,12 @@ use Rattle.laws.specs.Measures.{textOf-list, text-append, preorder-list-
 use Rattle.laws.specs.Spelling.{Spells}
 use Rattle.laws.specs.Rows.{table-length}
 use Rattle.laws.specs.Sorting.{rising-length}
-use Rattle.laws.specs.Right.{neither}
+use Rattle.laws.specs.Right.{Right, neither}
 use Rattle.laws.specs.Stages.{isOwn, performed-own}
 use Rattle.laws.specs.Accepted.{Limited, Sized, Known, accepts}
-use Rattle.laws.specs.Plans.{Planning, Checked, checked, plan-known}
+use Rattle.laws.specs.Plans.{Planning, checked, plan-known, performed-right}
+use Rattle.laws.specs.Running.{Follows, ran-follows}
+use Rattle.laws.specs.Held.{Holds, ran-holds}
 
 -- ── The bytes of a result ───────────────────────────────────────────────────────────────────────────────────
 
@@ -289,3 +291,28 @@ room-suffices bytes room h = go (edit bytes) refl
     go : (o : Answer Result) → edit bytes ≡ o → (o >>= λ r. fitting room r) ≡ o
     go (refused n) e = refl
     go (gives r) e = rw (le-ltb room (length (encoded r)) (omega (arith, encoded-within bytes r e)))
+
+-- ── A run, all together ─────────────────────────────────────────────────────────────────────────────────────
+
+-- what is known of a batch whose edit is not refused
+pub record Ran (bytes : List ℕ) (a : Accepted) (p : Plan) (w : World) : Type 0 where
+  pub known : Known bytes a
+  pub planning : Planning a p
+  pub right : All (λ q. Right a.table q.change) (performed a p)
+  pub follows : Follows a.trees w
+  pub holds : Holds w
+  pub small : Small w
+
+pub ran-known : (bytes : List ℕ) (a : Accepted) (p : Plan) (w : World) → accepted bytes ≡ gives a → plan a ≡ gives p → ran a p ≡ gives w → Ran bytes a p w
+ran-known bytes a p w x y z =
+    let k = accepts bytes a x in
+    let q = plan-known a (checked bytes a k) p y in
+    let c = performed-right a p q in
+    record {
+      known = k;
+      planning = q;
+      right = c;
+      follows = ran-follows a p w (k .table) (k .spells .worded) c z;
+      holds = ran-holds a p w (k .table) (k .spells .worded) q c z;
+      small = ran-small bytes a p w k q z;
+    }
