@@ -1,0 +1,95 @@
+-- Words in bytes: what is read, what is written, and that reading gives back what was written.
+-- Assumes nothing.
+use mathlib.Core.Path.{_≡_, refl, sym, ap, _∙_}
+use mathlib.Core.List.{List, [], _∷_, _++_, append-assoc, flatMap}
+use Prim.Native.Nat.{ℕ, zero, suc, _+_, _*_, _/_, _%_, _^_, _≤_, _<_}
+use native.Mathlib.Nat.{suc-add, zero-add, add-zero, div-div-eq-div-mul}
+use native.Mathlib.Omega.{arith}
+use lib.ListN.{length, getD, take, drop, length-append, take-append-drop}
+use lib.Seq.{drop-drop, take-at, drop-at, length-take-le, getD-drop}
+use Rattle.definition.specs.Words.{word, words, bytes, written}
+
+-- ── Words read ──────────────────────────────────────────────────────────────────────────────────────────────
+
+-- the word at a place, by its four bytes
+pub word-drop : (at : ℕ) (l : List ℕ) → word (drop at l) ≡ getD l at 0 + 256 * getD l (at + 1) 0 + 65536 * getD l (at + 2) 0 + 16777216 * getD l (at + 3) 0
+unfolding word
+word-drop at l = rw (getD-drop at l 0 0, getD-drop at l 1 0, getD-drop at l 2 0, getD-drop at l 3 0, add-zero)
+
+pub length-words : (n : ℕ) (l : List ℕ) → length (words n l) ≡ n
+unfolding words
+length-words zero l = refl
+length-words (suc n) l = ap suc (length-words n (drop 4 l))
+
+pub getD-words : (n : ℕ) (l : List ℕ) (i : ℕ) → i < n → getD (words n l) i 0 ≡ word (drop (4 * i) l)
+unfolding words
+getD-words zero l i h = absurd (omega arith)
+getD-words (suc n) l zero h = refl
+getD-words (suc n) l (suc i) h =
+    let e : 4 * suc i ≡ 4 + 4 * i = omega arith in
+    rw (e, ← drop-drop (4 * i) 4 l) (getD-words n (drop 4 l) i (omega arith))
+
+-- k words are the first m, and n more
+pub words-append : (m n k : ℕ) (l : List ℕ) → k ≡ m + n → words k l ≡ words m l ++ words n (drop (4 * m) l)
+unfolding words
+words-append zero n k l e = rw (e, zero-add)
+words-append (suc m) n k l e =
+    let f : 4 * suc m ≡ 4 + 4 * m = omega arith in
+    rw (e, suc-add m n, f, ← drop-drop (4 * m) 4 l) (ap (λ (r : List ℕ). word l ∷ r) (words-append m n (m + n) (drop 4 l) refl))
+
+pub take-words : (m n k : ℕ) (l : List ℕ) → k ≡ m + n → take m (words k l) ≡ words m l
+take-words m n k l e = ap (take m) (words-append m n k l e) ∙ take-at (words m l) (words n (drop (4 * m) l)) m (length-words m l)
+
+pub drop-words : (m n k : ℕ) (l : List ℕ) → k ≡ m + n → drop m (words k l) ≡ words n (drop (4 * m) l)
+drop-words m n k l e = ap (drop m) (words-append m n k l e) ∙ drop-at (words m l) (words n (drop (4 * m) l)) m (length-words m l)
+
+-- ── Words written ───────────────────────────────────────────────────────────────────────────────────────────
+
+pub length-bytes : (w : ℕ) → length (bytes w) ≡ 4
+unfolding bytes
+length-bytes w = refl
+
+pub written-cons : (w : ℕ) (ws : List ℕ) → written (w ∷ ws) ≡ bytes w ++ written ws
+unfolding written flatMap
+written-cons w ws = refl
+
+pub written-append : (a b : List ℕ) → written (a ++ b) ≡ written a ++ written b
+unfolding written flatMap
+written-append [] b = refl
+written-append (w ∷ a) b = rw append-assoc (ap (λ (r : List ℕ). bytes w ++ r) (written-append a b))
+
+pub length-written : (ws : List ℕ) → length (written ws) ≡ 4 * length ws
+unfolding written flatMap
+length-written [] = refl
+length-written (w ∷ ws) = rw (length-append, length-bytes) (omega (arith, length-written ws))
+
+module _ (n : ℕ) (ws : List ℕ) (h : n ≤ length ws) where
+  written-parts : written ws ≡ written (take n ws) ++ written (drop n ws)
+  written-parts = ap written (sym (take-append-drop n ws)) ∙ written-append (take n ws) (drop n ws)
+
+  length-front : length (written (take n ws)) ≡ 4 * n
+  length-front = rw (length-written, length-take-le n ws h)
+
+  pub take-written : take (4 * n) (written ws) ≡ written (take n ws)
+  take-written = ap (take (4 * n)) written-parts ∙ take-at (written (take n ws)) (written (drop n ws)) (4 * n) length-front
+
+  pub drop-written : drop (4 * n) (written ws) ≡ written (drop n ws)
+  drop-written = ap (drop (4 * n)) written-parts ∙ drop-at (written (take n ws)) (written (drop n ws)) (4 * n) length-front
+
+-- ── What was written is read back ───────────────────────────────────────────────────────────────────────────
+
+-- a number by its four digits to the base 256
+digits : (w a b c : ℕ) → w / 256 ≡ a → a / 256 ≡ b → b / 256 ≡ c → c < 256 → w % 256 + 256 * (a % 256) + 65536 * (b % 256) + 16777216 * (c % 256) ≡ w
+digits w a b c p q r h = omega arith
+
+pub word-bytes : (w : ℕ) (r : List ℕ) → w < 2 ^ 32 → word (bytes w ++ r) ≡ w
+unfolding word bytes
+word-bytes w r h =
+    digits w (w / 256) (w / 65536) (w / 16777216) refl (div-div-eq-div-mul w 256 256) (div-div-eq-div-mul w 65536 256) (omega arith)
+
+pub words-written : (ws r : List ℕ) → ((i : ℕ) → getD ws i 0 < 2 ^ 32) → words (length ws) (written ws ++ r) ≡ ws
+unfolding words
+words-written [] r h = refl
+words-written (w ∷ ws) r h =
+    rw (written-cons, append-assoc, word-bytes w (written ws ++ r) (h 0), drop-at (bytes w) (written ws ++ r) 4 (length-bytes w))
+    (ap (λ (l : List ℕ). w ∷ l) (words-written ws r (λ i. h (suc i))))
