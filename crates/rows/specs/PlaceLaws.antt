@@ -157,10 +157,10 @@ module _ (q : Path) (t : Tree ℕ) (k : ℕ) (cs : Trees ℕ) (f : resolve q t �
 
 -- ── A path followed ─────────────────────────────────────────────────────────────────────────────────────────
 
-get-none : (ts : List (Tree ℕ)) (i : ℕ) → length ts ≤ i → getElem? ts i ≡ none
+pub get-none : {A : Type 0} (l : List A) (i : ℕ) → length l ≤ i → getElem? l i ≡ none
 get-none [] i h = refl
-get-none (t ∷ ts) zero h = absurd (omega arith)
-get-none (t ∷ ts) (suc i) h = get-none ts i (omega arith)
+get-none (x ∷ l) zero h = absurd (omega arith)
+get-none (x ∷ l) (suc i) h = get-none l i (omega arith)
 
 -- followed in the rows from the place of u on, a path leads where it leads in u
 pub follow-at : (p q : Path) (t u : Tree ℕ) → resolve q t ≡ some u → follow (rowsOf t) (place q t) p ≡ Option·map (λ v. place (q ++ p) t) (resolve p u)

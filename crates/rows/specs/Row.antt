@@ -2,8 +2,8 @@
 -- Assumes nothing.
 use mathlib.Core.Bool.{cond}
 use mathlib.Core.List.{List, [], _∷_, _++_}
-use Prim.Native.Nat.{ℕ, zero, suc, _+_, max}
-use lib.ListN.{length, take, drop}
+use Prim.Native.Nat.{ℕ, zero, suc, _+_, _*_, max}
+use lib.ListN.{length, take, drop, getD}
 use lib.Dec.{ltb, leb}
 use Rattle.orders.specs.Tree.{Tree, Trees, node, token, nil, cons, list}
 
@@ -80,6 +80,14 @@ triples text [] = []
 triples text (k ∷ []) = []
 triples text (k ∷ m ∷ []) = []
 triples text (k ∷ m ∷ o ∷ ws) = rowAt text k m o ∷ triples text ws
+
+-- the first n of them
+abbrev pub firstRows : List ℕ → ℕ → List ℕ → List Row
+firstRows text n ws = triples text (take (3 * n) ws)
+
+-- the row that stands at i
+abbrev pub rowIn : List ℕ → List ℕ → ℕ → Row
+rowIn text ws i = rowAt text (getD ws (3 * i) 0) (getD ws (3 * i + 1) 0) (getD ws (3 * i + 2) 0)
 
 -- ── What rows tell ──────────────────────────────────────────────────────────────────────────────────────────
 

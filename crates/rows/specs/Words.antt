@@ -4,17 +4,18 @@ use mathlib.Core.Path.{_≡_, refl, sym, ap, _∙_}
 use mathlib.Core.Bool.{Bool, true, false, cond}
 use mathlib.Core.List.{List, [], _∷_, _++_}
 use mathlib.Core.Logic.{_⊎_, inl, inr}
-use mathlib.Core.Option.{some}
+use mathlib.Core.Option.{Option, some}
 use Prim.Native.Nat.{ℕ, zero, suc, _+_, _-_, _*_, _/_, _≤_, _<_}
 use native.Mathlib.Omega.{arith}
-use native.Mathlib.Numerals.{add-one}
+use native.Mathlib.Nat.{suc-sub-suc}
 use lib.Dec.{ltb, leb}
 use lib.ListN.{length, take, drop, getD, set, getElem?, length-drop, drop-of-length-le}
-use lib.Seq.{length-take-le, getD-take}
+use lib.Seq.{length-take-le, getD-take, take-take}
 use borrow.Author.Tests.{lt-ltb, le-ltb, leb-true}
 use Rattle.orders.specs.Tree.{modify}
 use Rattle.orders.specs.ListLaws.{lt-or-le}
-use Rattle.rows.specs.Row.{Row, tok, nod, outside, kind, measure, owes, textLength, rowAt, triples}
+use Rattle.rows.specs.Row.{Row, tok, nod, outside, kind, measure, owes, textLength, rowAt, triples, firstRows, rowIn}
+use Rattle.rows.specs.Place.{between}
 
 -- ── Three words ─────────────────────────────────────────────────────────────────────────────────────────────
 
@@ -126,7 +127,7 @@ module _ (t : List ℕ) where
   triples-append (suc n) (k ∷ m ∷ o ∷ x) y h = ap (λ (z : List Row). rowAt t k m o ∷ z) (triples-append n x y (omega arith))
 
   -- the row at i, and those behind it
-  pub triples-at : (i : ℕ) (l : List ℕ) → 3 * i + 2 < length l → drop i (triples t l) ≡ rowAt t (getD l (3 * i) 0) (getD l (3 * i + 1) 0) (getD l (3 * i + 2) 0) ∷ drop (suc i) (triples t l)
+  pub triples-at : (i : ℕ) (l : List ℕ) → 3 * i + 2 < length l → drop i (triples t l) ≡ rowIn t l i ∷ drop (suc i) (triples t l)
   triples-at i [] h = absurd (omega arith)
   triples-at i (k ∷ []) h = absurd (omega arith)
   triples-at i (k ∷ m ∷ []) h = absurd (omega arith)
@@ -136,7 +137,7 @@ module _ (t : List ℕ) where
   pub triples-end : (i : ℕ) (l : List ℕ) → length l ≤ 3 * i + 2 → drop i (triples t l) ≡ []
   triples-end i l h = drop-of-length-le (triples t l) {i = i} (omega (arith, length-triples l))
 
-  pub triples-get : (i : ℕ) (l : List ℕ) → 3 * i + 2 < length l → getElem? (triples t l) i ≡ some (rowAt t (getD l (3 * i) 0) (getD l (3 * i + 1) 0) (getD l (3 * i + 2) 0))
+  pub triples-get : (i : ℕ) (l : List ℕ) → 3 * i + 2 < length l → getElem? (triples t l) i ≡ some (rowIn t l i)
   triples-get i [] h = absurd (omega arith)
   triples-get i (k ∷ []) h = absurd (omega arith)
   triples-get i (k ∷ m ∷ []) h = absurd (omega arith)
@@ -144,7 +145,7 @@ module _ (t : List ℕ) where
   triples-get (suc i) (k ∷ m ∷ o ∷ l) h = rw (thrice i 1, thrice i 2, thrice₀ i) (triples-get i l (omega arith))
 
   -- a measure that is written
-  pub triples-set : (i : ℕ) (l : List ℕ) (v : ℕ) (g : Row → Row) → 3 * i + 2 < length l → g (rowAt t (getD l (3 * i) 0) (getD l (3 * i + 1) 0) (getD l (3 * i + 2) 0)) ≡ rowAt t (getD l (3 * i) 0) v (getD l (3 * i + 2) 0)
+  pub triples-set : (i : ℕ) (l : List ℕ) (v : ℕ) (g : Row → Row) → 3 * i + 2 < length l → g (rowIn t l i) ≡ rowAt t (getD l (3 * i) 0) v (getD l (3 * i + 2) 0)
       → triples t (set l (3 * i + 1) v) ≡ modify i g (triples t l)
   unfolding modify
   triples-set i [] v g h e = absurd (omega arith)
@@ -153,3 +154,40 @@ module _ (t : List ℕ) where
   triples-set zero (k ∷ m ∷ o ∷ l) v g h e = ap (λ (x : Row). x ∷ triples t l) (sym e)
   triples-set (suc i) (k ∷ m ∷ o ∷ l) v g h e =
       rw (thrice i 1) (ap (λ (z : List Row). rowAt t k m o ∷ z) (triples-set i l v g (omega arith) (rw (thrice i 1, thrice i 2, thrice₀ i) at e)))
+
+-- ── The first n rows of words that may be more ──────────────────────────────────────────────────────────────
+
+module _ (t : List ℕ) (n : ℕ) (l : List ℕ) (h : 3 * n ≤ length l) where
+  words-long : length (take (3 * n) l) ≡ 3 * n
+  words-long = length-take-le (3 * n) l h
+
+  pub length-first : length (firstRows t n l) ≡ n
+  length-first = length-triples t (take (3 * n) l) ∙ omega (arith, words-long)
+
+  pub first-end : (i : ℕ) → n ≤ i → drop i (firstRows t n l) ≡ []
+  first-end i k = triples-end t i (take (3 * n) l) (omega (arith, words-long))
+
+  module _ (i : ℕ) (k : i < n) where
+    first-row : rowIn t (take (3 * n) l) i ≡ rowIn t l i
+    first-row = rw (getD-take (3 * n) l (3 * i) 0 (omega arith), getD-take (3 * n) l (3 * i + 1) 0 (omega arith), getD-take (3 * n) l (3 * i + 2) 0 (omega arith))
+
+    pub first-at : drop i (firstRows t n l) ≡ rowIn t l i ∷ drop (suc i) (firstRows t n l)
+    first-at = triples-at t i (take (3 * n) l) (omega (arith, words-long)) ∙ ap (λ (r : Row). r ∷ drop (suc i) (firstRows t n l)) first-row
+
+    pub first-get : getElem? (firstRows t n l) i ≡ some (rowIn t l i)
+    first-get = triples-get t i (take (3 * n) l) (omega (arith, words-long)) ∙ ap {B = Option Row} some first-row
+
+between-take : (p q n : ℕ) (rs : List Row) → p ≤ q → q ≤ n → between p q (take n rs) ≡ between p q rs
+unfolding between
+between-take zero q n rs h k = take-take (q - 0) n rs (omega arith)
+between-take (suc p) q zero rs h k = absurd (omega arith)
+between-take (suc p) q (suc n) [] h k = refl
+between-take (suc p) zero (suc n) (r ∷ rs) h k = absurd (omega arith)
+between-take (suc p) (suc q) (suc n) (r ∷ rs) h k = rw (suc-sub-suc q p) (between-take p q n rs (omega arith) (omega arith))
+
+-- a part of the words is a part of the rows
+pub words-between : (t : List ℕ) (n : ℕ) (l : List ℕ) (p q : ℕ) → p ≤ q → q ≤ n → triples t (take (3 * q - 3 * p) (drop (3 * p) l)) ≡ between p q (firstRows t n l)
+unfolding between
+words-between t n l p q h k =
+    let e : 3 * q - 3 * p ≡ 3 * (q - p) = omega arith in
+    rw (e, triples-take t (q - p) (drop (3 * p) l), triples-drop t p l, triples-take t n l) (sym (between-take p q n (triples t l) h k))
