@@ -146,9 +146,7 @@ mutual
 
   pub skip-tree : (t : Tree ℕ) (o : ℕ) (r : List Row) → skip (suc o) (rowsOf t ++ r) ≡ size t + skip o r
   skip-tree (token k x) o r = rw (add-zero o) (omega arith)
-  skip-tree (node k cs) o r =
-      let e : o + length (list cs) ≡ length (list cs) + o = omega arith in
-      rw e (omega (arith, skip-trees cs o r))
+  skip-tree (node k cs) o r = ap (λ n. suc (skip n (rowsIn cs ++ r))) (add-comm o (length (list cs))) ∙ omega (arith, skip-trees cs o r)
 
   skip-trees : (cs : Trees ℕ) (o : ℕ) (r : List Row) → skip (length (list cs) + o) (rowsIn cs ++ r) ≡ length (rowsIn cs) + skip o r
   skip-trees nil o r = rw (zero-add o) (omega arith)
