@@ -115,13 +115,13 @@ bytes (r ∷ rs) = textLength r + bytes rs
 -- the nodes that are open, from the innermost, each told by the children that it still owes: what is left of them as one more child begins
 abbrev pub opened : List ℕ → List ℕ
 opened [] = []
-opened (zero ∷ open′) = opened open′
-opened (suc owed ∷ open′) = owed ∷ open′
+opened (zero ∷ above) = opened above
+opened (suc owed ∷ above) = owed ∷ above
 
 -- the greatest depth, where those nodes are open
 unfoldable pub heightIn : List ℕ → List Row → ℕ
-heightIn open′ [] = 0
-heightIn open′ (r ∷ rs) = max (suc (length (opened open′))) (heightIn (owes r ∷ opened open′) rs)
+heightIn above [] = 0
+heightIn above (r ∷ rs) = max (suc (length (opened above))) (heightIn (owes r ∷ opened above) rs)
 
 -- the greatest depth of trees
 abbrev pub height : List Row → ℕ

@@ -1,6 +1,4 @@
 // Runs the functions on rows: S is root(X(a), b) with one-letter tokens, as the only tree under the root of all.
-ghost use Prim.Native.Nat.{_*_, _≤_, _<_, _^_};
-ghost use lib.ListN.{length};
 use syntax_node::Found;
 
 const S: [u32; 15] = [

@@ -3,8 +3,8 @@
 use mathlib.Core.Path.{_≡_, refl, sym, ap, _∙_}
 use mathlib.Core.Bool.{cond}
 use mathlib.Core.List.{List, [], _∷_, _++_, map, append-nil}
-use mathlib.Core.Option.{Option, none, some, bind}
-use Prim.Native.Nat.{ℕ, zero, suc, _+_, _-_, _*_, _/_, _%_, _^_, _≤_, _<_, min, max}
+use mathlib.Core.Option.{none, bind}
+use Prim.Native.Nat.{ℕ, zero, suc, _+_, _-_, _*_, _/_, _%_, _^_, _≤_, _<_, max}
 use native.Mathlib.Omega.{arith}
 use native.Mathlib.Nat.{zero-add}
 use native.Mathlib.Numerals.{add-one}
@@ -16,8 +16,9 @@ use Rattle.orders.specs.Lists.{All}
 use Rattle.orders.specs.Tree.{modify}
 use Rattle.orders.specs.ListLaws.{take-modify, drop-modify-before, modify-left}
 use Rattle.orders.specs.TreeLaws.{shift-before, shift-inside, shift-after}
+use Rattle.laws.specs.Basics.{getD-map}
 use Rattle.words.specs.Parts.{spliced, getD-above, length-spliced, take-spliced}
-use Rattle.rows.specs.Row.{Row, nod, owes, textLength, rowIn, firstRows, triples, skip, treesFrom, treesIn, bytes, opened, heightIn, height}
+use Rattle.rows.specs.Row.{Row, owes, textLength, rowIn, firstRows, triples, skip, treesFrom, treesIn, bytes, opened, heightIn, height}
 use Rattle.rows.specs.Place.{rowsAfter, childRow, between, subtree, follow, regain, spliceRows, movedMark}
 use Rattle.rows.specs.RowLaws.{skip-none, height-closed}
 use Rattle.rows.specs.PlaceLaws.{get-none}
@@ -36,10 +37,10 @@ module _ (rows : List ℕ) (i : ℕ) where
   count-node e h f = record { count = λ text. f .0 ∙ sym (ap owes (node-row text _ _ _ (rw (e .0) at h))); small = f .1 }
 
   pub length-token : {k r : ℕ} → (k ≡ getD rows (3 * i) 0) × (k < 2 ^ 32) → k < 2147483648 → (r ≡ getD rows (3 * i + 1) 0) × (r < 2 ^ 32) → Measured rows i r
-  length-token e h f = record { length′ = λ text. f .0 ∙ sym (token-length text _ _ _ (rw (e .0) at h)); small = f .1 }
+  length-token e h f = record { own = λ text. f .0 ∙ sym (token-length text _ _ _ (rw (e .0) at h)); small = f .1 }
 
   pub length-node : {k : ℕ} → (k ≡ getD rows (3 * i) 0) × (k < 2 ^ 32) → 2147483648 ≤ k → Measured rows i 0
-  length-node e h = record { length′ = λ text. sym (ap textLength (node-row text _ _ _ (rw (e .0) at h))); small = omega arith }
+  length-node e h = record { own = λ text. sym (ap textLength (node-row text _ _ _ (rw (e .0) at h))); small = omega arith }
 
 -- ── The next trees ──────────────────────────────────────────────────────────────────────────────────────────
 
@@ -101,11 +102,6 @@ All-get [] i b h a = absurd (omega arith)
 All-get (x ∷ l) zero b h a = a .0
 All-get (x ∷ l) (suc i) b h a = All-get l i b (omega arith) (a .1)
 
-getD-map : (f : ℕ → ℕ) (l : List ℕ) (i : ℕ) → i < length l → getD (map f l) i 0 ≡ f (getD l i 0)
-getD-map f [] i h = absurd (omega arith)
-getD-map f (x ∷ l) zero h = refl
-getD-map f (x ∷ l) (suc i) h = getD-map f l i (omega arith)
-
 -- the first i marks are moved
 pub record Shifting (marks : List ℕ) (p q m : ℕ) (l : List ℕ) (i : ℕ) : Type 0 where
   pub inside : i ≤ length marks
@@ -126,7 +122,7 @@ module _ {marks : List ℕ} {p q m : ℕ} {l : List ℕ} {i : ℕ} (v : Shifting
   pub shifting-next : {x y : ℕ} → i < length l → (x ≡ getD l i 0) × (x < 2 ^ 32) → Moved p q m x y → Shifting marks p q m (set l i y) (i + 1)
   shifting-next {x} {y} h e f =
       let h′ : i < length marks = omega (arith, v .long) in
-      let g : getD (map (movedMark p q m) marks) i 0 ≡ y = getD-map (movedMark p q m) marks i h′ ∙ sym (f .mark ∙ ap (movedMark p q m) (e .0 ∙ unmoved h′)) in
+      let g : getD (map (movedMark p q m) marks) i 0 ≡ y = getD-map (movedMark p q m) marks i 0 0 h′ ∙ sym (f .mark ∙ ap (movedMark p q m) (e .0 ∙ unmoved h′)) in
       record {
         inside = omega arith;
         long = simp length-set (v .long);
@@ -156,7 +152,7 @@ module _ {run : List ℕ} {sum i : ℕ} (v : Summing run sum i) where
       record {
         inside = omega arith;
         small = omega (arith, v .small, c .small);
-        rest = λ text. rw (add-one i) (v .rest text ∙ rw (triples-at text i run h) (omega (arith, c .length′ text)));
+        rest = λ text. rw (add-one i) (v .rest text ∙ rw (triples-at text i run h) (omega (arith, c .own text)));
       }
 
   pub summing-done : length run < 3 * 2 ^ 16 → length run ≤ 3 * i + 2 → Bytes run sum
@@ -217,12 +213,11 @@ trees-between rows run n p q r h e v =
 pub part-made : (rows run : List ℕ) (n at e : ℕ) → (3 * n ≤ length rows) × (n < 2 ^ 16) × (at ≤ n) → After rows n at 1 e → run ≡ take (3 * e - 3 * at) (drop (3 * at) rows) → Part rows n at run
 unfolding subtree between rowsAfter
 part-made rows run n at e h v f =
-    let told : (text : List ℕ) → triples text run ≡ subtree (firstRows text n rows) at =
-    λ text. let w : skip 1 (drop at (firstRows text n rows)) ≡ e - at = omega (arith, v .row text) in ap (triples text) f ∙ (words-between text n rows at e (v .low) (v .high) ∙ rw w) in
-    record {
-      rows′ = told;
-      long = λ text. ap length f ∙ (length-take-le (3 * e - 3 * at) (drop (3 * at) rows) (simp length-drop (omega (arith, v .high))) ∙ omega (arith, v .low, ap length f, length-take-le (3 * e - 3 * at) (drop (3 * at) rows) (simp length-drop (omega (arith, v .high))), ap length (told text), length-triples text run));
-    }
+    let m : length run ≡ 3 * e - 3 * at = ap length f ∙ length-take-le (3 * e - 3 * at) (drop (3 * at) rows) (simp length-drop (omega (arith, v .high))) in
+    let told : (text : List ℕ) → triples text run ≡ subtree (firstRows text n rows) at = λ text.
+    let w : e - at ≡ skip 1 (drop at (firstRows text n rows)) = omega (arith, v .row text) in
+    ap (triples text) f ∙ rw (words-between text n rows at e (v .low) (v .high), w) in
+    record { told = told; long = λ text. omega (arith, v .low, ap length (told text), length-triples text run) }
 
 -- ── Rows written ────────────────────────────────────────────────────────────────────────────────────────────
 

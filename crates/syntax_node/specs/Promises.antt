@@ -7,7 +7,7 @@ use Prim.Native.Nat.{ℕ, _+_, _-_, _*_, _/_, _^_, _≤_, _<_, min}
 use lib.ListN.{length, drop}
 use Rattle.orders.specs.Lists.{All}
 use Rattle.rows.specs.Row.{rowIn, firstRows, triples, owes, textLength, treesIn, bytes, height}
-use Rattle.rows.specs.Place.{rowsAfter, childRow, between, subtree, follow, spliceRows, movedMark}
+use Rattle.rows.specs.Place.{rowsAfter, childRow, between, subtree, spliceRows, movedMark}
 use Rattle.syntax_node.specs.declared.Found.{Found}
 use Rattle.syntax_node.specs.declared.Found.the-variants.{At, Nothing}
 
@@ -18,7 +18,7 @@ pub record Counted (rows : List ℕ) (i r : ℕ) : Type 0 where
 
 -- the length of its own text
 pub record Measured (rows : List ℕ) (i r : ℕ) : Type 0 where
-  pub length′ : (text : List ℕ) → r ≡ textLength (rowIn text rows i)
+  pub own : (text : List ℕ) → r ≡ textLength (rowIn text rows i)
   pub small : r < 2 ^ 32
 
 -- the row after the next `owed` trees from row `at` on
@@ -54,20 +54,20 @@ pub record Height (run : List ℕ) (r : ℕ) : Type 0 where
 
 -- the element at row `at` with all that is below it, as a part of the words
 pub record Part (rows : List ℕ) (n at : ℕ) (run : List ℕ) : Type 0 where
-  pub rows′ : (text : List ℕ) → triples text run ≡ subtree (firstRows text n rows) at
+  pub told : (text : List ℕ) → triples text run ≡ subtree (firstRows text n rows) at
   pub long : (text : List ℕ) → length run ≡ 3 * length (subtree (firstRows text n rows) at)
 
 -- a run written behind the first n rows; r rows then, and beyond them what was there
-pub record Appended (rows : List ℕ) (n : ℕ) (run rows′ : List ℕ) (r : ℕ) : Type 0 where
-  pub told : (text : List ℕ) → firstRows text r rows′ ≡ firstRows text n rows ++ triples text run
+pub record Appended (rows : List ℕ) (n : ℕ) (run out : List ℕ) (r : ℕ) : Type 0 where
+  pub told : (text : List ℕ) → firstRows text r out ≡ firstRows text n rows ++ triples text run
   pub count : r ≡ n + length run / 3
-  pub beyond : drop (3 * r) rows′ ≡ drop (3 * r) rows
+  pub beyond : drop (3 * r) out ≡ drop (3 * r) rows
 
 -- the rows p up to q give way to a run; r rows then, and beyond them what was there
-pub record Spliced (rows : List ℕ) (n parent p q removed : ℕ) (run : List ℕ) (gain : ℕ) (rows′ : List ℕ) (r : ℕ) : Type 0 where
-  pub told : (text : List ℕ) → firstRows text r rows′ ≡ spliceRows (firstRows text n rows) parent p q removed (triples text run) gain
+pub record Spliced (rows : List ℕ) (n parent p q removed : ℕ) (run : List ℕ) (gain : ℕ) (out : List ℕ) (r : ℕ) : Type 0 where
+  pub told : (text : List ℕ) → firstRows text r out ≡ spliceRows (firstRows text n rows) parent p q removed (triples text run) gain
   pub count : r ≡ n - (q - p) + length run / 3
-  pub beyond : drop (3 * r) rows′ ≡ drop (3 * r) rows
+  pub beyond : drop (3 * r) out ≡ drop (3 * r) rows
 
 -- one mark moved
 pub record Moved (p q m x r : ℕ) : Type 0 where
@@ -75,9 +75,9 @@ pub record Moved (p q m x r : ℕ) : Type 0 where
   pub small : r < 2 ^ 17
 
 -- every mark moved; those that were below the number of rows are below the new number of rows
-pub record Shifted (marks : List ℕ) (p q m : ℕ) (marks′ : List ℕ) : Type 0 where
-  pub moved : marks′ ≡ map (movedMark p q m) marks
-  pub below : (n : ℕ) → 0 < p → q ≤ n → All (λ x. x < n) marks → All (λ x. x < n - (q - p) + m) marks′
+pub record Shifted (marks : List ℕ) (p q m : ℕ) (out : List ℕ) : Type 0 where
+  pub moved : out ≡ map (movedMark p q m) marks
+  pub below : (n : ℕ) → 0 < p → q ≤ n → All (λ x. x < n) marks → All (λ x. x < n - (q - p) + m) out
 
 -- a row or none, as `resolve` answers it
 unfoldable pub found : Option ℕ → Found
