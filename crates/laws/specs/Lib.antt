@@ -1,0 +1,17 @@
+-- Laws of document 01's definitions, each stated once for all later work.
+--     Basics     lists
+--     Measures   elements, text and depth of trees as a list
+--     Spelling   kind words, measures and text in preorder spell the trees, and no others
+--     Rows       which element each row of the table tells, and that it tells each
+--     Kin        paths, parents, children and descents, as the table tells them
+--     Moves      what survives of paths, whatever the splices
+--     Sorting    the sorted order is a stable permutation, also where places are sorted and not the elements
+--     Regions    the last region that contains a change is the one that popping finds
+pub mod Basics
+pub mod Measures
+pub mod Spelling
+pub mod Rows
+pub mod Kin
+pub mod Moves
+pub mod Sorting
+pub mod Regions
