@@ -1,22 +1,17 @@
 -- A test for `Sound` that computes, and that it is right where it says yes.
 -- Assumes nothing.
-use mathlib.Core.Path.{_≡_, refl, sym, ap, _∙_, subst}
-use mathlib.Core.Bool.{Bool, true, false, cond, not, _&&_, _||_}
+use mathlib.Core.Path.{_≡_, refl}
+use mathlib.Core.Bool.{Bool, true, false, not, _&&_}
 use mathlib.Core.List.{List, [], _∷_, _++_}
 use mathlib.Core.Option.{Option, none, some}
-use Prim.Native.Nat.{ℕ, zero, suc, _≤_, _<_}
-use native.Mathlib.Omega.{arith}
+use Prim.Native.Nat.{ℕ, _≤_, _<_}
 use lib.ListN.{length}
 use lib.Dec.{leb, ltb, eqb}
-use borrow.Author.Tests.{leb-true, lt-ltb, le-leb, eqb-true, eqb-false, eq-eqb, not-true}
+use borrow.Author.Tests.{leb-true, lt-ltb, le-leb, eqb-false, eq-eqb, not-true}
 use Rattle.orders.specs.Lists.{All, Pairs}
-use Rattle.orders.specs.Tree.{Tree, Trees, node, token, list, resolve, Path}
-use Rattle.orders.specs.Splices.{Splice, under, samePath, Enters, Fits, Apart, Sound}
-use Rattle.orders.specs.Level.{bool-absurd}
-
-both : (a b : Bool) → (a && b) ≡ true → (a ≡ true) × (b ≡ true)
-both true b e = (refl, e)
-both false b e = bool-absurd e refl
+use Rattle.orders.specs.Tree.{Tree, node, token, list, resolve, Path}
+use Rattle.orders.specs.ListLaws.{bool-absurd, both-true}
+use Rattle.orders.specs.Splices.{Splice, samePath, Enters, Fits, Apart, Sound}
 
 each : {X : Type 0} → (X → Bool) → List X → Bool
 each p [] = true
@@ -30,12 +25,12 @@ module _ {X : Type 0} where
   each-All : (p : X → Bool) (P : X → Type 0) → ((x : X) → p x ≡ true → P x) → (l : List X) → each p l ≡ true → All P l
   unfolding each
   each-All p P k [] e = tt
-  each-All p P k (x ∷ l) e = let r = both (p x) (each p l) e in (k x (r .0), each-All p P k l (r .1))
+  each-All p P k (x ∷ l) e = let r = both-true (p x) (each p l) e in (k x (r .0), each-All p P k l (r .1))
 
   pairs-Pairs : (p : X → X → Bool) (R : X → X → Type 0) → ((x y : X) → p x y ≡ true → R x y) → (l : List X) → pairs p l ≡ true → Pairs R l
   unfolding pairs
   pairs-Pairs p R k [] e = tt
-  pairs-Pairs p R k (x ∷ l) e = let r = both (each (p x) l) (pairs p l) e in (each-All (p x) (R x) (k x) l (r .0), pairs-Pairs p R k l (r .1))
+  pairs-Pairs p R k (x ∷ l) e = let r = both-true (each (p x) l) (pairs p l) e in (each-All (p x) (R x) (k x) l (r .0), pairs-Pairs p R k l (r .1))
 
 -- the path e enters one of the children a to b - 1 of the element at p
 enters? : Path → ℕ → ℕ → Path → Bool
@@ -70,7 +65,7 @@ module _ {A : Type 0} where
       go : (o : Option (Tree A)) → resolve (s .parent) old ≡ o → fits-node? s o ≡ true → Fits old s
       go none f z = bool-absurd z refl
       go (some (token a text)) f z = bool-absurd z refl
-      go (some (node a cs)) f z = let r = both (leb (s .from) (s .to)) (leb (s .to) (length (list cs))) z in
+      go (some (node a cs)) f z = let r = both-true (leb (s .from) (s .to)) (leb (s .to) (length (list cs))) z in
           record { kind = a; children = cs; found = f; ordered = leb-true _ _ (r .0); within = leb-true _ _ (r .1) }
 
   hits : Splice A → Splice A → Bool
@@ -94,9 +89,9 @@ module _ {A : Type 0} where
   apart-true : (s t : Splice A) → apart? s t ≡ true → Apart s t
   unfolding apart?
   apart-true s t e =
-      let r = both (not (eqb (s .number) (t .number))) (not (hits s t) && (not (hits t s) && not (over s t))) e in
-      let q = both (not (hits s t)) (not (hits t s) && not (over s t)) (r .1) in
-      let p = both (not (hits t s)) (not (over s t)) (q .1) in
+      let r = both-true (not (eqb (s .number) (t .number))) (not (hits s t) && (not (hits t s) && not (over s t))) e in
+      let q = both-true (not (hits s t)) (not (hits t s) && not (over s t)) (r .1) in
+      let p = both-true (not (hits t s)) (not (over s t)) (q .1) in
       record { numbers = eqb-false _ _ (not-true (eqb (s .number) (t .number)) (r .0)); kept = not-hits s t (q .0); kept′ = not-hits t s (p .0); clear = not-over s t (p .1) }
 
   unfoldable pub sound? : Tree A → List (Splice A) → Bool
@@ -106,5 +101,5 @@ module _ {A : Type 0} where
   pub sound-true : (old : Tree A) (S : List (Splice A)) → sound? old S ≡ true → Sound old S
   unfolding sound?
   sound-true old S e =
-      let r = both (each (fits? old) S) (pairs apart? S) e in
+      let r = both-true (each (fits? old) S) (pairs apart? S) e in
       record { fits = each-All (fits? old) (Fits old) (fits-true old) S (r .0); apart = pairs-Pairs apart? Apart apart-true S (r .1) }

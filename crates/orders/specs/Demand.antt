@@ -1,13 +1,12 @@
 -- Demand 3. The words are those of Edit.
 -- Assumes nothing.
-use mathlib.Core.Path.{_≡_, refl, sym, _∙_}
-use mathlib.Core.List.{List, [], _∷_}
+use mathlib.Core.Path.{_≡_, sym, _∙_}
+use mathlib.Core.List.{List}
 use mathlib.Core.Logic.{_↔_}
-use mathlib.Core.Option.{Option, none, some}
+use mathlib.Core.Option.{none, some}
 use Rattle.orders.specs.Lists.{All}
 use Rattle.orders.specs.Tree.{Tree, Path, resolve}
-use Rattle.orders.specs.Splices.{Splice, oneGo, State, begin, performs, Sound, Reordered, Dropped, Touches, within, Named, plain, traced, Finds}
-use Rattle.orders.specs.Step.{goes}
+use Rattle.orders.specs.Splices.{Splice, oneGo, State, begin, performs, Sound, Reordered, Dropped, Touches, within, plain, traced, Finds}
 use Rattle.orders.specs.Find.{goes-none, dropped-goes, goes-sub, within-nothing, rewrite-nothing}
 use Rattle.orders.specs.Run.{performs-one-go}
 use Rattle.orders.specs.Names.{finds, finds-only, plain-traced}

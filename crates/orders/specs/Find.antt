@@ -1,21 +1,22 @@
 -- Which paths the one go drops, and what stands where the others lead.
 -- Assumes nothing.
-use mathlib.Core.Path.{_≡_, refl, sym, ap, _∙_, subst}
+use mathlib.Core.Path.{_≡_, refl, sym, ap, _∙_}
 use mathlib.Core.Bool.{Bool, true, false, cond}
-use mathlib.Core.List.{List, [], _∷_, _++_, List·Memᴰ, List·Memᴰ·head, List·Memᴰ·tail, List·Memᴰ·cases-cons, List·Memᴰ·not-nil}
+use mathlib.Core.List.{List, [], _∷_, _++_, List·Memᴰ, List·Memᴰ·head, List·Memᴰ·tail, List·Memᴰ·cases-cons}
 use mathlib.Core.Logic.{_⊎_, inl, inr}
-use mathlib.Core.Option.{Option, none, some, Option·map}
-use Prim.Native.Nat.{ℕ, zero, suc, _+_, _-_, _≤_, _<_}
+use mathlib.Core.Option.{Option, none, some, Option·map, bind}
+use Prim.Native.Nat.{ℕ, zero, suc, _+_, _≤_, _<_}
 use native.Mathlib.Omega.{arith}
 use native.Mathlib.Nat.{zero-add, sub-zero}
 use lib.ListN.{length, getElem?}
-use mathlib.Core.Option.{bind}
-use Rattle.orders.specs.Lists.{pick, All, Pairs}
-use Rattle.orders.specs.Tree.{Tree, Trees, node, token, nil, cons, list, forest, resolve, label, Path}
-use Rattle.orders.specs.Splices.{Splice, under, leftOf, atRoot, inChild, here, below, insert, sort, weave, oneGo, oneGoAll, Enters, Fits, Apart, Sound, Dropped, Touches, within}
-use Rattle.orders.specs.Place.{place, place-none, none-place, weave-get, some-inj, none-some}
-use Rattle.orders.specs.Parts.{pick-mem, mem-pick, All-pick, atRoot-some, inChild-some, inChild-in, here-levelled, below-sound}
-use Rattle.orders.specs.Step.{goes, list-forest, length-rewrites, resolve-child, Down, down}
+use Rattle.orders.specs.Lists.{pick, All}
+use Rattle.orders.specs.Tree.{Tree, Trees, node, token, nil, cons, list, resolve, Path}
+use Rattle.orders.specs.ListLaws.{some-inj, none-some, pick-mem, mem-pick, All-pick, bind-none}
+use Rattle.orders.specs.TreeLaws.{list-forest, resolve-child, forest-list}
+use Rattle.orders.specs.Splices.{Splice, under, leftOf, atRoot, inChild, here, below, insert, sort, weave, oneGo, oneGoAll, Enters, Sound, Dropped, Touches, within}
+use Rattle.orders.specs.Place.{place, place-none, none-place, weave-get}
+use Rattle.orders.specs.Parts.{atRoot-some, inChild-some, inChild-in, here-levelled, below-sound}
+use Rattle.orders.specs.Step.{goes, length-rewrites, Down, down}
 
 -- ── A splice's place among those from left to right ─────────────────────────────────────────────────────────
 
@@ -62,11 +63,6 @@ module _ {A : Type 0} where
       go : (x ≡ s) ⊎ List·Memᴰ x S → (List·Memᴰ x S → List·Memᴰ x (sort S)) → List·Memᴰ x (insert s (sort S))
       go (inl e) r = mem-insert x s (sort S) (inl e)
       go (inr q) r = mem-insert x s (sort S) (inr (r q))
-
-then-none {ℓ} : {X : Type 0} {Y : Type ℓ} (o : Option X) (f : X → Option Y) → ((x : X) → f x ≡ none) → bind o f ≡ none
-unfolding bind
-then-none none f h = refl
-then-none (some x) f h = h x
 
 never : (p : Path) (c : ℕ) (r : Path) → [] ≡ p ++ (c ∷ r) → ⊥
 never [] c r e = let z : _≡_ {A = ℕ} 0 1 = cc in omega arith
@@ -151,7 +147,7 @@ module _ {A : Type 0} where
     where
       go : Parent (d .by) → (Dropped (below i S) e → goes (below i S) e ≡ none) → bind (place 0 (sort (here S)) i) (λ j. Option·map (λ r. j ∷ r) (goes (below i S) e)) ≡ none
       go (root p) r = rw (dropped-root i e a cs S h d p)
-      go (deep j p q) r = rw (r (dropped-child i e S d j p q)) (then-none (place 0 (sort (here S)) i) (λ j. Option·map {B = Path} (λ r. j ∷ r) none) (λ x. refl))
+      go (deep j p q) r = rw (r (dropped-child i e S d j p q)) (bind-none (place 0 (sort (here S)) i) (λ j. Option·map {B = Path} (λ r. j ∷ r) none) (λ x. refl))
 
 -- ── What stands where a path leads ──────────────────────────────────────────────────────────────────────────
 
@@ -184,11 +180,6 @@ module _ {A : Type 0} where
     where
       go : (c : Tree A) → getElem? (list cs) i ≡ some c → (d : Down S i e q) → resolve (d .q′) (oneGo (below i S) c) ≡ some (oneGo (within e (below i S)) t) → resolve q (oneGo S (node a cs)) ≡ some (oneGo (within e (below i S)) t)
       go c z d r = rw (← d .is, sub-rewrite a cs S h i c (d .j) (d .q′) z (d .at)) r
-
-  forest-list : (cs : Trees A) → forest (list cs) ≡ cs
-  unfolding forest list
-  forest-list nil = refl
-  forest-list (cons c cs) = ap (cons c) (forest-list cs)
 
   mutual
     unfolding oneGo here below pick sort weave list

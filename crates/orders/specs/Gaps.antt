@@ -1,19 +1,19 @@
 -- The one go said once more, child by child: at each gap the prepared lists of the runs that start there, bind the child, unless a run holds it.
 -- It is the same: `weave-stroll`.
 -- Assumes nothing.
-use mathlib.Core.Path.{_≡_, refl, sym, ap, _∙_, subst}
-use mathlib.Core.Bool.{Bool, true, false, cond, _&&_, _||_}
+use mathlib.Core.Path.{_≡_, refl, sym, _∙_}
+use mathlib.Core.Bool.{Bool, true, false, cond}
 use mathlib.Core.List.{List, [], _∷_, _++_, append-assoc, append-nil}
 use Prim.Native.Nat.{ℕ, zero, suc, _+_, _-_, _≤_, _<_}
 use native.Mathlib.Omega.{arith}
 use native.Mathlib.Nat.{suc-add}
-use lib.ListN.{length, take, drop, length-drop}
-use lib.Dec.{leb, ltb, eqb}
+use lib.ListN.{length, take, drop}
+use lib.Dec.{eqb}
 use borrow.Author.Tests.{eq-eqb, ne-eqb}
-use Rattle.orders.specs.Lists.{All}
 use Rattle.orders.specs.Tree.{Tree, zone}
+use Rattle.orders.specs.ListLaws.{zone-before, zone-inside, zone-after}
 use Rattle.orders.specs.Splices.{Splice, weave}
-use Rattle.orders.specs.Level.{Zone, before, inside, after, zone?, zone-before, zone-inside, zone-after, Chain, chain-le, All-map}
+use Rattle.orders.specs.Level.{Chain, chain-le}
 use Rattle.orders.specs.Place.{left-over}
 
 module _ {A : Type 0} where

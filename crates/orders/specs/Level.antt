@@ -1,62 +1,21 @@
 -- One node: the splices in it from left to right, its children woven with them, and what one more splice does to that.
 -- Assumes nothing.
-use mathlib.Core.Path.{_≡_, refl, sym, ap, _∙_, subst}
+use mathlib.Core.Path.{_≡_, refl, sym, subst}
 use mathlib.Core.Bool.{Bool, true, false, cond, _&&_, _||_}
-use mathlib.Core.List.{List, [], _∷_, _++_, append-assoc, append-nil}
-use mathlib.Core.Logic.{_≢_}
-use mathlib.Core.Logic.{_⊎_, inl, inr}
-use mathlib.Core.Option.{Option, none, some, Option·map}
-use Prim.Native.Nat.{ℕ, zero, suc, _+_, _-_, _≤_, _<_}
+use mathlib.Core.List.{List, [], _∷_, _++_, append-assoc}
+use mathlib.Core.Logic.{_≢_, _⊎_, inl, inr}
+use Prim.Native.Nat.{ℕ, _+_, _-_, _≤_, _<_}
 use native.Mathlib.Omega.{arith}
-use native.Mathlib.Nat.{zero-add}
-use lib.ListN.{length, take, drop, getElem?, length-append, length-take, length-drop, take-append-drop}
-use lib.Seq.{take-at, drop-at, take-add, drop-drop, length-take-le}
-use lib.Dec.{leb, ltb, eqb}
-use borrow.Author.Tests.{ltb-true, ltb-false, leb-true, leb-false, lt-ltb, le-ltb, le-leb, lt-leb, eqb-true, eqb-false, eq-eqb, ne-eqb}
-use mathlib.Core.Option.{bind}
+use lib.ListN.{length, take, drop, length-append, length-drop}
+use lib.Seq.{drop-drop, length-take-le}
+use lib.Dec.{leb, ltb}
+use borrow.Author.Tests.{ltb-true, leb-true, lt-ltb, le-ltb, le-leb, lt-leb}
 use Rattle.orders.specs.Lists.{All, Pairs, total}
-use Rattle.orders.specs.Tree.{Tree, zone}
-use Rattle.orders.specs.Splices.{Splice, leftOf, insert, sort, weave, inserted, deleted}
-
--- ── A number and a run ──────────────────────────────────────────────────────────────────────────────────────
-
-pub data Zone (i a b : ℕ) : Type 0 where
-  before : i < a → Zone i a b
-  inside : a ≤ i → i < b → Zone i a b
-  after : a ≤ i → b ≤ i → Zone i a b
-
-pub zone? : (i a b : ℕ) → Zone i a b
-zone? i a b = go (ltb i a) (ltb i b) refl refl
-  where
-    go : (x y : Bool) → ltb i a ≡ x → ltb i b ≡ y → Zone i a b
-    go true y p q = before (ltb-true i a p)
-    go false true p q = inside (ltb-false i a p) (ltb-true i b q)
-    go false false p q = after (ltb-false i a p) (ltb-false i b q)
-
-module _ {ℓ} {X : Type ℓ} (i a b : ℕ) (x y z : X) where
-  pub zone-before : i < a → zone i a b x y z ≡ x
-  unfolding zone
-  zone-before h = rw (lt-ltb i a h)
-
-  pub zone-inside : a ≤ i → i < b → zone i a b x y z ≡ y
-  unfolding zone
-  zone-inside h k = rw (le-ltb i a h, lt-ltb i b k)
-
-  pub zone-after : a ≤ i → b ≤ i → zone i a b x y z ≡ z
-  unfolding zone
-  zone-after h k = rw (le-ltb i a h, le-ltb i b k)
+use Rattle.orders.specs.Tree.{Tree}
+use Rattle.orders.specs.ListLaws.{Zone, All-map₂, before, zone?, inside, after, parts₂, bool-absurd, total-none, total-one, parts}
+use Rattle.orders.specs.Splices.{Splice, leftOf, insert, weave, inserted, deleted}
 
 -- ── Left of ─────────────────────────────────────────────────────────────────────────────────────────────────
-
-pub bool-absurd {ℓ} : {X : Type ℓ} {b : Bool} → b ≡ true → b ≡ false → X
-bool-absurd p q = absurd (no (sym p ∙ q))
-  where
-    is-true : Bool → Type 0
-    is-true true = Unit
-    is-true false = ⊥
-
-    no : true ≡ false → ⊥
-    no e = subst is-true e tt
 
 module _ {A : Type 0} where
   pub left-le : (s t : Splice A) → leftOf s t ≡ true → s .to ≤ t .from
@@ -171,28 +130,6 @@ module _ {A : Type 0} where
       go (after h m) (after k l) (inside y z) = one (left-by-number s t l m z)
       go (after h m) (after k l) (after y z) = two (left-by-number t s m l (omega arith))
 
--- ── Lists ───────────────────────────────────────────────────────────────────────────────────────────────────
-
-pub All-map {ℓ κ μ} : {A : Type ℓ} {P : A → Type κ} {Q : A → Type μ} → ((x : A) → P x → Q x) → (l : List A) → All P l → All Q l
-All-map f [] h = tt
-All-map f (x ∷ l) h = (f x (h .0), All-map f l (h .1))
-
-pub All-map₂ {ℓ κ μ ν} : {A : Type ℓ} {P : A → Type κ} {Q : A → Type μ} {R : A → Type ν} → ((x : A) → P x → Q x → R x) → (l : List A) → All P l → All Q l → All R l
-All-map₂ f [] h k = tt
-All-map₂ f (x ∷ l) h k = (f x (h .0) (k .0), All-map₂ f l (h .1) (k .1))
-
-module _ {A : Type 0} where
-  -- where a list is parted in three, taking out the middle part
-  pub part-out : (L M R new : List A) (a d : ℕ) → length L ≡ a → length M ≡ d → take a (L ++ (M ++ R)) ++ (new ++ drop (a + d) (L ++ (M ++ R))) ≡ L ++ (new ++ R)
-  part-out L M R new a d p q = rw (take-at L (M ++ R) a p, ← append-assoc L M R, drop-at (L ++ M) R (a + d) (length-append L M ∙ cc))
-
-  -- a list parted at two places, and at three
-  pub parts : (b c : ℕ) (xs : List A) → xs ≡ take b xs ++ (take c (drop b xs) ++ drop (b + c) xs)
-  parts b c xs = sym (rw (← drop-drop c b xs, take-append-drop c (drop b xs), take-append-drop b xs))
-
-  pub parts₂ : (b c d : ℕ) (xs : List A) → take (b + (c + d)) xs ≡ take b xs ++ (take c (drop b xs) ++ take d (drop (b + c) xs))
-  parts₂ b c d xs = rw (take-add b (c + d) xs, take-add c d (drop b xs), drop-drop c b xs)
-
 -- ── From left to right ──────────────────────────────────────────────────────────────────────────────────────
 
 module _ {A : Type 0} where
@@ -253,16 +190,6 @@ module _ {A : Type 0} where
       go : Sep s t → Sorted (insert s H) → Sorted (insert s (t ∷ H))
       go (first p q) k = subst Sorted (sym (insert-first s t H p)) ((p, left-of-rest s t H os (oH .0) (oH .1) p (c .0)), c)
       go (second p q) k = subst Sorted (sym (insert-second s t H q)) (All-insert (λ u. leftOf t u ≡ true) s H p (c .0), k)
-
-  -- the sum over splices none of which counts
-  pub total-none : (p : Splice A → Bool) (f : Splice A → ℕ) (H : List (Splice A)) → All (λ t. p t ≡ false) H → total p f H ≡ 0
-  unfolding total
-  total-none p f [] h = refl
-  total-none p f (t ∷ H) h = rw (h .0, total-none p f H (h .1)) (zero-add 0)
-
-  pub total-one : (p : Splice A → Bool) (f : Splice A → ℕ) (t : Splice A) (H : List (Splice A)) → p t ≡ true → total p f (t ∷ H) ≡ f t + total p f H
-  unfolding total
-  total-one p f t H e = rw e
 
   -- what one more splice does to a node's children
   pub record Around (n : ℕ) (H : List (Splice A)) (s : Splice A) (xs : List (Tree A)) : Type 0 where

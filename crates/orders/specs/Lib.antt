@@ -1,6 +1,10 @@
--- Edits of trees: splices done in any order, and the old tree rewritten in one go (demand 3).
---     Edit       what the words mean: trees, paths, splices, one go, a splice done, apart, where the walk wrote an element. READ THIS FIRST
+-- Splices done in any order, and the old tree rewritten in one go (demand 3).
+--     Lists      what a function picks of a list, a property of each element, a relation between any two, a sum
+--     Tree       trees, paths, one splice done, what is measured of them
+--     Splices    the words of demand 3: splices, one go, a list of splices done, apart, where the walk wrote an element. READ THESE THREE FIRST
 --     Demand     demand 3, stated and proved from what follows
+--     ListLaws   laws on truth values, options, numbers and lists, for others too
+--     TreeLaws   laws on trees, paths and one splice done, for others too
 --     Level      one node: splices from left to right, its children woven with them, one more splice
 --     Place      one node: where its children are written, what one more splice does to that, what stands there
 --     Parts      a list of splices, parted by the root's children
@@ -11,11 +15,12 @@
 --     Names      where the walk wrote each element, told by names carried along
 --     Target     where a run is now, told by the path of a child
 --     Gaps       the one go said once more, child by child
---     Flat       trees as arrays in preorder, and a splice as a change of one run
 --     Check      a test for splices that are apart
 --     Try        small cases by computation, and what fails where splices are not apart
 pub mod Lists
 pub mod Tree
+pub mod ListLaws
+pub mod TreeLaws
 pub mod Splices
 pub mod Level
 pub mod Place

@@ -2,23 +2,23 @@
 -- Assumes nothing.
 use mathlib.Core.Path.{_≡_, refl, sym, ap, _∙_, subst}
 use mathlib.Core.Bool.{Bool, true, false, cond}
-use mathlib.Core.List.{List, [], _∷_, _++_, map, append-assoc, append-nil, List·Memᴰ, List·Memᴰ·head, List·Memᴰ·tail, List·Memᴰ·cases-cons, List·Memᴰ·not-nil, Memᴰ·cast}
+use mathlib.Core.List.{List, [], _∷_, _++_, map, append-assoc, append-nil, List·Memᴰ, List·Memᴰ·head, List·Memᴰ·tail, Memᴰ·cast, Memᴰ·of-map}
 use mathlib.Core.Logic.{_⊎_, inl, inr}
-use mathlib.Core.Option.{Option, none, some, Option·map}
-use Prim.Native.Nat.{ℕ, zero, suc, _+_, _-_, _≤_, _<_}
+use mathlib.Core.Option.{Option, none, some, bind}
+use Prim.Native.Nat.{ℕ, zero, suc, _+_, _-_, _≤_}
 use native.Mathlib.Omega.{arith}
 use native.Mathlib.Nat.{zero-add, sub-zero}
 use lib.ListN.{length, take, drop, getElem?, length-map}
 use lib.Dec.{eqb}
-use mathlib.Core.Option.{bind}
-use Rattle.orders.specs.Lists.{more, pick, All, Pairs}
-use Rattle.orders.specs.Tree.{Tree, Trees, node, token, nil, cons, list, forest, resolve, label, Path, zone}
-use Rattle.orders.specs.Splices.{Splice, under, leftOf, atRoot, inChild, here, below, insert, sort, weave, oneGo, oneGoAll, inserted, Enters, Fits, Apart, Sound, within}
-use Rattle.orders.specs.Splices.{relabel, relabels, Named, withPaths, withPathsAll, fresh, plain, prepare, traced, Finds}
-use Rattle.orders.specs.Level.{Chain, Zone, before, inside, after, zone?}
-use Rattle.orders.specs.Place.{place, place-before, place-after, get-left, get-right, get-take, get-drop, left-over, length-front, some-inj, none-some}
-use Rattle.orders.specs.Parts.{pick-mem, atRoot-some, here-levelled, below-sound}
-use Rattle.orders.specs.Step.{goes, resolve-child, then-some, list-forest, length-rewrites}
+use Rattle.orders.specs.Lists.{more, pick}
+use Rattle.orders.specs.Tree.{Tree, Trees, node, token, nil, cons, list, forest, resolve, label, Path}
+use Rattle.orders.specs.ListLaws.{Zone, before, inside, after, zone?, get-left, get-right, get-take, get-drop, some-inj, none-some, pick-mem, bind-some, Pairs-over, All-over, map-drop, get-mem, map-take, map-append}
+use Rattle.orders.specs.TreeLaws.{resolve-child, list-forest}
+use Rattle.orders.specs.Splices.{Splice, under, leftOf, atRoot, inChild, here, below, insert, sort, weave, oneGo, oneGoAll, inserted, Enters, Fits, Apart, Sound, within, relabel, relabels, Named, withPaths, withPathsAll, fresh, plain, prepare, traced, Finds}
+use Rattle.orders.specs.Level.{Chain}
+use Rattle.orders.specs.Place.{place, place-before, place-after, left-over, length-front}
+use Rattle.orders.specs.Parts.{atRoot-some, here-levelled, below-sound}
+use Rattle.orders.specs.Step.{goes, length-rewrites}
 use Rattle.orders.specs.Find.{goes-sub, sort-mem}
 
 -- ── Prepared lists changed throughout ───────────────────────────────────────────────────────────────────────
@@ -128,14 +128,6 @@ module _ {A : Type 0} where
     clear = h .clear;
   }
 
-All-over : {X Y : Type 0} (f : X → Y) (P : X → Type 0) (Q : Y → Type 0) → ((x : X) → P x → Q (f x)) → (l : List X) → All P l → All Q (map f l)
-All-over f P Q k [] h = tt
-All-over f P Q k (x ∷ l) h = (k x (h .0), All-over f P Q k l (h .1))
-
-Pairs-over : {X Y : Type 0} (f : X → Y) (R : X → X → Type 0) (T : Y → Y → Type 0) → ((x y : X) → R x y → T (f x) (f y)) → (l : List X) → Pairs R l → Pairs T (map f l)
-Pairs-over f R T k [] h = tt
-Pairs-over f R T k (x ∷ l) h = (All-over f (R x) (T (f x)) (k x) l (h .0), Pairs-over f R T k l (h .1))
-
 module _ {A : Type 0} where
   pub traced-sound : (p : Path) (old : Tree A) (S : List (Splice A)) → Sound old S → Sound (withPaths p old) (map (prepare fresh) S)
   traced-sound p old S h = record {
@@ -153,29 +145,14 @@ module _ {A : Type 0} where
 
 -- ── Without the names ───────────────────────────────────────────────────────────────────────────────────────
 
-module _ {X Y : Type 0} (f : X → Y) where
-  map-++ : (l m : List X) → map f (l ++ m) ≡ map f l ++ map f m
-  map-++ [] m = refl
-  map-++ (x ∷ l) m = rw (map-++ l m)
-
-  map-take : (n : ℕ) (l : List X) → map f (take n l) ≡ take n (map f l)
-  map-take zero l = refl
-  map-take (suc n) [] = refl
-  map-take (suc n) (x ∷ l) = rw (map-take n l)
-
-  map-drop : (n : ℕ) (l : List X) → map f (drop n l) ≡ drop n (map f l)
-  map-drop zero l = refl
-  map-drop (suc n) [] = refl
-  map-drop (suc n) (x ∷ l) = map-drop n l
-
 module _ {A B : Type 0} (g : Tree A → Tree B) where
   weave-prep : (n : ℕ) (H : List (Splice A)) (xs : List (Tree A)) → map g (weave n H xs) ≡ weave n (prep g H) (map g xs)
   unfolding weave prep prepare
   weave-prep n [] xs = refl
   weave-prep n (h ∷ H) xs =
       rw (
-        map-++ g (take (h .from - n) xs) (h .prepared ++ weave (h .to) H (drop (h .to - n) xs)),
-        map-++ g (h .prepared) (weave (h .to) H (drop (h .to - n) xs)),
+        map-append g (take (h .from - n) xs) (h .prepared ++ weave (h .to) H (drop (h .to - n) xs)),
+        map-append g (h .prepared) (weave (h .to) H (drop (h .to - n) xs)),
         weave-prep (h .to) H (drop (h .to - n) xs),
         map-take g (h .from - n) xs,
         map-drop g (h .to - n) xs,
@@ -237,20 +214,6 @@ module _ {A : Type 0} where
   plain-traced S old = relabel-rewrite (λ x. x .0) (map (prepare fresh) S) (withPaths [] old) ∙ rw (prep-plain S, plain-mark [] old)
 
 -- ── No two elements with one name ───────────────────────────────────────────────────────────────────────────
-
-module _ {X : Type 0} where
-  get-mem : (l : List X) (k : ℕ) (c : X) → getElem? l k ≡ some c → List·Memᴰ c l
-  get-mem [] k c e = none-some e
-  get-mem (x ∷ l) zero c e = List·Memᴰ·head (sym (some-inj e))
-  get-mem (x ∷ l) (suc k) c e = List·Memᴰ·tail (get-mem l k c e)
-
-mem-map : {X Y : Type 0} (f : X → Y) (l : List X) (y : Y) → List·Memᴰ y (map f l) → (x : X) × List·Memᴰ x l × (y ≡ f x)
-mem-map f [] y m = absurd (List·Memᴰ·not-nil m)
-mem-map {X} f (x ∷ l) y m = go (List·Memᴰ·cases-cons m) (mem-map f l y)
-  where
-    go : (y ≡ f x) ⊎ List·Memᴰ y (map f l) → (List·Memᴰ y (map f l) → (x′ : X) × List·Memᴰ x′ l × (y ≡ f x′)) → (x′ : X) × List·Memᴰ x′ (x ∷ l) × (y ≡ f x′)
-    go (inl e) r = (x, List·Memᴰ·head refl, e)
-    go (inr q) r = let z = r q in (z .0, List·Memᴰ·tail (z .1), z .2)
 
 module _ {A : Type 0} where
   -- an element of the woven list is of a prepared list, or is a child that is kept
@@ -320,7 +283,7 @@ module _ {A : Type 0} where
   fresh-nameless [] (token a text) t f = rw (← some-inj f)
   fresh-nameless (i ∷ q) (token a text) t f = none-some f
   fresh-nameless (i ∷ q) (node a cs) t f =
-      let (d, g, z) = then-some (getElem? (list (relabels (λ (a : A). (a, none)) cs)) i) (λ c. resolve q c) f in
+      let (d, g, z) = bind-some (getElem? (list (relabels (λ (a : A). (a, none)) cs)) i) (λ c. resolve q c) f in
       let (c, y) = fresh-get cs i d g in
       fresh-nameless q c t (rw y at z)
 
@@ -333,13 +296,13 @@ module _ {A : Type 0} where
     leads : resolve way old ≡ some was
 
   nameless-put : (xs : List (Tree A)) (q : Path) (c t : Tree (Named A)) → List·Memᴰ c (map fresh xs) → resolve q c ≡ some t → (label t) .1 ≡ none
-  nameless-put xs q c t m f = let r = mem-map fresh xs c m in fresh-nameless q (r .0) t (rw (r .2) at f)
+  nameless-put xs q c t m f = let r = Memᴰ·of-map fresh xs m in fresh-nameless q (r .0) t (rw (sym (r .2)) at f)
 
   nameless-splice : (S : List (Splice A)) (q : Path) (h : Splice (Named A)) (c t : Tree (Named A)) → List·Memᴰ h (map (prepare fresh) S) → List·Memᴰ c (h .prepared) → resolve q c ≡ some t → (label t) .1 ≡ none
   unfolding prepare
   nameless-splice S q h c t m l f =
-      let r = mem-map (prepare fresh) S h m in
-      nameless-put (r .0 .prepared) q c t (subst (λ (z : Splice (Named A)). List·Memᴰ c (z .prepared)) (r .2) l) f
+      let r = Memᴰ·of-map (prepare fresh) S m in
+      nameless-put (r .0 .prepared) q c t (subst (λ (z : Splice (Named A)). List·Memᴰ c (z .prepared)) (sym (r .2)) l) f
 
   nameless : (S : List (Splice A)) (q : Path) (h : Splice (Named A)) (c t : Tree (Named A)) → List·Memᴰ h (sort (here (map (prepare fresh) S))) → List·Memᴰ c (h .prepared) → resolve q c ≡ some t → (label t) .1 ≡ none
   unfolding here

@@ -1,16 +1,16 @@
 -- The one go and its paths do not depend on the order in which the splices are listed.
 -- Assumes nothing.
-use mathlib.Core.Path.{_≡_, refl, sym, ap, _∙_, subst}
-use mathlib.Core.Bool.{Bool, true, false}
+use mathlib.Core.Path.{_≡_, refl, sym, ap, _∙_}
+use mathlib.Core.Bool.{true, false}
 use mathlib.Core.List.{List, [], _∷_, List·Permᴰ, List·Permᴰ·nil, List·Permᴰ·cons, List·Permᴰ·swap, List·Permᴰ·trans}
-use mathlib.Core.Option.{Option, none, some, Option·map}
-use Prim.Native.Nat.{ℕ, zero, suc}
+use mathlib.Core.Option.{Option, none, some}
+use Prim.Native.Nat.{ℕ, suc}
 use Rattle.orders.specs.Lists.{pick, All, Pairs}
 use Rattle.orders.specs.Tree.{Tree, Trees, node, token, nil, cons, Path}
-use Rattle.orders.specs.Splices.{Splice, leftOf, atRoot, inChild, here, below, insert, sort, oneGo, oneGoAll, Fits, Apart, Sound}
-use Rattle.orders.specs.Splices.{Reordered, same, keep, swap, trans}
+use Rattle.orders.specs.ListLaws.{pick-none, pick-some}
+use Rattle.orders.specs.Splices.{Splice, leftOf, atRoot, inChild, here, below, insert, sort, oneGo, oneGoAll, Fits, Apart, Sound, Reordered, same, keep, swap, trans}
 use Rattle.orders.specs.Level.{Ordered, Sep, first, second, left-trans, left-asym}
-use Rattle.orders.specs.Parts.{All-sort, pick-none, pick-some, Neat, here-apart, here-ordered, below-neat}
+use Rattle.orders.specs.Parts.{All-sort, Neat, here-apart, here-ordered, below-neat}
 use Rattle.orders.specs.Step.{goes}
 
 -- ── Lists in another order ──────────────────────────────────────────────────────────────────────────────────

@@ -1,88 +1,21 @@
 -- A list of splices, parted by the root's children: what holds of the list holds of the parts.
 -- Assumes nothing.
 use mathlib.Core.Path.{_≡_, refl, sym, ap, _∙_, subst}
-use mathlib.Core.Bool.{Bool, true, false, cond, _&&_, _||_}
-use mathlib.Core.List.{List, [], _∷_, _++_, append-assoc, append-nil, List·Memᴰ, List·Memᴰ·head, List·Memᴰ·tail, List·Memᴰ·cases-cons, List·Memᴰ·not-nil}
-use mathlib.Core.Logic.{_≢_, _⊎_, inl, inr}
-use mathlib.Core.Option.{Option, none, some, Option·map}
-use Prim.Native.Nat.{ℕ, zero, suc, _+_, _-_, _≤_, _<_}
+use mathlib.Core.Bool.{Bool, true, false, cond, _&&_}
+use mathlib.Core.List.{List, [], _∷_}
+use mathlib.Core.Logic.{_≢_}
+use mathlib.Core.Option.{none, some, bind}
+use Prim.Native.Nat.{ℕ, _+_, _≤_}
 use native.Mathlib.Omega.{arith}
 use native.Mathlib.Nat.{zero-add}
 use lib.ListN.{length, getElem?}
 use lib.Dec.{eqb}
-use borrow.Author.Tests.{eqb-true, eqb-false, eq-eqb, ne-eqb}
-use mathlib.Core.Option.{bind}
+use borrow.Author.Tests.{eqb-true, eq-eqb, ne-eqb}
 use Rattle.orders.specs.Lists.{pick, more, All, Pairs, total}
-use Rattle.orders.specs.Tree.{Tree, Trees, node, token, list, resolve, Path}
-use Rattle.orders.specs.Splices.{Splice, under, leftOf, atRoot, inChild, here, below, insert, sort, inserted, deleted, leftIn, samePath, start}
-use Rattle.orders.specs.Splices.{Enters, Fits, Apart, Sound}
-use Rattle.orders.specs.Level.{Ordered, Sep, sep, Sorted, Chain, chain-insert, chain-ordered, sorted-insert, All-insert, All-map}
-use Rattle.orders.specs.Place.{some-inj, none-some}
-
--- ── What f picks of a list ──────────────────────────────────────────────────────────────────────────────────
-
-module _ {X Y : Type 0} (f : X → Option Y) where
-  pub pick-none : (x : X) (l : List X) → f x ≡ none → pick f (x ∷ l) ≡ pick f l
-  unfolding pick
-  pick-none x l e = rw e
-
-  pub pick-some : (x : X) (l : List X) (y : Y) → f x ≡ some y → pick f (x ∷ l) ≡ y ∷ pick f l
-  unfolding pick
-  pick-some x l y e = rw e
-
-  module _ (P : X → Type 0) (Q : Y → Type 0) (k : (x : X) (y : Y) → f x ≡ some y → P x → Q y) where
-    pub All-pick : (l : List X) → All P l → All Q (pick f l)
-    unfolding pick
-    All-pick [] h = tt
-    All-pick (x ∷ l) h = go (f x) refl (All-pick l (h .1))
-      where
-        go : (o : Option Y) → f x ≡ o → All Q (pick f l) → All Q (pick f (x ∷ l))
-        go none e r = rw (pick-none x l e) r
-        go (some y) e r = rw (pick-some x l y e) (k x y e (h .0), r)
-
-  module _ (R : X → X → Type 0) (T : Y → Y → Type 0) (k : (x : X) (y : Y) (x′ : X) (y′ : Y) → f x ≡ some y → f x′ ≡ some y′ → R x x′ → T y y′) where
-    pub Pairs-pick : (l : List X) → Pairs R l → Pairs T (pick f l)
-    unfolding pick
-    Pairs-pick [] h = tt
-    Pairs-pick (x ∷ l) h = go (f x) refl (Pairs-pick l (h .1))
-      where
-        go : (o : Option Y) → f x ≡ o → Pairs T (pick f l) → Pairs T (pick f (x ∷ l))
-        go none e r = rw (pick-none x l e) r
-        go (some y) e r = rw (pick-some x l y e) (All-pick (R x) (T y) (λ x′ y′ e′ q. k x y x′ y′ e e′ q) l (h .0), r)
-
-  pub pick-mem : (l : List X) (y : Y) → List·Memᴰ y (pick f l) → (x : X) × List·Memᴰ x l × (f x ≡ some y)
-  unfolding pick
-  pick-mem [] y m = absurd (List·Memᴰ·not-nil m)
-  pick-mem (x ∷ l) y m = go (f x) refl (pick-mem l y)
-    where
-      deeper : (x : X) × List·Memᴰ x l × (f x ≡ some y) → (x′ : X) × List·Memᴰ x′ (x ∷ l) × (f x′ ≡ some y)
-      deeper r = (r .0, List·Memᴰ·tail (r .1), r .2)
-
-      at : (z : Y) → f x ≡ some z → (y ≡ z) ⊎ List·Memᴰ y (pick f l) → (List·Memᴰ y (pick f l) → (x : X) × List·Memᴰ x l × (f x ≡ some y)) → (x′ : X) × List·Memᴰ x′ (x ∷ l) × (f x′ ≡ some y)
-      at z e (inl q) r = (x, List·Memᴰ·head refl, e ∙ ap {B = Option Y} some (sym q))
-      at z e (inr q) r = deeper (r q)
-
-      go : (o : Option Y) → f x ≡ o → (List·Memᴰ y (pick f l) → (x : X) × List·Memᴰ x l × (f x ≡ some y)) → (x′ : X) × List·Memᴰ x′ (x ∷ l) × (f x′ ≡ some y)
-      go none e r = deeper (r (subst (List·Memᴰ y) (pick-none x l e) m))
-      go (some z) e r = at z e (List·Memᴰ·cases-cons (subst (List·Memᴰ y) (pick-some x l z e) m)) r
-
-  pub mem-pick : (l : List X) (x : X) (y : Y) → List·Memᴰ x l → f x ≡ some y → List·Memᴰ y (pick f l)
-  mem-pick [] x y m e = absurd (List·Memᴰ·not-nil m)
-  mem-pick (z ∷ l) x y m e = go (List·Memᴰ·cases-cons m) (f z) refl (λ q. mem-pick l x y q e)
-    where
-      go : (x ≡ z) ⊎ List·Memᴰ x l → (o : Option Y) → f z ≡ o → (List·Memᴰ x l → List·Memᴰ y (pick f l)) → List·Memᴰ y (pick f (z ∷ l))
-      go (inl q) o p r = rw (pick-some z l y (ap f (sym q) ∙ e)) (List·Memᴰ·head refl)
-      go (inr q) none p r = rw (pick-none z l p) (r q)
-      go (inr q) (some w) p r = rw (pick-some z l w p) (List·Memᴰ·tail (r q))
-
--- pairs whose parts have a property
-pub Pairs-with : {X : Type 0} (P : X → Type 0) (R : X → X → Type 0) (l : List X) → All P l → Pairs R l → Pairs (λ x y. P x × P y × R x y) l
-Pairs-with P R [] h k = tt
-Pairs-with {X} P R (x ∷ l) h k = (go l (h .1) (k .0), Pairs-with P R l (h .1) (k .1))
-  where
-    go : (m : List X) → All P m → All (R x) m → All (λ y. P x × P y × R x y) m
-    go [] a b = tt
-    go (y ∷ m) a b = ((h .0, a .0, b .0), go m (a .1) (b .1))
+use Rattle.orders.specs.Tree.{Tree, Trees, node, list, resolve, Path}
+use Rattle.orders.specs.ListLaws.{All-map, some-inj, none-some, All-pick, pick-none, Pairs-pick, Pairs-with, pick-some}
+use Rattle.orders.specs.Splices.{Splice, under, leftOf, atRoot, inChild, here, below, insert, sort, inserted, deleted, leftIn, samePath, start, Enters, Fits, Apart, Sound}
+use Rattle.orders.specs.Level.{Ordered, Sep, sep, Sorted, Chain, chain-insert, chain-ordered, sorted-insert, All-insert}
 
 -- ── The root's own, and those of a child ────────────────────────────────────────────────────────────────────
 
@@ -177,15 +110,12 @@ module _ {A : Type 0} where
 
   -- ── The splices of a sound list, at the root and below it ──
 
-  node-inj : (a b : A) (cs ds : Trees A) → _≡_ {A = Option (Tree A)} (some (node a cs)) (some (node b ds)) → cs ≡ ds
-  node-inj a b cs ds e = cc
-
   fits-root : (a : A) (cs : Trees A) (x y : Splice A) → atRoot x ≡ some y → Fits (node a cs) x → Bounded (length (list cs)) y
   unfolding resolve
   fits-root a cs x y e f =
       let (r, q) = atRoot-some x y e in
       let found : resolve [] (node a cs) ≡ some (node (f .kind) (f .children)) = rw r at (f .found) in
-      let c : cs ≡ f .children = node-inj a (f .kind) cs (f .children) found in
+      let c : cs ≡ f .children = cc in
       subst (Bounded (length (list cs))) q (f .ordered, rw c (f .within))
 
   pub here-bounded : (a : A) (cs : Trees A) (S : List (Splice A)) → All (Fits (node a cs)) S → All (Bounded (length (list cs))) (here S)

@@ -1,21 +1,20 @@
 -- Where the one go writes the children of one node: `place`. What one more splice does to that, and what bind stands there.
 -- Assumes nothing.
-use mathlib.Core.Path.{_≡_, refl, sym, ap, _∙_, subst}
-use mathlib.Core.Bool.{Bool, true, false, cond, _&&_, _||_}
-use mathlib.Core.List.{List, [], _∷_, _++_, append-assoc, append-nil, List·Memᴰ, List·Memᴰ·head, List·Memᴰ·tail, List·Memᴰ·cases-cons, List·Memᴰ·not-nil}
-use mathlib.Core.Logic.{_≢_, _⊎_, inl, inr}
-use mathlib.Core.Option.{Option, none, some, Option·map, Option·some-injective, Option·none-ne-some}
-use Prim.Native.Nat.{ℕ, zero, suc, _+_, _-_, _≤_, _<_}
+use mathlib.Core.Path.{_≡_, refl, sym, ap, _∙_}
+use mathlib.Core.Bool.{Bool, true, false}
+use mathlib.Core.List.{List, [], _∷_, _++_, List·Memᴰ, List·Memᴰ·head, List·Memᴰ·tail, List·Memᴰ·cases-cons, List·Memᴰ·not-nil}
+use mathlib.Core.Logic.{_⊎_, inl, inr}
+use mathlib.Core.Option.{Option, none, some, Option·map, bind}
+use Prim.Native.Nat.{ℕ, _+_, _-_, _≤_, _<_}
 use native.Mathlib.Omega.{arith}
-use native.Mathlib.Nat.{zero-add, suc-add, le-of-suc-le-suc, not-suc-le-zero}
-use lib.ListN.{length, take, drop, getElem?, length-append, length-take, length-drop, take-append-drop}
-use lib.Seq.{take-at, drop-at, take-add, drop-drop, length-take-le}
-use mathlib.Core.Option.{bind}
-use Rattle.orders.specs.Lists.{All, Pairs, total}
-use Rattle.orders.specs.Tree.{Tree, zone, modify}
-use Rattle.orders.specs.Splices.{Splice, leftOf, insert, sort, weave, inserted, deleted}
-use Rattle.orders.specs.Level.{Zone, before, inside, after, zone?, zone-before, zone-inside, zone-after, left-le, Sep, first, second, Ordered, Sorted, Chain, chain-le, chain-ordered}
-use Rattle.orders.specs.Level.{insert-first, insert-second, total-none, total-one, left-asym, not-left-of-rest, left-of-rest}
+use lib.ListN.{length, take, drop, getElem?, length-drop}
+use lib.Seq.{length-take-le}
+use Rattle.orders.specs.Lists.{All, total}
+use Rattle.orders.specs.Tree.{Tree, zone, modify, shift}
+use Rattle.orders.specs.ListLaws.{Zone, before, inside, after, zone?, zone-before, zone-inside, zone-after, total-none, total-one, none-some, get-drop, map-some, some-inj, get-right, take-modify-before, take-modify, get-left, drop-modify-before, drop-modify, get-take, modify-left, modify-right}
+use Rattle.orders.specs.TreeLaws.{shift-after, shift-before, shift-inside}
+use Rattle.orders.specs.Splices.{Splice, leftOf, insert, weave, inserted, deleted}
+use Rattle.orders.specs.Level.{left-le, Sep, first, second, Sorted, Chain, chain-le, chain-ordered, insert-first, insert-second, left-asym, not-left-of-rest, left-of-rest}
 
 module _ {A : Type 0} where
   -- H are splices in one node, from left to right, n the number of the child at which the walk stands: where child i is written, counted from there; none if it is deleted
@@ -34,22 +33,6 @@ module _ {A : Type 0} where
   pub place-after : (n : ℕ) (h : Splice A) (H : List (Splice A)) (i : ℕ) → h .from ≤ i → h .to ≤ i → place n (h ∷ H) i ≡ Option·map (λ j. (h .from - n) + (inserted h + j)) (place (h .to) H i)
   unfolding place
   place-after n h H i k l = zone-after i (h .from) (h .to) _ _ _ k l
-
--- where children a to b - 1 give way to k others: what becomes of child j
-unfoldable pub shift : ℕ → ℕ → ℕ → ℕ → Option ℕ
-shift a b k j = zone j a b (some j) none (some (j + k - (b - a)))
-
-pub shift-before : (a b k j : ℕ) → j < a → shift a b k j ≡ some j
-unfolding shift
-shift-before a b k j h = zone-before j a b _ _ _ h
-
-pub shift-inside : (a b k j : ℕ) → a ≤ j → j < b → shift a b k j ≡ none
-unfolding shift
-shift-inside a b k j h l = zone-inside j a b _ _ _ h l
-
-pub shift-after : (a b k j : ℕ) → a ≤ j → b ≤ j → shift a b k j ≡ some (j + k - (b - a))
-unfolding shift
-shift-after a b k j h l = zone-after j a b _ _ _ h l
 
 some≡ : {x y : ℕ} → x ≡ y → _≡_ {A = Option ℕ} (some x) (some y)
 some≡ e = ap {B = Option ℕ} some e
@@ -148,90 +131,7 @@ module _ {A : Type 0} where
       go (first p q) k = moved-first n m t H s c a b p o
       go (second p q) k = moved-second n m t H s c a b p q (k p)
 
--- ── An element of a list, and a list with one element changed ───────────────────────────────────────────────
-
-module _ {A : Type 0} where
-  pub get-left : (xs ys : List A) (i : ℕ) → i < length xs → getElem? (xs ++ ys) i ≡ getElem? xs i
-  get-left [] ys i h = absurd (not-suc-le-zero h)
-  get-left (x ∷ xs) ys zero h = refl
-  get-left (x ∷ xs) ys (suc i) h = get-left xs ys i (le-of-suc-le-suc h)
-
-  pub get-right : (xs ys : List A) (i n : ℕ) → length xs + n ≡ i → getElem? (xs ++ ys) i ≡ getElem? ys n
-  get-right [] ys i n e = ap (getElem? ys) (omega arith)
-  get-right (x ∷ xs) ys zero n e = absurd (omega arith)
-  get-right (x ∷ xs) ys (suc i) n e = get-right xs ys i n (omega arith)
-
-  pub get-take : (c : ℕ) (xs : List A) (i : ℕ) → i < c → getElem? (take c xs) i ≡ getElem? xs i
-  get-take zero xs i h = absurd (not-suc-le-zero h)
-  get-take (suc c) [] i h = refl
-  get-take (suc c) (x ∷ xs) zero h = refl
-  get-take (suc c) (x ∷ xs) (suc i) h = get-take c xs i (le-of-suc-le-suc h)
-
-  pub get-drop : (c : ℕ) (xs : List A) (i n : ℕ) → c + n ≡ i → getElem? (drop c xs) n ≡ getElem? xs i
-  get-drop zero xs i n e = ap (getElem? xs) (omega arith)
-  get-drop (suc c) [] i n e = refl
-  get-drop (suc c) (x ∷ xs) zero n e = absurd (omega arith)
-  get-drop (suc c) (x ∷ xs) (suc i) n e = get-drop c xs i n (omega arith)
-
-  module _ (f : A → A) where
-    modify-left : (xs ys : List A) (i : ℕ) → i < length xs → modify i f (xs ++ ys) ≡ modify i f xs ++ ys
-    unfolding modify
-    modify-left [] ys i h = absurd (not-suc-le-zero h)
-    modify-left (x ∷ xs) ys zero h = refl
-    modify-left (x ∷ xs) ys (suc i) h = ap {B = List A} (λ r. x ∷ r) (modify-left xs ys i (le-of-suc-le-suc h))
-
-    modify-right : (xs ys : List A) (i n : ℕ) → length xs + n ≡ i → modify i f (xs ++ ys) ≡ xs ++ modify n f ys
-    unfolding modify
-    modify-right [] ys i n e = ap (λ k. modify k f ys) (omega arith)
-    modify-right (x ∷ xs) ys zero n e = absurd (omega arith)
-    modify-right (x ∷ xs) ys (suc i) n e = ap {B = List A} (λ r. x ∷ r) (modify-right xs ys i n (omega arith))
-
-    take-modify : (c : ℕ) (xs : List A) (i : ℕ) → i < c → take c (modify i f xs) ≡ modify i f (take c xs)
-    unfolding modify
-    take-modify zero xs i h = absurd (not-suc-le-zero h)
-    take-modify (suc c) [] i h = refl
-    take-modify (suc c) (x ∷ xs) zero h = refl
-    take-modify (suc c) (x ∷ xs) (suc i) h = ap {B = List A} (λ r. x ∷ r) (take-modify c xs i (le-of-suc-le-suc h))
-
-    take-modify-before : (c : ℕ) (xs : List A) (i : ℕ) → c ≤ i → take c (modify i f xs) ≡ take c xs
-    unfolding modify
-    take-modify-before zero xs i h = refl
-    take-modify-before (suc c) [] i h = refl
-    take-modify-before (suc c) (x ∷ xs) zero h = absurd (not-suc-le-zero h)
-    take-modify-before (suc c) (x ∷ xs) (suc i) h = ap {B = List A} (λ r. x ∷ r) (take-modify-before c xs i (le-of-suc-le-suc h))
-
-    drop-modify-before : (c : ℕ) (xs : List A) (i : ℕ) → i < c → drop c (modify i f xs) ≡ drop c xs
-    unfolding modify
-    drop-modify-before zero xs i h = absurd (not-suc-le-zero h)
-    drop-modify-before (suc c) [] i h = refl
-    drop-modify-before (suc c) (x ∷ xs) zero h = refl
-    drop-modify-before (suc c) (x ∷ xs) (suc i) h = drop-modify-before c xs i (le-of-suc-le-suc h)
-
-    drop-modify : (c : ℕ) (xs : List A) (i n : ℕ) → c + n ≡ i → drop c (modify i f xs) ≡ modify n f (drop c xs)
-    unfolding modify
-    drop-modify zero xs i n e = ap (λ k. modify k f xs) (omega arith)
-    drop-modify (suc c) [] i n e = refl
-    drop-modify (suc c) (x ∷ xs) zero n e = absurd (omega arith)
-    drop-modify (suc c) (x ∷ xs) (suc i) n e = drop-modify c xs i n (omega arith)
-
-    pub length-modify : (xs : List A) (i : ℕ) → length (modify i f xs) ≡ length xs
-    unfolding modify
-    length-modify [] i = refl
-    length-modify (x ∷ xs) zero = refl
-    length-modify (x ∷ xs) (suc i) = ap suc (length-modify xs i)
-
 -- ── What stands at a child's place ──────────────────────────────────────────────────────────────────────────
-
-pub some-inj : {X : Type 0} {a b : X} → _≡_ {A = Option X} (some a) (some b) → a ≡ b
-some-inj e = cc
-
-pub none-some {ℓ} : {X : Type 0} {Y : Type ℓ} {a : X} → _≡_ {A = Option X} none (some a) → Y
-none-some {X} {Y} {a} e = absurd (Option·none-ne-some a e)
-
--- where a list of options' image is something, so is the list
-pub map-some : {X Y : Type 0} (f : X → Y) (o : Option X) {y : Y} → Option·map f o ≡ some y → (x : X) × (o ≡ some x) × (f x ≡ y)
-map-some f none e = none-some e
-map-some f (some x) e = (x, refl, some-inj e)
 
 module _ {A : Type 0} where
   -- a child that is kept: it stands left of the first run, or beyond it

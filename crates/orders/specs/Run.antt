@@ -1,29 +1,19 @@
 -- A list of splices done one after the other makes what the one go makes of it.
 -- Assumes nothing.
-use mathlib.Core.Path.{_≡_, refl, sym, ap, _∙_, subst}
-use mathlib.Core.List.{List, [], _∷_, _++_, reverseAux, append-nil, List·Memᴰ, List·Memᴰ·cases-cons, List·Memᴰ·not-nil}
-use mathlib.Core.Logic.{_⊎_, inl, inr}
-use mathlib.Core.Option.{Option, none, some}
-use Prim.Native.Nat.{ℕ, zero, suc, _+_, _-_}
-use mathlib.Core.Option.{bind}
-use Rattle.orders.specs.Lists.{pick, All}
-use Rattle.orders.specs.Tree.{Tree, Path, adjust, splice}
-use Rattle.orders.specs.Splices.{Splice, under, here, below, sort, oneGo, start, inserted, deleted, State, begin, perform, performs, Enters, Apart, Sound}
-use Rattle.orders.specs.Splices.{Reordered, same, keep, swap, trans}
+use mathlib.Core.Path.{_≡_, refl, sym, _∙_}
+use mathlib.Core.List.{List, [], _∷_, _++_, reverseAux, append-nil}
+use mathlib.Core.Option.{Option, none, some, bind}
+use Prim.Native.Nat.{_+_}
 use native.Mathlib.Nat.{sub-zero}
+use Rattle.orders.specs.Lists.{pick}
+use Rattle.orders.specs.Tree.{Tree, Path, adjust, splice}
+use Rattle.orders.specs.ListLaws.{All-mem}
+use Rattle.orders.specs.Splices.{Splice, under, here, below, sort, oneGo, start, inserted, deleted, State, begin, perform, performs, Apart, Sound, Reordered, same, keep, swap, trans}
 use Rattle.orders.specs.Place.{place}
 use Rattle.orders.specs.Parts.{neat}
 use Rattle.orders.specs.Step.{goes, sound-rest, step-tree, step-path}
 use Rattle.orders.specs.Order.{reordered-sym, rewrite-reordered, goes-reordered, sound-reordered}
 use Rattle.orders.specs.Find.{goes-none, rewrite-nothing}
-
-pub All-mem : {X : Type 0} (P : X → Type 0) (l : List X) (x : X) → All P l → List·Memᴰ x l → P x
-All-mem P [] x h m = absurd (List·Memᴰ·not-nil m)
-All-mem P (y ∷ l) x h m = go (List·Memᴰ·cases-cons m) (All-mem P l x (h .1))
-  where
-    go : (x ≡ y) ⊎ List·Memᴰ x l → (List·Memᴰ x l → P x) → P x
-    go (inl e) r = rw e (h .0)
-    go (inr q) r = r q
 
 -- with nothing done, each path leads to itself
 goes-nothing : (A : Type 0) (e : Path) → goes {A = A} [] e ≡ some e

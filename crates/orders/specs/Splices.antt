@@ -5,11 +5,11 @@ use mathlib.Core.Bool.{Bool, true, false, cond, _&&_, _||_}
 use mathlib.Core.List.{List, [], _∷_, _++_, map, List·Memᴰ}
 use mathlib.Core.Logic.{_≢_}
 use mathlib.Core.Option.{Option, none, some, bind}
-use Prim.Native.Nat.{ℕ, zero, suc, _+_, _-_, _≤_, _<_}
+use Prim.Native.Nat.{ℕ, suc, _+_, _-_, _≤_, _<_}
 use lib.ListN.{length, take, drop}
 use lib.Dec.{leb, ltb, eqb}
 use Rattle.orders.specs.Lists.{pick, All, Pairs, total}
-use Rattle.orders.specs.Tree.{Tree, Trees, node, token, nil, cons, list, forest, label, Path, resolve, adjust, splice}
+use Rattle.orders.specs.Tree.{Tree, Trees, node, token, nil, cons, forest, label, Path, resolve, adjust, splice, HasRun}
 
 -- ── Splices ─────────────────────────────────────────────────────────────────────────────────────────────────
 
@@ -130,12 +130,8 @@ pub record Enters {A : Type 0} (s : Splice A) (e : Path) : Type 0 where
   pub high : child < s .to
 
 -- s fits the old tree: its parent is a node of it, and its run is a run of that node's children, perhaps an empty one
-pub record Fits {A : Type 0} (old : Tree A) (s : Splice A) : Type 0 where
-  pub kind : A
-  pub children : Trees A
-  pub found : resolve (s .parent) old ≡ some (node kind children)
-  pub ordered : s .from ≤ s .to
-  pub within : s .to ≤ length (list children)
+abbrev pub Fits : {A : Type 0} → Tree A → Splice A → Type 0
+Fits old s = HasRun old (s .parent) (s .from) (s .to)
 
 -- Two splices are apart: they have two numbers, the parent of neither is, or is below, a child that the other deletes, and in one parent the runs do not overlap
 pub record Apart {A : Type 0} (s t : Splice A) : Type 0 where

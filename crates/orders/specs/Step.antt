@@ -1,40 +1,29 @@
 -- The key to demand 3: from the tree that the one go makes of the splices S, a further splice done makes the tree that the one go makes of it and S; and so with the paths.
 -- Assumes nothing.
-use mathlib.Core.Path.{_≡_, refl, sym, ap, _∙_, subst}
-use mathlib.Core.Bool.{Bool, true, false, cond, _&&_, _||_}
-use mathlib.Core.List.{List, [], _∷_, _++_, append-assoc, append-nil}
-use mathlib.Core.Logic.{_≢_, _⊎_, inl, inr}
-use mathlib.Core.Option.{Option, none, some, Option·map, Option·none-ne-some}
-use Prim.Native.Nat.{ℕ, zero, suc, _+_, _-_, _≤_, _<_}
+use mathlib.Core.Path.{_≡_, refl, sym, ap, _∙_}
+use mathlib.Core.Bool.{Bool, true, false}
+use mathlib.Core.List.{List, [], _∷_}
+use mathlib.Core.Logic.{_≢_}
+use mathlib.Core.Option.{Option, none, some, Option·map, bind}
+use Prim.Native.Nat.{ℕ, zero, suc, _+_, _≤_}
 use native.Mathlib.Omega.{arith}
 use native.Mathlib.Nat.{zero-add, sub-zero}
-use lib.ListN.{length, take, drop, getElem?}
+use lib.ListN.{length, getElem?}
 use lib.Dec.{eqb}
 use borrow.Author.Tests.{eqb-true, eqb-false, eq-eqb, ne-eqb}
-use Rattle.orders.specs.Lists.{All, Pairs, total}
-use Rattle.orders.specs.Tree.{Tree, Trees, node, token, nil, cons, list, forest, resolve, Path, zone}
-use Rattle.orders.specs.Splices.{Splice, under, leftOf, here, below, insert, sort, weave, oneGo, oneGoAll}
-use mathlib.Core.Option.{bind}
-use Rattle.orders.specs.Tree.{adjust, modify, splice}
-use Rattle.orders.specs.Splices.{inserted, deleted, start, Enters, Fits, Apart, Sound}
-use Rattle.orders.specs.Level.{Zone, before, inside, after, zone?, zone-before, zone-inside, zone-after, Sep, Sorted, Chain, Around, around, part-out}
-use Rattle.orders.specs.Place.{place, shift, shift-before, shift-inside, shift-after, Moved, moved, weave-get, weave-modify, place-inj, some-inj, none-some, map-some}
+use Rattle.orders.specs.Lists.{All, Pairs}
+use Rattle.orders.specs.Tree.{Tree, Trees, node, token, nil, cons, list, Path, adjust, modify, splice, shift}
+use Rattle.orders.specs.ListLaws.{part-out, some-inj, map-some, bind-some}
+use Rattle.orders.specs.TreeLaws.{run-token, adjust-root, list-forest, resolve-child, adjust-shift}
+use Rattle.orders.specs.Splices.{Splice, under, here, below, sort, weave, oneGo, oneGoAll, inserted, deleted, start, Sound}
+use Rattle.orders.specs.Level.{Sep, Around, around}
+use Rattle.orders.specs.Place.{place, Moved, moved, weave-modify, place-inj}
 use Rattle.orders.specs.Parts.{below-in, below-out, below-root, here-root, here-child, All-sort, Levelled, here-levelled, here-apart, neat, here-bounded, below-sound, start-below, start-here}
 
 -- the path at which the one go writes the element of an old path, none where it deletes it
 unfoldable pub goes : {A : Type 0} → List (Splice A) → Path → Option Path
 goes S [] = some []
 goes S (i ∷ e) = bind (place 0 (sort (here S)) i) (λ j. Option·map (λ r. j ∷ r) (goes (below i S) e))
-
-pub list-forest : {A : Type 0} (xs : List (Tree A)) → list (forest xs) ≡ xs
-unfolding list forest
-list-forest [] = refl
-list-forest {A} (x ∷ xs) = ap {B = List (Tree A)} (λ r. x ∷ r) (list-forest xs)
-
-pub then-some {ℓ} : {X : Type 0} {Y : Type ℓ} (o : Option X) (f : X → Option Y) {y : Y} → bind o f ≡ some y → (x : X) × (o ≡ some x) × (f x ≡ some y)
-unfolding bind
-then-some none f e = absurd (Option·none-ne-some _ e)
-then-some (some x) f e = (x, refl, e)
 
 module _ {A : Type 0} where
   pub length-rewrites : (S : List (Splice A)) (n : ℕ) (cs : Trees A) → length (oneGoAll S n cs) ≡ length (list cs)
@@ -55,11 +44,6 @@ module _ {A : Type 0} where
       let ni : n ≡ i = omega arith in
       rw (rewrites-same T S (suc n) cs (λ k l. h k (λ z. omega arith)), ni, some-inj q, r)
   rewrites-one S T g i c h r n (suc k) (cons d cs) e q = rw (h n (λ z. omega arith), rewrites-one S T g i c h r (suc n) k cs (omega arith) q)
-
-  -- what a path's first step leads to
-  pub resolve-child : (a : A) (cs : Trees A) (i : ℕ) (p : Path) (t : Tree A) → resolve (i ∷ p) (node a cs) ≡ some t → (c : Tree A) × (getElem? (list cs) i ≡ some c) × (resolve p c ≡ some t)
-  unfolding resolve
-  resolve-child a cs i p t e = then-some (getElem? (list cs) i) (λ c. resolve p c) e
 
   pub sound-rest : (old : Tree A) (s : Splice A) (S : List (Splice A)) → Sound old (s ∷ S) → Sound old S
   sound-rest old s S h = record { fits = h .fits .1; apart = h .apart .1 }
@@ -113,14 +97,9 @@ module _ {A : Type 0} where
   pub down : (S : List (Splice A)) (i : ℕ) (P : Path) (q : Path) → goes S (i ∷ P) ≡ some q → Down S i P q
   unfolding goes
   down S i P q e =
-      let x = then-some (place 0 (sort (here S)) i) (λ j. Option·map (λ r. j ∷ r) (goes (below i S) P)) e in
+      let x = bind-some (place 0 (sort (here S)) i) (λ j. Option·map (λ r. j ∷ r) (goes (below i S) P)) e in
       let y = map-some (λ r. x .0 ∷ r) (goes (below i S) P) (x .2) in
       record { j = x .0; at = x .1; q′ = y .0; on = y .1; is = y .2 }
-
-  pub fits-node : (P : Path) (a : A) (text : List ℕ) (s : Splice A) → Fits (token a text) (under P s) → ⊥
-  unfolding under resolve
-  fits-node [] a text s f = let z : _≡_ {A = ℕ} 0 1 = cc (f .found) in omega arith
-  fits-node (k ∷ P) a text s f = none-some (f .found)
 
   -- a splice below child i
   module _ (i : ℕ) (P : Path) (a : A) (cs : Trees A) (S : List (Splice A)) (s : Splice A) (h : Sound (node a cs) (under (i ∷ P) s ∷ S)) where
@@ -152,22 +131,13 @@ module _ {A : Type 0} where
 
   pub step-tree : (P : Path) (old : Tree A) (S : List (Splice A)) (s : Splice A) (q : Path) → Sound old (under P s ∷ S) → goes S P ≡ some q
       → splice q (start S (under P s)) (start S (under P s) + deleted s) (s .prepared) (oneGo S old) ≡ oneGo (under P s ∷ S) old
-  unfolding goes
-  step-tree [] (token a text) S s q h e = absurd (fits-node [] a text s (h .fits .0))
+  unfolding goes under
+  step-tree [] (token a text) S s q h e = absurd (run-token a text [] _ _ (h .fits .0))
   step-tree [] (node a cs) S s q h e = rw (← some-inj e) (step-root a cs S s h)
-  step-tree (i ∷ P) (token a text) S s q h e = absurd (fits-node (i ∷ P) a text s (h .fits .0))
+  step-tree (i ∷ P) (token a text) S s q h e = absurd (run-token a text (i ∷ P) _ _ (h .fits .0))
   step-tree (i ∷ P) (node a cs) S s q h e =
       let d = down S i P q e in
       step-child i P a cs S s h q d (step-tree P (child i P a cs S s h .0) (below i S) s (d .q′) (child-sound i P a cs S s h) (d .on))
-
--- the path rule, of one step and of a path whose first step it is
-adjust-shift : (a b n j : ℕ) (r : Path) → adjust [] a b n (j ∷ r) ≡ bind (shift a b n j) (λ k. some (k ∷ r))
-unfolding adjust bind
-adjust-shift a b n j r = elim (zone? j a b) [
-  | before h ↦ rw (shift-before a b n j h, zone-before j a b (some (j ∷ r)) none (some ((j + n - (b - a)) ∷ r)) h)
-  | inside h l ↦ rw (shift-inside a b n j h l, zone-inside j a b (some (j ∷ r)) none (some ((j + n - (b - a)) ∷ r)) h l)
-  | after h l ↦ rw (shift-after a b n j h l, zone-after j a b (some (j ∷ r)) none (some ((j + n - (b - a)) ∷ r)) h l)
-]
 
 -- the root's splice moves the first step
 adjust-first : (a b n : ℕ) (o : Option ℕ) (G : Option Path) → bind (bind o (λ j. Option·map (λ r. j ∷ r) G)) (adjust [] a b n) ≡ bind (bind o (shift a b n)) (λ j. Option·map (λ r. j ∷ r) G)
@@ -178,11 +148,11 @@ adjust-first a b n (some j) none = sym (go (shift a b n j))
     go : (o : Option ℕ) → bind o (λ j. Option·map {B = Path} (λ r. j ∷ r) none) ≡ none
     go none = refl
     go (some k) = refl
-adjust-first a b n (some j) (some r) = adjust-shift a b n j r
-
-adjust-none : (j : ℕ) (q : Path) (a b n : ℕ) → adjust (j ∷ q) a b n [] ≡ some []
-unfolding adjust
-adjust-none j q a b n = refl
+adjust-first a b n (some j) (some r) = adjust-shift a b n j r ∙ go (shift a b n j)
+  where
+    go : (o : Option ℕ) → Option·map (λ k. k ∷ r) o ≡ bind o (λ k. some (k ∷ r))
+    go none = refl
+    go (some k) = refl
 
 -- a splice below child j moves the rest of a path through that child, and no other
 adjust-through : (j : ℕ) (q : Path) (a b n : ℕ) (G : Option Path) → bind (Option·map (λ r. j ∷ r) G) (adjust (j ∷ q) a b n) ≡ Option·map (λ r. j ∷ r) (bind G (adjust q a b n))
@@ -209,7 +179,7 @@ module _ {A : Type 0} where
         → ((e : Path) → bind (goes (below i S) e) (adjust (d .q′) (start (below i S) (under P s)) (start (below i S) (under P s) + deleted s) (inserted s)) ≡ goes (under P s ∷ below i S) e)
         → (e : Path) → bind (goes S e) (adjust q (start S (under (i ∷ P) s)) (start S (under (i ∷ P) s) + deleted s) (inserted s)) ≡ goes (under (i ∷ P) s ∷ S) e
     unfolding goes bind
-    path-child q d ih [] = rw (← d .is) (adjust-none (d .j) (d .q′) _ _ _)
+    path-child q d ih [] = rw (← d .is) (adjust-root _ _ _ (d .j ∷ d .q′))
     path-child q d ih (k ∷ e) = rw (← d .is, start-below i P s S, here-child i P s S) (go (eqb k i) refl (place 0 (sort (here S)) k) refl)
       where
         x : ℕ
@@ -230,10 +200,10 @@ module _ {A : Type 0} where
 
   pub step-path : (P : Path) (old : Tree A) (S : List (Splice A)) (s : Splice A) (q : Path) → Sound old (under P s ∷ S) → goes S P ≡ some q → (e : Path)
       → bind (goes S e) (adjust q (start S (under P s)) (start S (under P s) + deleted s) (inserted s)) ≡ goes (under P s ∷ S) e
-  unfolding goes
-  step-path [] (token a text) S s q h z e = absurd (fits-node [] a text s (h .fits .0))
+  unfolding goes under
+  step-path [] (token a text) S s q h z e = absurd (run-token a text [] _ _ (h .fits .0))
   step-path [] (node a cs) S s q h z e = rw (← some-inj z) (path-root a cs S s h e)
-  step-path (i ∷ P) (token a text) S s q h z e = absurd (fits-node (i ∷ P) a text s (h .fits .0))
+  step-path (i ∷ P) (token a text) S s q h z e = absurd (run-token a text (i ∷ P) _ _ (h .fits .0))
   step-path (i ∷ P) (node a cs) S s q h z e =
       let d = down S i P q z in
       path-child i P a cs S s h q d (λ e′. step-path P (child i P a cs S s h .0) (below i S) s (d .q′) (child-sound i P a cs S s h) (d .on) e′) e

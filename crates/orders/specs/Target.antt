@@ -5,18 +5,19 @@ use mathlib.Core.Path.{_≡_, refl, sym, ap, _∙_, subst}
 use mathlib.Core.Bool.{Bool, true, false, _&&_}
 use mathlib.Core.List.{List, [], _∷_, _++_, tail-eq-of-cons-eq}
 use mathlib.Core.Logic.{_⊎_, inl, inr}
-use mathlib.Core.Option.{Option, none, some, Option·map}
-use Prim.Native.Nat.{ℕ, zero, suc, _+_, _-_, _≤_, _<_}
+use mathlib.Core.Option.{Option, some, bind}
+use Prim.Native.Nat.{ℕ, suc, _+_, _-_, _≤_, _<_}
 use native.Mathlib.Omega.{arith}
 use lib.ListN.{length}
-use mathlib.Core.Option.{bind}
-use Rattle.orders.specs.Lists.{All, Pairs, total}
-use Rattle.orders.specs.Tree.{Tree, Trees, node, token, list, Path}
-use Rattle.orders.specs.Splices.{Splice, under, leftOf, here, below, sort, inserted, deleted, start, leftIn, samePath, atRoot, inChild, Fits, Sound}
-use Rattle.orders.specs.Level.{left-le, left-why, left-asym, All-map₂, Ordered, Sep, first, second, Sorted, Chain, chain-ordered, total-none, total-one, left-of-rest, not-left-of-rest}
-use Rattle.orders.specs.Place.{place, place-before, place-after, Placed, placed, lefts, rights, some-inj, none-some}
-use Rattle.orders.specs.Parts.{All-pick, atRoot-some, inChild-some, All-sort, start-below, start-here}
-use Rattle.orders.specs.Step.{goes, Down, down, fits-node, lv, seps, bounds, child, child-sound}
+use Rattle.orders.specs.Lists.{All, total}
+use Rattle.orders.specs.Tree.{Tree, node, token, list, Path}
+use Rattle.orders.specs.ListLaws.{All-map₂, total-none, total-one, some-inj, All-pick}
+use Rattle.orders.specs.TreeLaws.{run-token}
+use Rattle.orders.specs.Splices.{Splice, under, leftOf, here, below, sort, inserted, deleted, start, leftIn, samePath, atRoot, inChild, Sound}
+use Rattle.orders.specs.Level.{left-le, left-why, left-asym, Ordered, Sep, first, second, Sorted, Chain, chain-ordered, left-of-rest, not-left-of-rest}
+use Rattle.orders.specs.Place.{place, place-before, place-after, Placed, placed, lefts, rights}
+use Rattle.orders.specs.Parts.{atRoot-some, inChild-some, All-sort, start-below, start-here}
+use Rattle.orders.specs.Step.{goes, Down, down, lv, seps, child, child-sound}
 
 module _ {A : Type 0} where
   none-left : (n m : ℕ) (t : Splice A) (H : List (Splice A)) (s : Splice A) → Chain n m (t ∷ H) → Ordered s → leftOf s t ≡ true → Sorted (t ∷ H) → All (λ u. leftOf u s ≡ false) (t ∷ H)
@@ -90,14 +91,14 @@ module _ {A : Type 0} where
   pub target-run : (P : Path) (old : Tree A) (S : List (Splice A)) (s : Splice A) (q : Path) (i : ℕ) → Sound old (under P s ∷ S) → goes S P ≡ some q → s .from ≤ i → i < s .to
       → goes S (P ++ (i ∷ [])) ≡ some (q ++ ((start S (under P s) + (i - s .from)) ∷ []))
   unfolding goes under
-  target-run [] (token w text) S s q i h e d l = absurd (fits-node [] w text s (h .fits .0))
+  target-run [] (token w text) S s q i h e d l = absurd (run-token w text [] _ _ (h .fits .0))
   target-run [] (node w cs) S s q i h e d l =
       let r = at-run 0 (length (list cs)) (sort (here S)) (under [] s) (s .from) (lv w cs S s h .chain) (omega arith) (omega arith) (omega arith) (lv w cs S s h .sorted) (seps w cs S s h) in
       let r′ = at-run 0 (length (list cs)) (sort (here S)) (under [] s) i (lv w cs S s h .chain) (omega arith) d l (lv w cs S s h .sorted) (seps w cs S s h) in
       let z : start S (under [] s) ≡ r .j = start-here s S (r .j) (omega (arith, r .sum)) in
       let y : start S (under [] s) + (i - s .from) ≡ r′ .j = omega (arith, z, r .sum, r′ .sum) in
       rw (← some-inj e, y) (snoc-goes S i (r′ .j) (r′ .is))
-  target-run (k ∷ P) (token w text) S s q i h e d l = absurd (fits-node (k ∷ P) w text s (h .fits .0))
+  target-run (k ∷ P) (token w text) S s q i h e d l = absurd (run-token w text (k ∷ P) _ _ (h .fits .0))
   target-run (k ∷ P) (node w cs) S s q i h e d l =
       let z = down S k P q e in
       rw (start-below k P s S) (down-goes S k P q i (start (below k S) (under P s) + (i - s .from)) z (target-run P (child k P w cs S s h .0) (below k S) s (z .q′) i (child-sound k P w cs S s h) (z .on) d l))
@@ -114,12 +115,12 @@ module _ {A : Type 0} where
   pub target-after : (P : Path) (old : Tree A) (S : List (Splice A)) (s : Splice A) (q : Path) (i j : ℕ) → Sound old (under P s ∷ S) → goes S P ≡ some q → s .from ≡ suc i → s .to ≡ suc i
       → All (λ t. t .number < s .number) S → goes S (P ++ (i ∷ [])) ≡ some (q ++ (j ∷ [])) → start S (under P s) ≡ suc j
   unfolding goes under
-  target-after [] (token w text) S s q i j h e a b l g = absurd (fits-node [] w text s (h .fits .0))
+  target-after [] (token w text) S s q i j h e a b l g = absurd (run-token w text [] _ _ (h .fits .0))
   target-after [] (node w cs) S s q i j h e a b l g =
       let d = down S i [] (j ∷ []) (rw (← some-inj e) at g) in
       let dj : j ≡ d .j = cc (d .is) in
       start-here s S (suc j) (omega (arith, dj, at-after 0 (length (list cs)) (sort (here S)) (under [] s) i (d .j) (lv w cs S s h .chain) (omega arith) a b (lv w cs S s h .sorted) (seps w cs S s h) (lower-here (s .number) S l) (d .at)))
-  target-after (k ∷ P) (token w text) S s q i j h e a b l g = absurd (fits-node (k ∷ P) w text s (h .fits .0))
+  target-after (k ∷ P) (token w text) S s q i j h e a b l g = absurd (run-token w text (k ∷ P) _ _ (h .fits .0))
   target-after (k ∷ P) (node w cs) S s q i j h e a b l g =
       let d = down S k P q e in
       start-below k P s S ∙ target-after P (child k P w cs S s h .0) (below k S) s (d .q′) i j (child-sound k P w cs S s h) (d .on) a b (lower-below (s .number) k S l) (rest d (down S k (P ++ (i ∷ [])) (q ++ (j ∷ [])) g))

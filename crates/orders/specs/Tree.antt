@@ -1,9 +1,10 @@
 -- Trees, paths, a splice done, and what is measured of them.
 -- Assumes nothing.
-use mathlib.Core.Bool.{Bool, true, false, cond}
+use mathlib.Core.Path.{_≡_}
+use mathlib.Core.Bool.{cond}
 use mathlib.Core.List.{List, [], _∷_, _++_, dropLast}
 use mathlib.Core.Option.{Option, none, some, Option·map, bind}
-use Prim.Native.Nat.{ℕ, zero, suc, _+_, _-_, max}
+use Prim.Native.Nat.{ℕ, zero, suc, _+_, _-_, _≤_, max}
 use lib.ListN.{length, take, drop, getElem?}
 use lib.Dec.{ltb, eqb}
 
@@ -59,6 +60,10 @@ adjust [] a b n (i ∷ e) = zone i a b (some (i ∷ e)) none (some ((i + n - (b 
 adjust (j ∷ q) a b n [] = some []
 adjust (j ∷ q) a b n (i ∷ e) = cond (eqb i j) (Option·map (λ r. i ∷ r) (adjust q a b n e)) (some (i ∷ e))
 
+-- the same of one child number: children a to b - 1 give way to n others, and this becomes of child i
+unfoldable pub shift : ℕ → ℕ → ℕ → ℕ → Option ℕ
+shift a b n i = zone i a b (some i) none (some (i + n - (b - a)))
+
 -- the list with its element n changed by f
 unfoldable pub modify : {A : Type 0} → ℕ → (A → A) → List A → List A
 modify n f [] = []
@@ -71,6 +76,14 @@ splice [] a b new (token w own) = token w own
 splice [] a b new (node w cs) = node w (forest (take a (list cs) ++ (new ++ drop b (list cs))))
 splice (j ∷ q) a b new (token w own) = token w own
 splice (j ∷ q) a b new (node w cs) = node w (forest (modify j (λ c. splice q a b new c) (list cs)))
+
+-- the path leads to a node of the tree, and a..b (b not included) is a run of its children, perhaps an empty one
+pub record HasRun {A : Type 0} (t : Tree A) (p : Path) (a b : ℕ) : Type 0 where
+  pub kind : A
+  pub children : Trees A
+  pub found : resolve p t ≡ some (node kind children)
+  pub ordered : a ≤ b
+  pub within : b ≤ length (list children)
 
 -- ── The elements of a tree ──────────────────────────────────────────────────────────────────────────────────
 

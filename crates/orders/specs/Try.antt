@@ -1,18 +1,14 @@
 -- Small closed cases, by computation: what the definitions say, and what fails where the splices are not apart.
 use mathlib.Core.Path.{_≡_, refl}
-use mathlib.Core.Bool.{Bool, true, false, cond, _&&_, _||_}
-use mathlib.Core.List.{List, [], _∷_, _++_, map, List·Memᴰ}
-use mathlib.Core.Option.{Option, none, some, Option·map}
+use mathlib.Core.List.{List, [], _∷_, _++_, map}
+use mathlib.Core.Option.{Option, none, some, bind}
 use lib.ListN.{replicate}
-use Prim.Native.Nat.{ℕ, zero, suc, _+_, _-_, _≤_, _<_}
+use Prim.Native.Nat.{ℕ}
 use Rattle.orders.specs.Lists.{pick, total}
-use Rattle.orders.specs.Tree.{Tree, Trees, node, token, nil, cons, list, forest, zone, Path}
-use Rattle.orders.specs.Splices.{Splice, oneGo, oneGoAll, here, below, sort, insert, leftOf, weave, atRoot, inChild, under, State}
-use mathlib.Core.Option.{bind}
-use Rattle.orders.specs.Tree.{splice, adjust, modify, resolve}
-use Rattle.orders.specs.Splices.{perform, performs, start, inserted, deleted, leftIn, samePath, begin, Sound, Reordered}
-use Rattle.orders.specs.Check.{sound?, fits?, apart?, sound-true}
+use Rattle.orders.specs.Tree.{Tree, Trees, node, token, nil, cons, list, forest, zone, Path, splice, adjust, modify, resolve}
+use Rattle.orders.specs.Splices.{Splice, oneGo, here, below, sort, insert, leftOf, weave, atRoot, inChild, under, perform, performs, start, inserted, deleted, leftIn, samePath, begin, Sound, Reordered}
 use Rattle.orders.specs.Demand.{Demanded, demand}
+use Rattle.orders.specs.Check.{sound?, fits?, apart?, sound-true}
 
 abbrev tok : ℕ → Tree ℕ
 tok n = token n (n ∷ [])
