@@ -1,0 +1,200 @@
+-- Lines 2, 3 and 4: the sizes of a batch, and where each of its arrays stands.
+-- Assumes nothing.
+use mathlib.Core.Bool.{Bool, true, false, not, _||_}
+use mathlib.Core.List.{List}
+use mathlib.Core.Path.{_≡_, refl, sym, ap, _∙_}
+use Prim.Native.Nat.{ℕ, _+_, _*_, _≤_}
+use native.Mathlib.Omega.{arith}
+use lib.ListN.{length, drop}
+use lib.Dec.{ltb, eqb}
+use lib.Seq.{drop-drop}
+use borrow.Author.Tests.{ltb-false, eqb-true, not-false}
+use Rattle.orders.specs.ListLaws.{bool-absurd}
+use Rattle.definition.specs.Basics.{Answer, refused, gives, _>>=_, refuse}
+use Rattle.definition.specs.Batch as def
+use Rattle.definition.specs.Batch.{Batch, sizes, beyond, whole, arrays, batch}
+use Rattle.definition.specs.Words.{words}
+use Rattle.batch.specs.Answered.{then-gives, unrefused, gives-inj}
+use Rattle.batch.specs.declared.Sizes.{Sizes}
+use Rattle.batch.specs.declared.Layout.{Layout}
+use Rattle.batch.specs.declared.Laid.{Laid}
+use Rattle.batch.specs.declared.Laid.the-variants.{Refused, At}
+
+-- the sizes, as the definition has them
+abbrev pub sizesOf : Sizes → def.Sizes
+sizesOf s = record {
+  trees = s .trees;
+  elements = s .elements;
+  text = s .text;
+  calls = s .calls;
+  listed = s .listed;
+  mappings = s .mappings;
+  notes = s .notes;
+}
+
+-- at which byte each array starts
+unfoldable pub layoutOf : def.Sizes → Layout
+layoutOf s =
+    let measures = 28 + 4 * s.elements in
+    let calls = measures + 4 * s.elements in
+    let targets = calls + 4 * s.calls in
+    let listed = targets + 4 * s.calls in
+    let inputs = listed + 4 * s.listed in
+    let outputs = inputs + 4 * s.mappings in
+    let noted = outputs + 4 * s.mappings in
+    let numbers = noted + 4 * s.notes in
+    record {
+      sizes = record {
+        trees = s .trees;
+        elements = s .elements;
+        text = s .text;
+        calls = s .calls;
+        listed = s .listed;
+        mappings = s .mappings;
+        notes = s .notes;
+      };
+      kinds = 28;
+      measures = measures;
+      words = calls;
+      targets = targets;
+      list = listed;
+      inputs = inputs;
+      outputs = outputs;
+      noted = noted;
+      numbers = numbers;
+      text = numbers + 4 * s.notes;
+    }
+
+-- the arrays that stand where a layout says
+unfoldable pub arraysAt : Layout → List ℕ → Batch
+arraysAt l b =
+    let s = l .sizes in
+    record {
+      trees = s .trees;
+      kinds = words s.elements (drop l.kinds b);
+      measures = words s.elements (drop l.measures b);
+      calls = words s.calls (drop l.words b);
+      targets = words s.calls (drop l.targets b);
+      listed = words s.listed (drop l.list b);
+      inputs = words s.mappings (drop l.inputs b);
+      outputs = words s.mappings (drop l.outputs b);
+      noted = words s.notes (drop l.noted b);
+      numbers = words s.notes (drop l.numbers b);
+      text = drop l.text b;
+    }
+
+-- the paper's number of a refusal, or the layout
+unfoldable pub laidOf : Laid → Answer Layout
+laidOf (Refused n) = refused n
+laidOf (At l) = gives l
+
+-- line 4, of a batch of n bytes
+unfoldable pub endsAt : ℕ → def.Sizes → Answer Layout
+endsAt n s = refuse 4 (not (eqb n (whole s))) >>= (λ _. gives (layoutOf s))
+
+-- lines 2, 3 and 4, in order
+unfoldable pub laid : List ℕ → Answer Layout
+laid b = batch b >>= (λ _. gives (layoutOf (sizes b)))
+
+-- ── What an accepted layout guarantees ──────────────────────────────────────────────────────────────────────
+
+-- line 3 in numbers
+pub record Limits (s : Sizes) : Type 0 where
+  pub tree : 1 ≤ s .trees
+  pub trees : s .trees ≤ 16
+  pub elements : s .elements ≤ 2048
+  pub text : s .text ≤ 16384
+  pub calls : s .calls ≤ 256
+  pub listed : s .listed ≤ 1024
+  pub mappings : s .mappings ≤ 1024
+  pub notes : s .notes ≤ 256
+
+-- each array stands within the batch, and the text ends it
+pub record Within (b : List ℕ) (l : Layout) : Type 0 where
+  pub limits : Limits (l .sizes)
+  pub kinds : l .kinds + 4 * l .sizes .elements ≤ length b
+  pub measures : l .measures + 4 * l .sizes .elements ≤ length b
+  pub words : l .words + 4 * l .sizes .calls ≤ length b
+  pub targets : l .targets + 4 * l .sizes .calls ≤ length b
+  pub list : l .list + 4 * l .sizes .listed ≤ length b
+  pub inputs : l .inputs + 4 * l .sizes .mappings ≤ length b
+  pub outputs : l .outputs + 4 * l .sizes .mappings ≤ length b
+  pub noted : l .noted + 4 * l .sizes .notes ≤ length b
+  pub numbers : l .numbers + 4 * l .sizes .notes ≤ length b
+  pub text : l .text + l .sizes .text ≡ length b
+
+-- of two truths none holds
+pub neither : (a b : Bool) → (a || b) ≡ false → (a ≡ false) × (b ≡ false)
+neither true b q = bool-absurd refl q
+neither false b q = (refl, q)
+
+pub limits-of : (s : Sizes) → beyond (sizesOf s) ≡ false → Limits s
+unfolding beyond
+limits-of s q =
+    let h = neither _ (ltb 256 (s .notes)) q in
+    let g = neither _ (ltb 1024 (s .mappings)) (h .0) in
+    let f = neither _ (ltb 1024 (s .listed)) (g .0) in
+    let e = neither _ (ltb 256 (s .calls)) (f .0) in
+    let d = neither _ (ltb 16384 (s .text)) (e .0) in
+    let c = neither _ (ltb 2048 (s .elements)) (d .0) in
+    let b = neither (ltb (s .trees) 1) (ltb 16 (s .trees)) (c .0) in
+    record {
+      tree = ltb-false (s .trees) 1 (b .0);
+      trees = ltb-false 16 (s .trees) (b .1);
+      elements = ltb-false 2048 (s .elements) (c .1);
+      text = ltb-false 16384 (s .text) (d .1);
+      calls = ltb-false 256 (s .calls) (e .1);
+      listed = ltb-false 1024 (s .listed) (f .1);
+      mappings = ltb-false 1024 (s .mappings) (g .1);
+      notes = ltb-false 256 (s .notes) (h .1);
+    }
+
+module _ (b : List ℕ) (l : Layout) (q : laid b ≡ gives l) where
+  -- what lines 2 to 4 accept
+  pub given : (28 ≤ length b) × (beyond (sizes b) ≡ false) × (length b ≡ whole (sizes b)) × (l ≡ layoutOf (sizes b))
+  unfolding laid batch
+  given =
+      let w = then-gives (batch b) (λ _. gives (layoutOf (sizes b))) q in
+      let two = unrefused 2 (ltb (length b) 28) _ (w .1) in
+      let three = unrefused 3 (beyond (sizes b)) _ (two .1) in
+      let four = unrefused 4 (not (eqb (length b) (whole (sizes b)))) _ (three .1) in
+      (ltb-false (length b) 28 (two .0), three .0, eqb-true (length b) (whole (sizes b)) (not-false _ (four .0)), sym (gives-inj (w .2)))
+
+  pub within : Within b l
+  unfolding layoutOf whole
+  within =
+      let g = given in
+      rw (g .3) (record {
+        limits = limits-of ((layoutOf (sizes b)) .sizes) (g .1);
+        kinds = omega arith;
+        measures = omega arith;
+        words = omega arith;
+        targets = omega arith;
+        list = omega arith;
+        inputs = omega arith;
+        outputs = omega arith;
+        noted = omega arith;
+        numbers = omega arith;
+        text = omega arith;
+      })
+
+-- the arrays stand where the layout says
+arrays-placed : (s : def.Sizes) (b : List ℕ) → arrays s b ≡ arraysAt (layoutOf s) b
+unfolding arrays arraysAt layoutOf
+arrays-placed s b = simp drop-drop
+
+pub batch-laid : (b : List ℕ) → batch b ≡ (laid b >>= (λ l. gives (arraysAt l b)))
+unfolding laid batch _>>=_ refuse
+batch-laid b = go (ltb (length b) 28) (beyond (sizes b)) (not (eqb (length b) (whole (sizes b))))
+  where
+    given : Answer Batch
+    given = gives (arrays (sizes b) b)
+
+    judged : Bool → Bool → Bool → Answer Batch
+    judged t u v = refuse 2 t >>= (λ _. refuse 3 u >>= (λ _. refuse 4 v >>= (λ _. given)))
+
+    go : (t u v : Bool) → judged t u v ≡ (judged t u v >>= (λ _. gives (layoutOf (sizes b))) >>= (λ l. gives (arraysAt l b)))
+    go true u v = refl
+    go false true v = refl
+    go false false true = refl
+    go false false false = ap gives (arrays-placed (sizes b) b)
