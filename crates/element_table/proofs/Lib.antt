@@ -1,0 +1,5 @@
+-- What the loops have in common, and for each its invariant.
+--     Stack      the first d elements of an array as a stack; the elements that are left to read
+--     Reading    the loop of `spells`
+pub mod Stack
+pub mod Reading
