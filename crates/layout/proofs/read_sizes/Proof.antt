@@ -1,9 +1,9 @@
 -- `read_sizes` meets its contract: each size is the word at its place.
 -- Assumes nothing.
 use borrow.Author.Needs.{needs}
-use Rattle.batch.proofs.Laying.{sizes-read}
-use Rattle.batch.proofs.read_sizes.Statement.{statement}
-use Rattle.batch.proofs.read_sizes.Tie as tie
+use Rattle.layout.proofs.Laying.{sizes-read}
+use Rattle.layout.proofs.read_sizes.Statement.{statement}
+use Rattle.layout.proofs.read_sizes.Tie as tie
 
 read-word-requires : tie.Need-read-word-requires
 read-word-requires c κs = search needs

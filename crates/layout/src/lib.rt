@@ -1,10 +1,10 @@
-// Lines 2 to 7: a batch is refused, or it is known where each of its arrays stands.
+// Lines 2 to 4: a batch is refused, or it is known where each of its arrays stands.
 ghost use mathlib.Core.Path.{_≡_};
 ghost use mathlib.Core.Bool.{not};
 ghost use Prim.Native.Nat.{_+_, _*_, _^_, _≤_, _<_};
 ghost use lib.ListN.{length};
 ghost use Rattle.definition.specs.Batch.{sizes, beyond};
-ghost use Rattle.batch.specs.Layout.{sizesOf, layoutOf, Limits, laidOf, endsAt, laid};
+ghost use Rattle.layout.specs.Layout.{sizesOf, layoutOf, Limits, laidOf, endsAt, laid};
 
 // The seven sizes of a batch.
 pub struct Sizes {

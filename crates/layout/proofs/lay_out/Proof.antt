@@ -1,9 +1,9 @@
 -- `lay_out` meets its contract: one law for each way out.
 -- Assumes nothing.
 use borrow.Author.Needs.{needs}
-use Rattle.batch.proofs.Laying.{too-short, limits, in-limits, out-of-limits}
-use Rattle.batch.proofs.lay_out.Statement.{statement}
-use Rattle.batch.proofs.lay_out.Tie as tie
+use Rattle.layout.proofs.Laying.{too-short, limits, in-limits, out-of-limits}
+use Rattle.layout.proofs.lay_out.Statement.{statement}
+use Rattle.layout.proofs.lay_out.Tie as tie
 
 returns : tie.Need-returns
 returns c = search (too-short, needs)

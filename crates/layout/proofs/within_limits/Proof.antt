@@ -1,9 +1,9 @@
 -- `within_limits` meets its contract: one law for each limit, and one for sizes that pass all of them.
 -- Assumes nothing.
 use borrow.Author.Needs.{needs}
-use Rattle.batch.proofs.Laying.{no-tree, trees-beyond, elements-beyond, text-beyond, calls-beyond, listed-beyond, mappings-beyond, notes-beyond, none-beyond}
-use Rattle.batch.proofs.within_limits.Statement.{statement}
-use Rattle.batch.proofs.within_limits.Tie as tie
+use Rattle.layout.proofs.Laying.{no-tree, trees-beyond, elements-beyond, text-beyond, calls-beyond, listed-beyond, mappings-beyond, notes-beyond, none-beyond}
+use Rattle.layout.proofs.within_limits.Statement.{statement}
+use Rattle.layout.proofs.within_limits.Tie as tie
 
 returns : tie.Need-returns
 returns c = search (no-tree, needs)

@@ -14,11 +14,11 @@ use Rattle.definition.specs.Basics.{Answer, refused, gives, _>>=_, refuse}
 use Rattle.definition.specs.Batch as def
 use Rattle.definition.specs.Batch.{Batch, sizes, beyond, whole, arrays, batch}
 use Rattle.definition.specs.Words.{words}
-use Rattle.batch.specs.Answered.{then-gives, unrefused, gives-inj}
-use Rattle.batch.specs.declared.Sizes.{Sizes}
-use Rattle.batch.specs.declared.Layout.{Layout}
-use Rattle.batch.specs.declared.Laid.{Laid}
-use Rattle.batch.specs.declared.Laid.the-variants.{Refused, At}
+use Rattle.layout.specs.Answered.{then-gives, unrefused, gives-inj}
+use Rattle.layout.specs.declared.Sizes.{Sizes}
+use Rattle.layout.specs.declared.Layout.{Layout}
+use Rattle.layout.specs.declared.Laid.{Laid}
+use Rattle.layout.specs.declared.Laid.the-variants.{Refused, At}
 
 -- the sizes, as the definition has them
 abbrev pub sizesOf : Sizes → def.Sizes

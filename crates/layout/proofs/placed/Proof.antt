@@ -2,9 +2,9 @@
 -- Assumes nothing.
 use mathlib.Core.Path.{refl}
 use borrow.Author.Needs.{needs}
-use Rattle.batch.specs.Layout.{layoutOf}
-use Rattle.batch.proofs.placed.Statement.{statement}
-use Rattle.batch.proofs.placed.Tie as tie
+use Rattle.layout.specs.Layout.{layoutOf}
+use Rattle.layout.proofs.placed.Statement.{statement}
+use Rattle.layout.proofs.placed.Tie as tie
 
 mul-measures : tie.Need-mul-measures
 mul-measures c = search needs

@@ -13,11 +13,11 @@ use borrow.Author.Tests.{lt-ltb, le-ltb, eq-eqb, ne-eqb, not-true, not-false}
 use Rattle.definition.specs.Basics.{gives, refused, _>>=_, refuse}
 use Rattle.definition.specs.Batch.{sizes, beyond, whole, arrays, batch}
 use Rattle.definition.specs.Words.{word}
-use Rattle.batch.specs.Layout.{sizesOf, layoutOf, laidOf, endsAt, laid, Limits, limits-of}
-use Rattle.batch.specs.declared.Sizes.{Sizes}
-use Rattle.batch.specs.declared.Layout.{Layout}
-use Rattle.batch.specs.declared.Laid.{Laid}
-use Rattle.batch.specs.declared.Laid.the-variants.{Refused, At}
+use Rattle.layout.specs.Layout.{sizesOf, layoutOf, laidOf, endsAt, laid, Limits, limits-of}
+use Rattle.layout.specs.declared.Sizes.{Sizes}
+use Rattle.layout.specs.declared.Layout.{Layout}
+use Rattle.layout.specs.declared.Laid.{Laid}
+use Rattle.layout.specs.declared.Laid.the-variants.{Refused, At}
 
 -- ── The sizes ───────────────────────────────────────────────────────────────────────────────────────────────
 

@@ -1,5 +1,5 @@
--- Lines 2 to 7.
+-- Lines 2 to 4.
 --     Answered  an answer that is given, step by step
---     Layout    lines 2 to 4: where each array of a batch stands
+--     Layout    the sizes, and where each array of a batch stands
 pub mod Answered
 pub mod Layout

@@ -1,9 +1,9 @@
 -- `judge_length` meets its contract: the text ends where the sizes say, or not.
 -- Assumes nothing.
 use borrow.Author.Needs.{needs}
-use Rattle.batch.proofs.Laying.{text-fits, ends, ends-elsewhere}
-use Rattle.batch.proofs.judge_length.Statement.{statement}
-use Rattle.batch.proofs.judge_length.Tie as tie
+use Rattle.layout.proofs.Laying.{text-fits, ends, ends-elsewhere}
+use Rattle.layout.proofs.judge_length.Statement.{statement}
+use Rattle.layout.proofs.judge_length.Tie as tie
 
 placed-requires : tie.Need-placed-requires
 placed-requires c κs = search needs
