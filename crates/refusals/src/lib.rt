@@ -7,10 +7,11 @@ ghost use lib.ListN.{length, drop};
 ghost use lib.Dec.{leb};
 ghost use Rattle.definition.specs.Basics.{any};
 ghost use Rattle.definition.specs.Words.{words as wordsOf};
-ghost use Rattle.definition.specs.Refusals.{operationOf, countOf, wrongCall};
+ghost use Rattle.definition.specs.Refusals.{operationOf, countOf, wrongCall, wrongMapping};
 ghost use Rattle.element_table.specs.View.{view};
 ghost use Rattle.calls.specs.Wellformed.{Wellformed};
 ghost use Rattle.refusals.specs.Called.{callOf, callsFit};
+ghost use Rattle.refusals.specs.Noted.{noteWrong};
 
 // The operation of a call word.
 pub fn operation_of(word: usize) -> usize
@@ -113,4 +114,77 @@ pub fn calls_fit(
         i += 1;
     }
     taken == listed
+}
+
+// Whether a mapping names two nodes, the output no root.
+fn mapping_fits(table: &[u32], source: &[u32], n: usize, input: usize, output: usize) -> bool
+    requires { ⌜ Wellformed n (now table) (now source) ⌝ }
+    ensures { λ r. ⌜ r ≡ not (wrongMapping (view n (now (table .entry)) (now (source .entry))) (input, output)) ⌝ }
+{
+    if n <= input {
+        return false;
+    }
+    if n <= output {
+        return false;
+    }
+    if !calls::is_node(source, input) {
+        return false;
+    }
+    if !calls::is_node(source, output) {
+        return false;
+    }
+    !calls::is_root(table, output)
+}
+
+// Line 7, of the mappings.
+pub fn mappings_fit(
+    b: &[u8],
+    inputs: usize,
+    outputs: usize,
+    mappings: usize,
+    n: usize,
+    table: &[u32],
+    source: &[u32],
+) -> bool
+    requires { ⌜ Wellformed n (now table) (now source) ⌝ }
+    requires { ⌜ (inputs + 4 * mappings ≤ length (now b)) × (outputs + 4 * mappings ≤ length (now b)) ⌝ }
+    ensures { λ r. ⌜ r ≡ not (any (wrongMapping (view n (now (table .entry)) (now (source .entry)))) (zip (wordsOf mappings (drop inputs (now (b .entry)))) (wordsOf mappings (drop outputs (now (b .entry)))))) ⌝ }
+{
+    let mut i: usize = 0;
+    while i < mappings {
+        let input = words::read_word(b, inputs + 4 * i);
+        let output = words::read_word(b, outputs + 4 * i);
+        if !mapping_fits(table, source, n, input, output) {
+            return false;
+        }
+        i += 1;
+    }
+    true
+}
+
+// Whether a note names one of `n` elements and is not numbered 0.
+fn note_fits(n: usize, element: usize, number: usize) -> bool
+    ensures { λ r. ⌜ r ≡ not (noteWrong n (element, number)) ⌝ }
+{
+    if n <= element {
+        return false;
+    }
+    number != 0
+}
+
+// Line 7, of the notes.
+pub fn notes_fit(b: &[u8], noted: usize, numbers: usize, notes: usize, n: usize) -> bool
+    requires { ⌜ (noted + 4 * notes ≤ length (now b)) × (numbers + 4 * notes ≤ length (now b)) ⌝ }
+    ensures { λ r. ⌜ r ≡ not (any (noteWrong n) (zip (wordsOf notes (drop noted (now (b .entry)))) (wordsOf notes (drop numbers (now (b .entry)))))) ⌝ }
+{
+    let mut i: usize = 0;
+    while i < notes {
+        let element = words::read_word(b, noted + 4 * i);
+        let number = words::read_word(b, numbers + 4 * i);
+        if !note_fits(n, element, number) {
+            return false;
+        }
+        i += 1;
+    }
+    true
 }

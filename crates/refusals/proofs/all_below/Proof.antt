@@ -1,14 +1,10 @@
+-- `all_below` meets its contract. The words passed are below the number.
+-- Assumes nothing.
 use borrow.Author.Needs.{needs}
-use native.Mathlib.Omega.{arith}
-use lib.ListN.{length, getD, set, take, drop, replicate, length-set}
-use mathlib.Core.Path.{_≡_, refl, ap, sym, _∙_}
-use Prim.Native.Nat.{ℕ, suc, zero, _+_, _-_, _*_, _≤_, _<_}
+use Prim.Native.Nat.{_-_}
 use Rattle.refusals.proofs.Passing.{Below, below-start, below-met, below-next, below-all}
 use Rattle.refusals.proofs.all_below.Statement.{statement}
 use Rattle.refusals.proofs.all_below.Tie as tie
-use Rattle.refusals.proofs.all_below.Reads as reads
-use Rattle.refusals.proofs.all_below.Lts as lts
-use Rattle.words.proofs.read_word.Reads as read-word-reads
 
 abbrev Inv-loop : tie.InvT-loop
 Inv-loop b from count n i₀ i = Below b from count n i
@@ -16,39 +12,30 @@ Inv-loop b from count n i₀ i = Below b from count n i
 abbrev μ-loop : tie.MeasureT-loop
 μ-loop b from count n i₀ i = count - i
 
--- src/lib.rt:35:5
 loop-holds : tie.Need-loop-holds Inv-loop μ-loop
 loop-holds c = search (below-start, needs)
 
--- src/lib.rt:36:44
 mul-read-word : tie.Need-mul-read-word Inv-loop μ-loop
 mul-read-word c = search needs
 
--- src/lib.rt:36:37
 add-read-word : tie.Need-add-read-word Inv-loop μ-loop
 add-read-word c = search needs
 
--- src/lib.rt:36:17
 read-word-requires : tie.Need-read-word-requires Inv-loop μ-loop
 read-word-requires c κs = search needs
 
--- src/lib.rt:37:13
 returns : tie.Need-returns Inv-loop μ-loop
 returns c = search (below-met, needs)
 
--- src/lib.rt:39:9
 add-i : tie.Need-add-i Inv-loop μ-loop
 add-i c = search needs
 
--- src/lib.rt:35:5
 loop-less : tie.Need-loop-less Inv-loop μ-loop
 loop-less c = search needs
 
--- src/lib.rt:35:5
 loop-again : tie.Need-loop-again Inv-loop μ-loop
 loop-again c = search (below-next, needs)
 
--- src/lib.rt:30:1
 returns-2 : tie.Need-returns-2 Inv-loop μ-loop
 returns-2 c = search (below-all, needs)
 
