@@ -1,6 +1,6 @@
 -- Lines 2, 3 and 4: each answer, from the tests that led there.
 -- Assumes nothing.
-use mathlib.Core.Bool.{Bool, true, false, not, _||_}
+use mathlib.Core.Bool.{Bool, true, false, not}
 use mathlib.Core.List.{List}
 use mathlib.Core.Path.{_≡_, refl, sym, ap, _∙_}
 use Prim.Native.Nat.{ℕ, _+_, _≤_, _<_}
@@ -13,6 +13,7 @@ use borrow.Author.Tests.{lt-ltb, le-ltb, eq-eqb, ne-eqb, not-true, not-false}
 use Rattle.definition.specs.Basics.{gives, refused, _>>=_, refuse}
 use Rattle.definition.specs.Batch.{sizes, beyond, whole, arrays, batch}
 use Rattle.definition.specs.Words.{word}
+use Rattle.layout.specs.Truth.{or-true}
 use Rattle.layout.specs.Layout.{sizesOf, layoutOf, laidOf, endsAt, laid, Limits, limits-of}
 use Rattle.layout.specs.declared.Sizes.{Sizes}
 use Rattle.layout.specs.declared.Layout.{Layout}
@@ -27,10 +28,6 @@ unfolding sizes
 sizes-read b t e x c l m a p q r s u v w = rw (p, q, r, s, u, v, w)
 
 -- ── The limits ──────────────────────────────────────────────────────────────────────────────────────────────
-
-or-true : (a : Bool) → (a || true) ≡ true
-or-true true = refl
-or-true false = refl
 
 module _ (s : Sizes) where
   pub no-tree : s .trees < 1 → false ≡ not (beyond (sizesOf s))

@@ -1,6 +1,6 @@
 -- Lines 2, 3 and 4: the sizes of a batch, and where each of its arrays stands.
 -- Assumes nothing.
-use mathlib.Core.Bool.{Bool, true, false, not, _||_}
+use mathlib.Core.Bool.{Bool, true, false, not}
 use mathlib.Core.List.{List}
 use mathlib.Core.Path.{_≡_, refl, sym, ap, _∙_}
 use Prim.Native.Nat.{ℕ, _+_, _*_, _≤_}
@@ -9,11 +9,11 @@ use lib.ListN.{length, drop}
 use lib.Dec.{ltb, eqb}
 use lib.Seq.{drop-drop}
 use borrow.Author.Tests.{ltb-false, eqb-true, not-false}
-use Rattle.orders.specs.ListLaws.{bool-absurd}
 use Rattle.definition.specs.Basics.{Answer, refused, gives, _>>=_, refuse}
 use Rattle.definition.specs.Batch as def
 use Rattle.definition.specs.Batch.{Batch, sizes, beyond, whole, arrays, batch}
 use Rattle.definition.specs.Words.{words}
+use Rattle.layout.specs.Truth.{neither}
 use Rattle.layout.specs.Answered.{then-gives, unrefused, gives-inj}
 use Rattle.layout.specs.declared.Sizes.{Sizes}
 use Rattle.layout.specs.declared.Layout.{Layout}
@@ -122,11 +122,6 @@ pub record Within (b : List ℕ) (l : Layout) : Type 0 where
   pub noted : l .noted + 4 * l .sizes .notes ≤ length b
   pub numbers : l .numbers + 4 * l .sizes .notes ≤ length b
   pub text : l .text + l .sizes .text ≡ length b
-
--- of two truths none holds
-pub neither : (a b : Bool) → (a || b) ≡ false → (a ≡ false) × (b ≡ false)
-neither true b q = bool-absurd refl q
-neither false b q = (refl, q)
 
 pub limits-of : (s : Sizes) → beyond (sizesOf s) ≡ false → Limits s
 unfolding beyond

@@ -11,7 +11,7 @@ use lib.Seq.{drop-drop}
 use lib.Dec.{leb, ltb, eqb}
 use borrow.Author.Tests.{ltb-false, leb-false, le-leb, lt-leb, eq-eqb, ne-eqb, not-true, not-false}
 use Rattle.orders.specs.Lists.{All}
-use Rattle.orders.specs.ListLaws.{bool-absurd, lt-or-le}
+use Rattle.orders.specs.ListLaws.{lt-or-le}
 use Rattle.definition.specs.Basics.{any}
 use Rattle.definition.specs.Words.{word, words}
 use Rattle.definition.specs.Refusals.{operationOf, countOf, wrongCount, wrongCall}
@@ -21,6 +21,7 @@ use Rattle.element_table.specs.View.{view}
 use Rattle.element_table.proofs.Stack.{elementsFrom, elements-all, elements-none, elements-more}
 use Rattle.calls.specs.Told.{length-view}
 use Rattle.calls.specs.Fits.{countFits, callFits, judged}
+use Rattle.layout.specs.Truth.{or-true, neither, twice}
 use Rattle.refusals.specs.Called.{callOf, callsFit, fit-end, fit-more}
 
 -- ── The first listed element ────────────────────────────────────────────────────────────────────────────────
@@ -35,18 +36,6 @@ first-some l zero w h e = absurd (h refl)
 first-some l (suc n) w h e = e
 
 -- ── One call ────────────────────────────────────────────────────────────────────────────────────────────────
-
-or-true : (a : Bool) → (a || true) ≡ true
-or-true true = refl
-or-true false = refl
-
-neither : (a b : Bool) → (a || b) ≡ false → (a ≡ false) × (b ≡ false)
-neither true b q = bool-absurd refl q
-neither false b q = (refl, q)
-
-twice : (a : Bool) → not (not a) ≡ a
-twice true = refl
-twice false = refl
 
 all-below : (n : ℕ) (l : List ℕ) → any (leb n) l ≡ false → All (λ e. e < n) l
 unfolding any

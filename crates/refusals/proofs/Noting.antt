@@ -1,7 +1,7 @@
 -- Line 7: each answer, from the tests that led there.
 -- Assumes nothing.
 use mathlib.Core.Path.{_≡_, refl, sym, ap, _∙_}
-use mathlib.Core.Bool.{Bool, true, false, not, _||_}
+use mathlib.Core.Bool.{Bool, true, false, not}
 use mathlib.Core.List.{List}
 use Prim.Native.Nat.{ℕ, suc, _+_, _*_, _≤_, _<_}
 use native.Mathlib.Omega.{arith}
@@ -14,11 +14,8 @@ use Rattle.definition.specs.Refusals.{wrongMapping}
 use Rattle.element_table.specs.View.{view, kindWord, field}
 use Rattle.calls.specs.Wellformed.{Wellformed}
 use Rattle.calls.specs.Told.{length-view, node-told, root-told}
+use Rattle.layout.specs.Truth.{or-true}
 use Rattle.refusals.specs.Noted.{noteWrong}
-
-or-true : (a : Bool) → (a || true) ≡ true
-or-true true = refl
-or-true false = refl
 
 -- ── A mapping ───────────────────────────────────────────────────────────────────────────────────────────────
 
