@@ -12,11 +12,11 @@ use Rattle.orders.specs.ListLaws.{lt-or-le}
 use mathlib.Core.Logic.{⊎-elim}
 use Rattle.definition.specs.Basics.{any, among}
 use Rattle.definition.specs.Elements.{Table, isNode}
-use Rattle.definition.specs.Refusals.{wrongCount, childless, sameParent, wrongRun}
-use Rattle.element_table.specs.View.{view, field, kindWord, measureWord}
+use Rattle.definition.specs.Refusals.{wrongCount, sameParent, wrongRun}
+use Rattle.element_table.specs.View.{view}
 use Rattle.calls.specs.Wellformed.{Wellformed}
-use Rattle.calls.specs.Told.{elementOf, node-told, parent-told, root-told, child-told, childless-told}
-use Rattle.calls.specs.Fits.{countFits, callFits, hasChildren, runFits}
+use Rattle.calls.specs.Told.{elementOf, childCount, node-told, parent-told, root-told, child-told, childless-told}
+use Rattle.calls.specs.Fits.{countFits, callFits, runFits}
 
 -- ── Tests ───────────────────────────────────────────────────────────────────────────────────────────────────
 
@@ -71,10 +71,14 @@ same-parent zero (suc k) = sym (eqb·zero-suc k)
 same-parent (suc j) zero = sym (eqb·suc-zero j)
 same-parent (suc j) (suc k) = sym (eqb·suc-suc j k)
 
--- no childless node, and no token
-parents : (a : Bool) (m : ℕ) → (a && ltb 0 m) ≡ not (not a || eqb (cond a m 0) 0)
-parents true m = above-zero m
-parents false m = refl
+-- no token has children
+parents : (r : List ℕ) (x : ℕ) → ltb 0 (childCount r x) ≡ not (not (isNode (getD r (3 * suc x) 0)) || eqb (childCount r x) 0)
+unfolding childCount
+parents r x = go (isNode (getD r (3 * suc x) 0)) (getD r (3 * suc x + 1) 0)
+  where
+    go : (a : Bool) (m : ℕ) → ltb 0 (cond a m 0) ≡ not (not a || eqb (cond a m 0) 0)
+    go true m = above-zero m
+    go false m = refl
 
 both : (a b : Bool) → (a && not b) ≡ not (not a || b)
 both true b = refl
@@ -91,31 +95,31 @@ among-others (suc (suc (suc (suc (suc zero))))) h a b c = refl
 among-others (suc (suc (suc (suc (suc (suc zero)))))) h a b c = absurd (b refl)
 among-others (suc (suc (suc (suc (suc (suc (suc k))))))) h a b c = absurd (omega arith)
 
+pub fits-first-child : (n : ℕ) (w r : List ℕ) (op x y k : ℕ) → x < n → op ≡ 0 → k ≡ childCount r x → ltb 0 k ≡ callFits (view n w r) op x y
+unfolding callFits among any
+fits-first-child n w r op x y k hx h e = rw (h, node-told n w r x hx, childless-told n w r x hx) (ap (ltb 0) e ∙ (parents r x ∙ simp or-false))
+
 pub fits-editor : (T : Table) (op x y : ℕ) → op ≡ 6 → eqb x 0 ≡ callFits T op x y
 unfolding callFits among any
 fits-editor T op x y h = rw h (rw twice)
 
 module _ (n : ℕ) (w r : List ℕ) (op x y : ℕ) (t : Bool) (W : Wellformed n w r) (hx : x < n) where
-  pub fits-first-child : op ≡ 0 → t ≡ hasChildren r x → t ≡ callFits (view n w r) op x y
-  unfolding callFits among any hasChildren kindWord measureWord
-  fits-first-child h e = rw (h, node-told n w r W x hx, childless-told n w r W x hx) (e ∙ (parents (isNode (kindWord w r x)) (measureWord w r x) ∙ simp or-false))
-
   module _ (e : t ≡ eqb (getD w (8 * x + 1) 0) 0) where
     pub fits-root-by : (hy : y < n) (u : Bool) → op ≡ 2 → t ≡ true → u ≡ isNode (getD r (3 * suc y) 0) → u ≡ callFits (view n w r) op x y
-    unfolding callFits among any field kindWord
-    fits-root-by hy u h q k = rw (h, root-told n w r W x hx, ← e, q, node-told n w r W y hy) (k ∙ simp (or-false, twice))
+    unfolding callFits among any
+    fits-root-by hy u h q k = rw (h, root-told n w r (W .lines) x hx, ← e, q, node-told n w r y hy) (k ∙ simp (or-false, twice))
 
     pub fits-root : op ≤ 6 → (op ≡ 0 → ⊥) → (op ≡ 6 → ⊥) → (op ≡ 2 → ⊥) → t ≡ true → false ≡ callFits (view n w r) op x y
-    unfolding callFits field
-    fits-root h a b c q = rw (among-others op h a b c, root-told n w r W x hx, ← e, q, ne-eqb op 0 a)
+    unfolding callFits
+    fits-root h a b c q = rw (among-others op h a b c, root-told n w r (W .lines) x hx, ← e, q, ne-eqb op 0 a)
 
     pub fits-run : (hy : y < n) (u : Bool) → op ≡ 5 → t ≡ false → u ≡ runFits w x y → u ≡ callFits (view n w r) op x y
-    unfolding callFits among any field runFits wrongRun
-    fits-run hy u h q k = rw (h, root-told n w r W x hx, ← e, q, parent-told n w r W x hx, parent-told n w r W y hy, same-parent, child-told n w r W x hx, child-told n w r W y hy, or-false, ← (both (eqb (field w r 1 x) (field w r 1 y))), not-less) k
+    unfolding callFits among any runFits wrongRun
+    fits-run hy u h q k = rw (h, root-told n w r (W .lines) x hx, ← e, q, parent-told n w r (W .lines) x hx, parent-told n w r (W .lines) y hy, same-parent, child-told n w r (W .lines) x hx, child-told n w r (W .lines) y hy, or-false, ← (both (eqb (getD w (8 * x + 1) 0) (getD w (8 * y + 1) 0))), not-less) k
 
     pub fits-rest : (op ≡ 0 → ⊥) → (op ≡ 6 → ⊥) → (op ≡ 5 → ⊥) → t ≡ false → true ≡ callFits (view n w r) op x y
-    unfolding callFits field
-    fits-rest a b c q = rw (root-told n w r W x hx, ← e, q, ne-eqb op 0 a, ne-eqb op 6 b, ne-eqb op 5 c, and-false, and-false)
+    unfolding callFits
+    fits-rest a b c q = rw (root-told n w r (W .lines) x hx, ← e, q, ne-eqb op 0 a, ne-eqb op 6 b, ne-eqb op 5 c, and-false, and-false)
 
 -- ── Words ───────────────────────────────────────────────────────────────────────────────────────────────────
 
@@ -131,13 +135,13 @@ pub root-at : (w : List ℕ) (e v : ℕ) → v ≡ getD w (8 * e + 1) 0 → eqb 
 root-at w e v h = ap (λ (k : ℕ). eqb k 0) h
 
 module _ (s : List ℕ) (e : ℕ) (t : Bool) (h : t ≡ isNode (getD s (3 * suc e) 0)) where
-  pub with-children : (v : ℕ) → t ≡ true → v ≡ getD s (3 * suc e + 1) 0 → ltb 0 v ≡ hasChildren s e
-  unfolding hasChildren
-  with-children v q k = rw (← h, q, k)
+  pub count-of-node : (v : ℕ) → t ≡ true → v ≡ getD s (3 * suc e + 1) 0 → v ≡ childCount s e
+  unfolding childCount
+  count-of-node v q k = rw (← h, q) k
 
-  pub no-children : t ≡ false → false ≡ hasChildren s e
-  unfolding hasChildren
-  no-children q = rw (← h, q)
+  pub count-of-token : t ≡ false → 0 ≡ childCount s e
+  unfolding childCount
+  count-of-token q = rw (← h, q)
 
 module _ (w : List ℕ) (x y a b : ℕ) (ha : a ≡ getD w (8 * x + 1) 0) (hb : b ≡ getD w (8 * y + 1) 0) where
   pub run-in-order : (c d : ℕ) → a ≡ b → c ≡ getD w (8 * x + 2) 0 → d ≡ getD w (8 * y + 2) 0 → leb c d ≡ runFits w x y

@@ -3,14 +3,14 @@
 use mathlib.Core.Bool.{Bool, true, false, not, _&&_, _||_}
 use mathlib.Core.List.{List, [], _∷_, headD}
 use mathlib.Core.Path.{_≡_, refl}
-use Prim.Native.Nat.{ℕ, suc, _+_, _*_, _<_}
+use Prim.Native.Nat.{ℕ, _+_, _*_, _<_}
 use lib.ListN.{length, getD}
 use lib.Dec.{eqb, leb, ltb}
 use borrow.Author.Tests.{lt-leb}
 use Rattle.orders.specs.Lists.{All}
 use Rattle.orders.specs.ListLaws.{bool-absurd}
 use Rattle.definition.specs.Basics.{any, among}
-use Rattle.definition.specs.Elements.{Table, isNode, node?, root?}
+use Rattle.definition.specs.Elements.{Table, node?, root?}
 use Rattle.definition.specs.Refusals.{Call, wrongCount, childless, wrongRun, wrongCall}
 use Rattle.element_table.specs.View.{view}
 use Rattle.calls.specs.Told.{length-view}
@@ -58,10 +58,6 @@ judged n w r c h =
     (rw (length-view n w r) (none-beyond n (x ∷ c .listed) h))
 
 -- ── By the words ────────────────────────────────────────────────────────────────────────────────────────────
-
--- a node with children, by its row
-unfoldable pub hasChildren : List ℕ → ℕ → Bool
-hasChildren source e = isNode (getD source (3 * suc e) 0) && ltb 0 (getD source (3 * suc e + 1) 0)
 
 -- two children of one parent, or two roots, not reversed
 unfoldable pub runFits : List ℕ → ℕ → ℕ → Bool

@@ -4,7 +4,7 @@ use mathlib.Core.Bool.{Bool, true, false, cond}
 use mathlib.Core.List.{List, [], _∷_, _++_, map, headD, tail}
 use mathlib.Core.Option.{Option, none, some}
 use mathlib.Core.Path.{_≡_, refl, sym, ap, _∙_}
-use Prim.Native.Nat.{ℕ, zero, suc, _+_, _<_}
+use Prim.Native.Nat.{ℕ, zero, suc, _+_, _*_, _<_}
 use native.Mathlib.Nat.{add-zero, zero-add}
 use native.Mathlib.Omega.{arith}
 use lib.ListN.{length, getD, length-append}
@@ -14,12 +14,16 @@ use Rattle.orders.specs.TreeLaws.{last-child}
 use Rattle.definition.specs.Elements.{noRow, row, node?, root?, parent, depth, tree, child, isNode}
 use Rattle.definition.specs.Refusals.{childless}
 use Rattle.element_table.specs.View.{upFrom, field, lineFrom, pathTo, kindWord, measureWord, siblings, rowAt, view}
-use Rattle.calls.specs.Wellformed.{Wellformed}
+use Rattle.calls.specs.Wellformed.{Lines}
 
 -- the element that a word names: 0 none, e + 1 element e
 unfoldable pub elementOf : ℕ → Option ℕ
 elementOf zero = none
 elementOf (suc e) = some e
+
+-- how many children element e has, by its row: a token none, a node as many as its measure
+unfoldable pub childCount : List ℕ → ℕ → ℕ
+childCount source e = cond (isNode (getD source (3 * suc e) 0)) (getD source (3 * suc e + 1) 0) 0
 
 -- ── Rows ────────────────────────────────────────────────────────────────────────────────────────────────────
 
@@ -73,95 +77,107 @@ length-siblings w r (suc k) c = ap suc (length-siblings w r k (field w r 6 c))
 
 -- ── Word by word ────────────────────────────────────────────────────────────────────────────────────────────
 
-module _ (n : ℕ) (w r : List ℕ) (W : Wellformed n w r) where
+module _ (n : ℕ) (w : List ℕ) (L : Lines n w) where
   -- a parent is an element, and every depth is at least 1
-  pub parent-below : (e p : ℕ) → e < n → field w r 1 e ≡ suc p → p < n
-  parent-below e p h q = let b = W .before e h in omega arith
+  pub parent-below : (e p : ℕ) → e < n → getD w (8 * e + 1) 0 ≡ suc p → p < n
+  parent-below e p h q = let b = L .before e h in omega arith
 
-  pub deep : (e : ℕ) → e < n → 0 < field w r 3 e
-  deep e h = go (field w r 1 e) refl
+  pub deep : (e : ℕ) → e < n → 0 < getD w (8 * e + 3) 0
+  deep e h = go (getD w (8 * e + 1) 0) refl
     where
-      go : (k : ℕ) → field w r 1 e ≡ k → 0 < field w r 3 e
-      go zero q = omega (arith, W .root e h q .0)
-      go (suc p) q = omega (arith, W .below e p h q .0)
+      go : (k : ℕ) → getD w (8 * e + 1) 0 ≡ k → 0 < getD w (8 * e + 3) 0
+      go zero q = omega (arith, L .root e h q .0)
+      go (suc p) q = omega (arith, L .below e p h q .0)
 
-  length-line : (d e : ℕ) → e < n → field w r 3 e ≡ d → length (lineFrom w r d e) ≡ d
-  unfolding lineFrom
+module _ (n : ℕ) (w r : List ℕ) (L : Lines n w) where
+  length-line : (d e : ℕ) → e < n → getD w (8 * e + 3) 0 ≡ d → length (lineFrom w r d e) ≡ d
+  unfolding lineFrom field
   length-line zero e h q = refl
   length-line (suc d) e h q =
       ap suc
-      (length-above (field w r 1 e) d (lineFrom w r d)
-      (λ z. omega (arith, W .root e h z .0))
-      (λ p z. length-line d p (parent-below e p h z) (omega (arith, W .below e p h z .0))))
+      (length-above (getD w (8 * e + 1) 0) d (lineFrom w r d)
+      (λ z. omega (arith, L .root e h z .0))
+      (λ p z. length-line d p (parent-below n w L e p h z) (omega (arith, L .below e p h z .0))))
 
-  pub length-path : (d e : ℕ) → e < n → field w r 3 e ≡ d → length (pathTo w r d e) ≡ d
-  unfolding pathTo
+  pub length-path : (d e : ℕ) → e < n → getD w (8 * e + 3) 0 ≡ d → length (pathTo w r d e) ≡ d
+  unfolding pathTo field
   length-path zero e h q = refl
   length-path (suc d) e h q =
       rw length-append
       (omega (
         arith,
-        length-above (field w r 1 e) d (pathTo w r d)
-            (λ z. omega (arith, W .root e h z .0))
-            (λ p z. length-path d p (parent-below e p h z) (omega (arith, W .below e p h z .0))),
+        length-above (getD w (8 * e + 1) 0) d (pathTo w r d)
+            (λ z. omega (arith, L .root e h z .0))
+            (λ p z. length-path d p (parent-below n w L e p h z) (omega (arith, L .below e p h z .0))),
       ))
 
-  head-path : (d e : ℕ) → e < n → field w r 3 e ≡ suc d → headD (pathTo w r (suc d) e) 0 ≡ field w r 7 e
-  unfolding pathTo
+  head-path : (d e : ℕ) → e < n → getD w (8 * e + 3) 0 ≡ suc d → headD (pathTo w r (suc d) e) 0 ≡ getD w (8 * e + 7) 0
+  unfolding pathTo field
   head-path zero e h q =
-      head-above (field w r 1 e) (field w r 2 e) (field w r 7 e) (pathTo w r 0)
-      (λ z. W .root e h z .1)
-      (λ p z. absurd (omega (arith, W .below e p h z .0, deep p (parent-below e p h z))))
+      head-above (getD w (8 * e + 1) 0) (getD w (8 * e + 2) 0) (getD w (8 * e + 7) 0) (pathTo w r 0)
+      (λ z. L .root e h z .1)
+      (λ p z. absurd (omega (arith, L .below e p h z .0, deep n w L p (parent-below n w L e p h z))))
   head-path (suc d) e h q =
-      head-above (field w r 1 e) (field w r 2 e) (field w r 7 e) (pathTo w r (suc d))
-      (λ z. W .root e h z .1)
-      (λ p z. let l = parent-below e p h z in let b = W .below e p h z in let d′ : field w r 3 p ≡ suc d = omega arith in (head-path d p l d′ ∙ sym (b .1), omega (arith, length-path (suc d) p l d′)))
+      head-above (getD w (8 * e + 1) 0) (getD w (8 * e + 2) 0) (getD w (8 * e + 7) 0) (pathTo w r (suc d))
+      (λ z. L .root e h z .1)
+      (λ p z.
+      let l = parent-below n w L e p h z in
+      let b = L .below e p h z in
+      let q′ : getD w (8 * p + 3) 0 ≡ suc d = omega arith in
+      (head-path d p l q′ ∙ sym (b .1), omega (arith, length-path (suc d) p l q′)))
 
   module _ (e : ℕ) (h : e < n) where
-    pub node-told : node? (view n w r) e ≡ isNode (kindWord w r e)
-    unfolding node? rowAt
-    node-told = rw (row-view n w r e h)
-
-    pub parent-told : parent (view n w r) e ≡ elementOf (field w r 1 e)
-    unfolding parent rowAt lineFrom
-    parent-told = rw (row-view n w r e h, parent) (go (field w r 3 e) refl)
+    pub parent-told : parent (view n w r) e ≡ elementOf (getD w (8 * e + 1) 0)
+    unfolding parent rowAt lineFrom field
+    parent-told = rw (row-view n w r e h, parent) (go (getD w (8 * e + 3) 0) refl)
       where
         top : (d p : ℕ) → 0 < d → (l : List ℕ) × (lineFrom w r d p ≡ p ∷ l)
         top zero p g = absurd (omega arith)
         top (suc d) p g = (_, refl)
 
-        go : (d : ℕ) → field w r 3 e ≡ d → elim (tail (lineFrom w r d e)) as (λ _. Option ℕ) [ [] ↦ none | p ∷ above ↦ some p ] ≡ elementOf (field w r 1 e)
-        go zero q = absurd (omega (arith, deep e h))
-        go (suc d) q = first-above (field w r 1 e) (lineFrom w r d) (λ p z. top d p (omega (arith, W .below e p h z .0, deep p (parent-below e p h z))))
+        go : (d : ℕ) → getD w (8 * e + 3) 0 ≡ d → elim (tail (lineFrom w r d e)) as (λ _. Option ℕ) [ [] ↦ none | p ∷ above ↦ some p ] ≡ elementOf (getD w (8 * e + 1) 0)
+        go zero q = absurd (omega (arith, deep n w L e h))
+        go (suc d) q =
+            first-above (getD w (8 * e + 1) 0) (lineFrom w r d)
+            (λ p z. top d p (omega (arith, L .below e p h z .0, deep n w L p (parent-below n w L e p h z))))
 
-    pub root-told : root? (view n w r) e ≡ eqb (field w r 1 e) 0
+    pub root-told : root? (view n w r) e ≡ eqb (getD w (8 * e + 1) 0) 0
     unfolding root? elementOf
-    root-told = rw (parent-told, root?) (go (field w r 1 e))
+    root-told = rw (parent-told, root?) (go (getD w (8 * e + 1) 0))
       where
         go : (k : ℕ) → elim (elementOf k) as (λ _. Bool) [ none ↦ true | some p ↦ false ] ≡ eqb k 0
         go zero = refl
         go (suc p) = sym (eqb·suc-zero p)
 
-    pub depth-told : depth (view n w r) e ≡ field w r 3 e
-    unfolding depth rowAt
-    depth-told = rw (row-view n w r e h) (length-line (field w r 3 e) e h refl)
+    pub depth-told : depth (view n w r) e ≡ getD w (8 * e + 3) 0
+    unfolding depth rowAt field
+    depth-told = rw (row-view n w r e h) (length-line (getD w (8 * e + 3) 0) e h refl)
 
-    pub tree-told : tree (view n w r) e ≡ field w r 7 e
-    unfolding tree rowAt
-    tree-told = rw (row-view n w r e h) (go (field w r 3 e) refl)
+    pub tree-told : tree (view n w r) e ≡ getD w (8 * e + 7) 0
+    unfolding tree rowAt field
+    tree-told = rw (row-view n w r e h) (go (getD w (8 * e + 3) 0) refl)
       where
-        go : (d : ℕ) → field w r 3 e ≡ d → headD (pathTo w r d e) 0 ≡ field w r 7 e
-        go zero q = absurd (omega (arith, deep e h))
+        go : (d : ℕ) → getD w (8 * e + 3) 0 ≡ d → headD (pathTo w r d e) 0 ≡ getD w (8 * e + 7) 0
+        go zero q = absurd (omega (arith, deep n w L e h))
         go (suc d) q = head-path d e h q
 
-    pub child-told : child (view n w r) e ≡ field w r 2 e
-    unfolding child rowAt pathTo
-    child-told = rw (row-view n w r e h) (go (field w r 3 e) refl)
+    pub child-told : child (view n w r) e ≡ getD w (8 * e + 2) 0
+    unfolding child rowAt pathTo field
+    child-told = rw (row-view n w r e h) (go (getD w (8 * e + 3) 0) refl)
       where
-        go : (d : ℕ) → field w r 3 e ≡ d → last (pathTo w r d e) ≡ field w r 2 e
-        go zero q = absurd (omega (arith, deep e h))
-        go (suc d) q = last-child (above (field w r 1 e) (pathTo w r d)) (field w r 2 e)
+        go : (d : ℕ) → getD w (8 * e + 3) 0 ≡ d → last (pathTo w r d e) ≡ getD w (8 * e + 2) 0
+        go zero q = absurd (omega (arith, deep n w L e h))
+        go (suc d) q = last-child (above (getD w (8 * e + 1) 0) (pathTo w r d)) (getD w (8 * e + 2) 0)
 
-    pub childless-told : childless (view n w r) e ≡ eqb (cond (isNode (kindWord w r e)) (measureWord w r e) 0) 0
-    unfolding childless rowAt
-    childless-told = rw (row-view n w r e h) (ap (λ (k : ℕ). eqb k 0) (length-siblings w r (cond (isNode (kindWord w r e)) (measureWord w r e) 0) (suc e)))
+module _ (n : ℕ) (w r : List ℕ) (e : ℕ) (h : e < n) where
+  pub node-told : node? (view n w r) e ≡ isNode (getD r (3 * suc e) 0)
+  unfolding node? rowAt kindWord
+  node-told = rw (row-view n w r e h)
+
+  pub children-told : (row (view n w r) e) .children ≡ siblings w r (childCount r e) (suc e)
+  unfolding rowAt kindWord measureWord childCount
+  children-told = rw (row-view n w r e h)
+
+  pub childless-told : childless (view n w r) e ≡ eqb (childCount r e) 0
+  unfolding childless
+  childless-told = rw children-told (ap (λ (k : ℕ). eqb k 0) (length-siblings w r (childCount r e) (suc e)))

@@ -7,7 +7,8 @@ ghost use lib.Dec.{eqb};
 ghost use Rattle.definition.specs.Elements.{isNode};
 ghost use Rattle.element_table.specs.View.{view};
 ghost use Rattle.calls.specs.Wellformed.{Wellformed};
-ghost use Rattle.calls.specs.Fits.{countFits, callFits, hasChildren, runFits};
+ghost use Rattle.calls.specs.Told.{childCount};
+ghost use Rattle.calls.specs.Fits.{countFits, callFits, runFits};
 
 // Word `k` of element `e` in the element table.
 pub fn entry(table: &[u32], e: usize, k: usize) -> usize
@@ -41,15 +42,15 @@ pub fn is_root(table: &[u32], e: usize) -> bool
     entry(table, e, 1) == 0
 }
 
-// Whether element `e` is a node with children.
-pub fn has_children(source: &[u32], e: usize) -> bool
+// How many children element `e` has.
+pub fn child_count(source: &[u32], e: usize) -> usize
     requires { ⌜ 3 * e + 6 ≤ length (now source) ⌝ }
-    ensures { λ r. ⌜ r ≡ hasChildren (now (source .entry)) e ⌝ }
+    ensures { λ r. ⌜ r ≡ childCount (now (source .entry)) e ⌝ }
 {
     if is_node(source, e) {
-        return 0 < row_word(source, e, 1);
+        return row_word(source, e, 1);
     }
-    false
+    0
 }
 
 // Whether `x` and `y` are children of one parent (or both roots), and `y` does not come before `x`.
@@ -96,7 +97,7 @@ pub fn call_fits(
     ensures { λ r. ⌜ r ≡ callFits (view n (now (table .entry)) (now (source .entry))) operation target first ⌝ }
 {
     if operation == 0 {
-        return has_children(source, target);
+        return 0 < child_count(source, target);
     }
     if operation == 6 {
         return target == 0;

@@ -5,8 +5,8 @@ use Rattle.calls.proofs.Judging.{fits-first-child, fits-editor, fits-ro
 use Rattle.calls.proofs.call_fits.Statement.{statement}
 use Rattle.calls.proofs.call_fits.Tie as tie
 
-has-children-requires : tie.Need-has-children-requires
-has-children-requires c κs = search needs
+child-count-requires : tie.Need-child-count-requires
+child-count-requires c κs = search needs
 
 returns : tie.Need-returns
 returns c = search (fits-first-child, needs)
@@ -39,7 +39,7 @@ pub call-fits-spec : {M : Type 1} → statement M
 call-fits-spec =
     tie.close
     (tie.spec
-    has-children-requires
+    child-count-requires
     returns
     returns-2
     is-root-requires
