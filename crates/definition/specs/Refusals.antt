@@ -13,10 +13,11 @@ use Rattle.definition.specs.Elements.{Table, row, node?, root?, parent, 
 
 -- ── Calls ───────────────────────────────────────────────────────────────────────────────────────────────────
 
--- "A call word is operation + 256 × listed count."
+-- "A call word is operation + 256 × listed count.": its operation
 unfoldable pub operationOf : ℕ → ℕ
 operationOf word = word % 256
 
+-- its listed count
 unfoldable pub countOf : ℕ → ℕ
 countOf word = word / 256
 

@@ -101,6 +101,7 @@ module _ (T : Table) (mapped : ℕ → Option ℕ) where
     m ← rewriteOne cs p.fate p.change
     gives (record { change = m .0; fate = p .fate } ∷ later .0, m .1 + later .1)
 
+  -- all changes after rewriting, and all climb steps
   unfoldable pub rewritten : List Planned → Answer (List Planned × ℕ)
   rewritten ps = rewriting (map (λ p. p .change) ps) ps
 

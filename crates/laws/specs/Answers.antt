@@ -1,0 +1,29 @@
+-- What is not refused: each part of it was not.
+-- Assumes nothing.
+use mathlib.Core.Path.{_≡_, refl, sym, ap, _∙_}
+use mathlib.Core.Bool.{Bool, true, false, cond}
+use mathlib.Core.Option.{Option, none, some}
+use Prim.Native.Nat.{ℕ}
+use native.Mathlib.Omega.{arith}
+use Rattle.definition.specs.Basics.{Answer, refused, gives, _>>=_, refuse, orRefuse}
+
+pub gives-inj : {A : Type 0} {a b : A} → _≡_ {A = Answer A} (gives a) (gives b) → a ≡ b
+gives-inj e = cc
+
+pub refused-gives {ℓ} : {A : Type 0} {X : Type ℓ} {n : ℕ} {a : A} → _≡_ {A = Answer A} (refused n) (gives a) → X
+refused-gives e = absurd (let z : _≡_ {A = ℕ} 0 1 = cc in omega arith)
+
+pub both-given : {A B : Type 0} (o : Answer A) (f : A → Answer B) {b : B} → (o >>= f) ≡ gives b → (a : A) × (o ≡ gives a) × (f a ≡ gives b)
+unfolding _>>=_
+both-given (refused n) f e = refused-gives e
+both-given (gives a) f e = (a, refl, e)
+
+pub not-wrong : (n : ℕ) (wrong : Bool) {u : Unit {0}} → refuse n wrong ≡ gives u → wrong ≡ false
+unfolding refuse
+not-wrong n true e = refused-gives e
+not-wrong n false e = refl
+
+pub is-there : {A : Type 0} (n : ℕ) (o : Option A) {a : A} → orRefuse n o ≡ gives a → o ≡ some a
+unfolding orRefuse
+is-there n none e = refused-gives e
+is-there n (some x) e = cc
