@@ -259,9 +259,12 @@ fills-over bytes (e ∷ es) s sum h = go (settled s) (fills-over bytes es)
     go (zero ∷ s′) ih = refl
     go (suc l ∷ s′) ih = rw (ih (childrenOf (e .0) (e .1) ∷ l ∷ s′) (sum + lengthOf (e .0) (e .1)) (omega arith)) (and-no (stands (e .0) (suc (length s′))))
 
--- the kind words of elements
-kindsOf : List (ℕ × ℕ) → List ℕ
+-- the kind words of elements, and the measures
+abbrev pub kindsOf : List (ℕ × ℕ) → List ℕ
 kindsOf es = map (λ e. e .0) es
+
+abbrev pub measuresOf : List (ℕ × ℕ) → List ℕ
+measuresOf es = map (λ e. e .1) es
 
 -- no element is left
 closed : (s : List ℕ) → noneOpen (settled s) ≡ shared s []
@@ -308,7 +311,7 @@ shared-more e text l s a o = go o
 -- the machine accepts what is left just if its kind words have their form and its trees can be given out to the stack
 fills-shared : (bytes : ℕ) (es : List (ℕ × ℕ)) (s : List ℕ) (sum : ℕ) (text : List ℕ) → sum + length text ≡ bytes
     → fills bytes s sum es ≡ (not (any malformed (kindsOf es)) && sharedBy s (grown es text))
-unfolding fills kindsOf any sharedBy
+unfolding fills any sharedBy
 fills-shared bytes [] s sum text h = ends bytes sum s text h
 fills-shared bytes (e ∷ es) s sum text h = go (fills-shared bytes es) s
   where
@@ -351,11 +354,18 @@ spelled-grown b = go (pieces (zip (b .kinds) (b .measures)) (b .text))
     go none = refl
     go (some ps) = refl
 
-kinds-zip : (ks ms : List ℕ) → length ks ≡ length ms → kindsOf (zip ks ms) ≡ ks
-unfolding kindsOf zip
+pub kinds-zip : (ks ms : List ℕ) → length ks ≡ length ms → kindsOf (zip ks ms) ≡ ks
+unfolding zip
 kinds-zip [] ms h = refl
 kinds-zip (k ∷ ks) [] h = absurd (omega arith)
 kinds-zip (k ∷ ks) (m ∷ ms) h = ap (λ l. k ∷ l) (kinds-zip ks ms (omega arith))
+
+pub measures-zip : (ks ms : List ℕ) → length ks ≡ length ms → measuresOf (zip ks ms) ≡ ms
+unfolding zip
+measures-zip [] [] h = refl
+measures-zip [] (m ∷ ms) h = absurd (omega arith)
+measures-zip (k ∷ ks) [] h = absurd (omega arith)
+measures-zip (k ∷ ks) (m ∷ ms) h = ap (λ l. m ∷ l) (measures-zip ks ms (omega arith))
 
 -- trees that stand as roots
 roots : (ts : List (Tree ℕ)) → allStanding 1 ts ≡ not (any startsWithToken ts || any (λ t. ltb 64 (deepest t)) ts)

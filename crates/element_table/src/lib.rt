@@ -78,3 +78,10 @@ pub fn spells(b: &[u8], kinds: usize, measures: usize, n: usize, trees: usize, b
     }
     sum == bytes
 }
+
+// An open element: how many of its children are to come, its number + 1 (0 for all the trees), the number of its next child.
+struct Open {
+    left: usize,
+    owner: usize,
+    next: usize,
+}
