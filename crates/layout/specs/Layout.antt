@@ -13,8 +13,8 @@ use Rattle.definition.specs.Basics.{Answer, refused, gives, _>>=_, refuse}
 use Rattle.definition.specs.Batch as def
 use Rattle.definition.specs.Batch.{Batch, sizes, beyond, whole, arrays, batch}
 use Rattle.definition.specs.Words.{words}
-use Rattle.layout.specs.Truth.{neither}
-use Rattle.layout.specs.Answered.{then-gives, unrefused, gives-inj}
+use Rattle.laws.specs.Answers.{gives-inj, both-given, not-wrong}
+use Rattle.laws.specs.Right.{neither}
 use Rattle.layout.specs.declared.Sizes.{Sizes}
 use Rattle.layout.specs.declared.Layout.{Layout}
 use Rattle.layout.specs.declared.Laid.{Laid}
@@ -126,22 +126,22 @@ pub record Within (b : List ℕ) (l : Layout) : Type 0 where
 pub limits-of : (s : Sizes) → beyond (sizesOf s) ≡ false → Limits s
 unfolding beyond
 limits-of s q =
-    let h = neither _ (ltb 256 (s .notes)) q in
-    let g = neither _ (ltb 1024 (s .mappings)) (h .0) in
-    let f = neither _ (ltb 1024 (s .listed)) (g .0) in
-    let e = neither _ (ltb 256 (s .calls)) (f .0) in
-    let d = neither _ (ltb 16384 (s .text)) (e .0) in
-    let c = neither _ (ltb 2048 (s .elements)) (d .0) in
-    let b = neither (ltb (s .trees) 1) (ltb 16 (s .trees)) (c .0) in
+    let (q, notes) = neither _ (ltb 256 (s .notes)) q in
+    let (q, mappings) = neither _ (ltb 1024 (s .mappings)) q in
+    let (q, listed) = neither _ (ltb 1024 (s .listed)) q in
+    let (q, calls) = neither _ (ltb 256 (s .calls)) q in
+    let (q, text) = neither _ (ltb 16384 (s .text)) q in
+    let (q, elements) = neither _ (ltb 2048 (s .elements)) q in
+    let (tree, trees) = neither (ltb (s .trees) 1) (ltb 16 (s .trees)) q in
     record {
-      tree = ltb-false (s .trees) 1 (b .0);
-      trees = ltb-false 16 (s .trees) (b .1);
-      elements = ltb-false 2048 (s .elements) (c .1);
-      text = ltb-false 16384 (s .text) (d .1);
-      calls = ltb-false 256 (s .calls) (e .1);
-      listed = ltb-false 1024 (s .listed) (f .1);
-      mappings = ltb-false 1024 (s .mappings) (g .1);
-      notes = ltb-false 256 (s .notes) (h .1);
+      tree = ltb-false (s .trees) 1 tree;
+      trees = ltb-false 16 (s .trees) trees;
+      elements = ltb-false 2048 (s .elements) elements;
+      text = ltb-false 16384 (s .text) text;
+      calls = ltb-false 256 (s .calls) calls;
+      listed = ltb-false 1024 (s .listed) listed;
+      mappings = ltb-false 1024 (s .mappings) mappings;
+      notes = ltb-false 256 (s .notes) notes;
     }
 
 module _ (b : List ℕ) (l : Layout) (q : laid b ≡ gives l) where
@@ -149,11 +149,15 @@ module _ (b : List ℕ) (l : Layout) (q : laid b ≡ gives l) where
   pub given : (28 ≤ length b) × (beyond (sizes b) ≡ false) × (length b ≡ whole (sizes b)) × (l ≡ layoutOf (sizes b))
   unfolding laid batch
   given =
-      let w = then-gives (batch b) (λ _. gives (layoutOf (sizes b))) q in
-      let two = unrefused 2 (ltb (length b) 28) _ (w .1) in
-      let three = unrefused 3 (beyond (sizes b)) _ (two .1) in
-      let four = unrefused 4 (not (eqb (length b) (whole (sizes b)))) _ (three .1) in
-      (ltb-false (length b) 28 (two .0), three .0, eqb-true (length b) (whole (sizes b)) (not-false _ (four .0)), sym (gives-inj (w .2)))
+      let (_, accepted, same) = both-given (batch b) (λ _. gives (layoutOf (sizes b))) q in
+      let (_, two, rest) = both-given (refuse 2 (ltb (length b) 28)) _ accepted in
+      let (_, three, rest) = both-given (refuse 3 (beyond (sizes b))) _ rest in
+      let (_, four, rest) = both-given (refuse 4 (not (eqb (length b) (whole (sizes b))))) _ rest in (
+        ltb-false (length b) 28 (not-wrong 2 (ltb (length b) 28) two),
+        not-wrong 3 (beyond (sizes b)) three,
+        eqb-true (length b) (whole (sizes b)) (not-false _ (not-wrong 4 _ four)),
+        sym (gives-inj same),
+      )
 
   pub within : Within b l
   unfolding layoutOf whole

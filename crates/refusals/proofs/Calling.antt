@@ -21,7 +21,8 @@ use Rattle.element_table.specs.View.{view}
 use Rattle.element_table.proofs.Stack.{elementsFrom, elements-all, elements-none, elements-more}
 use Rattle.calls.specs.Told.{length-view}
 use Rattle.calls.specs.Fits.{countFits, callFits, judged}
-use Rattle.layout.specs.Truth.{or-true, neither, twice}
+use Rattle.laws.specs.Right.{neither}
+use Rattle.layout.specs.Truth.{or-true, twice}
 use Rattle.refusals.specs.Called.{callOf, callsFit, fit-end, fit-more}
 
 -- ── The first listed element ────────────────────────────────────────────────────────────────────────────────

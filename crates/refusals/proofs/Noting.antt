@@ -11,7 +11,7 @@ use borrow.Author.Tests.{le-leb, lt-leb, not-true, not-false}
 use Rattle.definition.specs.Basics.{any}
 use Rattle.definition.specs.Elements.{isNode}
 use Rattle.definition.specs.Refusals.{wrongMapping}
-use Rattle.element_table.specs.View.{view, kindWord, field}
+use Rattle.element_table.specs.View.{view}
 use Rattle.calls.specs.Wellformed.{Wellformed}
 use Rattle.calls.specs.Told.{length-view, node-told, root-told}
 use Rattle.layout.specs.Truth.{or-true}
@@ -30,17 +30,17 @@ module _ (n : ℕ) (w r : List ℕ) (x y : ℕ) where
 
   module _ (W : Wellformed n w r) (hx : x < n) (hy : y < n) (t : Bool) (et : t ≡ isNode (getD r (3 * suc x) 0)) where
     pub input-token : not t ≡ true → false ≡ not (wrongMapping (view n w r) (x, y))
-    unfolding wrongMapping any kindWord
-    input-token q = rw (length-view n w r, lt-leb n x hx, node-told n w r W x hx, ← et, q)
+    unfolding wrongMapping any
+    input-token q = rw (length-view n w r, lt-leb n x hx, node-told n w r x hx, ← et, q)
 
     module _ (q : not t ≡ false) (u : Bool) (eu : u ≡ isNode (getD r (3 * suc y) 0)) where
       pub output-token : not u ≡ true → false ≡ not (wrongMapping (view n w r) (x, y))
-      unfolding wrongMapping any kindWord
-      output-token p = rw (length-view n w r, lt-leb n x hx, lt-leb n y hy, node-told n w r W x hx, node-told n w r W y hy, ← et, ← eu, q, p)
+      unfolding wrongMapping any
+      output-token p = rw (length-view n w r, lt-leb n x hx, lt-leb n y hy, node-told n w r x hx, node-told n w r y hy, ← et, ← eu, q, p)
 
       pub mapping-judged : not u ≡ false → (v : Bool) → v ≡ eqb (getD w (8 * y + 1) 0) 0 → not v ≡ not (wrongMapping (view n w r) (x, y))
-      unfolding wrongMapping any kindWord field
-      mapping-judged p v ev = rw (length-view n w r, lt-leb n x hx, lt-leb n y hy, node-told n w r W x hx, node-told n w r W y hy, root-told n w r W y hy, ← et, ← eu, ← ev, q, p)
+      unfolding wrongMapping any
+      mapping-judged p v ev = rw (length-view n w r, lt-leb n x hx, lt-leb n y hy, node-told n w r x hx, node-told n w r y hy, root-told n w r (W .lines) y hy, ← et, ← eu, ← ev, q, p)
 
 -- ── A note ──────────────────────────────────────────────────────────────────────────────────────────────────
 
