@@ -1,5 +1,7 @@
 -- Lines 2 to 7.
---     Seen     the words of trees, element by element
---     Formed   the table of a batch that spells trees is well formed
+--     Seen       the words of trees, element by element
+--     Formed     the table of a batch that spells trees is well formed
+--     Accepting  lines 5 to 7, of a batch with a layout
 pub mod Seen
 pub mod Formed
+pub mod Accepting
