@@ -1,11 +1,20 @@
 -- The element table and the rows of a batch, as one walk of its elements writes them: an element's row is written when it is opened,
 -- its text end and the element after its subtree when it is closed.
 -- Assumes nothing.
+use mathlib.Core.Path.{_≡_}
+use mathlib.Core.Bool.{true}
 use mathlib.Core.List.{List, [], _∷_, _++_}
-use Prim.Native.Nat.{ℕ, zero, suc, _+_, _*_}
+use Prim.Native.Nat.{ℕ, zero, suc, _+_, _*_, _≤_}
 use lib.ListN.{length, set}
-use Rattle.element_table.specs.Spelling.{childrenOf, lengthOf}
+use lib.Seq.{paste}
+use Rattle.element_table.specs.Spelling.{childrenOf, lengthOf, accepts}
 use Rattle.element_table.specs.declared.Open.{Open}
+
+-- line 5 accepts the elements, with some length of text
+pub record Accepted (trees : ℕ) (es : List (ℕ × ℕ)) : Type 0 where
+  pub bytes : ℕ
+  pub few : bytes ≤ 16384
+  pub accepted : accepts trees bytes es ≡ true
 
 -- The stack of open elements, the innermost first: how many children are to come, the element's number + 1 (0 for all the trees), the number of the next child.
 -- Those to which no child is to come are closed:
@@ -60,3 +69,8 @@ rowsFrom o (e ∷ es) = e .0 ∷ e .1 ∷ o ∷ rowsFrom (o + lengthOf (e .0) (e
 -- and before them that of the node above all trees, which is no element
 unfoldable pub sourceOf : ℕ → List (ℕ × ℕ) → List ℕ
 sourceOf trees es = 2147483648 ∷ trees ∷ 0 ∷ rowsFrom 0 es
+
+-- THE PROMISE of the fill: the front of each slice is written, and nothing beyond it
+pub record Filled (trees n : ℕ) (es : List (ℕ × ℕ)) (table₀ source₀ table source : List ℕ) : Type 0 where
+  pub words : table ≡ paste table₀ 0 (tableOf trees es) (8 * n)
+  pub rows : source ≡ paste source₀ 0 (sourceOf trees es) (3 * (n + 1))

@@ -2,7 +2,7 @@
 -- Assumes nothing.
 use mathlib.Core.Path.{_≡_, refl, ap, _∙_}
 use mathlib.Core.List.{List, [], _∷_, _++_, append-assoc, append-nil}
-use Prim.Native.Nat.{ℕ, suc, _+_, _*_}
+use Prim.Native.Nat.{ℕ, suc, _+_, _-_, _*_}
 use native.Mathlib.Nat.{add-zero}
 use native.Mathlib.Numerals.{add-one}
 use native.Mathlib.Omega.{arith}
@@ -33,6 +33,16 @@ module _ (x : Open) (s : List Open) (i o at t : ℕ) (w : List ℕ) where
 pub table-end : (i o at t : ℕ) (w : List ℕ) → tableFrom [] i o at t w [] ≡ w
 unfolding tableFrom
 table-end i o at t w = refl
+
+-- an element is closed; all the trees together are none
+module _ (p end after : ℕ) (w : List ℕ) where
+  pub ended-none : p ≡ 0 → w ≡ ended p end after w
+  unfolding ended
+  ended-none h = rw h
+
+  pub ended-some : (p ≡ 0 → ⊥) → set (set w (8 * (p - 1) + 5) end) (8 * (p - 1) + 6) after ≡ ended p end after w
+  unfolding ended
+  ended-some h = let e : p ≡ suc (p - 1) = omega arith in rw (ap (λ q. ended q end after w) e)
 
 -- ── The words of trees ──────────────────────────────────────────────────────────────────────────────────────
 

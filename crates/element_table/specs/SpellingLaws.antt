@@ -249,7 +249,7 @@ given p l s ts = choose (isNode (p .kind))
 -- ── All elements ────────────────────────────────────────────────────────────────────────────────────────────
 
 -- more text than there is
-fills-over : (bytes : ℕ) (es : List (ℕ × ℕ)) (s : List ℕ) (sum : ℕ) → bytes < sum → fills bytes s sum es ≡ false
+pub fills-over : (bytes : ℕ) (es : List (ℕ × ℕ)) (s : List ℕ) (sum : ℕ) → bytes < sum → fills bytes s sum es ≡ false
 unfolding fills
 fills-over bytes [] s sum h = rw (ne-eqb sum bytes (λ e. omega arith)) (and-no (noneOpen (settled s)))
 fills-over bytes (e ∷ es) s sum h = go (settled s) (fills-over bytes es)
