@@ -10,6 +10,7 @@ use Rattle.orders.specs.Tree.{Tree}
 use Rattle.definition.specs.Batch.{Batch, sizes, batch}
 use Rattle.definition.specs.Elements.{Table, spelled, table}
 use Rattle.definition.specs.Refusals.{Call, calls, wrongCall, wrongMapping, wrongNote, Accepted, accepted}
+use Rattle.laws.specs.Answers.{gives-inj, both-given, is-there}
 use Rattle.layout.specs.Layout.{layoutOf, laid, arraysAt, batch-laid, given}
 use Rattle.layout.specs.declared.Layout.{Layout}
 use Rattle.refusals.specs.Called.{callsFit, noneWrong}
@@ -65,3 +66,33 @@ module _ (b : List ℕ) where
           rw (is-batch, e, ← (given b l q) .3)
           (leaves T (calls (zip c.calls c.targets) c.listed) (any (wrongMapping T) (zip c.inputs c.outputs) || any (wrongNote T) (zip c.noted c.numbers))
           (λ cs. record { trees = ts; table = T; calls = cs; mappings = zip c.inputs c.outputs; notes = zip c.noted c.numbers }) l)
+
+-- ── What is accepted ────────────────────────────────────────────────────────────────────────────────────────
+
+-- what an accepted batch with this layout is, by its arrays
+pub record Parts (b : Batch) (a : Accepted) : Type 0 where
+  pub trees : spelled b ≡ some (a .trees)
+  pub table : a .table ≡ table 0 0 (a .trees)
+  pub calls : calls (zip (b .calls) (b .targets)) (b .listed) ≡ some (a .calls)
+  pub mappings : a .mappings ≡ zip (b .inputs) (b .outputs)
+  pub notes : a .notes ≡ zip (b .noted) (b .numbers)
+
+pub accepted-parts : (b : List ℕ) (l : Layout) (a : Accepted) → laid b ≡ gives l → accepted b ≡ gives a → Parts (arraysAt l b) a
+unfolding accepted _>>=_
+accepted-parts b l a q g =
+    let c : Batch = arraysAt l b in
+    let g = rw (is-batch b l q) at g in
+    let (ts, spells, g) = both-given (orRefuse 5 (spelled c)) _ g in
+    let T : Table = table 0 0 ts in
+    let (cs, counts, g) = both-given (orRefuse 6 (calls (zip c.calls c.targets) c.listed)) _ g in
+    let (_, _, g) = both-given (refuse 6 (any (wrongCall T) cs)) _ g in
+    let (_, _, g) = both-given (refuse 7 (any (wrongMapping T) (zip c.inputs c.outputs) || any (wrongNote T) (zip c.noted c.numbers))) _ g in
+    rw (← gives-inj g) (record { trees = is-there 5 (spelled c) spells; table = refl; calls = is-there 6 (calls (zip c.calls c.targets) c.listed) counts; mappings = refl; notes = refl })
+
+-- the layout that is answered is the batch's, and the definition accepts
+pub judged-given : (b : List ℕ) (l : Layout) → judged b ≡ gives l → (laid b ≡ gives l) × (a : Accepted) × (accepted b ≡ gives a)
+unfolding judged laid accepted _>>=_
+judged-given b l g =
+    let (a, accepts, same) = both-given (accepted b) _ g in
+    let (c, is, _) = both-given (batch b) _ accepts in
+    (rw is same, a, accepts)
