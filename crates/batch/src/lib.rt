@@ -6,14 +6,15 @@ ghost use mathlib.Core.Bool.{not, _||_};
 ghost use mathlib.Core.List.{zip};
 ghost use Prim.Native.Nat.{_+_, _*_, _≤_, _<_};
 ghost use lib.ListN.{length};
-ghost use Rattle.definition.specs.Basics.{any};
+ghost use Rattle.definition.specs.Basics.{gives, any};
 ghost use Rattle.definition.specs.Refusals.{wrongMapping};
 ghost use Rattle.element_table.specs.View.{view};
 ghost use Rattle.calls.specs.Wellformed.{Wellformed};
-ghost use Rattle.layout.specs.Layout.{Within, arraysAt, laidOf};
+ghost use Rattle.layout.specs.Layout.{Within, arraysAt, laid, laidOf};
 ghost use Rattle.refusals.specs.Called.{callsFit};
 ghost use Rattle.refusals.specs.Noted.{noteWrong};
 ghost use Rattle.batch.specs.Accepting.{named};
+ghost use Rattle.batch.specs.Leaving.{Judged};
 
 // Line 6, of a batch with this layout.
 fn calls_stand(b: &[u8], l: Layout, table: &[u32], source: &[u32]) -> bool
@@ -78,4 +79,33 @@ fn judge_names(b: &[u8], l: Layout, table: &[u32], source: &[u32]) -> Laid
         return Laid::Refused(7);
     }
     Laid::At(l)
+}
+
+// Lines 5 to 7, of a batch with this layout: where line 5 accepts, the element table and the rows are filled.
+fn judge(b: &[u8], l: Layout, table: &mut [u32], source: &mut [u32]) -> Laid
+    requires { ⌜ laid (now b) ≡ gives l ⌝ }
+    requires { ⌜ Within (now b) l ⌝ }
+    requires { ⌜ (16384 ≤ length (now table)) × (6147 ≤ length (now source)) ⌝ }
+    ensures { λ r. ⌜ Judged (now (b .entry)) (now (table .entry)) (now (source .entry)) (now (table .exit)) (now (source .exit)) r ⌝ }
+{
+    let s = l.sizes;
+    let kinds = l.kinds;
+    let measures = l.measures;
+    if !element_table::spells(b, kinds, measures, s.elements, s.trees, s.text) {
+        return Laid::Refused(5);
+    }
+    element_table::fill(b, kinds, measures, s.elements, s.trees, table, source);
+    judge_names(b, l, table, source)
+}
+
+// Lines 2 to 7: the first refusal in checking order, or the layout.
+pub fn accept(b: &[u8], table: &mut [u32], source: &mut [u32]) -> Laid
+    requires { ⌜ (16384 ≤ length (now table)) × (6147 ≤ length (now source)) ⌝ }
+    ensures { λ r. ⌜ Judged (now (b .entry)) (now (table .entry)) (now (source .entry)) (now (table .exit)) (now (source .exit)) r ⌝ }
+{
+    let laid = layout::lay_out(b);
+    match laid {
+        Laid::Refused(n) => Laid::Refused(n),
+        Laid::At(l) => judge(b, l, table, source),
+    }
 }
