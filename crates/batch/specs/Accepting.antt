@@ -10,7 +10,7 @@ use Rattle.orders.specs.Tree.{Tree}
 use Rattle.definition.specs.Batch.{Batch, sizes, batch}
 use Rattle.definition.specs.Elements.{Table, spelled, table}
 use Rattle.definition.specs.Refusals.{Call, calls, wrongCall, wrongMapping, wrongNote, Accepted, accepted}
-use Rattle.laws.specs.Answers.{gives-inj, both-given, is-there}
+use Rattle.laws.specs.Answers.{gives-inj, refused-gives, both-given, is-there}
 use Rattle.layout.specs.Layout.{layoutOf, laid, arraysAt, batch-laid, given}
 use Rattle.layout.specs.declared.Layout.{Layout}
 use Rattle.refusals.specs.Called.{callsFit, noneWrong}
@@ -96,3 +96,12 @@ judged-given b l g =
     let (a, accepts, same) = both-given (accepted b) _ g in
     let (c, is, _) = both-given (batch b) _ accepts in
     (rw is same, a, accepts)
+
+-- what is refused, the definition refuses
+pub judged-refuses : (b : List ℕ) (n : ℕ) → judged b ≡ refused n → accepted b ≡ refused n
+unfolding judged _>>=_
+judged-refuses b n g = go (accepted b) g
+  where
+    go : (o : Answer Accepted) → (o >>= (λ _. gives (layoutOf (sizes b)))) ≡ refused n → o ≡ refused n
+    go (refused k) g = let z : k ≡ n = cc in ap refused z
+    go (gives a) g = refused-gives (sym g)

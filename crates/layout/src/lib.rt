@@ -32,7 +32,7 @@ pub struct Layout {
     pub text: usize,
 }
 
-// What lines 2 to 4 say.
+// A refusal, by its number, or the layout.
 pub enum Laid {
     Refused(usize),
     At(Layout),

@@ -11,7 +11,7 @@ use lib.Seq.{drop-drop}
 use lib.Dec.{leb, ltb, eqb}
 use borrow.Author.Tests.{ltb-false, leb-false, le-leb, lt-leb, eq-eqb, ne-eqb, not-true, not-false}
 use Rattle.orders.specs.Lists.{All}
-use Rattle.orders.specs.ListLaws.{lt-or-le}
+use Rattle.orders.specs.ListLaws.{lt-or-le, All-map}
 use Rattle.definition.specs.Basics.{any}
 use Rattle.definition.specs.Words.{word, words}
 use Rattle.definition.specs.Refusals.{operationOf, countOf, wrongCount, wrongCall}
@@ -21,7 +21,7 @@ use Rattle.element_table.specs.View.{view}
 use Rattle.element_table.proofs.Stack.{elementsFrom, elements-all, elements-none, elements-more}
 use Rattle.calls.specs.Told.{length-view}
 use Rattle.calls.specs.Fits.{countFits, callFits, judged}
-use Rattle.laws.specs.Right.{neither}
+use Rattle.laws.specs.Right.{neither, none-passes}
 use Rattle.layout.specs.Truth.{or-true, twice}
 use Rattle.refusals.specs.Called.{callOf, callsFit, fit-end, fit-more}
 
@@ -39,9 +39,7 @@ first-some l (suc n) w h e = e
 -- ── One call ────────────────────────────────────────────────────────────────────────────────────────────────
 
 all-below : (n : ℕ) (l : List ℕ) → any (leb n) l ≡ false → All (λ e. e < n) l
-unfolding any
-all-below n [] q = tt
-all-below n (e ∷ l) q = let h = neither (leb n e) (any (leb n) l) q in (leb-false n e (h .0), all-below n l (h .1))
+all-below n l q = All-map (λ e. leb-false n e) l (none-passes (leb n) l q)
 
 head-below : (n : ℕ) (l : List ℕ) → 0 < n → All (λ e. e < n) l → headD l 0 < n
 unfolding headD
