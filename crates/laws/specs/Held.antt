@@ -173,9 +173,9 @@ module _ (ts : List (Tree ℕ)) (first : World) (f₀ : Worded first.trees) (h�
   unfolding step
   step-holds w next p f h c e =
       given (orRefuse 11 (place (table 0 0 ts) w p.change)) _ e λ r a e.
-      given (refuse 12 (tooLarge (spliced r (map (yield first w) (news p.change)) (records (table 0 0 ts) first p) w))) _ e λ u b e.
+      given (refuse 12 (tooLarge (spliced r (map (yield first w) (news p.change)) (records (table 0 0 ts) p) w))) _ e λ u b e.
       let fits = place-fits ts w f p.change r (right-sits (table 0 0 ts) p.change c) (is-there 11 _ a) in
-      rw (← gives-inj e) (spliced-holds w r (map (yield first w) (news p.change)) (records (table 0 0 ts) first p) h (fits .run) (yields-good first w (news p.change) h₀ h))
+      rw (← gives-inj e) (spliced-holds w r (map (yield first w) (news p.change)) (records (table 0 0 ts) p) h (fits .run) (yields-good first w (news p.change) h₀ h))
 
   pub steps-hold : (ps : List Planned) (w last : World) → Follows ts w → Holds w → All (λ p. Right (table 0 0 ts) p.change) ps → steps (table 0 0 ts) first w ps ≡ gives last → Holds last
   unfolding steps

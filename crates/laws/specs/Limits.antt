@@ -96,7 +96,7 @@ steps-small T first (p ∷ ps) w last s e =
     next-small : (next : World) → step T first w p ≡ gives next → Small next
     next-small next a =
         given (orRefuse 11 (place T w p.change)) _ a λ r b a.
-        given (refuse 12 (tooLarge (spliced r (map (yield first w) (news p.change)) (records T first p) w))) _ a λ u c a.
+        given (refuse 12 (tooLarge (spliced r (map (yield first w) (news p.change)) (records T p) w))) _ a λ u c a.
         rw (← gives-inj a) (small _ (not-wrong 12 _ c))
 
 -- ── Changed elements ────────────────────────────────────────────────────────────────────────────────────────
@@ -116,12 +116,12 @@ placed-length q a [] = refl
 placed-length q a (y ∷ ys) = ap suc (placed-length q (suc a) ys)
 
 -- a step records what it lists, if it records
-step-changed : (T : Table) (first w next : World) (p : Planned) → step T first w p ≡ gives next → length next.changed ≤ length w.changed + cond (records T first p) (length (news p.change)) 0
+step-changed : (T : Table) (first w next : World) (p : Planned) → step T first w p ≡ gives next → length next.changed ≤ length w.changed + cond (records T p) (length (news p.change)) 0
 unfolding step spliced
 step-changed T first w next p e =
     given (orRefuse 11 (place T w p.change)) _ e λ r b e.
-    given (refuse 12 (tooLarge (spliced r (map (yield first w) (news p.change)) (records T first p) w))) _ e λ u c e.
-    rw (← gives-inj e) (go r (map (yield first w) (news p.change)) (length-map (news p.change) (yield first w)) (records T first p))
+    given (refuse 12 (tooLarge (spliced r (map (yield first w) (news p.change)) (records T p) w))) _ e λ u c e.
+    rw (← gives-inj e) (go r (map (yield first w) (news p.change)) (length-map (news p.change) (yield first w)) (records T p))
   where
     go : (r : Run) (new : List Yield) → length new ≡ length (news p.change) → (b : Bool) → length ((spliced r new b w) .changed) ≤ length w.changed + cond b (length (news p.change)) 0
     go r new z true =
@@ -133,7 +133,7 @@ step-changed T first w next p e =
         omega (arith, length-append (pick moves w.changed) [], pick-length moves w.changed)
 
 pub steps-changed : (T : Table) (first : World) (ps : List Planned) (w last : World) → steps T first w ps ≡ gives last
-    → length last.changed ≤ length w.changed + total (records T first) (λ p. length (news p.change)) ps
+    → length last.changed ≤ length w.changed + total (records T) (λ p. length (news p.change)) ps
 unfolding steps total
 steps-changed T first [] w last e = omega (arith, ap (λ z. length z.changed) (gives-inj e))
 steps-changed T first (p ∷ ps) w last e = given (step T first w p) _ e λ next a e. omega (arith, step-changed T first w next p a, steps-changed T first ps next last e)
@@ -241,7 +241,7 @@ module _ (bytes : List ℕ) (a : Accepted) (p : Plan) where
       let f : Planned → ℕ = λ c. length (news c.change) in
       let ps = performed a p in
       let first = atFirst a p in
-      let own : total (records a.table first) f ps ≤ total isOwn f ps = total-le (records a.table first) f isOwn f (λ c. one (isOwn c) (eqb (tree a.table (target c.change)) 0) (f c)) ps in
+      let own : total (records a.table) f ps ≤ total isOwn f ps = total-le (records a.table) f isOwn f (λ c. one (isOwn c) (eqb (tree a.table (target c.change)) 0) (f c)) ps in
       let all : total isOwn f p.changes ≤ total (λ c. true) f p.changes = total-le isOwn f (λ c. true) f (λ c. less (isOwn c) (f c)) p.changes in
       let b = k .arrays in
       omega (

@@ -316,9 +316,9 @@ module _ (ts : List (Tree ℕ)) (first : World) (h : Worded first.trees) where
   unfolding step
   step-follows w next p f c e =
       given (orRefuse 11 (place (table 0 0 ts) w p.change)) _ e λ r a e.
-      given (refuse 12 (tooLarge (spliced r (map (yield first w) (news p.change)) (records (table 0 0 ts) first p) w))) _ e λ u b e.
+      given (refuse 12 (tooLarge (spliced r (map (yield first w) (news p.change)) (records (table 0 0 ts) p) w))) _ e λ u b e.
       let fits = place-fits ts w f p.change r (right-sits (table 0 0 ts) p.change c) (is-there 11 _ a) in
-      rw (← gives-inj e) (spliced-follows ts w r (map (yield first w) (news p.change)) (records (table 0 0 ts) first p) f (fits .run)
+      rw (← gives-inj e) (spliced-follows ts w r (map (yield first w) (news p.change)) (records (table 0 0 ts) p) f (fits .run)
       (λ z. let x = fits .roots z in (x .0, length-map (news p.change) (yield first w) ∙ x .1)) (yields-worded first w (news p.change) h (f .worded)))
 
   pub steps-follow : (ps : List Planned) (w last : World) → Follows ts w → All (λ p. Right (table 0 0 ts) p.change) ps → steps (table 0 0 ts) first w ps ≡ gives last → Follows ts last
