@@ -2,7 +2,7 @@
 -- Assumes nothing.
 use mathlib.Core.Path.{_≡_, refl, sym, ap, _∙_}
 use mathlib.Core.Bool.{Bool, true, false, cond, _&&_}
-use mathlib.Core.List.{List, [], _∷_, _++_, map, zip}
+use mathlib.Core.List.{List, [], _∷_, _++_, map}
 use mathlib.Core.Logic.{_⊎_, inl, inr}
 use Prim.Native.Nat.{ℕ, zero, suc, _+_, _-_, _*_, _≤_, _<_}
 use native.Mathlib.Nat.{zero-add}
@@ -12,18 +12,18 @@ use lib.Dec.{eqb}
 use lib.ListN.{length, getD, set, take, drop, replicate, length-set, length-map, take-append-drop, length-drop}
 use lib.Seq.{paste, paste-zero, take-paste, drop-paste, drop-drop, take-take, take-set-lt, drop-set-lt}
 use Rattle.orders.specs.ListLaws.{lt-or-le, bool-absurd, both-true}
-use Rattle.definition.specs.Words.{word, words}
+use Rattle.definition.specs.Words.{word}
 use Rattle.words.specs.Parts.{paste-on, paste-paste}
 use Rattle.element_table.specs.declared.Open.{Open}
-use Rattle.element_table.specs.Spelling.{childrenOf, lengthOf, stands, fills, accepts}
-use Rattle.element_table.specs.SpellingLaws.{stands-shallow, fills-close, fills-open, fills-short, fills-long, fills-over}
-use Rattle.element_table.specs.Filling.{Accepted, ended, ifRoot, tableFrom, tableOf, rowsFrom, sourceOf}
+use Rattle.spelling.specs.Spelling.{elementsAt, childrenOf, lengthOf, stands, fills, accepts}
+use Rattle.spelling.specs.SpellingLaws.{stands-shallow, fills-close, fills-open, fills-short, fills-long, fills-over}
+use Rattle.element_table.specs.Filling.{Accepted, openOf, ended, ifRoot, tableFrom, tableOf, rowsFrom, sourceOf}
 use Rattle.element_table.specs.FillingLaws.{table-close, table-open, table-end}
-use Rattle.element_table.proofs.Stack.{stack, length-stack, stack-top, stack-push, elementsFrom, elements-all, elements-none, elements-more}
+use Rattle.spelling.specs.Stack.{stack, length-stack, stack-top, stack-push, elementsFrom, elements-all, elements-none, elements-more}
 
 -- no open element
 abbrev pub shut : Open
-shut = record { left = 0; owner = 0; next = 0 }
+shut = openOf 0 0 0
 
 -- how many children are to come, of each open element
 abbrev pub counts : List Open → List ℕ
@@ -83,15 +83,16 @@ module _ (b : List ℕ) (kinds measures n trees : ℕ) where
     pub rows-left : drop (3 * i) (rowsFrom 0 (elementsFrom b kinds measures n 0)) ≡ rowsFrom o (elementsFrom b kinds measures n i)
     pub rows : source ≡ paste source₀ 3 (rowsFrom 0 (elementsFrom b kinds measures n 0)) (3 * i)
 
-  zeros : (f : Open → ℕ) → f shut ≡ 0 → (m j : ℕ) → f (getD (replicate m shut) j shut) ≤ 0
-  zeros f h zero j = omega arith
-  zeros f h (suc m) zero = omega arith
-  zeros f h (suc m) (suc j) = zeros f h m j
+  same : (f : Open → ℕ) (x : Open) (n m j : ℕ) → f shut ≤ n → f x ≤ n → f (getD (replicate m x) j shut) ≤ n
+  same f x n zero j h k = h
+  same f x n (suc m) zero h k = k
+  same f x n (suc m) (suc j) h k = same f x n m j h k
 
-  pub writing-start : {table source : List ℕ} → Accepted trees (zip (words n (drop kinds b)) (words n (drop measures b))) → Writing table source table source (set (replicate 65 shut) 0 (record { left = trees; owner = 0; next = 0 })) 1 0 0 0 0
+  pub writing-start : {table source : List ℕ} {x : Open} → Accepted trees (elementsAt b kinds measures n) → x ≡ openOf trees 0 0 → Writing table source table source (replicate 65 x) 1 0 0 0 0
   unfolding stack accepts tableOf
-  writing-start {table} {source} a =
-      let first : Open = record { left = trees; owner = 0; next = 0 } in
+  writing-start {table} {source} {x} a e =
+      let z : x .owner ≤ 0 = rw e (omega arith) in
+      let y : x .next ≤ 0 = rw e (omega arith) in
       record {
         inside = omega arith;
         long = refl;
@@ -99,14 +100,14 @@ module _ (b : List ℕ) (kinds measures n trees : ℕ) where
         few = omega arith;
         starts = omega arith;
         number = omega arith;
-        owners = bounded (λ x. x .owner) (replicate 65 shut) 0 first 0 (zeros (λ x. x .owner) refl 65) (omega arith);
-        nexts = bounded (λ x. x .next) (replicate 65 shut) 0 first 0 (zeros (λ x. x .next) refl 65) (omega arith);
+        owners = λ j. same (λ f. f .owner) x 0 65 j (omega arith) z;
+        nexts = λ j. same (λ f. f .next) x 0 65 j (omega arith) y;
         table-long = refl;
         source-long = refl;
         bytes = a .bytes;
         bound = a .few;
-        verdict = ap (fills (a .bytes) (trees ∷ []) 0) (elements-all b kinds measures n) ∙ a .accepted;
-        walked = refl;
+        verdict = rw e (ap (fills (a .bytes) (trees ∷ []) 0) (elements-all b kinds measures n) ∙ a .accepted);
+        walked = rw e;
         beyond = refl;
         rows-left = refl;
         rows = paste-zero source 3 (rowsFrom 0 (elementsFrom b kinds measures n 0));
@@ -155,7 +156,7 @@ module _ {b : List ℕ} {kinds measures n trees : ℕ} {table₀ source₀ table
       go (inr q) = omega (arith, v .inside)
 
   module _ (h : d ≤ 0) where
-    pub writing-table : table ≡ paste table₀ 0 (tableOf trees (zip (words n (drop kinds b)) (words n (drop measures b)))) (8 * n)
+    pub writing-table : table ≡ paste table₀ 0 (tableOf trees (elementsAt b kinds measures n)) (8 * n)
     writing-table =
         let w : List ℕ = take (8 * i) table in
         let es : List (ℕ × ℕ) = elementsFrom b kinds measures n 0 in
@@ -163,7 +164,7 @@ module _ {b : List ℕ} {kinds measures n trees : ℕ} {table₀ source₀ table
         let e : table ≡ paste table₀ 0 (tableOf trees es) (8 * i) = rw (← all, take-take (8 * i) (8 * i) table (omega arith), zero-add (8 * i), ← v .beyond) (sym (take-append-drop (8 * i) table)) in
         e ∙ (ap (λ m. paste table₀ 0 (tableOf trees es) (8 * m)) (writing-all h) ∙ rw (elements-all b kinds measures n))
 
-    pub writing-rows : source ≡ paste source₀ 3 (rowsFrom 0 (zip (words n (drop kinds b)) (words n (drop measures b)))) (3 * n)
+    pub writing-rows : source ≡ paste source₀ 3 (rowsFrom 0 (elementsAt b kinds measures n)) (3 * n)
     writing-rows = v .rows ∙ (ap (λ m. paste source₀ 3 (rowsFrom 0 (elementsFrom b kinds measures n 0)) (3 * m)) (writing-all h) ∙ rw (elements-all b kinds measures n))
 
   -- where the text of the next element starts in its own tree, and that tree's number
@@ -223,7 +224,7 @@ module _ {b : List ℕ} {kinds measures n trees : ℕ} {table₀ source₀ table
 
       walked′ : (s t c : ℕ) (w : List ℕ) → s ≡ cond (eqb d 1) 0 at → t ≡ cond (eqb d 1) (x .next) tree → c ≡ childrenOf k m
           → tableFrom (stack shut open′ d) i o at tree w (elementsFrom b kinds measures n i)
-          ≡ tableFrom (record { left = c; owner = i + 1; next = 0 } ∷ record { left = l; owner = x .owner; next = x .next + 1 } ∷ below) (i + 1) (o + lengthOf k m) (s + lengthOf k m) t (w ++ row s t) (elementsFrom b kinds measures n (i + 1))
+          ≡ tableFrom (openOf c (i + 1) 0 ∷ openOf l (x .owner) (x .next + 1) ∷ below) (i + 1) (o + lengthOf k m) (s + lengthOf k m) t (w ++ row s t) (elementsFrom b kinds measures n (i + 1))
       unfolding x below row
       walked′ s t c w es et ec =
           let e : length below + 1 ≡ d = omega (arith, length-stack shut open′ (d - 1)) in
@@ -236,23 +237,20 @@ module _ {b : List ℕ} {kinds measures n trees : ℕ} {table₀ source₀ table
       rows-next = v .rows-left ∙ rw (elements-more b kinds measures n i writing-more, ← ek, ← em)
 
       -- the next element is opened
-      pub writing-open : {s t c y : ℕ} {table′ source′ : List ℕ}
+      pub writing-open : {s t c y : ℕ} {table′ source′ : List ℕ} {f g : Open}
           → s ≡ cond (eqb d 1) 0 at → t ≡ cond (eqb d 1) ((getD open′ (d - 1) shut) .next) tree → c ≡ childrenOf k m → y ≡ lengthOf k m
           → length table′ ≡ length table → table′ ≡ paste table (8 * i) (o ∷ (getD open′ (d - 1) shut) .owner ∷ (getD open′ (d - 1) shut) .next ∷ d ∷ s ∷ s ∷ i ∷ t ∷ []) 8
           → length source′ ≡ length source → source′ ≡ paste source (3 * (i + 1)) (k ∷ m ∷ o ∷ []) 3
+          → f ≡ openOf ((getD open′ (d - 1) shut) .left - 1) ((getD open′ (d - 1) shut) .owner) ((getD open′ (d - 1) shut) .next + 1) → g ≡ openOf c (i + 1) 0
           → 8 * n ≤ length table₀ → 3 * (n + 1) ≤ length source₀
-          → Writing b kinds measures n trees table₀ source₀ table′ source′
-          (set (set open′ (d - 1) (record { left = (getD open′ (d - 1) shut) .left - 1; owner = (getD open′ (d - 1) shut) .owner; next = (getD open′ (d - 1) shut) .next + 1 })) d (record { left = c; owner = i + 1; next = 0 }))
-          (d + 1) (o + y) (s + y) t (i + 1)
+          → Writing b kinds measures n trees table₀ source₀ table′ source′ (set (set open′ (d - 1) f) d g) (d + 1) (o + y) (s + y) t (i + 1)
       unfolding x below l row
-      writing-open {s} {t} {c} {y} {table′} {source′} es et ec ey lt qt ls qs ht hs =
+      writing-open {s} {t} {c} {y} {table′} {source′} {f} {g} es et ec ey lt qt ls qs ef eg ht hs =
           let q = writing-more in
           let sh = writing-shallow in
           let tx = writing-text in
-          let f : Open = record { left = l; owner = x .owner; next = x .next + 1 } in
-          let g : Open = record { left = c; owner = i + 1; next = 0 } in
           let r : List ℕ = rowsFrom 0 (elementsFrom b kinds measures n 0) in
-          let push : stack shut (set (set open′ (d - 1) f) d g) (d + 1) ≡ g ∷ f ∷ below = stack-push shut open′ d f g h (omega (arith, v .long)) in
+          let push : stack shut (set (set open′ (d - 1) f) d g) (d + 1) ≡ openOf c (i + 1) 0 ∷ openOf l (x .owner) (x .next + 1) ∷ below = rw (← ef, ← eg) (stack-push shut open′ d f g h (omega (arith, v .long))) in
           let e₈ : 8 * (i + 1) ≡ 8 * i + 8 = omega arith in
           let e₃ : 3 * (i + 1) ≡ 3 * i + 3 = omega arith in
           let front : take (8 * (i + 1)) table′ ≡ take (8 * i) table ++ row s t = rw (qt, e₈) (take-paste table (8 * i) (row s t) 8 (omega (arith, v .table-long)) (omega arith)) in
@@ -268,8 +266,8 @@ module _ {b : List ℕ} {kinds measures n trees : ℕ} {table₀ source₀ table
             few = omega arith;
             starts = omega (arith, writing-start-of es);
             number = omega (arith, writing-tree-of et);
-            owners = bounded (λ z. z .owner) (set open′ (d - 1) f) d g (i + 1) (bounded (λ z. z .owner) open′ (d - 1) f (i + 1) (λ j. omega (arith, v .owners j)) (omega (arith, v .owners (d - 1)))) (omega arith);
-            nexts = bounded (λ z. z .next) (set open′ (d - 1) f) d g (i + 1) (bounded (λ z. z .next) open′ (d - 1) f (i + 1) (λ j. omega (arith, v .nexts j)) (omega (arith, v .nexts (d - 1)))) (omega arith);
+            owners = bounded (λ z. z .owner) (set open′ (d - 1) f) d g (i + 1) (bounded (λ z. z .owner) open′ (d - 1) f (i + 1) (λ j. omega (arith, v .owners j)) (rw ef (omega (arith, v .owners (d - 1))))) (rw eg (omega arith));
+            nexts = bounded (λ z. z .next) (set open′ (d - 1) f) d g (i + 1) (bounded (λ z. z .next) open′ (d - 1) f (i + 1) (λ j. omega (arith, v .nexts j)) (rw ef (omega (arith, v .nexts (d - 1))))) (rw eg (omega arith));
             table-long = lt ∙ v .table-long;
             source-long = ls ∙ v .source-long;
             bytes = v .bytes;

@@ -7,7 +7,7 @@ use mathlib.Core.List.{List, [], _∷_, _++_}
 use Prim.Native.Nat.{ℕ, zero, suc, _+_, _*_, _≤_}
 use lib.ListN.{length, set}
 use lib.Seq.{paste}
-use Rattle.element_table.specs.Spelling.{childrenOf, lengthOf, accepts}
+use Rattle.spelling.specs.Spelling.{childrenOf, lengthOf, accepts}
 use Rattle.element_table.specs.declared.Open.{Open}
 
 -- line 5 accepts the elements, with some length of text
@@ -15,6 +15,9 @@ pub record Accepted (trees : ℕ) (es : List (ℕ × ℕ)) : Type 0 where
   pub bytes : ℕ
   pub few : bytes ≤ 16384
   pub accepted : accepts trees bytes es ≡ true
+
+abbrev pub openOf : ℕ → ℕ → ℕ → Open
+openOf left owner next = record { left = left; owner = owner; next = next }
 
 -- The stack of open elements, the innermost first: how many children are to come, the element's number + 1 (0 for all the trees), the number of the next child.
 -- Those to which no child is to come are closed:
@@ -44,7 +47,7 @@ entered [] i o at t words e rest = words
 entered (x ∷ s) i o at t words e rest =
     elim (x .left) [
       | zero ↦ words
-      | suc l ↦ rest (record { left = childrenOf (e .0) (e .1); owner = i + 1; next = 0 } ∷ record { left = l; owner = x .owner; next = x .next + 1 } ∷ s)
+      | suc l ↦ rest (openOf (childrenOf (e .0) (e .1)) (i + 1) 0 ∷ openOf l (x .owner) (x .next + 1) ∷ s)
           (o + lengthOf (e .0) (e .1))
           (ifRoot s 0 at + lengthOf (e .0) (e .1))
           (ifRoot s (x .next) t)
@@ -59,7 +62,7 @@ tableFrom s i o at t words (e ∷ es) = entered (stillOpen s) i o at t (allEnded
 
 -- the table of elements that spell this number of trees
 unfoldable pub tableOf : ℕ → List (ℕ × ℕ) → List ℕ
-tableOf trees es = tableFrom (record { left = trees; owner = 0; next = 0 } ∷ []) 0 0 0 0 [] es
+tableOf trees es = tableFrom (openOf trees 0 0 ∷ []) 0 0 0 0 [] es
 
 -- the rows of elements, the first text offset o
 unfoldable pub rowsFrom : ℕ → List (ℕ × ℕ) → List ℕ

@@ -9,9 +9,9 @@ use native.Mathlib.Omega.{arith}
 use lib.ListN.{length, set, length-append}
 use Rattle.orders.specs.Tree.{Tree, Trees, node, token, nil, cons, list, forest, preorders, elements, elementsOf, text, textOf}
 use Rattle.element_table.specs.declared.Open.{Open}
-use Rattle.element_table.specs.Spelling.{childrenOf, lengthOf}
-use Rattle.element_table.specs.Filling.{ended, ifRoot, entered, tableFrom, tableOf, rowsFrom, sourceOf}
-use Rattle.element_table.specs.Preorder.{flat, flats, flat-node, flat-token, flats-cons, Worded, WordedAll}
+use Rattle.spelling.specs.Spelling.{childrenOf, lengthOf}
+use Rattle.element_table.specs.Filling.{openOf, ended, ifRoot, entered, tableFrom, tableOf, rowsFrom, sourceOf}
+use Rattle.spelling.specs.Preorder.{flat, flats, flat-node, flat-token, flats-cons, Worded, WordedAll}
 
 -- ── A turn of the walk ──────────────────────────────────────────────────────────────────────────────────────
 
@@ -25,7 +25,7 @@ module _ (x : Open) (s : List Open) (i o at t : ℕ) (w : List ℕ) where
   -- the next element is opened
   pub table-open : (l k m : ℕ) (es : List (ℕ × ℕ)) → x .left ≡ suc l
       → tableFrom (x ∷ s) i o at t w ((k, m) ∷ es)
-      ≡ tableFrom (record { left = childrenOf k m; owner = i + 1; next = 0 } ∷ record { left = l; owner = x .owner; next = x .next + 1 } ∷ s) (i + 1) (o + lengthOf k m) (ifRoot s 0 at + lengthOf k m) (ifRoot s (x .next) t)
+      ≡ tableFrom (openOf (childrenOf k m) (i + 1) 0 ∷ openOf l (x .owner) (x .next + 1) ∷ s) (i + 1) (o + lengthOf k m) (ifRoot s 0 at + lengthOf k m) (ifRoot s (x .next) t)
       (w ++ (o ∷ x .owner ∷ x .next ∷ (length s + 1) ∷ ifRoot s 0 at ∷ ifRoot s 0 at ∷ i ∷ ifRoot s (x .next) t ∷ [])) es
   unfolding tableFrom
   table-open l k m es h = rw h (rw (h, entered))
@@ -98,15 +98,15 @@ ended-at w r e o p c d s x y t end after h =
 walk-one : (k m : ℕ) (kids : List (ℕ × ℕ)) (below : List ℕ) (l p c : ℕ) (s : List Open) (i o at t : ℕ) (w : List ℕ) (r : List (ℕ × ℕ)) (n d a u c′ i′ o′ at′ : ℕ)
     → length w ≡ 8 * i → d ≡ length s + 1 → a ≡ ifRoot s 0 at → u ≡ ifRoot s c t → n ≡ lengthOf k m
     → ((w′ : List ℕ) → length w′ ≡ 8 * (i + 1)
-    → tableFrom (record { left = childrenOf k m; owner = i + 1; next = 0 } ∷ record { left = l; owner = p; next = c + 1 } ∷ s) (i + 1) (o + n) (a + n) u w′ (kids ++ r)
-    ≡ tableFrom (record { left = 0; owner = i + 1; next = c′ } ∷ record { left = l; owner = p; next = c + 1 } ∷ s) i′ o′ at′ u (w′ ++ below) r)
-    → tableFrom (record { left = suc l; owner = p; next = c } ∷ s) i o at t w ((k, m) ∷ kids ++ r)
-    ≡ tableFrom (record { left = l; owner = p; next = c + 1 } ∷ s) i′ o′ at′ u (w ++ (o ∷ p ∷ c ∷ d ∷ a ∷ at′ ∷ i′ ∷ u ∷ below)) r
+    → tableFrom (openOf (childrenOf k m) (i + 1) 0 ∷ openOf l p (c + 1) ∷ s) (i + 1) (o + n) (a + n) u w′ (kids ++ r)
+    ≡ tableFrom (openOf 0 (i + 1) c′ ∷ openOf l p (c + 1) ∷ s) i′ o′ at′ u (w′ ++ below) r)
+    → tableFrom (openOf (suc l) p c ∷ s) i o at t w ((k, m) ∷ kids ++ r)
+    ≡ tableFrom (openOf l p (c + 1) ∷ s) i′ o′ at′ u (w ++ (o ∷ p ∷ c ∷ d ∷ a ∷ at′ ∷ i′ ∷ u ∷ below)) r
 walk-one k m kids below l p c s i o at t w r n d a u c′ i′ o′ at′ hw hd ha hu hn ih =
     let row : List ℕ = o ∷ p ∷ c ∷ d ∷ a ∷ a ∷ i ∷ u ∷ [] in
-    let x : Open = record { left = suc l; owner = p; next = c } in
-    let y : Open = record { left = l; owner = p; next = c + 1 } in
-    let z : Open = record { left = 0; owner = i + 1; next = c′ } in
+    let x : Open = openOf (suc l) p c in
+    let y : Open = openOf l p (c + 1) in
+    let z : Open = openOf 0 (i + 1) c′ in
     let hw′ : length (w ++ row) ≡ 8 * (i + 1) = simp length-append (omega arith) in
     table-open x s i o at t w l k m (kids ++ r) refl
     ∙ rw (← hd, ← ha, ← hu, ← hn) (ih (w ++ row) hw′
@@ -118,21 +118,21 @@ mutual
 
   pub walk-tree : (x : Tree ℕ) → Worded x → (l p c : ℕ) (s : List Open) (i o at t : ℕ) (w : List ℕ) (r : List (ℕ × ℕ)) (d a u i′ o′ at′ : ℕ)
       → length w ≡ 8 * i → d ≡ length s + 1 → a ≡ ifRoot s 0 at → u ≡ ifRoot s c t → i′ ≡ i + elements x → o′ ≡ o + length (text x) → at′ ≡ a + length (text x)
-      → tableFrom (record { left = suc l; owner = p; next = c } ∷ s) i o at t w (flat x ++ r)
-      ≡ tableFrom (record { left = l; owner = p; next = c + 1 } ∷ s) i′ o′ at′ u (w ++ wordsOf x i o p c d a u) r
+      → tableFrom (openOf (suc l) p c ∷ s) i o at t w (flat x ++ r)
+      ≡ tableFrom (openOf l p (c + 1) ∷ s) i′ o′ at′ u (w ++ wordsOf x i o p c d a u) r
   walk-tree (token k own) n l p c s i o at t w r d a u i′ o′ at′ hw hd ha hu hi ho hs =
       rw (flat-token k own, ← hi, ← hs) (walk-one k (length own) [] [] l p c s i o at t w r (length own) d a u 0 i′ o′ at′ hw hd ha hu (rw n) (λ w′ h. rw (n, ← hi, ← ho, ← hs, append-nil w′)))
   walk-tree (node k cs) n l p c s i o at t w r d a u i′ o′ at′ hw hd ha hu hi ho hs =
       let m : ℕ = length (list cs) in
-      let y : Open = record { left = l; owner = p; next = c + 1 } in
+      let y : Open = openOf l p (c + 1) in
       rw (flat-node k cs, ← hi, ← hs) (walk-one k m (flats cs) (wordsBelow cs (i + 1) o (i + 1) 0 (d + 1) a u) l p c s i o at t w r 0 d a u m i′ o′ at′ hw hd ha hu (rw (n .0))
       (λ w′ h. rw (n .0, add-zero o, add-zero a) (walk-trees cs (n .1) m 0 (i + 1) 0 y s (i + 1) o a u w′ r (d + 1) m i′ o′ at′ h (omega arith) (omega arith) (omega arith) (omega arith) ho hs)))
 
   -- of the children of an open element
   walk-trees : (cs : Trees ℕ) → WordedAll cs → (m l p c : ℕ) (f : Open) (s : List Open) (i o at t : ℕ) (w : List ℕ) (r : List (ℕ × ℕ)) (d c′ i′ o′ at′ : ℕ)
       → length w ≡ 8 * i → d ≡ length s + 2 → m ≡ length (list cs) + l → c′ ≡ c + length (list cs) → i′ ≡ i + elementsOf cs → o′ ≡ o + length (textOf cs) → at′ ≡ at + length (textOf cs)
-      → tableFrom (record { left = m; owner = p; next = c } ∷ f ∷ s) i o at t w (flats cs ++ r)
-      ≡ tableFrom (record { left = l; owner = p; next = c′ } ∷ f ∷ s) i′ o′ at′ t (w ++ wordsBelow cs i o p c d at t) r
+      → tableFrom (openOf m p c ∷ f ∷ s) i o at t w (flats cs ++ r)
+      ≡ tableFrom (openOf l p c′ ∷ f ∷ s) i′ o′ at′ t (w ++ wordsBelow cs i o p c d at t) r
   walk-trees nil n m l p c f s i o at t w r d c′ i′ o′ at′ hw hd hm hc hi ho ha =
       let em : m ≡ l = omega arith in
       let ec : c′ ≡ c = omega arith in
@@ -156,7 +156,7 @@ mutual
 
 -- of all trees
 walk-all : (ts : List (Tree ℕ)) → WordedAll (forest ts) → (m c i o at t : ℕ) (w : List ℕ) → m ≡ length ts → length w ≡ 8 * i
-    → tableFrom (record { left = m; owner = 0; next = c } ∷ []) i o at t w (flats (forest ts)) ≡ w ++ wordsAll ts i o c
+    → tableFrom (openOf m 0 c ∷ []) i o at t w (flats (forest ts)) ≡ w ++ wordsAll ts i o c
 unfolding forest flats preorders wordsAll ifRoot tableFrom
 walk-all [] n m c i o at t w hm hw = rw (hm, append-nil w)
 walk-all (x ∷ xs) n m c i o at t w hm hw =

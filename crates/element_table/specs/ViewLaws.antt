@@ -13,15 +13,15 @@ use Rattle.orders.specs.ListLaws.{map-append}
 use Rattle.orders.specs.Tree.{Tree, Trees, node, token, nil, cons, list, forest, Path, elements, elementsOf, text, textOf}
 use Rattle.definition.specs.Elements.{isNode, numbers, rows, rowsBelow, table}
 use Rattle.element_table.specs.View.{upFrom, field, lineFrom, pathTo, kindWord, measureWord, siblings, rowAt}
-use Rattle.element_table.specs.Spelling.{lengthOf}
+use Rattle.spelling.specs.Spelling.{lengthOf}
 use Rattle.element_table.specs.Filling.{rowsFrom, sourceOf}
-use Rattle.element_table.specs.Preorder.{flat, flats, flat-node, flat-token, flats-cons, length-flat, Worded, WordedAll}
+use Rattle.spelling.specs.Preorder.{flat, flats, flat-node, flat-token, flats-cons, length-flat, Worded, WordedAll}
 use Rattle.element_table.specs.FillingLaws.{wordsOf, wordsBelow, wordsAll, length-words}
 
 -- ── Single words ────────────────────────────────────────────────────────────────────────────────────────────
 
 -- word k of an element whose words stand at the front of l
-field-at : (ws rs l : List ℕ) (k e : ℕ) → drop (8 * e) ws ≡ l → field ws rs k e ≡ getD l k 0
+pub field-at : (ws rs l : List ℕ) (k e : ℕ) → drop (8 * e) ws ≡ l → field ws rs k e ≡ getD l k 0
 unfolding field
 field-at ws rs l k e h = sym (getD-drop (8 * e) ws k 0) ∙ ap (λ z. getD z k 0) h
 
@@ -37,41 +37,41 @@ rows-at (x ∷ es) (suc e) k m r o z h =
     rw (b, a) (rows-at es e k m r (o + lengthOf (x .0) (x .1)) z h)
 
 module _ (ws : List ℕ) (trees : ℕ) (es : List (ℕ × ℕ)) (z : List ℕ) (e k m : ℕ) (r : List (ℕ × ℕ)) (h : drop e es ≡ (k, m) ∷ r) where
-  kind-at : kindWord ws (sourceOf trees es ++ z) e ≡ k
+  pub kind-at : kindWord ws (sourceOf trees es ++ z) e ≡ k
   unfolding kindWord sourceOf
   kind-at = let a : 3 * suc e ≡ suc (suc (suc (3 * e))) = omega arith in rw a (rows-at es e k m r 0 z h .0)
 
-  measure-at : measureWord ws (sourceOf trees es ++ z) e ≡ m
+  pub measure-at : measureWord ws (sourceOf trees es ++ z) e ≡ m
   unfolding measureWord sourceOf
   measure-at = let a : 3 * suc e + 1 ≡ suc (suc (suc (3 * e + 1))) = omega arith in rw a (rows-at es e k m r 0 z h .1)
 
 -- ── A tree's words among others ─────────────────────────────────────────────────────────────────────────────
 
 -- the words after a tree, and the elements after it
-next-words : (ws : List ℕ) (x : Tree ℕ) (e o p c d s t : ℕ) (r : List ℕ) → drop (8 * e) ws ≡ wordsOf x e o p c d s t ++ r → drop (8 * (e + elements x)) ws ≡ r
+pub next-words : (ws : List ℕ) (x : Tree ℕ) (e o p c d s t : ℕ) (r : List ℕ) → drop (8 * e) ws ≡ wordsOf x e o p c d s t ++ r → drop (8 * (e + elements x)) ws ≡ r
 next-words ws x e o p c d s t r h =
     let a : 8 * (e + elements x) ≡ 8 * e + 8 * elements x = omega arith in
     rw (a, ← drop-drop (8 * elements x) (8 * e) ws, h) (drop-at (wordsOf x e o p c d s t) r (8 * elements x) (length-words x e o p c d s t))
 
-next-elements : (es : List (ℕ × ℕ)) (x : Tree ℕ) (e : ℕ) (r : List (ℕ × ℕ)) → drop e es ≡ flat x ++ r → drop (e + elements x) es ≡ r
+pub next-elements : (es : List (ℕ × ℕ)) (x : Tree ℕ) (e : ℕ) (r : List (ℕ × ℕ)) → drop e es ≡ flat x ++ r → drop (e + elements x) es ≡ r
 next-elements es x e r h = rw (← drop-drop (elements x) e es, h) (drop-at (flat x) r (elements x) (length-flat x))
 
 -- and after one element
-after-one : {A : Type 0} (l : List A) (e : ℕ) (a : A) (r : List A) → drop e l ≡ a ∷ r → drop (suc e) l ≡ r
+pub after-one : {A : Type 0} (l : List A) (e : ℕ) (a : A) (r : List A) → drop e l ≡ a ∷ r → drop (suc e) l ≡ r
 after-one l e a r h = rw (← add-one e, ← drop-drop 1 e l, h)
 
-after-eight : (ws : List ℕ) (e o p c d s x a t : ℕ) (r : List ℕ) → drop (8 * e) ws ≡ o ∷ p ∷ c ∷ d ∷ s ∷ x ∷ a ∷ t ∷ r → drop (8 * suc e) ws ≡ r
+pub after-eight : (ws : List ℕ) (e o p c d s x a t : ℕ) (r : List ℕ) → drop (8 * e) ws ≡ o ∷ p ∷ c ∷ d ∷ s ∷ x ∷ a ∷ t ∷ r → drop (8 * suc e) ws ≡ r
 after-eight ws e o p c d s x a t r h = let q : 8 * suc e ≡ 8 * e + 8 = omega arith in rw (q, ← drop-drop 8 (8 * e) ws, h)
 
 module _ (ws rs : List ℕ) where
   -- the element after a subtree
-  after-word : (x : Tree ℕ) (e o p c d s t : ℕ) (r : List ℕ) → drop (8 * e) ws ≡ wordsOf x e o p c d s t ++ r → field ws rs 6 e ≡ e + elements x
+  pub after-word : (x : Tree ℕ) (e o p c d s t : ℕ) (r : List ℕ) → drop (8 * e) ws ≡ wordsOf x e o p c d s t ++ r → field ws rs 6 e ≡ e + elements x
   unfolding wordsOf elements
   after-word (node k cs) e o p c d s t r h = field-at ws rs _ 6 e h
   after-word (token k own) e o p c d s t r h = field-at ws rs _ 6 e h
 
   -- children by hopping
-  siblings-numbers : (cs : Trees ℕ) (e o p c d s t : ℕ) (r : List ℕ) → drop (8 * e) ws ≡ wordsBelow cs e o p c d s t ++ r → siblings ws rs (length (list cs)) e ≡ numbers e cs
+  pub siblings-numbers : (cs : Trees ℕ) (e o p c d s t : ℕ) (r : List ℕ) → drop (8 * e) ws ≡ wordsBelow cs e o p c d s t ++ r → siblings ws rs (length (list cs)) e ≡ numbers e cs
   unfolding siblings list numbers wordsBelow
   siblings-numbers nil e o p c d s t r h = refl
   siblings-numbers (cons x xs) e o p c d s t r h =

@@ -6,10 +6,11 @@ use mathlib.Core.Option.{Option, none, some}
 use mathlib.Core.List.{List, [], _∷_, _++_, map, flatMap, zip, append-assoc}
 use Prim.Native.Nat.{ℕ, zero, suc, _+_, _≤_, _<_}
 use native.Mathlib.Omega.{arith}
-use lib.ListN.{length, getD}
+use lib.ListN.{length, take, drop, getD, take-append-drop}
 use Rattle.orders.specs.Lists.{more, pick, All, total}
-use Rattle.orders.specs.ListLaws.{map-append}
-use Rattle.definition.specs.Basics.{keep}
+use Rattle.orders.specs.Tree.{modify}
+use Rattle.orders.specs.ListLaws.{some-inj, none-some, map-append}
+use Rattle.definition.specs.Basics.{keep, first}
 
 -- ── What passes a test ──────────────────────────────────────────────────────────────────────────────────────
 
@@ -33,6 +34,18 @@ module _ {A : Type 0} (P : A → Type 0) where
   append-All [] m h = (tt, h)
   append-All (x ∷ l) m h = let r = append-All l m (h .1) in ((h .0, r .0), r .1)
 
+  pub All-take : (n : ℕ) (l : List A) → All P l → All P (take n l)
+  All-take n l h = (append-All (take n l) (drop n l) (rw (take-append-drop n l) h)) .0
+
+  pub All-drop : (n : ℕ) (l : List A) → All P l → All P (drop n l)
+  All-drop n l h = (append-All (take n l) (drop n l) (rw (take-append-drop n l) h)) .1
+
+  pub All-modify : (f : A → A) → ((x : A) → P x → P (f x)) → (n : ℕ) (l : List A) → All P l → All P (modify n f l)
+  unfolding modify
+  All-modify f k n [] h = tt
+  All-modify f k zero (x ∷ l) h = (k x (h .0), h .1)
+  All-modify f k (suc n) (x ∷ l) h = (h .0, All-modify f k n l (h .1))
+
   pub All-keep : (p : A → Bool) (l : List A) → All P l → All P (keep p l)
   unfolding keep pick
   All-keep p [] h = tt
@@ -41,6 +54,10 @@ module _ {A : Type 0} (P : A → Type 0) where
       go : (b : Bool) → All P (keep p l) → All P (more (cond b (some x) none) (keep p l))
       go true r = (h .0, r)
       go false r = r
+
+pub map-All : {A B : Type 0} (P : B → Type 0) (f : A → B) (l : List A) → All P (map f l) → All (λ x. P (f x)) l
+map-All P f [] h = tt
+map-All P f (x ∷ l) h = (h .0, map-All P f l (h .1))
 
 module _ {A B : Type 0} (P : A → Type 0) (Q : B → Type 0) where
   pub All-flatMap : (f : A → List B) → ((x : A) → P x → All Q (f x)) → (l : List A) → All P l → All Q (flatMap f l)
@@ -133,3 +150,20 @@ pub total-length : {A : Type 0} (l : List A) → total (λ x. true) (λ x. 1) l 
 unfolding total
 total-length [] = refl
 total-length (x ∷ l) = omega (arith, total-length l)
+
+-- a sum over what is told of each element
+pub total-map : {A B : Type 0} (g : A → B) (f : B → ℕ) (l : List A) → total (λ x. true) (λ x. f (g x)) l ≡ total (λ y. true) f (map g l)
+unfolding total
+total-map g f [] = refl
+total-map g f (x ∷ l) = ap (λ n. f (g x) + n) (total-map g f l)
+
+-- ── The first that passes a test ────────────────────────────────────────────────────────────────────────────
+
+pub first-passes : {A : Type 0} (p : A → Bool) (l : List A) (x : A) → first p l ≡ some x → p x ≡ true
+unfolding first
+first-passes p [] x e = none-some e
+first-passes {A} p (y ∷ l) x e = go (p y) refl e (first-passes p l x)
+  where
+    go : (b : Bool) → p y ≡ b → cond b (some y) (first p l) ≡ some x → (first p l ≡ some x → p x ≡ true) → p x ≡ true
+    go true h q k = rw (some-inj q) at h
+    go false h q k = k q

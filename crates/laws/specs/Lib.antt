@@ -10,6 +10,11 @@
 --     Sorting    the sorted order is a stable permutation, also where places are sorted and not the elements
 --     Regions    the last region that contains a change is the one that popping finds
 --     Stages     what each stage from calls to performed changes keeps of every change
+--     Accepted   what is known of a batch that lines 2 to 7 accept
+--     Plans      what is known of its plan: changes, climb steps, notes
+--     Running    what holds of the current trees and the present paths, whatever steps are performed
+--     Held       notes and changed elements stand in the current trees, whatever steps are performed
+--     Limits     an accepted answer's sizes are within the limits, and its bytes as many as the sizes tell
 pub mod Basics
 pub mod Answers
 pub mod Measures
@@ -21,3 +26,8 @@ pub mod Right
 pub mod Sorting
 pub mod Regions
 pub mod Stages
+pub mod Accepted
+pub mod Plans
+pub mod Running
+pub mod Held
+pub mod Limits

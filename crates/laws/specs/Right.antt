@@ -8,7 +8,7 @@ use Prim.Native.Nat.{ℕ, zero, suc, _+_, _≤_, _<_}
 use native.Mathlib.Omega.{arith}
 use lib.Dec.{leb, ltb, eqb}
 use lib.ListN.{length}
-use borrow.Author.Tests.{ltb-true, ltb-false, leb-true, leb-false, eqb-true, eqb-false, not-true, not-false}
+use borrow.Author.Tests.{ltb-true, ltb-false, leb-true, leb-false, eqb-true, eqb-false, ne-eqb, not-true, not-false}
 use Rattle.orders.specs.Lists.{All}
 use Rattle.orders.specs.ListLaws.{bool-absurd, All-map}
 use Rattle.definition.specs.Basics.{any, among}
@@ -157,3 +157,27 @@ module _ (T : Table) where
       go (suc (suc (suc (suc (suc zero))))) x (y ∷ l) e j h = either x y l e j (eqb x y)
       go (suc (suc (suc (suc (suc (suc zero)))))) x l e j h = bool-absurd refl h
       go (suc (suc (suc (suc (suc (suc (suc op))))))) x l e j h = absurd (omega (arith, ltb-false 6 (suc (suc (suc (suc (suc (suc (suc op))))))) (j .known)))
+
+  -- it lists no more than the call
+  pub change-lists : (c : Call) → wrongCall T c ≡ false → length (news (change c)) ≤ length c.listed
+  unfolding change run headD news
+  change-lists c e = go c.operation c.target c.listed (judged T c e)
+    where
+      either : (x y : ℕ) (l : List ℕ) (b : Bool) → length (news (cond b (replaceWithMany x (tail l)) (replaceAll x y (tail l)))) ≤ length l
+      either x y [] true = omega arith
+      either x y [] false = omega arith
+      either x y (z ∷ l) true = omega arith
+      either x y (z ∷ l) false = omega arith
+
+      other : (op x : ℕ) (l : List ℕ) → eqb op 0 ≡ false → eqb op 1 ≡ false → eqb op 2 ≡ false → eqb op 3 ≡ false → eqb op 4 ≡ false → length (news (change (record { operation = op; target = x; listed = l }))) ≤ length l
+      other op x l a b c d e = rw (a, b, c, d, e) (either x (headD l 0) l (eqb x (headD l 0)))
+
+      go : (op x : ℕ) (l : List ℕ) → Judged T (record { operation = op; target = x; listed = l }) → length (news (change (record { operation = op; target = x; listed = l }))) ≤ length l
+      go zero x l j = omega arith
+      go (suc zero) x l j = omega arith
+      go (suc (suc zero)) x l j = omega (arith, count-one (length l) (j .count))
+      go (suc (suc (suc zero))) x l j = omega arith
+      go (suc (suc (suc (suc zero)))) x l j = omega arith
+      go (suc (suc (suc (suc (suc op))))) x l j =
+          let n = suc (suc (suc (suc (suc op)))) in
+          other n x l (ne-eqb n 0 (omega arith)) (ne-eqb n 1 (omega arith)) (ne-eqb n 2 (omega arith)) (ne-eqb n 3 (omega arith)) (ne-eqb n 4 (omega arith))

@@ -2,33 +2,31 @@
 -- Assumes nothing.
 use borrow.Author.Needs.{needs}
 use native.Mathlib.Omega.{arith}
+use mathlib.Core.Path.{refl}
 use Prim.Native.Nat.{_+_, _-_, _≤_, _<_}
 use Rattle.element_table.proofs.Writing.{Writing, writing-start, writing-close, writing-table, writing-rows, writing-start-of, writing-tree-of, writing-more, writing-shallow, writing-open}
 use Rattle.element_table.proofs.fill_elements.Statement.{statement}
 use Rattle.element_table.proofs.fill_elements.Tie as tie
 
 abbrev Inv-loop : tie.InvT-loop
-Inv-loop b kinds measures n trees table₀ source₀ stack₀ d₀ o₀ at₀ tree₀ i₀ table source stack d o at tree i =
+Inv-loop b kinds measures n trees table₀ source₀ left owner next stack₀ d₀ o₀ at₀ tree₀ i₀ table source stack d o at tree i =
     Writing b kinds measures n trees table₀ source₀ table source stack d o at tree i
 
 abbrev μ-loop : tie.MeasureT-loop
-μ-loop b kinds measures n trees table₀ source₀ stack₀ d₀ o₀ at₀ tree₀ i₀ table source stack d o at tree i =
+μ-loop b kinds measures n trees table₀ source₀ left owner next stack₀ d₀ o₀ at₀ tree₀ i₀ table source stack d o at tree i =
     (n - i) + (n - i) + d
 
 -- a child is to come: there is an element, its depth is at most 64
 more : (c : tie.Else1 Inv-loop μ-loop) → c .before .before .before .before .loop .i < c .before .before .before .before .before .before .before .before .args .n
-more c = writing-more (c .before .before .before .before .loop .inv) (omega arith) (c .if1 .left)
+more c = writing-more (c .before .before .before .before .loop .inv) (c .before .before .before .loop-test .taken) (c .if1 .left)
 
 low : (c : tie.After-read-word2 Inv-loop μ-loop) → c .before .before .before .before .before .before .loop .d ≤ 64
 low c =
     let l = c .before .before .before .before .before .before .loop in
-    writing-shallow (l .inv) (omega arith) (c .before .before .if1 .left) (c .before .read-word .ensures .0) (c .read-word2 .ensures .0)
-
-array-set-from-stack : tie.Need-array-set-from-stack Inv-loop μ-loop
-array-set-from-stack c = search needs
+    writing-shallow (l .inv) (c .before .before .before .before .before .loop-test .taken) (c .before .before .if1 .left) (c .before .read-word .ensures .0) (c .read-word2 .ensures .0)
 
 loop-holds : tie.Need-loop-holds Inv-loop μ-loop
-loop-holds c = writing-start _ _ _ _ _ (c .before .before .before .pre .1)
+loop-holds c = writing-start _ _ _ _ _ (c .before .before .before .pre .1) refl
 
 sub-top : tie.Need-sub-top Inv-loop μ-loop
 sub-top c = search needs
@@ -49,7 +47,7 @@ loop-again : tie.Need-loop-again Inv-loop μ-loop
 loop-again c =
     let l = c .before .before .before .before .before .before .before .before .loop in
     let s = c .before .before .close in
-    writing-close (l .inv) (omega arith) (c .before .before .before .before .if1 .taken) (s .kept .0) (s .ensures)
+    writing-close (l .inv) (c .before .before .before .before .before .before .before .loop-test .taken) (c .before .before .before .before .if1 .taken) (s .kept .0) (s .ensures)
 
 mul-read-word : tie.Need-mul-read-word Inv-loop μ-loop
 mul-read-word c = search needs
@@ -104,23 +102,23 @@ add-next c = let l = c .before .before .before .before .before .before .before .
 mul-stack : tie.Need-mul-stack Inv-loop μ-loop
 mul-stack c = search needs
 
-array-set-from-stack-2 : tie.Need-array-set-from-stack-2 Inv-loop μ-loop
-array-set-from-stack-2 c = search needs
+array-set-from-stack : tie.Need-array-set-from-stack Inv-loop μ-loop
+array-set-from-stack c = search needs
 
 children-of-requires : tie.Need-children-of-requires Inv-loop μ-loop
 children-of-requires c κs = search needs
 
-length-of-requires : tie.Need-length-of-requires Inv-loop μ-loop
-length-of-requires c κs = search needs
-
-add-i : tie.Need-add-i Inv-loop μ-loop
-add-i c = omega (arith, more (c .before .before .before .before .before .before .before .before .before .before .before .before .before .before .before .before), c .before .before .before .before .before .before .before .before .before .before .before .before .before .before .before .before .before .before .before .before .before .before .before .before .pre .0 .2)
+add-owner : tie.Need-add-owner Inv-loop μ-loop
+add-owner c = omega (arith, more (c .before .before .before .before .before .before .before .before .before .before .before .before .before .before .before), c .before .before .before .before .before .before .before .before .before .before .before .before .before .before .before .before .before .before .before .before .before .before .before .pre .0 .2)
 
 mul-stack-2 : tie.Need-mul-stack-2 Inv-loop μ-loop
 mul-stack-2 c = search needs
 
-array-set-from-stack-3 : tie.Need-array-set-from-stack-3 Inv-loop μ-loop
-array-set-from-stack-3 c = omega (arith, low (c .before .before .before .before .before .before .before .before .before .before .before .before .before .before))
+array-set-from-stack-2 : tie.Need-array-set-from-stack-2 Inv-loop μ-loop
+array-set-from-stack-2 c = omega (arith, low (c .before .before .before .before .before .before .before .before .before .before .before .before .before))
+
+length-of-requires : tie.Need-length-of-requires Inv-loop μ-loop
+length-of-requires c κs = search needs
 
 add-d : tie.Need-add-d Inv-loop μ-loop
 add-d c = search needs
@@ -133,6 +131,9 @@ add-at c =
     let l = c .before .before .before .before .before .before .before .before .before .before .before .before .before .before .before .before .before .before .before .before .loop in
     omega (arith, l .inv .few, writing-start-of (l .inv) (c .before .before .before .before .before .before .before .before .before .before .before .before .before .if-root .ensures), c .length-of .ensures .1, c .before .before .before .before .before .before .before .before .before .before .before .before .before .before .read-word2 .ensures .1)
 
+add-i : tie.Need-add-i Inv-loop μ-loop
+add-i c = omega (arith, more (c .before .before .before .before .before .before .before .before .before .before .before .before .before .before .before .before), c .before .before .before .before .before .before .before .before .before .before .before .before .before .before .before .before .before .before .before .before .before .before .before .before .pre .0 .2)
+
 loop-less-2 : tie.Need-loop-less-2 Inv-loop μ-loop
 loop-less-2 c = omega (arith, more (c .before .before .before .before .before .before .before .before .before .before .before .before .before .before .before .before))
 
@@ -144,7 +145,7 @@ loop-again-2 c =
     let s = c .before .before .before .before .before .before .before .before .before .before .store8 in
     let r = c .before .before .before .before .before .before .store3 in
     let p = c .before .before .before .before .before .before .before .before .before .before .before .before .before .before .before .before .before .before .before .before .before .before .before .before .pre .0 in
-    writing-open (l .inv) (c .before .before .before .before .before .before .before .before .before .before .before .before .before .before .before .before .before .before .before .loop-test .taken) (c .before .before .before .before .before .before .before .before .before .before .before .before .before .before .before .before .if1 .left) (k .ensures .0) (m .ensures .0) (c .before .before .before .before .before .before .before .before .before .before .before .before .before .if-root .ensures) (c .before .before .before .before .before .before .before .before .before .before .before .before .if-root2 .ensures) (c .before .children-of .ensures) (c .length-of .ensures .0) (s .kept .0) (s .ensures) (r .kept .0) (r .ensures) (p .3) (p .4)
+    writing-open (l .inv) (c .before .before .before .before .before .before .before .before .before .before .before .before .before .before .before .before .before .before .before .loop-test .taken) (c .before .before .before .before .before .before .before .before .before .before .before .before .before .before .before .before .if1 .left) (k .ensures .0) (m .ensures .0) (c .before .before .before .before .before .before .before .before .before .before .before .before .before .if-root .ensures) (c .before .before .before .before .before .before .before .before .before .before .before .before .if-root2 .ensures) (c .before .children-of .ensures) (c .length-of .ensures .0) (s .kept .0) (s .ensures) (r .kept .0) (r .ensures) refl refl (p .3) (p .4)
 
 same-length : tie.Need-same-length Inv-loop μ-loop
 same-length c = search needs
@@ -161,7 +162,6 @@ fill-elements-spec =
     (tie.spec
     Inv-loop
     μ-loop
-    array-set-from-stack
     loop-holds
     sub-top
     mul-x
@@ -185,15 +185,16 @@ fill-elements-spec =
     sub-left
     add-next
     mul-stack
-    array-set-from-stack-2
+    array-set-from-stack
     children-of-requires
-    length-of-requires
-    add-i
+    add-owner
     mul-stack-2
-    array-set-from-stack-3
+    array-set-from-stack-2
+    length-of-requires
     add-d
     add-o
     add-at
+    add-i
     loop-less-2
     loop-again-2
     same-length
