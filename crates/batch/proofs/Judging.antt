@@ -1,21 +1,20 @@
 -- Lines 5, 6 and 7: each answer, from the tests that led there.
 -- Assumes nothing.
-use mathlib.Core.Path.{_≡_, refl, sym, ap, _∙_}
-use mathlib.Core.Bool.{Bool, true, false, not, _||_}
+use mathlib.Core.Path.{_≡_, sym, ap, _∙_}
+use mathlib.Core.Bool.{Bool, true, false, not}
 use mathlib.Core.List.{List, zip}
 use Prim.Native.Nat.{ℕ, _≤_}
 use native.Mathlib.Omega.{arith}
 use lib.ListN.{length}
 use borrow.Author.Tests.{not-true, not-false}
-use Rattle.definition.specs.Basics.{gives, refused, _>>=_, refuse, any}
+use Rattle.definition.specs.Basics.{gives, _>>=_, refuse, any}
 use Rattle.definition.specs.Batch.{Batch}
-use Rattle.definition.specs.Refusals.{wrongMapping, wrongNote}
+use Rattle.definition.specs.Refusals.{wrongMapping}
 use Rattle.element_table.specs.View.{view}
 use Rattle.element_table.specs.Spelling.{accepts}
 use Rattle.element_table.specs.Filling.{Accepted, Filled}
 use Rattle.calls.specs.Wellformed.{Wellformed}
 use Rattle.calls.specs.Told.{length-view}
-use Rattle.layout.specs.Truth.{or-true}
 use Rattle.layout.specs.Layout.{Within, within, laid, laidOf, arraysAt}
 use Rattle.layout.specs.declared.Layout.{Layout}
 use Rattle.layout.specs.declared.Laid.{Laid}

@@ -3,13 +3,13 @@
 use mathlib.Core.Path.{_≡_, refl, sym, ap, _∙_}
 use mathlib.Core.List.{List, [], _∷_, _++_, tail}
 use mathlib.Core.Option.{Option, none, some, bind}
-use Prim.Native.Nat.{ℕ, zero, suc, _+_, _*_, _≤_, _<_, max}
+use Prim.Native.Nat.{ℕ, zero, suc, _+_, _*_, _≤_, _<_}
 use native.Mathlib.Omega.{arith}
-use lib.ListN.{length, getD, drop, getElem?, length-append}
+use lib.ListN.{length, getD, getElem?, length-append}
 use lib.Seq.{getD-drop}
 use Rattle.orders.specs.Lists.{All}
-use Rattle.orders.specs.ListLaws.{none-some, some-inj, lt-get, get-mem, All-mem}
-use Rattle.orders.specs.Tree.{Tree, Trees, node, token, nil, cons, forest, Path, elements, elementsOf, text, deepest, deepestOf, last}
+use Rattle.orders.specs.ListLaws.{none-some, some-inj}
+use Rattle.orders.specs.Tree.{Tree, Trees, node, token, nil, cons, Path, elements, text, deepest, deepestOf, last}
 use Rattle.definition.specs.Elements.{Row, Table, noRow, rows, rowsBelow, table, row, parent, child, depth, tree, descend}
 use Rattle.element_table.specs.View.{view, rowAt}
 use Rattle.element_table.specs.FillingLaws.{wordsAll, length-all}
@@ -17,7 +17,7 @@ use Rattle.laws.specs.Basics.{All-append}
 use Rattle.laws.specs.Rows.{table-length}
 use Rattle.laws.specs.Kin.{Kin, root, below, kin, path-tells, descends-place}
 use Rattle.calls.specs.Wellformed.{Lines, Wellformed}
-use Rattle.calls.specs.Told.{length-view, row-view}
+use Rattle.calls.specs.Told.{row-view}
 use Rattle.batch.specs.Seen.{Seen, seen, above, meant, seen-row}
 
 -- ── Depths ──────────────────────────────────────────────────────────────────────────────────────────────────

@@ -2,18 +2,18 @@
 -- Assumes nothing.
 use mathlib.Core.Path.{_≡_, refl, sym, ap, _∙_}
 use mathlib.Core.Bool.{Bool, true, false, cond, not, _||_}
-use mathlib.Core.List.{List, [], _++_, zip}
+use mathlib.Core.List.{List, _++_, zip}
 use mathlib.Core.Option.{Option, none, some}
-use Prim.Native.Nat.{ℕ, _+_, _*_, _≤_, _<_}
+use Prim.Native.Nat.{ℕ, _+_, _*_, _≤_}
 use native.Mathlib.Omega.{arith}
 use lib.Dec.{ltb, eqb}
 use lib.ListN.{length, drop, length-drop, length-map}
-use lib.Seq.{paste, take-all, length-paste}
-use borrow.Author.Tests.{ltb-false, not-true, not-false}
+use lib.Seq.{take-all, length-paste}
+use borrow.Author.Tests.{ltb-false}
 use Rattle.orders.specs.Lists.{All}
 use Rattle.orders.specs.ListLaws.{bool-absurd, bind-some, some-inj, none-some, All-map}
 use Rattle.orders.specs.Tree.{Tree, deepest}
-use Rattle.definition.specs.Basics.{Answer, refused, gives, any, isSome}
+use Rattle.definition.specs.Basics.{refused, gives, any, isSome}
 use Rattle.definition.specs.Batch.{Batch}
 use Rattle.definition.specs.Elements.{Table, malformed, startsWithToken, unspelled, spelled, pieces, grow, table}
 use Rattle.definition.specs.Refusals.{Accepted, accepted}
@@ -28,14 +28,14 @@ use Rattle.element_table.specs.Spelling.{accepts}
 use Rattle.element_table.specs.SpellingLaws.{accepts-spelled}
 use Rattle.element_table.specs.Filling.{Filled, tableOf, sourceOf}
 use Rattle.element_table.specs.FillingLaws.{wordsAll, length-source}
-use Rattle.element_table.specs.Filled.{elementsIn, spelled-words, spelled-count, length-table, filled-view}
+use Rattle.element_table.specs.Filled.{elementsIn, accepted as spells-trees, spelled-words, spelled-count, length-table, filled-view}
 use Rattle.calls.specs.Wellformed.{Wellformed}
-use Rattle.layout.specs.Layout.{Limits, Within, within, laid, laidOf, arraysAt}
+use Rattle.layout.specs.Layout.{Within, within, laid, laidOf, arraysAt}
 use Rattle.layout.specs.declared.Layout.{Layout}
 use Rattle.layout.specs.declared.Laid.{Laid}
 use Rattle.layout.specs.declared.Laid.the-variants.{Refused, At}
 use Rattle.batch.specs.Formed.{formed}
-use Rattle.batch.specs.Accepting.{judged, judged-unspelled, judged-spelled, judged-given, Parts, accepted-parts, named}
+use Rattle.batch.specs.Accepting.{judged, judged-unspelled, judged-spelled, judged-given, accepted-parts, named}
 
 -- trees that a batch spells are at most 64 deep
 spelled-shallow : (b : Batch) (ts : List (Tree ℕ)) → spelled b ≡ some ts → All (λ t. deepest t ≤ 64) ts
@@ -57,6 +57,7 @@ elementsAt b l = zip (words (l .sizes .elements) (drop (l .kinds) b)) (words (l 
 
 -- what an accepted batch with this layout leaves in the two slices, which held t₀ and s₀
 pub record Leaves (b : List ℕ) (l : Layout) (t₀ s₀ t s : List ℕ) : Type 0 where
+  pub laid : laid b ≡ gives l
   pub within : Within b l
   pub filled : Filled (l .sizes .trees) (l .sizes .elements) (elementsAt b l) t₀ s₀ t s
   pub formed : Wellformed (l .sizes .elements) t s
@@ -104,12 +105,8 @@ module _ (b : List ℕ) (l : Layout) (q : laid b ≡ gives l) where
 
   module _ (h : accepts (l .sizes .trees) (l .sizes .text) (elementsAt b l) ≡ true) where
     trees-there : (ts : List (Tree ℕ)) × (spelled (arraysAt l b) ≡ some ts)
-    unfolding isSome
-    trees-there = go (spelled (arraysAt l b)) refl (sym line-5 ∙ h)
-      where
-        go : (o : Option (List (Tree ℕ))) → spelled (arraysAt l b) ≡ o → isSome o ≡ true → (ts : List (Tree ℕ)) × (spelled (arraysAt l b) ≡ some ts)
-        go none e k = bool-absurd k refl
-        go (some ts) e k = (ts, e)
+    unfolding arraysAt elementsIn
+    trees-there = spells-trees (arraysAt l b) long-both (ap (λ (k : ℕ). accepts (l .sizes .trees) k (elementsAt b l)) long-text ∙ h)
 
     ts : List (Tree ℕ)
     ts = trees-there .0
@@ -145,7 +142,7 @@ module _ (b : List ℕ) (l : Layout) (q : laid b ≡ gives l) where
                 let parts = accepted-parts b l a q accepts in
                 let one : ts ≡ a .trees = some-inj (sym (trees-there .1) ∙ parts .trees) in
                 rw (gives-inj (sym is ∙ q))
-                (record { within = within b l q; filled = f; formed = filled-formed long; what = a; accepted = accepts; told = told ∙ (ap (table 0 0) one ∙ sym (parts .table)) });
+                (record { laid = q; within = within b l q; filled = f; formed = filled-formed long; what = a; accepted = accepts; told = told ∙ (ap (table 0 0) one ∙ sym (parts .table)) });
           }
 
 -- a refusal leaves nothing to say of the slices

@@ -6,11 +6,11 @@ use mathlib.Core.Path.{_≡_, refl, sym, ap, _∙_}
 use Prim.Native.Nat.{ℕ, _+_, _≤_, _<_}
 use native.Mathlib.Omega.{arith}
 use lib.ListN.{length, drop}
-use lib.Dec.{ltb, eqb}
+use lib.Dec.{eqb}
 use mir.Syntax.{w64}
 use mir.Val.{Fits}
 use borrow.Author.Tests.{lt-ltb, le-ltb, eq-eqb, ne-eqb, not-true, not-false}
-use Rattle.definition.specs.Basics.{gives, refused, _>>=_, refuse}
+use Rattle.definition.specs.Basics.{gives, _>>=_, refuse}
 use Rattle.definition.specs.Batch.{sizes, beyond, whole, arrays, batch}
 use Rattle.definition.specs.Words.{word}
 use Rattle.layout.specs.Truth.{or-true}

@@ -1,6 +1,6 @@
 -- Line 6: each answer, from the tests that led there.
 -- Assumes nothing.
-use mathlib.Core.Path.{_≡_, refl, sym, ap, _∙_}
+use mathlib.Core.Path.{_≡_, refl, sym, _∙_}
 use mathlib.Core.Bool.{Bool, true, false, not, _&&_, _||_}
 use mathlib.Core.List.{List, [], _∷_, headD, zip}
 use mathlib.Core.Logic.{inl, inr}

@@ -1,13 +1,12 @@
 -- Line 7: each answer, from the tests that led there.
 -- Assumes nothing.
-use mathlib.Core.Path.{_≡_, refl, sym, ap, _∙_}
+use mathlib.Core.Path.{_≡_}
 use mathlib.Core.Bool.{Bool, true, false, not}
 use mathlib.Core.List.{List}
 use Prim.Native.Nat.{ℕ, suc, _+_, _*_, _≤_, _<_}
-use native.Mathlib.Omega.{arith}
 use lib.ListN.{getD}
-use lib.Dec.{leb, eqb}
-use borrow.Author.Tests.{le-leb, lt-leb, not-true, not-false}
+use lib.Dec.{eqb}
+use borrow.Author.Tests.{le-leb, lt-leb}
 use Rattle.definition.specs.Basics.{any}
 use Rattle.definition.specs.Elements.{isNode}
 use Rattle.definition.specs.Refusals.{wrongMapping}
