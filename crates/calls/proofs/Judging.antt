@@ -14,8 +14,8 @@ use Rattle.definition.specs.Basics.{any, among}
 use Rattle.definition.specs.Elements.{Table, isNode}
 use Rattle.definition.specs.Refusals.{wrongCount, sameParent, wrongRun}
 use Rattle.element_table.specs.View.{view}
-use Rattle.calls.specs.Wellformed.{Wellformed}
-use Rattle.calls.specs.Told.{elementOf, childCount, node-told, parent-told, root-told, child-told, childless-told}
+use Rattle.element_table.specs.Wellformed.{Wellformed}
+use Rattle.element_table.specs.Told.{elementOf, childCount, node-told, parent-told, root-told, child-told, childless-told}
 use Rattle.calls.specs.Fits.{countFits, callFits, runFits}
 
 -- ── Tests ───────────────────────────────────────────────────────────────────────────────────────────────────

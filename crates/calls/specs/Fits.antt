@@ -13,7 +13,7 @@ use Rattle.definition.specs.Basics.{any, among}
 use Rattle.definition.specs.Elements.{Table, node?, root?}
 use Rattle.definition.specs.Refusals.{Call, wrongCount, childless, wrongRun, wrongCall}
 use Rattle.element_table.specs.View.{view}
-use Rattle.calls.specs.Told.{length-view}
+use Rattle.element_table.specs.Told.{length-view}
 
 -- the operation is known, and may list so many elements
 unfoldable pub countFits : ℕ → ℕ → Bool

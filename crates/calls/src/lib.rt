@@ -6,8 +6,8 @@ ghost use lib.ListN.{length, getD};
 ghost use lib.Dec.{eqb};
 ghost use Rattle.definition.specs.Elements.{isNode};
 ghost use Rattle.element_table.specs.View.{view};
-ghost use Rattle.calls.specs.Wellformed.{Wellformed};
-ghost use Rattle.calls.specs.Told.{childCount};
+ghost use Rattle.element_table.specs.Wellformed.{Wellformed};
+ghost use Rattle.element_table.specs.Told.{childCount};
 ghost use Rattle.calls.specs.Fits.{countFits, callFits, runFits};
 
 // Word `k` of element `e` in the element table.

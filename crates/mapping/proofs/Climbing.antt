@@ -12,8 +12,8 @@ use Rattle.definition.specs.Basics.{refused, gives}
 use Rattle.definition.specs.Elements.{Table, parent, child}
 use Rattle.definition.specs.Rewriting.{mappedOr, climb, trail}
 use Rattle.element_table.specs.View.{view}
-use Rattle.calls.specs.Wellformed.{Lines}
-use Rattle.calls.specs.Told.{elementOf, length-view, parent-told, child-told}
+use Rattle.element_table.specs.Wellformed.{Lines}
+use Rattle.element_table.specs.Told.{elementOf, length-view, parent-told, child-told}
 use Rattle.mapping.specs.declared.Climb.{Climb}
 use Rattle.mapping.specs.declared.Climb.the-variants.{Trail, Refused}
 use Rattle.mapping.specs.Mapped.{mappedBy, Mapped}
@@ -93,7 +93,7 @@ parent-before n w x (suc p) L h q z = omega (arith, L .before x h)
 module _ (n : ℕ) (w m : List ℕ) (x₀ r : ℕ) (a : List ℕ) where
   pub climbing-same : x₀ ≡ r → length a ≡ 2049 → Climbed n w m x₀ r (Trail 0) a
   unfolding climbed stepsOf
-  climbing-same e l = record { trail = λ s. rw (backward-none a, trail-none (view n w s) (mappedBy m) x₀ r e); few = omega arith; long = l }
+  climbing-same e l = record { trail = λ s. rw (backward-none a, trail-none (view n w s) (mappedBy m) x₀ r e); few = omega arith; room = omega arith; long = l }
 
   module _ (L : Lines n w) where
     pub climbing-start : (y : ℕ) → (x₀ ≡ r → ⊥) → y ≡ Option·getD (mappedBy m x₀) x₀ → y < n → length a ≡ 2049 → Climbing n w m x₀ r (set a 0 (getD w (8 * y + 2) 0)) y 1
@@ -114,6 +114,7 @@ module _ (n : ℕ) (w m : List ℕ) (x₀ r : ℕ) (a : List ℕ) where
           record {
             trail = λ s. rw e (sym (C .rest s ∙ no-parent (view n w s) (mappedBy m) (n + 1 - k) r x (backward k a) (parent-none n w s x p L (C .here) q z)));
             few = rw e (omega arith);
+            room = rw e (omega arith);
             long = C .long;
           }
 
@@ -124,6 +125,7 @@ module _ (n : ℕ) (w m : List ℕ) (x₀ r : ℕ) (a : List ℕ) where
           record {
             trail = λ s. sym (C .rest s ∙ rw f (no-steps (view n w s) (mappedBy m) r x (p - 1) (backward k a) (parent-some n w s x p L (C .here) q z)));
             few = omega arith;
+            room = omega arith;
             long = C .long;
           }
 
@@ -134,6 +136,7 @@ module _ (n : ℕ) (w m : List ℕ) (x₀ r : ℕ) (a : List ℕ) where
           record {
             trail = λ s. sym (C .rest s ∙ rw f (at-replacement (view n w s) (mappedBy m) (n - k) r x (p - 1) (backward k a) (parent-some n w s x p L (C .here) q z) e));
             few = l;
+            room = omega (arith, C .long, L .few);
             long = C .long;
           }
 

@@ -1,6 +1,6 @@
--- Climbing     the loop of `upmap_to_ancestor`
--- Placing      the loop of `place_below`
--- Descending   the loops of `nth_child` and `descend`, and the landing
+-- Filling    the loop of `fill_mapping`
+-- Climbing   the loop of `upmap_to_ancestor`
+-- Placing    the loop of `place_below`
+pub mod Filling
 pub mod Climbing
 pub mod Placing
-pub mod Descending

@@ -9,8 +9,8 @@ use lib.ListN.{length, getD, set, length-set}
 use Rattle.orders.specs.Tree.{Path}
 use Rattle.definition.specs.Elements.{placeBelow}
 use Rattle.element_table.specs.View.{view}
-use Rattle.calls.specs.Wellformed.{Lines}
-use Rattle.calls.specs.Told.{parent-below, deep}
+use Rattle.element_table.specs.Wellformed.{Lines}
+use Rattle.element_table.specs.Told.{parent-below, deep}
 use Rattle.mapping.specs.declared.Below.the-variants.{Numbers, Elsewhere}
 use Rattle.mapping.specs.Backward.{backward, backward-none, backward-set}
 use Rattle.mapping.specs.Paths.{place-here, place-root, place-up}
@@ -42,7 +42,7 @@ module _ (n : ℕ) (w : List ℕ) (x e : ℕ) (L : Lines n w) (he : e < n) (a : 
     placing-done q =
         record {
           place = λ s. sym (C .rest s ∙ rw (place-here n w s L x at hx (C .here) q));
-          few = C .few;
+          room = omega (arith, C .few, C .long);
           long = C .long;
         }
 
@@ -52,7 +52,7 @@ module _ (n : ℕ) (w : List ℕ) (x e : ℕ) (L : Lines n w) (he : e < n) (a : 
       placing-none y =
           record {
             place = λ s. sym (C .rest s ∙ rw (place-root n w s L x at hx (C .here) z (sym q ∙ y)));
-            few = omega arith;
+            room = omega arith;
             long = C .long;
           }
 

@@ -3,17 +3,15 @@
 use mathlib.Core.List.{List}
 use mathlib.Core.Option.{Option, none, some}
 use mathlib.Core.Path.{_≡_}
-use Prim.Native.Nat.{ℕ, _≤_, _<_}
-use lib.ListN.{length, getElem?}
+use Prim.Native.Nat.{ℕ, _≤_}
+use lib.ListN.{length}
 use Rattle.orders.specs.Tree.{Path}
-use Rattle.definition.specs.Basics.{Answer, refused, gives, orRefuse}
-use Rattle.definition.specs.Elements.{row, placeBelow, descend}
-use Rattle.definition.specs.Rewriting.{trail, land}
+use Rattle.definition.specs.Basics.{Answer, refused, gives}
+use Rattle.definition.specs.Elements.{placeBelow}
+use Rattle.definition.specs.Rewriting.{trail}
 use Rattle.element_table.specs.View.{view}
 use Rattle.mapping.specs.declared.Below.{Below}
 use Rattle.mapping.specs.declared.Below.the-variants.{Numbers, Elsewhere}
-use Rattle.mapping.specs.declared.Found.{Found}
-use Rattle.mapping.specs.declared.Found.the-variants.{At, Missing}
 use Rattle.mapping.specs.declared.Climb.{Climb}
 use Rattle.mapping.specs.declared.Climb.the-variants.{Trail, Refused}
 use Rattle.mapping.specs.Mapped.{mappedBy}
@@ -34,8 +32,12 @@ depthOf Elsewhere = 0
 -- where e stands below x
 pub record Placed (n : ℕ) (table : List ℕ) (x e : ℕ) (answer : Below) (numbers : List ℕ) : Type 0 where
   pub place : (source : List ℕ) → below answer numbers ≡ placeBelow (view n table source) x e
-  pub few : depthOf answer ≤ 64
+  pub room : depthOf answer ≤ length numbers
   pub long : length numbers ≡ 64
+
+pub place-room : {n : ℕ} {table : List ℕ} {x e : ℕ} {answer : Below} {numbers : List ℕ} {k : ℕ} → Placed n table x e answer numbers → answer ≡ Numbers k → k ≤ length numbers
+unfolding depthOf
+place-room P q = rw q at (P .room)
 
 -- ── A climb ─────────────────────────────────────────────────────────────────────────────────────────────────
 
@@ -53,33 +55,9 @@ stepsOf (Refused x) = 0
 pub record Climbed (n : ℕ) (table map : List ℕ) (x r : ℕ) (answer : Climb) (numbers : List ℕ) : Type 0 where
   pub trail : (source : List ℕ) → climbed answer numbers ≡ trail (view n table source) (mappedBy map) x r
   pub few : stepsOf answer ≤ n
+  pub room : stepsOf answer ≤ length numbers
   pub long : length numbers ≡ 2049
 
--- ── The way down ────────────────────────────────────────────────────────────────────────────────────────────
-
-unfoldable pub found : Found → Option ℕ
-found (At e) = some e
-found Missing = none
-
--- what is found is one of n elements
-abbrev pub Within : ℕ → Found → Type 0
-Within n (At e) = e < n
-Within n Missing = Unit
-
-pub within-at : (n : ℕ) (o : Found) (e : ℕ) → Within n o → o ≡ At e → e < n
-within-at n o e h q = rw q at h
-
--- child number i of element e
-pub record FoundChild (n : ℕ) (table source : List ℕ) (e i : ℕ) (answer : Found) : Type 0 where
-  pub child : found answer ≡ getElem? ((row (view n table source) e) .children) i
-  pub within : Within n answer
-
--- the element to which a path leads from r
-pub record Descended (n : ℕ) (table source : List ℕ) (r : ℕ) (path : Path) (answer : Found) : Type 0 where
-  pub element : found answer ≡ descend (view n table source) r path
-  pub within : Within n answer
-
--- where e lands by a path from r; missing is refusal 9
-pub record Landed (n : ℕ) (table source : List ℕ) (e r : ℕ) (path : Path) (answer : Found) : Type 0 where
-  pub landing : (mapped : ℕ → Option ℕ) → orRefuse 9 (found answer) ≡ land (view n table source) mapped e r path
-  pub within : Within n answer
+pub trail-room : {n : ℕ} {table map : List ℕ} {x r : ℕ} {answer : Climb} {numbers : List ℕ} {k : ℕ} → Climbed n table map x r answer numbers → answer ≡ Trail k → (k ≤ n) × (k ≤ length numbers)
+unfolding stepsOf
+trail-room C q = (rw q at (C .few), rw q at (C .room))

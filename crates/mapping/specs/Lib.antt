@@ -1,4 +1,4 @@
--- Mapping elements into a replacement.
+-- Mappings.
 --     Mapped     the mappings as an array by element number
 --     Backward   numbers written to an array from its front on, and read backward
 --     Paths      paths by the element table's words

@@ -13,8 +13,8 @@ use Rattle.orders.specs.Tree.{Path, front, last, strip}
 use Rattle.orders.specs.TreeLaws.{front-child, last-child, strip-append}
 use Rattle.definition.specs.Elements.{row, placeBelow}
 use Rattle.element_table.specs.View.{field, pathTo, rowAt, view}
-use Rattle.calls.specs.Wellformed.{Lines}
-use Rattle.calls.specs.Told.{row-view, parent-below, deep, length-path}
+use Rattle.element_table.specs.Wellformed.{Lines}
+use Rattle.element_table.specs.Told.{row-view, parent-below, deep, length-path}
 
 -- ── The path of an element ──────────────────────────────────────────────────────────────────────────────────
 

@@ -1,12 +1,29 @@
-// Mapping elements into a replacement: the climb from the replaced node, the way down, and where an element lands.
+// Mappings: the mapped node of an element, its place below another, and the climb from a replaced node to its replacement.
 ghost use mathlib.Core.Path.{_≡_};
 ghost use mathlib.Core.Option.{Option·getD};
 ghost use Prim.Native.Nat.{suc, _+_, _*_, _^_, _≤_, _<_};
-ghost use lib.ListN.{length, getD};
-ghost use Rattle.calls.specs.Wellformed.{Lines, Wellformed};
-ghost use Rattle.mapping.specs.Mapped.{mappedBy, Mapped};
-ghost use Rattle.mapping.specs.Backward.{backward};
-ghost use Rattle.mapping.specs.Answers.{Placed, Climbed, FoundChild, Descended, Landed};
+ghost use lib.ListN.{length, getD, drop};
+ghost use mathlib.Core.List.{zip};
+ghost use Rattle.element_table.specs.Wellformed.{Lines};
+ghost use Rattle.definition.specs.Words.{words};
+ghost use Rattle.mapping.specs.Mapped.{mappedBy, Mapped, Bounded, mappingWords};
+ghost use Rattle.mapping.specs.Answers.{Placed, Climbed};
+
+// The array of the `m` mappings of the batch `b` whose inputs and outputs stand at these places: the later mapping of one input wins.
+pub fn fill_mapping(b: &[u8], inputs: usize, outputs: usize, m: usize, map: &mut [u32])
+    requires { ⌜ (inputs + 4 * m ≤ length (now b)) × (outputs + 4 * m ≤ length (now b)) ⌝ }
+    requires { ⌜ Bounded (length (now map)) 2048 (zip (words m (drop inputs (now b))) (words m (drop outputs (now b)))) ⌝ }
+    ensures { λ _. ⌜ now (map .exit) ≡ mappingWords (length (now (map .entry))) (zip (words m (drop inputs (now (b .entry)))) (words m (drop outputs (now (b .entry))))) ⌝ }
+{
+    words::clear(map);
+    let mut i = 0;
+    while i < m {
+        let x = words::read_word(b, inputs + 4 * i);
+        let y = words::read_word(b, outputs + 4 * i);
+        map[x] = (y + 1) as u32;
+        i += 1;
+    }
+}
 
 // The mapped node of element `e`, or `e`.
 pub fn upmap_node_single(map: &[u32], n: usize, e: usize) -> usize
@@ -92,79 +109,4 @@ pub fn upmap_to_ancestor(
         k += 1;
     }
     outcome
-}
-
-// An element, or that there is none.
-pub enum Found {
-    At(usize),
-    Missing,
-}
-
-// Child number `i` of element `e`.
-pub fn nth_child(table: &[u32], source: &[u32], n: usize, e: usize, i: usize) -> Found
-    requires { ⌜ Wellformed n (now table) (now source) ⌝ }
-    requires { ⌜ e < n ⌝ }
-    ensures { λ r. ⌜ FoundChild n (now (table .entry)) (now (source .entry)) e i r ⌝ }
-{
-    if calls::child_count(source, e) <= i {
-        return Found::Missing;
-    }
-    let mut c = e + 1;
-    let mut j: usize = 0;
-    while j < i {
-        c = calls::entry(table, c, 6);
-        j += 1;
-    }
-    Found::At(c)
-}
-
-// The element to which the first `k` child numbers lead from `r`, read backward.
-pub fn descend(
-    table: &[u32],
-    source: &[u32],
-    n: usize,
-    r: usize,
-    numbers: &[u32],
-    k: usize,
-) -> Found
-    requires { ⌜ Wellformed n (now table) (now source) ⌝ }
-    requires { ⌜ (r < n) × (k ≤ length (now numbers)) ⌝ }
-    ensures { λ q. ⌜ Descended n (now (table .entry)) (now (source .entry)) r (backward k (now (numbers .entry))) q ⌝ }
-{
-    let mut at = r;
-    let mut left = k;
-    while 0 < left {
-        left -= 1;
-        let Found::At(c) = nth_child(table, source, n, at, words::word(numbers, left)) else {
-            return Found::Missing;
-        };
-        at = c;
-    }
-    Found::At(at)
-}
-
-// Where `e` lands, down `k` child numbers from `r`: a node lands on no token.
-pub fn land(
-    table: &[u32],
-    source: &[u32],
-    n: usize,
-    e: usize,
-    r: usize,
-    numbers: &[u32],
-    k: usize,
-) -> Found
-    requires { ⌜ Wellformed n (now table) (now source) ⌝ }
-    requires { ⌜ (e < n) × (r < n) × (k ≤ length (now numbers)) ⌝ }
-    ensures { λ q. ⌜ Landed n (now (table .entry)) (now (source .entry)) e r (backward k (now (numbers .entry))) q ⌝ }
-{
-    let Found::At(to) = descend(table, source, n, r, numbers, k) else {
-        return Found::Missing;
-    };
-    if calls::is_node(source, to) {
-        return Found::At(to);
-    }
-    if calls::is_node(source, e) {
-        return Found::Missing;
-    }
-    Found::At(to)
 }
