@@ -1,28 +1,26 @@
 -- A batch that lines 2 to 10 accept: what is then known of its trees, calls, mappings, notes and changes.
 -- Assumes nothing.
 use mathlib.Core.Path.{_≡_, refl, sym, ap, _∙_}
-use mathlib.Core.Bool.{Bool, true, false, cond, not, _&&_, _||_}
-use mathlib.Core.List.{List, [], _∷_, _++_, map, zip, flatMap}
-use mathlib.Core.Option.{Option, none, some, bind}
-use Prim.Native.Nat.{ℕ, zero, suc, _+_, _*_, _≤_, _<_}
+use mathlib.Core.Bool.{Bool, true, false, cond, not, _||_}
+use mathlib.Core.List.{List, zip}
+use mathlib.Core.Option.{none, some}
+use Prim.Native.Nat.{ℕ, zero, suc, _≤_}
 use native.Mathlib.Omega.{arith}
-use lib.Dec.{leb, ltb, eqb}
-use lib.ListN.{length, take, drop, length-drop}
+use lib.Dec.{ltb, eqb}
+use lib.ListN.{length, drop, length-drop}
 use lib.Seq.{drop-drop}
 use borrow.Author.Tests.{ltb-false, eqb-true, not-false}
-use Rattle.orders.specs.Lists.{All, total}
-use Rattle.orders.specs.ListLaws.{bool-absurd, some-inj, none-some, map-some, bind-some, All-map}
-use Rattle.orders.specs.Tree.{Tree, forest, elementsOf, textOf, deepest}
-use Rattle.definition.specs.Basics.{Answer, refused, gives, _>>=_, refuse, orRefuse, any, isSome}
+use Rattle.orders.specs.Lists.{All}
+use Rattle.orders.specs.ListLaws.{some-inj, none-some, bind-some, All-map}
+use Rattle.orders.specs.Tree.{Tree, deepest}
+use Rattle.definition.specs.Basics.{gives, refuse, orRefuse, any}
 use Rattle.definition.specs.Words.{words}
 use Rattle.definition.specs.Batch.{Sizes, sizes, beyond, whole, Batch, arrays, batch}
-use Rattle.definition.specs.Elements.{Table, table, pieces, grow, unspelled, spelled, malformed, startsWithToken}
-use Rattle.definition.specs.Refusals.{Call, calls, countOf, operationOf, wrongCall, wrongMapping, wrongNote, Accepted, accepted}
-use Rattle.definition.specs.Answers.{Plan, plan, performed}
-use Rattle.laws.specs.Basics.{zip-map}
-use Rattle.laws.specs.Answers.{gives-inj, refused-gives, both-given, given, not-wrong, is-there}
+use Rattle.definition.specs.Elements.{table, pieces, grow, unspelled, spelled, malformed, startsWithToken}
+use Rattle.definition.specs.Refusals.{Call, calls, wrongCall, wrongMapping, wrongNote, Accepted, accepted}
+use Rattle.laws.specs.Answers.{gives-inj, both-given, given, not-wrong, is-there}
 use Rattle.laws.specs.Spelling.{Spells, read-spells}
-use Rattle.laws.specs.Right.{Right, neither, none-passes}
+use Rattle.laws.specs.Right.{neither, none-passes}
 
 -- ── Lines 2 to 4 ────────────────────────────────────────────────────────────────────────────────────────────
 

@@ -1,7 +1,7 @@
 -- What is not refused: each part of it was not.
 -- Assumes nothing.
-use mathlib.Core.Path.{_≡_, refl, sym, ap, _∙_}
-use mathlib.Core.Bool.{Bool, true, false, cond}
+use mathlib.Core.Path.{_≡_, refl}
+use mathlib.Core.Bool.{Bool, true, false}
 use mathlib.Core.Option.{Option, none, some, bind}
 use Prim.Native.Nat.{ℕ}
 use native.Mathlib.Omega.{arith}

@@ -4,15 +4,15 @@ use mathlib.Core.Path.{_≡_, refl, sym, ap, _∙_}
 use mathlib.Core.Bool.{Bool, true, false, cond}
 use mathlib.Core.List.{List, [], _∷_, _++_, map, flatMap, append-assoc}
 use mathlib.Core.Option.{Option, none, some, Option·map, Option·getD, bind}
-use Prim.Native.Nat.{ℕ, zero, suc, _+_, _≤_, _<_}
+use Prim.Native.Nat.{ℕ, suc, _+_, _<_}
 use native.Mathlib.Omega.{arith}
 use lib.ListN.{length, take, drop, getElem?, length-map, length-append}
 use lib.Seq.{length-take-le}
 use Rattle.orders.specs.Lists.{All, pick}
 use Rattle.orders.specs.ListLaws.{some-inj, none-some, map-some, bind-some, get-lt, get-left, get-right, get-modify, All-map, All-over, All-pick}
 use Rattle.orders.specs.Tree.{Tree, node, token, list, forest, Path, resolve, adjust, modify, splice, HasRun, elements, children, strip}
-use Rattle.orders.specs.TreeLaws.{list-forest, resolve-at, resolve-forest, resolve-append, run-here, run-child, run-token, adjust-length, strip-some, spliceIn, resolve-splice}
-use Rattle.definition.specs.Basics.{Answer, refused, gives, _>>=_, refuse, orRefuse}
+use Rattle.orders.specs.TreeLaws.{resolve-forest, resolve-append, run-here, run-child, run-token, adjust-length, strip-some, spliceIn, resolve-splice}
+use Rattle.definition.specs.Basics.{gives, refuse, orRefuse}
 use Rattle.definition.specs.Elements.{Table, table, row, descend}
 use Rattle.definition.specs.Planning.{Planned}
 use Rattle.definition.specs.Rewriting.{Note}
@@ -27,7 +27,7 @@ use Rattle.laws.specs.Right.{Right, right-sits}
 use Rattle.laws.specs.Plans.{Planning}
 use Rattle.laws.specs.Running.{top, Follows, follows-begin, place-fits, step-follows}
 use Rattle.laws.specs.Basics.{All-append, All-flatMap}
-use Rattle.laws.specs.Answers.{gives-inj, given, bound, not-wrong, is-there}
+use Rattle.laws.specs.Answers.{gives-inj, given, is-there}
 
 -- a path that leads to an element of a tree, not to the node above all trees
 pub record Leads (t : Tree ℕ) (p : Path) : Type 0 where

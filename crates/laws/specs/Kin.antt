@@ -1,17 +1,17 @@
 -- What the table tells of elements and their kin: paths, parents, children, descents.
 -- Assumes nothing.
 use mathlib.Core.Path.{_≡_, refl, sym, ap, _∙_}
-use mathlib.Core.Bool.{Bool, true, false}
-use mathlib.Core.List.{List, [], _∷_, _++_, map, tail, headD, append-assoc, append-nil}
+use mathlib.Core.Bool.{true, false}
+use mathlib.Core.List.{List, [], _∷_, _++_, headD, append-assoc, append-nil}
 use mathlib.Core.Option.{Option, none, some, Option·map, bind}
-use Prim.Native.Nat.{ℕ, zero, suc, _+_, _≤_, _<_}
+use Prim.Native.Nat.{ℕ, zero, suc, _+_, _<_}
 use native.Mathlib.Omega.{arith}
-use lib.ListN.{length, take, getD, getElem?, length-append}
+use lib.ListN.{length, take, getD, getElem?}
 use Rattle.orders.specs.ListLaws.{bool-absurd, some-inj, none-some, map-some, bind-some, get-lt}
-use Rattle.orders.specs.Tree.{Tree, Trees, node, token, nil, cons, list, forest, label, Path, resolve, elements, elementsOf, textOf, children, last, front, strip}
-use Rattle.orders.specs.TreeLaws.{list-forest, resolve-forest, resolve-at, resolve-child, strip-append, strip-some, front-child, last-child, front-last}
-use Rattle.definition.specs.Elements.{Row, Table, numbers, table, noRow, row, parent, root?, depth, tree, child, placeBelow, descend}
-use Rattle.laws.specs.Rows.{Element, rowOf, before, childOf, elementAt, rootOf, element, table-length, row-element, element-number}
+use Rattle.orders.specs.Tree.{Tree, Trees, node, token, nil, cons, list, forest, label, Path, resolve, elements, elementsOf, textOf, children, last, front}
+use Rattle.orders.specs.TreeLaws.{list-forest, strip-append, strip-some, last-child, front-last}
+use Rattle.definition.specs.Elements.{Table, numbers, table, noRow, row, parent, root?, depth, tree, child, placeBelow, descend}
+use Rattle.laws.specs.Rows.{Element, rowOf, before, childOf, elementAt, rootOf, element, row-element, element-number}
 
 -- ── Down the tree ───────────────────────────────────────────────────────────────────────────────────────────
 

@@ -1,38 +1,37 @@
 -- The sizes of an accepted answer are within document 01's limits, and its bytes are as many as the sizes tell: so 13 cannot come with 61,464 bytes of room.
 -- Assumes nothing.
 use mathlib.Core.Path.{_≡_, refl, sym, ap, _∙_}
-use mathlib.Core.Bool.{Bool, true, false, cond, not, _&&_, _||_}
-use mathlib.Core.List.{List, [], _∷_, _++_, map, flatMap, zip}
+use mathlib.Core.Bool.{Bool, true, false, cond, _&&_}
+use mathlib.Core.List.{List, [], _∷_, map, flatMap, zip}
 use mathlib.Core.Option.{Option, none, some, Option·map}
-use Prim.Native.Nat.{ℕ, zero, suc, _+_, _*_, _≤_, _<_}
+use Prim.Native.Nat.{ℕ, suc, _+_, _*_, _≤_}
 use native.Mathlib.Nat.{mul-le-mul-right}
 use native.Mathlib.Omega.{arith}
-use lib.Dec.{leb, ltb, eqb}
+use lib.Dec.{leb, eqb}
 use lib.ListN.{length, take, drop, length-append, length-drop, length-map, take-append-drop}
 use lib.Seq.{length-take-le}
 use borrow.Author.Tests.{ltb-false, le-ltb, leb-true}
 use Rattle.orders.specs.Lists.{All, pick, more, total}
-use Rattle.orders.specs.ListLaws.{some-inj, none-some, map-some, All-map}
-use Rattle.orders.specs.Tree.{Tree, list, forest, label, measure, text, preorder, Path, adjust, elementsOf, textOf, deepestOf, children}
-use Rattle.orders.specs.TreeLaws.{list-forest, forest-list, elements-append}
+use Rattle.orders.specs.ListLaws.{some-inj, none-some, map-some}
+use Rattle.orders.specs.Tree.{list, forest, label, measure, text, preorder, Path, adjust, elementsOf, textOf, deepestOf, children}
+use Rattle.orders.specs.TreeLaws.{list-forest, forest-list}
 use Rattle.definition.specs.Basics.{Answer, refused, gives, _>>=_, refuse, orRefuse, keep}
 use Rattle.definition.specs.Words.{bytes, written}
 use Rattle.definition.specs.Elements.{Table, table, row, tree}
 use Rattle.definition.specs.Refusals.{Call, calls, countOf, operationOf, Accepted, accepted}
 use Rattle.definition.specs.Planning.{Planned, target, isDiscarded}
 use Rattle.definition.specs.Rewriting.{Note}
-use Rattle.definition.specs.Running.{World, begin, Yield, yield, Run, news, owned, place, placed, spliced, tooLarge, records, step, steps}
+use Rattle.definition.specs.Running.{World, begin, Yield, yield, Run, news, place, placed, spliced, tooLarge, records, step, steps}
 use Rattle.definition.specs.Finishing.{newTree, newTable, numberAt, changedElements, noteElements, Result, result, sixSizes, encoded, fitting}
-use Rattle.definition.specs.Answers.{Plan, plan, performed, atFirst, ran, edit, edited, withWork}
+use Rattle.definition.specs.Answers.{Plan, plan, performed, atFirst, ran, edit}
 use Rattle.laws.specs.Basics.{flatMap-append, total-le}
-use Rattle.laws.specs.Answers.{gives-inj, given, not-wrong, is-there}
-use Rattle.laws.specs.Measures.{textOf-list, text-append, preorder-list-length, deepest-each}
-use Rattle.laws.specs.Spelling.{Spells}
+use Rattle.laws.specs.Answers.{gives-inj, given, not-wrong}
+use Rattle.laws.specs.Measures.{textOf-list, preorder-list-length, deepest-each}
 use Rattle.laws.specs.Rows.{table-length}
 use Rattle.laws.specs.Sorting.{rising-length}
 use Rattle.laws.specs.Right.{Right, neither}
 use Rattle.laws.specs.Stages.{isOwn, performed-own}
-use Rattle.laws.specs.Accepted.{Limited, Sized, Known, accepts}
+use Rattle.laws.specs.Accepted.{Known, accepts}
 use Rattle.laws.specs.Plans.{Planning, checked, plan-known, performed-right}
 use Rattle.laws.specs.Running.{Follows, ran-follows}
 use Rattle.laws.specs.Held.{Holds, ran-holds}

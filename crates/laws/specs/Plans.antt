@@ -1,27 +1,27 @@
 -- A plan, where lines 8 to 10 refuse nothing: its changes, climb steps and notes.
 -- Assumes nothing.
 use mathlib.Core.Path.{_≡_, refl, sym, ap, _∙_}
-use mathlib.Core.Bool.{Bool, true, false, cond, not, _&&_, _||_}
-use mathlib.Core.List.{List, [], _∷_, _++_, map}
+use mathlib.Core.Bool.{Bool, true, false, cond, not, _&&_}
+use mathlib.Core.List.{List, [], _∷_}
 use mathlib.Core.Option.{Option, none, some, Option·getD}
-use Prim.Native.Nat.{ℕ, zero, suc, _+_, _*_, _≤_, _<_}
+use Prim.Native.Nat.{ℕ, zero, suc, _*_, _≤_, _<_}
 use native.Mathlib.Omega.{arith}
-use lib.Dec.{eqb, leb}
+use lib.Dec.{eqb}
 use lib.ListN.{length, length-map}
 use borrow.Author.Tests.{leb-false}
 use Rattle.orders.specs.Lists.{All, total}
 use Rattle.orders.specs.ListLaws.{bool-absurd, some-inj, none-some, All-map}
-use Rattle.orders.specs.Tree.{Tree, Path}
-use Rattle.definition.specs.Basics.{Answer, refused, gives, _>>=_, refuse, orRefuse, isSome, first, any}
-use Rattle.definition.specs.Elements.{Table, table, row, node?, root?, placeBelow, descend}
+use Rattle.orders.specs.Tree.{Tree}
+use Rattle.definition.specs.Basics.{Answer, refused, gives, _>>=_, refuse, orRefuse, isSome}
+use Rattle.definition.specs.Elements.{Table, table, row, node?, placeBelow, descend}
 use Rattle.definition.specs.Refusals.{Call, wrongCall, wrongMapping, wrongNote, Accepted}
 use Rattle.definition.specs.Recording.{Change, change, recorded}
-use Rattle.definition.specs.Planning.{Fate, Planned, sorted, overlap, planned}
+use Rattle.definition.specs.Planning.{Planned, sorted, overlap, planned}
 use Rattle.definition.specs.Rewriting.{mapping, mappedOr, land, rewritten, nearest, isParent, noteFrom, settle, Note, settled}
 use Rattle.definition.specs.Running.{news, ranked}
 use Rattle.definition.specs.Answers.{Plan, plan, performed}
 use Rattle.laws.specs.Basics.{map-All, total-length, total-map, first-passes}
-use Rattle.laws.specs.Answers.{gives-inj, refused-gives, given, not-wrong, is-there}
+use Rattle.laws.specs.Answers.{gives-inj, refused-gives, given, is-there}
 use Rattle.laws.specs.Kin.{descends-place}
 use Rattle.laws.specs.Accepted.{Known}
 use Rattle.laws.specs.Right.{Right, neither, none-passes, change-right, change-lists}

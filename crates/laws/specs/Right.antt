@@ -1,20 +1,20 @@
 -- Calls that line 6 accepts, and the changes made of them: what is known of their targets.
 -- Assumes nothing.
-use mathlib.Core.Path.{_≡_, refl, sym, ap, _∙_}
+use mathlib.Core.Path.{_≡_, refl, ap}
 use mathlib.Core.Bool.{Bool, true, false, cond, not, _&&_, _||_}
-use mathlib.Core.List.{List, [], _∷_, _++_, map, headD, tail, foldl}
+use mathlib.Core.List.{List, [], _∷_, headD, tail}
 use mathlib.Core.Option.{Option, none, some}
-use Prim.Native.Nat.{ℕ, zero, suc, _+_, _≤_, _<_}
+use Prim.Native.Nat.{ℕ, zero, suc, _≤_, _<_}
 use native.Mathlib.Omega.{arith}
 use lib.Dec.{leb, ltb, eqb}
 use lib.ListN.{length}
-use borrow.Author.Tests.{ltb-true, ltb-false, leb-true, leb-false, eqb-true, eqb-false, ne-eqb, not-true, not-false}
+use borrow.Author.Tests.{ltb-false, leb-false, eqb-true, ne-eqb, not-false}
 use Rattle.orders.specs.Lists.{All}
 use Rattle.orders.specs.ListLaws.{bool-absurd, All-map}
 use Rattle.definition.specs.Basics.{any, among}
 use Rattle.definition.specs.Elements.{Table, node?, root?, parent, child}
 use Rattle.definition.specs.Refusals.{Call, wrongCount, sameParent, childless, wrongRun, wrongCall}
-use Rattle.definition.specs.Recording.{Place, firstChild, after, Change, insert, replace, delete, replaceWithMany, replaceAll, run, change, call}
+use Rattle.definition.specs.Recording.{firstChild, after, Change, insert, replace, delete, replaceWithMany, replaceAll, run, change, call}
 use Rattle.definition.specs.Running.{news}
 
 pub neither : (a b : Bool) → (a || b) ≡ false → (a ≡ false) × (b ≡ false)

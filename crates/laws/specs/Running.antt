@@ -4,27 +4,27 @@ use mathlib.Core.Path.{_≡_, refl, sym, ap, _∙_}
 use mathlib.Core.Bool.{Bool, true, false, cond}
 use mathlib.Core.List.{List, [], _∷_, _++_, map, map-map}
 use mathlib.Core.Logic.{_⊎_, inl, inr}
-use mathlib.Core.Option.{Option, none, some, Option·map, Option·getD, bind}
-use Prim.Native.Nat.{ℕ, zero, suc, _+_, _-_, _≤_, _<_}
+use mathlib.Core.Option.{Option, none, some, Option·getD, bind}
+use Prim.Native.Nat.{ℕ, suc, _≤_, _<_}
 use native.Mathlib.Omega.{arith}
-use lib.ListN.{length, take, drop, getD, getElem?, length-map}
+use lib.ListN.{length, take, drop, getElem?, length-map}
 use Rattle.orders.specs.Lists.{All}
-use Rattle.orders.specs.ListLaws.{bool-absurd, some-inj, none-some, map-some, bind-some, get-lt, get-mem, All-mem, lt-or-le, length-modify, length-cut}
+use Rattle.orders.specs.ListLaws.{bool-absurd, some-inj, none-some, bind-some, get-lt, get-mem, All-mem, lt-or-le, length-modify, length-cut}
 use Rattle.orders.specs.Tree.{Tree, Trees, node, token, list, forest, label, Path, resolve, adjust, modify, splice, HasRun, children, last, front, strip}
-use Rattle.orders.specs.TreeLaws.{list-forest, forest-list, resolve-child, resolve-append, front-child, last-child, run-here, label-spliceIn, spliceIn, resolve-splice}
-use Rattle.definition.specs.Basics.{Answer, refused, gives, _>>=_, refuse, orRefuse}
-use Rattle.definition.specs.Elements.{Row, Table, table, isNode, noRow, row, node?, root?, parent, child, tree, depth}
-use Rattle.definition.specs.Recording.{Place, firstChild, after, Change, insert, replace, delete, replaceWithMany, replaceAll}
+use Rattle.orders.specs.TreeLaws.{list-forest, resolve-child, resolve-append, front-child, last-child, run-here, label-spliceIn, spliceIn, resolve-splice}
+use Rattle.definition.specs.Basics.{gives, refuse, orRefuse}
+use Rattle.definition.specs.Elements.{Table, table, isNode, noRow, row, node?, root?, parent, child, tree, depth}
+use Rattle.definition.specs.Recording.{firstChild, after, Change, insert, replace, delete, replaceWithMany, replaceAll}
 use Rattle.definition.specs.Planning.{Planned}
 use Rattle.definition.specs.Rewriting.{Note}
-use Rattle.definition.specs.Running.{World, begin, present, Yield, yieldAt, yield, news, Run, fromTo, emptyAt, place, placed, spliced, tooLarge, records, step, steps}
+use Rattle.definition.specs.Running.{World, begin, present, Yield, yieldAt, yield, news, Run, fromTo, emptyAt, place, spliced, tooLarge, records, step, steps}
 use Rattle.definition.specs.Refusals.{Accepted}
 use Rattle.definition.specs.Answers.{Plan, performed, atFirst, ran}
 use Rattle.laws.specs.Basics.{All-append, All-take, All-drop, All-modify, getD-map}
-use Rattle.laws.specs.Answers.{gives-inj, given, bound, not-wrong, is-there}
+use Rattle.laws.specs.Answers.{gives-inj, given, bound, is-there}
 use Rattle.laws.specs.Spelling.{Worded, worded-list, forest-worded}
-use Rattle.laws.specs.Kin.{IsRoot, IsParent, Kin, path-leads, path-long, path-tells, parent-is, root-is, not-root, depth-path}
-use Rattle.laws.specs.Moves.{Keeps, adjust-keeps, stay-keeps, more-keeps, last-same, front-same}
+use Rattle.laws.specs.Kin.{IsParent, path-leads, path-long, parent-is, root-is, not-root, depth-path}
+use Rattle.laws.specs.Moves.{Keeps, adjust-keeps, stay-keeps, more-keeps}
 use Rattle.laws.specs.Right.{Right, Sits, right-sits}
 
 -- ── Kind words of parts and of spliced trees ────────────────────────────────────────────────────────────────

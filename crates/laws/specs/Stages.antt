@@ -1,27 +1,27 @@
 -- From calls to performed changes: what each stage (recording, sorting, planning, rewriting, ordering) keeps of every change.
 -- Assumes nothing.
-use mathlib.Core.Path.{_≡_, refl, sym, ap, _∙_}
-use mathlib.Core.Bool.{Bool, true, false, cond, not, _&&_, _||_}
-use mathlib.Core.List.{List, [], _∷_, _++_, map, foldl, flatMap, headD, tail}
+use mathlib.Core.Path.{_≡_, refl, ap, _∙_}
+use mathlib.Core.Bool.{Bool, true, false, cond}
+use mathlib.Core.List.{List, [], _∷_, _++_, map, foldl}
 use mathlib.Core.Option.{Option, none, some}
 use Prim.Native.Nat.{ℕ, zero, suc, _+_, _*_, _≤_, _<_}
 use native.Mathlib.Omega.{arith}
 use lib.Dec.{eqb}
-use lib.ListN.{length, getD, length-append}
+use lib.ListN.{length, getD}
 use Rattle.orders.specs.Lists.{All, total}
 use Rattle.orders.specs.Tree.{Path}
-use Rattle.orders.specs.ListLaws.{bool-absurd, All-map}
-use Rattle.definition.specs.Basics.{Answer, refused, gives, _>>=_, refuse, orRefuse, keep, numbered, rising, falling, lower, any}
+use Rattle.orders.specs.ListLaws.{bool-absurd}
+use Rattle.definition.specs.Basics.{Answer, refused, gives, refuse, orRefuse, keep, numbered, rising, falling, lower}
 use Rattle.definition.specs.Elements.{Table, parent, child, placeBelow}
 use Rattle.definition.specs.Refusals.{Call, wrongCall}
-use Rattle.definition.specs.Recording.{Place, firstChild, after, Change, insert, replace, delete, replaceWithMany, replaceAll, run, change, call, merges, merged, merge, queued, Queues, recordCall, recorded}
+use Rattle.definition.specs.Recording.{Change, insert, replace, delete, replaceWithMany, replaceAll, change, call, merges, merged, merge, queued, Queues, recordCall, recorded}
 use Rattle.definition.specs.Planning.{Fate, own, dependent, discarded, Planned, Region, target, sorted, key, fates, planned}
 use Rattle.definition.specs.Rewriting.{replacement, mappedOr, climb, trail, land, moved, retarget, rewriteInto, rewriteOne, rewriting, rewritten}
 use Rattle.definition.specs.Running.{news, owned, ranked, order}
-use Rattle.laws.specs.Basics.{All-append, All-keep, All-flatMap, total-append, total-le, total-zeros, total-flatMap, total-length}
-use Rattle.laws.specs.Answers.{gives-inj, refused-gives, both-given, not-wrong, is-there}
-use Rattle.laws.specs.Sorting.{sort-all, sort-total, sort-length}
-use Rattle.laws.specs.Right.{Right, change-right}
+use Rattle.laws.specs.Basics.{All-append, All-keep, All-flatMap, total-append, total-le, total-zeros, total-flatMap}
+use Rattle.laws.specs.Answers.{gives-inj, refused-gives, both-given, not-wrong}
+use Rattle.laws.specs.Sorting.{sort-all, sort-total}
+use Rattle.laws.specs.Right.{Right}
 
 -- ── Recording ───────────────────────────────────────────────────────────────────────────────────────────────
 
