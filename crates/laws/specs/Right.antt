@@ -11,20 +11,12 @@ use lib.ListN.{length}
 use borrow.Author.Tests.{ltb-false, leb-false, eqb-true, ne-eqb, not-false}
 use Rattle.orders.specs.Lists.{All}
 use Rattle.orders.specs.ListLaws.{bool-absurd, All-map}
+pub use Rattle.orders.specs.ListLaws.{either-false as neither, none-passes}
 use Rattle.definition.specs.Basics.{any, among}
 use Rattle.definition.specs.Elements.{Table, node?, root?, parent, child}
 use Rattle.definition.specs.Refusals.{Call, wrongCount, sameParent, childless, wrongRun, wrongCall}
 use Rattle.definition.specs.Recording.{firstChild, after, Change, insert, replace, delete, replaceWithMany, replaceAll, run, change, call}
 use Rattle.definition.specs.Running.{news}
-
-pub neither : (a b : Bool) → (a || b) ≡ false → (a ≡ false) × (b ≡ false)
-neither true b e = bool-absurd refl e
-neither false b e = (refl, e)
-
-pub none-passes : {A : Type 0} (p : A → Bool) (l : List A) → any p l ≡ false → All (λ x. p x ≡ false) l
-unfolding any
-none-passes p [] e = tt
-none-passes p (x ∷ l) e = let r = neither (p x) (any p l) e in (r .0, none-passes p l (r .1))
 
 -- ── What line 6 tells of a call ─────────────────────────────────────────────────────────────────────────────
 
