@@ -12,7 +12,7 @@ use Rattle.definition.specs.Planning.{Planned, key}
 use Rattle.definition.specs.Running.{owned, ranked, order}
 use Rattle.syntax_editor.specs.ChangeRow.{ChangeRow, rowsOf}
 use Rattle.edit_plan.specs.Lists.{map-numbered, map-keep, map-falling, flatMap-map}
-use Rattle.edit_plan.specs.Rows.{rowAt, rowKey, rowFate, Tells, key-told}
+use Rattle.edit_plan.specs.Rows.{rowAt, rowKey, rowFate}
 use Rattle.edit_plan.specs.Sorting.{rankedPlaces, ranked-places}
 
 -- ── The order of things that have a place and an owner ──────────────────────────────────────────────────────
@@ -63,8 +63,8 @@ order-ordered qs (suc n) o =
 
 -- ── The definition's order ──────────────────────────────────────────────────────────────────────────────────
 
--- things that have a row and a planned change each
-module _ (T : Table) {X : Type 0} (row : X → ChangeRow) (plan : X → Planned) (tells : (x : X) → Tells T (row x) (plan x .change)) (fated : (x : X) → rowFate (row x) ≡ plan x .fate) where
+-- things that have a row and a planned change each, with the same key and fate
+module _ (T : Table) {X : Type 0} (row : X → ChangeRow) (plan : X → Planned) (keys : (x : X) → rowKey (row x) ≡ key T (plan x .change)) (fated : (x : X) → rowFate (row x) ≡ plan x .fate) where
   -- the things with their places, in the order in which they run
   unfoldable pub inOrder : List X → ℕ → List (ℕ × X)
   inOrder xs n = ordered (λ o q. owned o (plan (q .1) .fate)) (λ q. q .0) (falling (λ q. key T (plan (q .1) .change)) (numbered 0 xs)) n none
@@ -96,7 +96,7 @@ module _ (T : Table) {X : Type 0} (row : X → ChangeRow) (plan : X → Planned)
     ranked-told : map rowAtPlace (rankedPlaces w n) ≡ map rowedAt (falling keyed (numbered 0 xs))
     ranked-told =
         ranked-places w n
-        ∙ rw (e, ← map-numbered row 0 xs) (sym (map-falling rowedAt keyed (λ q. rowKey (q .1)) (λ q. sym (key-told (tells (q .1)))) (numbered 0 xs)))
+        ∙ rw (e, ← map-numbered row 0 xs) (sym (map-falling rowedAt keyed (λ q. rowKey (q .1)) (λ q. sym (keys (q .1))) (numbered 0 xs)))
 
     both-told : map rowAtPlace (runningPlaces w n) ≡ map rowedAt (inOrder xs n)
     unfolding inOrder runningPlaces runs ownerTold
