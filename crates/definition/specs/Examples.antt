@@ -2,15 +2,21 @@
 -- Assumes nothing.
 use mathlib.Core.Path.{_≡_, refl}
 use mathlib.Core.List.{List, [], _∷_, _++_, map, flatMap}
+use mathlib.Core.Option.{none, some}
 use Prim.Native.Nat.{ℕ, _+_, _*_}
 use Prim.Native.String.{String}
 use lib.ListN.{length}
 use Rattle.definition.specs.Basics.{Answer, refused, gives, _>>=_}
 use Rattle.definition.specs.Words.{written}
 use Rattle.orders.specs.Tree.{Tree, node, token, forest, label, text, measure, preorder}
-use Rattle.definition.specs.Refusals.{Call}
+use Rattle.orders.specs.Splices.{Splice}
+use Rattle.definition.specs.Refusals.{Call, accepted}
+use Rattle.definition.specs.Recording.{recorded}
+use Rattle.definition.specs.Planning.{Fate, own, discarded, sorted, planned}
 use Rattle.definition.specs.Finishing.{Result}
 use Rattle.definition.specs.Answers.{edit}
+use Rattle.definition.specs.FindElement.{findElement}
+use Rattle.definition.specs.Performed.{splicesOf}
 use Rattle.definition.specs.Printed.{ascii, printed}
 use Rattle.definition.specs.Computing.{computed}
 
@@ -104,17 +110,18 @@ onZ calls = record {
 abbrev Short : Type 0
 Short = Answer (List ℕ × List ℕ × ℕ)
 
+-- that much of an answer
 unfoldable pub short : Answer Result → Short
 short answer = answer >>= λ r. gives (r .text, r .changed, r .discarded)
 
 -- the answer that an example tells
 abbrev becomes : String → List ℕ → ℕ → Short
-becomes text changed discarded = gives (ascii text, changed, discarded)
+becomes new changed lost = gives (ascii new, changed, lost)
 
 -- each marked example, and what is told of it
 abbrev marked : List (Told × Short)
 marked =
-    -- c after X, bind d after X: adcb
+    -- c after X, then d after X: adcb
     (onS (call 1 1 (5 ∷ []) ∷ call 1 1 (7 ∷ []) ∷ []), becomes "adcb" (3 ∷ 4 ∷ []) 0)
     -- Delete X, c after X: b, 1 discarded
     ∷ (onS (call 3 1 [] ∷ call 1 1 (5 ∷ []) ∷ []), becomes "b" [] 1)
@@ -138,9 +145,123 @@ marked =
     ∷ (onZ (call 3 1 [] ∷ call 1 1 (4 ∷ []) ∷ []), refused 11)
     ∷ []
 
--- the table: each marked example gives what is told of it; the printed case has 91 bytes and prints its lines
-pub examples : (map (λ m. short (edit (inBytes (m .0)))) marked ≡ map (λ m. m .1) marked)
+-- ── Further examples ────────────────────────────────────────────────────────────────────────────────────────
+
+-- "Each editor has its own queue": a call that starts a further editor
+abbrev furtherEditor : Call
+furtherEditor = call 6 0 []
+
+-- calls on S with mappings
+abbrev onSWith : List (ℕ × ℕ) → List Call → Told
+onSWith mappings calls = record { trees = S; calls = calls; mappings = mappings; notes = [] }
+
+-- calls on root(P(z), Q(a)), z an empty node: P is 1, z 2, Q 3, a 4; c is 6
+abbrev onP : List Call → Told
+onP calls = record {
+  trees = nodeOf 1 (nodeOf 2 (nodeOf 3 [] ∷ []) ∷ nodeOf 2 (tokenOf 3 "a" ∷ []) ∷ []) ∷ nodeOf 5 (tokenOf 6 "c" ∷ []) ∷ [];
+  calls = calls;
+  mappings = [];
+  notes = [];
+}
+
+-- calls on root(X(Y(a)), b): X is 1, Y 2, a 3, b 4; c is 6, its root 5
+abbrev onY : List Call → Told
+onY calls = record {
+  trees = nodeOf 1 (nodeOf 2 (nodeOf 3 (tokenOf 3 "a" ∷ []) ∷ []) ∷ tokenOf 4 "b" ∷ []) ∷ nodeOf 5 (tokenOf 6 "c" ∷ []) ∷ [];
+  calls = calls;
+  mappings = [];
+  notes = [];
+}
+
+-- X by Q and c after a, on root(X(a), Q(X′(a))) with X mapped to X′: X is 1, a 2, Q 3, X′ 4; c is 7
+abbrev intoQ : Told
+intoQ = record {
+  trees =
+      nodeOf 1 (nodeOf 2 (tokenOf 3 "a" ∷ []) ∷ nodeOf 7 (nodeOf 2 (tokenOf 3 "a" ∷ []) ∷ []) ∷ []) ∷ nodeOf 5 (tokenOf 6 "c" ∷ []) ∷ [];
+  calls = call 2 1 (3 ∷ []) ∷ call 1 2 (7 ∷ []) ∷ [];
+  mappings = (1, 4) ∷ [];
+  notes = [];
+}
+
+-- each further example, and what is told of it
+abbrev further : List (Told × Short)
+further =
+    -- X by many (d), then delete X: 4 does not merge
+    (onS (call 4 1 (7 ∷ []) ∷ call 3 1 [] ∷ []), refused 8)
+    -- replace X by c, a further editor deletes X: queues are not merged
+    ∷ (onS (call 2 1 (5 ∷ []) ∷ furtherEditor ∷ call 3 1 [] ∷ []), refused 8)
+    -- run a to a by c, d after a: recorded as 4, which adds no region on a token
+    ∷ (onS (call 5 2 (2 ∷ 5 ∷ []) ∷ call 1 2 (7 ∷ []) ∷ []), becomes "cdb" (2 ∷ 3 ∷ []) 0)
+    -- c as first child of X
+    ∷ (onS (call 0 1 (5 ∷ []) ∷ []), becomes "cab" (2 ∷ []) 0)
+    -- delete X, c as first child of X: the target parent is X, so the delete sorts first and discards
+    ∷ (onS (call 3 1 [] ∷ call 0 1 (5 ∷ []) ∷ []), becomes "b" [] 1)
+    -- a by c, delete z: peers by depth, not by parent, and the end of a exceeds the start of z. In the other order: no overlap
+    ∷ (onP (call 2 4 (6 ∷ []) ∷ call 3 2 [] ∷ []), refused 8)
+    ∷ (onP (call 3 2 [] ∷ call 2 4 (6 ∷ []) ∷ []), becomes "c" (3 ∷ []) 0)
+    -- delete X, Y by a node, c after a: a discarded replacement discards too
+    ∷ (onY (call 3 1 [] ∷ call 2 2 (5 ∷ []) ∷ call 1 3 (6 ∷ []) ∷ []), becomes "b" [] 2)
+    -- X by R, c after a, X mapped to itself and then to X′: the later mapping wins
+    ∷ (onSWith ((1, 1) ∷ (1, 9) ∷ []) (call 2 1 (8 ∷ []) ∷ call 1 2 (5 ∷ []) ∷ []), becomes "acb" (1 ∷ []) 0)
+    -- the same, X mapped to X′ and R to X: the climb stops at R before R's mapping is looked at
+    ∷ (onSWith ((1, 9) ∷ (8, 1) ∷ []) (call 2 1 (8 ∷ []) ∷ call 1 2 (5 ∷ []) ∷ []), becomes "acb" (1 ∷ []) 0)
+    -- c goes into Q, which stands in tree 0: a dependent change is not recorded
+    ∷ (intoQ, becomes "acac" (1 ∷ []) 0)
+    -- delete b, b as first child of X: its path is lost, so it yields its original
+    ∷ (onS (call 3 3 [] ∷ call 0 1 (3 ∷ []) ∷ []), becomes "ba" (2 ∷ []) 0)
+    ∷ []
+
+-- X by R, X mapped to X′, c after a; notes 2 on a, 1 on b, 2 on X: one climb step, and the notes of X and a move into R
+abbrev withNotes : Told
+withNotes = record {
+  trees = S;
+  calls = call 2 1 (8 ∷ []) ∷ call 1 2 (5 ∷ []) ∷ [];
+  mappings = (1, 9) ∷ [];
+  notes = (2, 2) ∷ (3, 1) ∷ (1, 2) ∷ [];
+}
+
+-- what it prints
+abbrev withNotesLines : String
+withNotesLines = "ok 6 3 1 3 0 1\nn 1 2\nn 7 1\nn 2 2\nt 3 1\nt 6 1\nt 4 1\ntext 616362\nchanged 1\nnote 1 5\nnote 2 3\nnote 2 2\n"
+
+-- the fates of a batch's changes, in sorted order
+unfoldable pub fatesOf : List ℕ → Answer (List Fate)
+fatesOf bytes = accepted bytes >>= λ a. gives (map (λ p. p .fate) (planned a.table (sorted a.table (recorded a.calls))))
+
+-- delete X, delete Y, c after a: a discarded change adds a region too
+abbrev nested : Told
+nested = onY (call 3 1 [] ∷ call 3 2 [] ∷ call 1 3 (6 ∷ []) ∷ [])
+
+-- c after X, then d after X
+abbrev twoAfterX : Told
+twoAfterX = onS (call 1 1 (5 ∷ []) ∷ call 1 1 (7 ∷ []) ∷ [])
+
+-- its splices: both at the empty run before child 1 of the root, numbered as performed
+abbrev twoSplices : List (Splice ℕ)
+twoSplices =
+    record { number = 0; parent = []; from = 1; to = 1; prepared = tokenOf 6 "c" ∷ [] }
+    ∷ record { number = 1; parent = []; from = 1; to = 1; prepared = tokenOf 6 "d" ∷ [] }
+    ∷ []
+
+-- ── The table ───────────────────────────────────────────────────────────────────────────────────────────────
+
+-- what is told of each example
+abbrev told : List (Told × Short) → List Short
+told es = map (λ m. m .1) es
+
+-- the answer to each example
+abbrev answered : List (Told × Short) → List Short
+answered es = map (λ m. short (edit (inBytes (m .0)))) es
+
+-- Each marked example gives what is told of it; the printed case has 91 bytes and prints its lines. So with the further examples; and of `withNotes`
+-- `find_element` finds X (element 1) as X′ (2), and nothing for the token a or for a number of E.
+pub examples : (answered marked ≡ told marked)
     × (length (inBytes printedCase) ≡ 91)
     × (printed (inBytes printedCase) ≡ ascii printedLines)
-unfolding computed short inBytes
-examples = (refl, refl, refl)
+    × (answered further ≡ told further)
+    × (printed (inBytes withNotes) ≡ ascii withNotesLines)
+    × (fatesOf (inBytes nested) ≡ gives (own ∷ discarded 0 ∷ discarded 1 ∷ []))
+    × (splicesOf (inBytes twoAfterX) ≡ gives twoSplices)
+    × (map (findElement [] (inBytes withNotes)) (1 ∷ 2 ∷ 11 ∷ []) ≡ gives (some 2) ∷ gives none ∷ gives none ∷ [])
+unfolding computed short inBytes fatesOf
+examples = (refl, refl, refl, refl, refl, refl, refl, refl)

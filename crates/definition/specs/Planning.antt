@@ -8,7 +8,7 @@ use lib.ListN.{getD, set, replicate}
 use lib.Dec.{leb, ltb, eqb}
 use Rattle.definition.specs.Basics.{keep, first, numbered, rising}
 use Rattle.definition.specs.Elements.{Table, row, node?, root?, depth, tree}
-use Rattle.definition.specs.Recording.{Place, firstChild, after, Change, insert, replace, delete, replaceWithMany, replaceAll}
+use Rattle.definition.specs.Recording.{firstChild, after, Change, insert, replace, delete, replaceWithMany, replaceAll}
 
 -- ── Sorting ─────────────────────────────────────────────────────────────────────────────────────────────────
 
@@ -111,11 +111,15 @@ pub record Region : Type 0 where
   pub to : ℕ
   pub inner : Fate
 
+-- a region "whose range contains" a to b, "ends included"
+abbrev pub contains : ℕ → ℕ → Region → Bool
+contains a b r = leb r.from a && leb b r.to
+
 -- "A change belongs to the last region whose range contains its own, ends included; later regions are removed. If none contains it, the stack is emptied."
 -- (the last region stands first)
 unfoldable pub around : ℕ → ℕ → List Region → List Region
 around a b [] = []
-around a b (r ∷ rs) = cond (leb r.from a && leb b r.to) (r ∷ rs) (around a b rs)
+around a b (r ∷ rs) = cond (contains a b r) (r ∷ rs) (around a b rs)
 
 -- what the last region makes of a change in it
 unfoldable pub fate : List Region → Fate

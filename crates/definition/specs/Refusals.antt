@@ -8,15 +8,16 @@ use lib.ListN.{length, take, drop}
 use lib.Dec.{leb, ltb, eqb}
 use Rattle.orders.specs.Tree.{Tree}
 use Rattle.definition.specs.Basics.{Answer, gives, _>>=_, refuse, orRefuse, any, among}
-use Rattle.definition.specs.Batch.{Batch, batch}
+use Rattle.definition.specs.Batch.{batch}
 use Rattle.definition.specs.Elements.{Table, row, node?, root?, parent, child, spelled, table}
 
 -- ── Calls ───────────────────────────────────────────────────────────────────────────────────────────────────
 
--- "A call word is operation + 256 × listed count."
+-- "A call word is operation + 256 × listed count.": its operation
 unfoldable pub operationOf : ℕ → ℕ
 operationOf word = word % 256
 
+-- its listed count
 unfoldable pub countOf : ℕ → ℕ
 countOf word = word / 256
 

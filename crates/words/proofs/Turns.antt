@@ -7,7 +7,7 @@ use native.Mathlib.Nat.{sub-self}
 use native.Mathlib.Numerals.{add-one}
 use native.Mathlib.Omega.{arith}
 use borrow.Author.Fill.{fill-none, fill-more}
-use lib.ListN.{length, getD, set, take, drop, replicate, length-set, length-drop, drop-of-length-le}
+use lib.ListN.{length, getD, set, drop, replicate, length-set, length-drop, drop-of-length-le}
 use lib.Seq.{paste, paste-zero, paste-suc, length-paste, drop-cons, drop-drop, getD-drop}
 use Rattle.definition.specs.Words.{word, words, bytes, written}
 use Rattle.words.specs.Bytes.{getD-words, length-words, length-written, drop-written, written-cons}
