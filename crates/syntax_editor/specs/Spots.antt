@@ -1,0 +1,91 @@
+-- What planning needs of a change, from the words of the element table.
+-- Assumes nothing.
+use mathlib.Core.Bool.{Bool, true, false, cond, _&&_}
+use mathlib.Core.List.{List, [], _∷_}
+use mathlib.Core.Path.{_≡_, refl, sym, ap, _∙_}
+use Prim.Native.Nat.{ℕ, zero, suc, _+_, _-_, _*_, _^_, _<_}
+use lib.ListN.{getD}
+use lib.Dec.{eqb}
+use Rattle.definition.specs.Elements.{Table, row, node?, root?, depth, tree, isNode}
+use Rattle.definition.specs.Recording.{Change, firstChild, after, insert, replace, delete, replaceWithMany, replaceAll}
+use Rattle.definition.specs.Planning.{target, from, to, above, parentDepth, addsRegion, nodeByNode}
+use Rattle.element_table.specs.View.{view, rowAt, field}
+use Rattle.calls.specs.Wellformed.{Wellformed}
+use Rattle.calls.specs.Told.{row-view, root-told, depth-told, tree-told, node-told}
+use Rattle.syntax_editor.specs.ChangeRow.{regionOf}
+use Rattle.syntax_editor.specs.declared.Spot.{Spot}
+
+-- what planning needs of a change
+unfoldable pub spotOf : Table → Change → Spot
+spotOf T c = record { tree = tree T (target c); from = from T c; to = to T c; depth = parentDepth T c; region = regionOf T c }
+
+-- each number fits a word
+pub record SpotFits (s : Spot) : Type 0 where
+  pub tree : s .tree < 2 ^ 32
+  pub from : s .from < 2 ^ 32
+  pub to : s .to < 2 ^ 32
+  pub depth : s .depth < 2 ^ 32
+  pub region : s .region < 2 ^ 32
+
+-- ── By the words ────────────────────────────────────────────────────────────────────────────────────────────
+
+-- in the tree of x, from word a of x to word b of y
+abbrev pub spotIn : List ℕ → ℕ → ℕ → ℕ → ℕ → ℕ → ℕ → Spot
+spotIn w x a y b d r = record { tree = getD w (8 * x + 7) 0; from = getD w (8 * x + a) 0; to = getD w (8 * y + b) 0; depth = d; region = r }
+
+-- the depth of the parent; of a root, its own
+unfoldable pub aboveWord : List ℕ → ℕ → ℕ
+aboveWord w x = cond (eqb (getD w (8 * x + 1) 0) 0) (getD w (8 * x + 3) 0) (getD w (8 * x + 3) 0 - 1)
+
+-- the region of a change of x, if it is a node: r
+unfoldable pub regionBy : List ℕ → ℕ → ℕ → ℕ
+regionBy s x r = cond (isNode (getD s (3 * suc x) 0)) r 0
+
+module _ (n : ℕ) (w s : List ℕ) (W : Wellformed n w s) (x : ℕ) (h : x < n) where
+  start-told : (row (view n w s) x) .start ≡ getD w (8 * x + 4) 0
+  unfolding rowAt field
+  start-told = rw (row-view n w s x h)
+
+  end-told : (row (view n w s) x) .end ≡ getD w (8 * x + 5) 0
+  unfolding rowAt field
+  end-told = rw (row-view n w s x h)
+
+  above-told : above (view n w s) x ≡ aboveWord w x
+  unfolding above aboveWord
+  above-told = rw (root-told n w s (W .lines) x h, depth-told n w s (W .lines) x h)
+
+module _ (n : ℕ) (w s : List ℕ) (W : Wellformed n w s) (x : ℕ) (h : x < n) where
+  abbrev T : Table
+  T = view n w s
+
+  pub spot-first-child : (l : List ℕ) (d : ℕ) → d ≡ getD w (8 * x + 3) 0 → spotIn w x 4 x 4 d 0 ≡ spotOf T (insert firstChild x l)
+  unfolding spotOf target from to parentDepth regionOf addsRegion nodeByNode
+  spot-first-child l d e = rw (tree-told n w s (W .lines) x h, start-told n w s W x h, depth-told n w s (W .lines) x h, e)
+
+  pub spot-after : (l : List ℕ) (d : ℕ) → d ≡ aboveWord w x → spotIn w x 5 x 5 d 0 ≡ spotOf T (insert after x l)
+  unfolding spotOf target from to parentDepth regionOf addsRegion nodeByNode
+  spot-after l d e = rw (tree-told n w s (W .lines) x h, end-told n w s W x h, above-told n w s W x h, e)
+
+  pub spot-delete : (d r : ℕ) → d ≡ aboveWord w x → r ≡ regionBy s x 1 → spotIn w x 4 x 5 d r ≡ spotOf T (delete x)
+  unfolding spotOf target from to parentDepth regionOf addsRegion nodeByNode regionBy
+  spot-delete d r e g = rw (tree-told n w s (W .lines) x h, start-told n w s W x h, end-told n w s W x h, above-told n w s W x h, node-told n w s x h, e, g)
+
+  pub spot-many : (l : List ℕ) (d r : ℕ) → d ≡ aboveWord w x → r ≡ regionBy s x 1 → spotIn w x 4 x 5 d r ≡ spotOf T (replaceWithMany x l)
+  unfolding spotOf target from to parentDepth regionOf addsRegion nodeByNode regionBy
+  spot-many l d r e g = rw (tree-told n w s (W .lines) x h, start-told n w s W x h, end-told n w s W x h, above-told n w s W x h, node-told n w s x h, e, g)
+
+  module _ (y : ℕ) (k : y < n) where
+    pub spot-replace : (d q r : ℕ) → d ≡ aboveWord w x → q ≡ regionBy s y 1 → r ≡ regionBy s x (suc q) → spotIn w x 4 x 5 d r ≡ spotOf T (replace x y)
+    unfolding spotOf target from to parentDepth regionOf addsRegion nodeByNode regionBy
+    spot-replace d q r e f g =
+        rw (tree-told n w s (W .lines) x h, start-told n w s W x h, end-told n w s W x h, above-told n w s W x h, node-told n w s x h, node-told n w s y k, e, g, f)
+        (ap (λ (z : ℕ). spotIn w x 4 x 5 (aboveWord w x) z) (go (isNode (getD s (3 * suc x) 0)) (isNode (getD s (3 * suc y) 0))))
+      where
+        go : (a b : Bool) → cond a (suc (cond b 1 0)) 0 ≡ cond (a && b) 2 (cond a 1 0)
+        go true true = refl
+        go true false = refl
+        go false b = refl
+
+    pub spot-run : (l : List ℕ) (d : ℕ) → d ≡ aboveWord w x → spotIn w x 4 y 5 d 1 ≡ spotOf T (replaceAll x y l)
+    unfolding spotOf target from to parentDepth regionOf addsRegion nodeByNode
+    spot-run l d e = rw (tree-told n w s (W .lines) x h, start-told n w s W x h, end-told n w s W y k, above-told n w s W x h, e)
