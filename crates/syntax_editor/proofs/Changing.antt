@@ -1,7 +1,7 @@
 -- Each answer of the functions on one change, from the tests that led there.
 -- Assumes nothing.
 use mathlib.Core.Bool.{Bool, true, false, cond}
-use mathlib.Core.List.{List, [], _∷_, _++_}
+use mathlib.Core.List.{List, [], _∷_, _++_, headD}
 use mathlib.Core.Path.{_≡_, refl, sym, ap, _∙_}
 use Prim.Native.Nat.{ℕ, zero, suc, _+_, _-_, _*_, _^_, _≤_, _<_}
 use native.Mathlib.Omega.{arith}
@@ -12,8 +12,11 @@ use borrow.Author.Tests.{eq-eqb, ne-eqb}
 use Rattle.definition.specs.Elements.{isNode}
 use Rattle.words.specs.Parts.{paste-paste}
 use Rattle.syntax_editor.specs.ChangeRow.{rowWords}
-use Rattle.syntax_editor.specs.Numbers.{placeNumber, numbersOf, runAsked, changeAsked, rowWith}
-use Rattle.syntax_editor.specs.Spots.{spotIn, aboveWord, regionBy}
+use Rattle.element_table.specs.View.{view}
+use Rattle.calls.specs.Wellformed.{Wellformed}
+use Rattle.calls.specs.Told.{deep}
+use Rattle.syntax_editor.specs.Numbers.{placeNumber, numbersOf, asChange, runAsked, changeAsked, rowWith}
+use Rattle.syntax_editor.specs.Spots.{spotOf, Named, spotIn, insertionIn, runIn, aboveWord, regionBy, spot-insert, spot-replace, spot-delete, spot-many, spot-run}
 use Rattle.syntax_editor.specs.declared.Place.{Place}
 use Rattle.syntax_editor.specs.declared.Place.the-variants.{FirstChild, After}
 use Rattle.syntax_editor.specs.declared.Listed.{Listed}
@@ -89,6 +92,64 @@ module _ (s : List ℕ) (x r : ℕ) (t : Bool) (f : t ≡ isNode (getD s (3 * su
 
 pub spot-made : (w : List ℕ) (x a y b d r t f u : ℕ) → t ≡ getD w (8 * x + 7) 0 → f ≡ getD w (8 * x + a) 0 → u ≡ getD w (8 * y + b) 0 → _≡_ {A = Spot} (record { tree = t; from = f; to = u; depth = d; region = r }) (spotIn w x a y b d r)
 spot-made w x a y b d r t f u e g h = rw (e, g, h)
+
+-- of an insertion and of a run
+pub insertion-first : (w : List ℕ) {p : Place} (x : ℕ) {d : ℕ} {r : Spot} → p ≡ FirstChild → d ≡ getD w (8 * x + 3) 0 → r ≡ spotIn w x 4 x 4 d 0 → r ≡ insertionIn w p x
+insertion-first w x e f g = rw (e, ← f) g
+
+pub insertion-after : (w : List ℕ) {p : Place} (x : ℕ) {d : ℕ} {r : Spot} → p ≡ After → d ≡ aboveWord w x → r ≡ spotIn w x 5 x 5 d 0 → r ≡ insertionIn w p x
+insertion-after w x e f g = rw (e, ← f) g
+
+pub run-at : (w : List ℕ) (x y : ℕ) {d q : ℕ} {r : Spot} → d ≡ aboveWord w x → r ≡ spotIn w x 4 y 5 d q → r ≡ runIn w x y q
+run-at w x y f g = rw (← f) g
+
+-- ── What a change names stands in the table ─────────────────────────────────────────────────────────────────
+
+module _ {n : ℕ} {w s : List ℕ} {c : Change} (W : Wellformed n w s) (N : Named n c) where
+  named : {d : Change} → c ≡ d → ((numbersOf d) .target < n) × ((numbersOf d) .end < n)
+  named e = (rw e at (N .target), rw e at (N .end))
+
+  pub reach-insert : {p : Place} {x : ℕ} {l : Listed} → c ≡ Insert p x l → (8 * x + 8 ≤ length w) × (0 < getD w (8 * x + 3) 0)
+  reach-insert e = let h = named e .0 in (omega (arith, W .lines .long), deep n w (W .lines) _ h)
+
+  module _ {d : Change} (e : c ≡ d) where
+    -- a replacement of one element
+    abbrev x : ℕ
+    x = (numbersOf d) .target
+
+    pub reach-node : (3 * x + 6 ≤ length s) × (1 < 4)
+    reach-node = let h = named e .0 in (omega (arith, W .long), omega arith)
+
+    pub reach-by : {b : ℕ} → b ≤ 1 → (3 * x + 6 ≤ length s) × (b + 1 < 4)
+    reach-by k = let h = named e .0 in (omega (arith, W .long), omega arith)
+
+    pub reach-one : {q : ℕ} → q ≤ 1 → (8 * x + 8 ≤ length w) × (8 * x + 8 ≤ length w) × (0 < getD w (8 * x + 3) 0) × (q < 4)
+    reach-one k = let h = named e .0 in (omega (arith, W .lines .long), omega (arith, W .lines .long), deep n w (W .lines) x h, omega arith)
+
+    pub reach-two : {b q : ℕ} → b ≤ 1 → q ≤ b + 1 → (8 * x + 8 ≤ length w) × (8 * x + 8 ≤ length w) × (0 < getD w (8 * x + 3) 0) × (q < 4)
+    reach-two j k = let h = named e .0 in (omega (arith, W .lines .long), omega (arith, W .lines .long), deep n w (W .lines) x h, omega arith)
+
+  pub reach-run : {x y : ℕ} {l : Listed} → c ≡ ReplaceAll x y l → (8 * x + 8 ≤ length w) × (8 * y + 8 ≤ length w) × (0 < getD w (8 * x + 3) 0) × (1 < 4)
+  reach-run {x} e = let h = named e in (omega (arith, W .lines .long, h .0), omega (arith, W .lines .long, h .1), deep n w (W .lines) x (h .0), omega arith)
+
+  -- ── and is told as the definition says ────────────────────────────────────────────────────────────────────
+
+  module _ {r : Spot} (y : ℕ) where
+    pub told-insert : {p : Place} {x : ℕ} {l : Listed} → c ≡ Insert p x l → r ≡ insertionIn w p x → r ≡ spotOf (view n w s) (asChange (y ∷ []) c)
+    told-insert {p} {x} e f = rw e (f ∙ spot-insert n w s W x (named e .0) p (y ∷ []))
+
+    pub told-replace : {x at b q : ℕ} → y < n → c ≡ Replace x at → b ≡ regionBy s y 1 → q ≡ regionBy s x (b + 1) → r ≡ runIn w x x q → r ≡ spotOf (view n w s) (asChange (y ∷ []) c)
+    unfolding headD
+    told-replace {x} h e f g k = rw e (k ∙ (rw (g, f) (spot-replace n w s W x (named e .0) y h)))
+
+    pub told-delete : {x at q : ℕ} → c ≡ Delete x at → q ≡ regionBy s x 1 → r ≡ runIn w x x q → r ≡ spotOf (view n w s) (asChange (y ∷ []) c)
+    told-delete {x} e g k = rw e (k ∙ rw g (spot-delete n w s W x (named e .0)))
+
+    pub told-many : {x q : ℕ} {l : Listed} → c ≡ ReplaceWithMany x l → q ≡ regionBy s x 1 → r ≡ runIn w x x q → r ≡ spotOf (view n w s) (asChange (y ∷ []) c)
+    told-many {x} e g k = rw e (k ∙ rw g (spot-many n w s W x (named e .0) (y ∷ [])))
+
+    pub told-run : {x z : ℕ} {l : Listed} → c ≡ ReplaceAll x z l → r ≡ runIn w x z 1 → r ≡ spotOf (view n w s) (asChange (y ∷ []) c)
+    told-run {x} {z} e k = rw e (k ∙ spot-run n w s W x (named e .0) z (named e .1) (y ∷ []))
 
 -- ── A row written ───────────────────────────────────────────────────────────────────────────────────────────
 

@@ -17,15 +17,12 @@ use Rattle.definition.specs.Planning.{target, rank, from, to, parentDepth, adds
 use Rattle.definition.specs.Running.{news}
 use Rattle.syntax_editor.specs.ChangeRow.{ChangeRow, changeRow, operation, endOf, regionOf}
 use Rattle.syntax_editor.specs.Recorded.{newsAt}
+use Rattle.syntax_editor.specs.CallList.{callAs}
 use Rattle.syntax_editor.specs.Numbers.{numbersOf, asChange, rowWith, runAsked, changeAsked, NumbersFit}
 use Rattle.syntax_editor.specs.Spots.{spotOf}
 use Rattle.syntax_editor.specs.declared.Change.{Change}
 use Rattle.syntax_editor.specs.declared.Change.the-variants.{ReplaceWithMany, ReplaceAll}
 use Rattle.syntax_editor.specs.declared.Listed.{Listed}
-
--- a call as the batch has it
-abbrev pub callAs : ℕ → ℕ → List ℕ → Call
-callAs op x l = record { operation = op; target = x; listed = l }
 
 -- the row of one of the code's changes, y the first of its call's listed elements
 unfoldable pub rowOfChange : Table → ℕ → Change → ChangeRow

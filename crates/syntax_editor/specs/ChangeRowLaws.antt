@@ -2,13 +2,13 @@
 -- Assumes nothing.
 use mathlib.Core.Path.{_≡_, refl, sym, ap, _∙_}
 use mathlib.Core.List.{List, [], _∷_, _++_, flatMap, append-assoc, append-nil}
-use Prim.Native.Nat.{ℕ, zero, suc, _+_, _*_, _≤_, _<_}
+use Prim.Native.Nat.{ℕ, zero, suc, _+_, _-_, _*_, _≤_, _<_}
 use native.Mathlib.Nat.{zero-add, suc-add}
 use native.Mathlib.Omega.{arith}
 use borrow.Author.Count.{below-none, below-more}
 use lib.ListN.{length, getD, take, drop, length-drop}
 use lib.Dec.{lit<}
-use lib.Seq.{paste, drop-drop, take-add, take-all, drop-at, ext-getD, length-take-le, getD-take}
+use lib.Seq.{paste, drop-drop, take-add, take-all, take-at, drop-at, getD-at, ext-getD, length-take-le, getD-take}
 use Rattle.syntax_editor.specs.ChangeRow.{ChangeRow, rowWords, rowOf, rowsOf}
 
 -- ── Rows in words ───────────────────────────────────────────────────────────────────────────────────────────
@@ -109,6 +109,20 @@ rows-same w v (suc k) h = rw (rows-to w k, rows-to v k, rows-same w v k (λ j b.
 pub rows-front : (k : ℕ) (w l : List ℕ) → 13 * k ≤ length w → rowsOf k (take (13 * k) w ++ l) ≡ rowsOf k w
 rows-front k w l h = rw (← rows-written k w h) (rows-read (rowsOf k w) l k (length-rowsOf k w))
 
+pub rows-take : (k n : ℕ) (w : List ℕ) → k ≤ n → take k (rowsOf n w) ≡ rowsOf k w
+rows-take k n w h =
+    rw (rows-append k (n - k) n w (omega arith)) (take-at (rowsOf k w) (rowsOf (n - k) (drop (13 * k) w)) k (length-rowsOf k w))
+
+pub rows-drop : (k n : ℕ) (w : List ℕ) → k ≤ n → drop k (rowsOf n w) ≡ rowsOf (n - k) (drop (13 * k) w)
+rows-drop k n w h =
+    rw (rows-append k (n - k) n w (omega arith)) (drop-at (rowsOf k w) (rowsOf (n - k) (drop (13 * k) w)) k (length-rowsOf k w))
+
+-- the row at a place, among n
+pub row-among : (w : List ℕ) (n k : ℕ) (z : ChangeRow) → k < n → getD (rowsOf n w) k z ≡ rowAt w k
+row-among w n k z h =
+    let m : ℕ = n - suc k in
+    rw (rows-append k (suc m) n w (omega arith), rows-from w k m) (getD-at (rowsOf k w) (rowAt w k) (rowsOf m (drop (13 * suc k) w)) z k (length-rowsOf k w))
+
 -- ── A row written at a place: those before it and behind it stay ────────────────────────────────────────────
 
 pub rows-paste : (k m n : ℕ) (w : List ℕ) (r : ChangeRow) → n ≡ k + suc m → 13 * k + 13 ≤ length w
@@ -118,3 +132,12 @@ rows-paste k m n w r e h =
     let f : 13 * suc k ≡ 13 * k + 13 = omega arith in
     let a : paste w (13 * k) (rowWords r) 13 ≡ take (13 * k) w ++ (rowWords r ++ rest) = rw (take-all 13 (rowWords r) (omega (arith, length-row r))) (append-assoc (take (13 * k) w) (rowWords r) rest) in
     rw (a, rows-append k (suc m) n (take (13 * k) w ++ (rowWords r ++ rest)) e, rows-front k w (rowWords r ++ rest) (omega arith), drop-at (take (13 * k) w) (rowWords r ++ rest) (13 * k) (length-take-le (13 * k) w (omega arith)), row-read r rest m, f)
+
+-- the row at k < n written over
+pub row-set : (n k : ℕ) (w : List ℕ) (r : ChangeRow) → k < n → 13 * n ≤ length w → rowsOf n (paste w (13 * k) (rowWords r) 13) ≡ take k (rowsOf n w) ++ (r ∷ drop (suc k) (rowsOf n w))
+row-set n k w r h b = rw (rows-take k n w (omega arith), rows-drop (suc k) n w (omega arith)) (rows-paste k (n - suc k) n w r (omega arith) (omega arith))
+
+-- a row written behind all
+pub row-added : (n : ℕ) (w : List ℕ) (r : ChangeRow) → 13 * n + 13 ≤ length w → rowsOf (n + 1) (paste w (13 * n) (rowWords r) 13) ≡ rowsOf n w ++ (r ∷ [])
+unfolding rowsOf
+row-added n w r b = rows-paste n 0 (n + 1) w r (omega arith) b

@@ -13,6 +13,10 @@ use Rattle.element_table.specs.View.{view, rowAt, field}
 use Rattle.calls.specs.Wellformed.{Wellformed}
 use Rattle.calls.specs.Told.{row-view, root-told, depth-told, tree-told, node-told}
 use Rattle.syntax_editor.specs.ChangeRow.{regionOf}
+use Rattle.syntax_editor.specs.Numbers.{placeOf, numbersOf, asChange}
+use Rattle.syntax_editor.specs.declared.Place.{Place}
+use Rattle.syntax_editor.specs.declared.Place.the-variants.{FirstChild, After}
+use Rattle.syntax_editor.specs.declared.Change as code
 use Rattle.syntax_editor.specs.declared.Spot.{Spot}
 
 -- what planning needs of a change
@@ -27,6 +31,11 @@ pub record SpotFits (s : Spot) : Type 0 where
   pub depth : s .depth < 2 ^ 32
   pub region : s .region < 2 ^ 32
 
+-- the target and the run's end are elements
+pub record Named (n : ℕ) (c : code.Change) : Type 0 where
+  pub target : (numbersOf c) .target < n
+  pub end : (numbersOf c) .end < n
+
 -- ── By the words ────────────────────────────────────────────────────────────────────────────────────────────
 
 -- in the tree of x, from word a of x to word b of y
@@ -36,6 +45,15 @@ spotIn w x a y b d r = record { tree = getD w (8 * x + 7) 0; from = getD w (8 * 
 -- the depth of the parent; of a root, its own
 unfoldable pub aboveWord : List ℕ → ℕ → ℕ
 aboveWord w x = cond (eqb (getD w (8 * x + 1) 0) 0) (getD w (8 * x + 3) 0) (getD w (8 * x + 3) 0 - 1)
+
+-- an insertion there
+abbrev pub insertionIn : List ℕ → Place → ℕ → Spot
+insertionIn w FirstChild x = spotIn w x 4 x 4 (getD w (8 * x + 3) 0) 0
+insertionIn w After x = spotIn w x 5 x 5 (aboveWord w x) 0
+
+-- a replacement of x, or of the run from x to y
+abbrev pub runIn : List ℕ → ℕ → ℕ → ℕ → Spot
+runIn w x y r = spotIn w x 4 y 5 (aboveWord w x) r
 
 -- the region of a change of x, if it is a node: r
 unfoldable pub regionBy : List ℕ → ℕ → ℕ → ℕ
@@ -58,34 +76,31 @@ module _ (n : ℕ) (w s : List ℕ) (W : Wellformed n w s) (x : ℕ) (h : x < n)
   abbrev T : Table
   T = view n w s
 
-  pub spot-first-child : (l : List ℕ) (d : ℕ) → d ≡ getD w (8 * x + 3) 0 → spotIn w x 4 x 4 d 0 ≡ spotOf T (insert firstChild x l)
+  pub spot-insert : (p : Place) (l : List ℕ) → insertionIn w p x ≡ spotOf T (insert (placeOf p) x l)
   unfolding spotOf target from to parentDepth regionOf addsRegion nodeByNode
-  spot-first-child l d e = rw (tree-told n w s (W .lines) x h, start-told n w s W x h, depth-told n w s (W .lines) x h, e)
+  spot-insert FirstChild l = rw (tree-told n w s (W .lines) x h, start-told n w s W x h, depth-told n w s (W .lines) x h)
+  spot-insert After l = rw (tree-told n w s (W .lines) x h, end-told n w s W x h, above-told n w s W x h)
 
-  pub spot-after : (l : List ℕ) (d : ℕ) → d ≡ aboveWord w x → spotIn w x 5 x 5 d 0 ≡ spotOf T (insert after x l)
-  unfolding spotOf target from to parentDepth regionOf addsRegion nodeByNode
-  spot-after l d e = rw (tree-told n w s (W .lines) x h, end-told n w s W x h, above-told n w s W x h, e)
-
-  pub spot-delete : (d r : ℕ) → d ≡ aboveWord w x → r ≡ regionBy s x 1 → spotIn w x 4 x 5 d r ≡ spotOf T (delete x)
+  pub spot-delete : runIn w x x (regionBy s x 1) ≡ spotOf T (delete x)
   unfolding spotOf target from to parentDepth regionOf addsRegion nodeByNode regionBy
-  spot-delete d r e g = rw (tree-told n w s (W .lines) x h, start-told n w s W x h, end-told n w s W x h, above-told n w s W x h, node-told n w s x h, e, g)
+  spot-delete = rw (tree-told n w s (W .lines) x h, start-told n w s W x h, end-told n w s W x h, above-told n w s W x h, node-told n w s x h)
 
-  pub spot-many : (l : List ℕ) (d r : ℕ) → d ≡ aboveWord w x → r ≡ regionBy s x 1 → spotIn w x 4 x 5 d r ≡ spotOf T (replaceWithMany x l)
+  pub spot-many : (l : List ℕ) → runIn w x x (regionBy s x 1) ≡ spotOf T (replaceWithMany x l)
   unfolding spotOf target from to parentDepth regionOf addsRegion nodeByNode regionBy
-  spot-many l d r e g = rw (tree-told n w s (W .lines) x h, start-told n w s W x h, end-told n w s W x h, above-told n w s W x h, node-told n w s x h, e, g)
+  spot-many l = rw (tree-told n w s (W .lines) x h, start-told n w s W x h, end-told n w s W x h, above-told n w s W x h, node-told n w s x h)
 
   module _ (y : ℕ) (k : y < n) where
-    pub spot-replace : (d q r : ℕ) → d ≡ aboveWord w x → q ≡ regionBy s y 1 → r ≡ regionBy s x (suc q) → spotIn w x 4 x 5 d r ≡ spotOf T (replace x y)
+    pub spot-replace : runIn w x x (regionBy s x (regionBy s y 1 + 1)) ≡ spotOf T (replace x y)
     unfolding spotOf target from to parentDepth regionOf addsRegion nodeByNode regionBy
-    spot-replace d q r e f g =
-        rw (tree-told n w s (W .lines) x h, start-told n w s W x h, end-told n w s W x h, above-told n w s W x h, node-told n w s x h, node-told n w s y k, e, g, f)
-        (ap (λ (z : ℕ). spotIn w x 4 x 5 (aboveWord w x) z) (go (isNode (getD s (3 * suc x) 0)) (isNode (getD s (3 * suc y) 0))))
+    spot-replace =
+        rw (tree-told n w s (W .lines) x h, start-told n w s W x h, end-told n w s W x h, above-told n w s W x h, node-told n w s x h, node-told n w s y k)
+        (ap (λ (z : ℕ). runIn w x x z) (go (isNode (getD s (3 * suc x) 0)) (isNode (getD s (3 * suc y) 0))))
       where
-        go : (a b : Bool) → cond a (suc (cond b 1 0)) 0 ≡ cond (a && b) 2 (cond a 1 0)
+        go : (a b : Bool) → cond a (cond b 1 0 + 1) 0 ≡ cond (a && b) 2 (cond a 1 0)
         go true true = refl
         go true false = refl
         go false b = refl
 
-    pub spot-run : (l : List ℕ) (d : ℕ) → d ≡ aboveWord w x → spotIn w x 4 y 5 d 1 ≡ spotOf T (replaceAll x y l)
+    pub spot-run : (l : List ℕ) → runIn w x y 1 ≡ spotOf T (replaceAll x y l)
     unfolding spotOf target from to parentDepth regionOf addsRegion nodeByNode
-    spot-run l d e = rw (tree-told n w s (W .lines) x h, start-told n w s W x h, end-told n w s W y k, above-told n w s W x h, e)
+    spot-run l = rw (tree-told n w s (W .lines) x h, start-told n w s W x h, end-told n w s W y k, above-told n w s W x h)
