@@ -108,6 +108,14 @@ module _ (b : List ℕ) (heads targets calls : ℕ) where
   unfolding words zip zipWith
   calls-none i h = let e : calls - i ≡ 0 = omega arith in rw e
 
+-- the arrays stand within the batch, and keep the limits
+pub record Stands (b : List ℕ) (heads targets calls list listed : ℕ) : Type 0 where
+  pub headsWithin : heads + 4 * calls ≤ length b
+  pub targetsWithin : targets + 4 * calls ≤ length b
+  pub listWithin : list + 4 * listed ≤ length b
+  pub fewCalls : calls ≤ 256
+  pub fewListed : listed ≤ 1024
+
 -- ── One call ────────────────────────────────────────────────────────────────────────────────────────────────
 
 -- what is asked of a call with target x whose k listed elements stand at `from` among the bytes, and at `at` in the batch's list
@@ -115,8 +123,8 @@ pub record CallFits (n : ℕ) (b : List ℕ) (from at k x : ℕ) : Type 0 where
   pub target : x < n
   pub first : headD (words k (drop from b)) 0 < n
   pub inside : from + 4 * k ≤ length b
-  pub place : at < 2 ^ 31
-  pub count : k < 2 ^ 32
+  pub low : at < 2 ^ 31
+  pub few : k < 2 ^ 32
 
 -- a call is recorded: the rows w, of which the present editor's start at `start`, become w′
 pub record CallPut (T : Table) (at : ℕ) (c : Call) (start count : ℕ) (w : List ℕ) (start′ count′ : ℕ) (w′ : List ℕ) : Type 0 where
