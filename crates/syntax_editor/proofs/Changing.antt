@@ -13,8 +13,8 @@ use Rattle.definition.specs.Elements.{isNode}
 use Rattle.words.specs.Parts.{paste-paste}
 use Rattle.syntax_editor.specs.ChangeRow.{rowWords}
 use Rattle.element_table.specs.View.{view}
-use Rattle.calls.specs.Wellformed.{Wellformed}
-use Rattle.calls.specs.Told.{deep}
+use Rattle.element_table.specs.Wellformed.{Wellformed}
+use Rattle.element_table.specs.Told.{deep}
 use Rattle.syntax_editor.specs.Numbers.{placeNumber, numbersOf, asChange, runAsked, changeAsked, rowWith}
 use Rattle.syntax_editor.specs.Spots.{spotOf, Named, spotIn, insertionIn, runIn, aboveWord, regionBy, spot-insert, spot-replace, spot-delete, spot-many, spot-run}
 use Rattle.syntax_editor.specs.declared.Place.{Place}

@@ -25,7 +25,7 @@ use Rattle.syntax_editor.specs.ChangeRow.{changeRow}
 use Rattle.syntax_editor.specs.Numbers.{placeNumber, numbersOf, asChange, runAsked, changeAsked, rowWith, NumbersFit}
 use Rattle.syntax_editor.specs.Spots.{spotOf, Named}
 use Rattle.syntax_editor.specs.Recorded.{newsAt, askedAt, allAsked}
-use Rattle.calls.specs.Wellformed.{Wellformed}
+use Rattle.element_table.specs.Wellformed.{Wellformed}
 use Rattle.syntax_editor.specs.CallList.{callAs, callsOf, Fit, callsFrom, calls-all, calls-more, calls-none, Stands, CallFits, CallPut}
 use Rattle.syntax_editor.specs.Asked.{rowOfChange, row-asked}
 use Rattle.syntax_editor.specs.declared.Place.{Place}

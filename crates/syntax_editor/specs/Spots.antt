@@ -10,8 +10,8 @@ use Rattle.definition.specs.Elements.{Table, row, node?, root?, depth, tree, is
 use Rattle.definition.specs.Recording.{Change, firstChild, after, insert, replace, delete, replaceWithMany, replaceAll}
 use Rattle.definition.specs.Planning.{target, from, to, above, parentDepth, addsRegion, nodeByNode}
 use Rattle.element_table.specs.View.{view, rowAt, field}
-use Rattle.calls.specs.Wellformed.{Wellformed}
-use Rattle.calls.specs.Told.{row-view, root-told, depth-told, tree-told, node-told}
+use Rattle.element_table.specs.Wellformed.{Wellformed}
+use Rattle.element_table.specs.Told.{row-view, root-told, depth-told, tree-told, node-told}
 use Rattle.syntax_editor.specs.ChangeRow.{regionOf}
 use Rattle.syntax_editor.specs.Numbers.{placeOf, numbersOf, asChange}
 use Rattle.syntax_editor.specs.declared.Place.{Place}
