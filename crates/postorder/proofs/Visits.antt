@@ -18,7 +18,8 @@ use Rattle.definition.specs.Planning.{own, dependent, discarded}
 use Rattle.definition.specs.Running.{owned}
 use Rattle.syntax_editor.specs.ChangeRow.{rowOf}
 use Rattle.edit_plan.specs.Lists.{keep-cons}
-use Rattle.edit_plan.specs.Rows.{rowAt, rowFate}
+use Rattle.syntax_editor.specs.ChangeRowLaws.{rowAt}
+use Rattle.edit_plan.specs.Rows.{rowFate}
 use Rattle.edit_plan.specs.Sorting.{rankedPlaces, length-ranked}
 use Rattle.postorder.specs.Order.{ordered, ownerTold, ownedAt, runs, runningPlaces}
 use Rattle.postorder.specs.Counting.{ordered-fewer, runs-most, runs-all}

@@ -15,7 +15,8 @@ use Rattle.definition.specs.Basics.{keep, insertBy}
 use Rattle.definition.specs.Planning.{Fate, own, dependent, discarded}
 use Rattle.definition.specs.Running.{owned}
 use Rattle.edit_plan.specs.Lists.{all, total-le, total-add, total-zero, total-count, total-most, total-swap, length-kept}
-use Rattle.edit_plan.specs.Rows.{rowAt, rowFate}
+use Rattle.syntax_editor.specs.ChangeRowLaws.{rowAt}
+use Rattle.edit_plan.specs.Rows.{rowFate}
 use Rattle.edit_plan.specs.Sorting.{sortFrom, comesAt, rankedPlaces, length-ranked}
 use Rattle.postorder.specs.Order.{ordered, ownerTold, runs, runningPlaces}
 

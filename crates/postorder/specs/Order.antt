@@ -12,7 +12,8 @@ use Rattle.definition.specs.Planning.{Planned, key}
 use Rattle.definition.specs.Running.{owned, ranked, order}
 use Rattle.syntax_editor.specs.ChangeRow.{ChangeRow, rowsOf}
 use Rattle.edit_plan.specs.Lists.{map-numbered, map-keep, map-falling, flatMap-map}
-use Rattle.edit_plan.specs.Rows.{rowAt, rowKey, rowFate}
+use Rattle.syntax_editor.specs.ChangeRowLaws.{rowAt}
+use Rattle.edit_plan.specs.Rows.{rowKey, rowFate}
 use Rattle.edit_plan.specs.Sorting.{rankedPlaces, ranked-places}
 
 -- ── The order of things that have a place and an owner ──────────────────────────────────────────────────────
