@@ -11,7 +11,7 @@ use Rattle.definition.specs.Elements.{Table}
 use Rattle.definition.specs.Planning.{Planned, key}
 use Rattle.definition.specs.Running.{owned, ranked, order}
 use Rattle.syntax_editor.specs.ChangeRow.{ChangeRow, rowsOf}
-use Rattle.edit_plan.specs.Lists.{map-numbered, map-keep, map-falling, flatMap-map}
+use Rattle.edit_plan.specs.Lists.{map-numbered, map-keep, map-falling}
 use Rattle.syntax_editor.specs.ChangeRowLaws.{rowAt}
 use Rattle.edit_plan.specs.Rows.{rowKey, rowFate}
 use Rattle.edit_plan.specs.Sorting.{rankedPlaces, ranked-places}
@@ -42,13 +42,20 @@ runningPlaces w n = runs w (rankedPlaces w n) n 0
 
 -- ── Each thing changed ──────────────────────────────────────────────────────────────────────────────────────
 
+module _ {X Y Z : Type 0} where
+  -- the same lists joined, where each is another's with each element changed
+  pub map-joined : (f : X → Y) (g : X → List X) (g′ : Y → List Z) (h : X → Z) → ((x : X) → map h (g x) ≡ g′ (f x)) → (l : List X) → map h (flatMap g l) ≡ flatMap g′ (map f l)
+  unfolding flatMap
+  map-joined f g g′ h same [] = refl
+  map-joined f g g′ h same (x ∷ l) = map-append h (g x) (flatMap g l) ∙ rw (same x, map-joined f g g′ h same l)
+
 module _ {X Y : Type 0} (f : X → Y) (owns : Option ℕ → X → Bool) (place : X → ℕ) (owns′ : Option ℕ → Y → Bool) (place′ : Y → ℕ)
     (same-owner : (o : Option ℕ) (x : X) → owns o x ≡ owns′ o (f x)) (same-place : (x : X) → place x ≡ place′ (f x)) where
   pub map-ordered : (qs : List X) (n : ℕ) (o : Option ℕ) → map f (ordered owns place qs n o) ≡ ordered owns′ place′ (map f qs) n o
   unfolding ordered
   map-ordered qs zero o = refl
   map-ordered qs (suc n) o =
-      flatMap-map f (λ q. ordered owns place qs n (some (place q)) ++ (q ∷ [])) (λ q. ordered owns′ place′ (map f qs) n (some (place′ q)) ++ (q ∷ [])) f
+      map-joined f (λ q. ordered owns place qs n (some (place q)) ++ (q ∷ [])) (λ q. ordered owns′ place′ (map f qs) n (some (place′ q)) ++ (q ∷ [])) f
       (λ q. map-append f (ordered owns place qs n (some (place q))) (q ∷ []) ∙ rw (map-ordered qs n (some (place q)), same-place q)) (keep (owns o) qs)
       ∙ rw (map-keep f (owns o) (owns′ o) (same-owner o) qs)
 
@@ -57,7 +64,7 @@ pub order-ordered : (qs : List (ℕ × Planned)) (n : ℕ) (o : Option ℕ) → 
 unfolding ordered order
 order-ordered qs zero o = refl
 order-ordered qs (suc n) o =
-    flatMap-map (λ q. q) (λ q. ordered (λ o q. owned o (q .1 .fate)) (λ q. q .0) qs n (some (q .0)) ++ (q ∷ [])) (λ q. order qs n (some (q .0)) ++ (q .1 ∷ [])) (λ q. q .1)
+    map-joined (λ q. q) (λ q. ordered (λ o q. owned o (q .1 .fate)) (λ q. q .0) qs n (some (q .0)) ++ (q ∷ [])) (λ q. order qs n (some (q .0)) ++ (q .1 ∷ [])) (λ q. q .1)
     (λ q. map-append (λ (q : ℕ × Planned). q .1) (ordered (λ o q. owned o (q .1 .fate)) (λ q. q .0) qs n (some (q .0))) (q ∷ []) ∙ rw (order-ordered qs n (some (q .0))))
     (keep (λ q. owned o (q .1 .fate)) qs)
     ∙ rw (map-id (keep (λ q. owned o (q .1 .fate)) qs))
