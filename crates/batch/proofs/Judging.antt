@@ -11,10 +11,10 @@ use Rattle.definition.specs.Basics.{gives, _>>=_, refuse, any}
 use Rattle.definition.specs.Batch.{Batch}
 use Rattle.definition.specs.Refusals.{wrongMapping}
 use Rattle.element_table.specs.View.{view}
-use Rattle.element_table.specs.Spelling.{accepts}
+use Rattle.spelling.specs.Spelling.{accepts}
 use Rattle.element_table.specs.Filling.{Accepted, Filled}
-use Rattle.calls.specs.Wellformed.{Wellformed}
-use Rattle.calls.specs.Told.{length-view}
+use Rattle.element_table.specs.Wellformed.{Wellformed}
+use Rattle.element_table.specs.Told.{length-view}
 use Rattle.layout.specs.Layout.{Within, within, laid, laidOf, arraysAt}
 use Rattle.layout.specs.declared.Layout.{Layout}
 use Rattle.layout.specs.declared.Laid.{Laid}
@@ -22,7 +22,7 @@ use Rattle.layout.specs.declared.Laid.the-variants.{Refused, At}
 use Rattle.refusals.specs.Called.{callsFit}
 use Rattle.refusals.specs.Noted.{noteWrong, note-told}
 use Rattle.batch.specs.Accepting.{named, judged-unlaid}
-use Rattle.batch.specs.Leaving.{elementsAt, Judged, judged-refused, refused-5, filled-formed, judged-left}
+use Rattle.batch.specs.Leaving.{elementsBy, Judged, judged-refused, refused-5, filled-formed, judged-left}
 
 module _ (b : Batch) (n : ℕ) (w s : List ℕ) (l : Layout) (t : Bool) (et : t ≡ callsFit (view n w s) (zip (b .calls) (b .targets)) (b .listed)) where
   pub wrong-calls : not t ≡ true → laidOf (Refused 6) ≡ named b (view n w s) l
@@ -48,19 +48,19 @@ module _ (b : Batch) (n : ℕ) (w s : List ℕ) (l : Layout) (t : Bool) (et : t 
 
 -- ── Line 5 ──────────────────────────────────────────────────────────────────────────────────────────────────
 
-module _ (b : List ℕ) (l : Layout) (t : Bool) (et : t ≡ accepts (l .sizes .trees) (l .sizes .text) (elementsAt b l)) where
+module _ (b : List ℕ) (l : Layout) (t : Bool) (et : t ≡ accepts (l .sizes .trees) (l .sizes .text) (elementsBy l b)) where
   pub wrong-elements : (t₀ s₀ t₁ s₁ : List ℕ) → laid b ≡ gives l → not t ≡ true → Judged b t₀ s₀ t₁ s₁ (Refused 5)
   wrong-elements t₀ s₀ t₁ s₁ q p = judged-refused b t₀ s₀ t₁ s₁ 5 (refused-5 b l q (sym et ∙ not-true t p))
 
-  pub may-fill : Within b l → not t ≡ false → Accepted (l .sizes .trees) (elementsAt b l)
+  pub may-fill : Within b l → not t ≡ false → Accepted (l .sizes .trees) (elementsBy l b)
   may-fill w p = record { bytes = l .sizes .text; few = w .limits .text; accepted = sym et ∙ not-false t p }
 
-  module _ (q : laid b ≡ gives l) (p : not t ≡ false) (t₀ s₀ t₁ s₁ : List ℕ) (f : Filled (l .sizes .trees) (l .sizes .elements) (elementsAt b l) t₀ s₀ t₁ s₁) where
-    pub may-judge : Within b l → 6147 ≤ length s₀ → Wellformed (l .sizes .elements) t₁ s₁
-    may-judge w h = filled-formed b l q (sym et ∙ not-false t p) t₀ s₀ t₁ s₁ f (omega (arith, w .limits .elements))
+  module _ (q : laid b ≡ gives l) (p : not t ≡ false) (t₀ s₀ t₁ s₁ : List ℕ) (f : Filled (l .sizes .trees) (l .sizes .elements) (elementsBy l b) t₀ s₀ t₁ s₁) where
+    pub may-judge : Within b l → 16384 ≤ length t₀ → 6147 ≤ length s₀ → Wellformed (l .sizes .elements) t₁ s₁
+    may-judge w h k = filled-formed b l q (sym et ∙ not-false t p) t₀ s₀ t₁ s₁ f (omega (arith, w .limits .elements)) (omega (arith, w .limits .elements))
 
-    pub judges : Within b l → 6147 ≤ length s₀ → (r : Laid) → laidOf r ≡ named (arraysAt l b) (view (l .sizes .elements) t₁ s₁) l → Judged b t₀ s₀ t₁ s₁ r
-    judges w h r g = judged-left b l q (sym et ∙ not-false t p) t₀ s₀ t₁ s₁ f r g (omega (arith, w .limits .elements))
+    pub judges : Within b l → 16384 ≤ length t₀ → 6147 ≤ length s₀ → (r : Laid) → laidOf r ≡ named (arraysAt l b) (view (l .sizes .elements) t₁ s₁) l → Judged b t₀ s₀ t₁ s₁ r
+    judges w h k r g = judged-left b l q (sym et ∙ not-false t p) t₀ s₀ t₁ s₁ f r g (may-judge w h k)
 
 -- ── Lines 2 to 4 ────────────────────────────────────────────────────────────────────────────────────────────
 

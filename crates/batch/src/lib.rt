@@ -9,7 +9,7 @@ ghost use lib.ListN.{length};
 ghost use Rattle.definition.specs.Basics.{gives, any};
 ghost use Rattle.definition.specs.Refusals.{wrongMapping};
 ghost use Rattle.element_table.specs.View.{view};
-ghost use Rattle.calls.specs.Wellformed.{Wellformed};
+ghost use Rattle.element_table.specs.Wellformed.{Wellformed};
 ghost use Rattle.layout.specs.Layout.{Within, arraysAt, laid, laidOf};
 ghost use Rattle.refusals.specs.Called.{callsFit};
 ghost use Rattle.refusals.specs.Noted.{noteWrong};
@@ -91,7 +91,7 @@ fn judge(b: &[u8], l: Layout, table: &mut [u32], source: &mut [u32]) -> Laid
     let s = l.sizes;
     let kinds = l.kinds;
     let measures = l.measures;
-    if !element_table::spells(b, kinds, measures, s.elements, s.trees, s.text) {
+    if !spelling::spells(b, kinds, measures, s.elements, s.trees, s.text) {
         return Laid::Refused(5);
     }
     element_table::fill(b, kinds, measures, s.elements, s.trees, table, source);

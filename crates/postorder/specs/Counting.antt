@@ -17,7 +17,7 @@ use Rattle.definition.specs.Running.{owned}
 use Rattle.edit_plan.specs.Lists.{all, total-le, total-add, total-zero, total-count, total-most, total-swap, length-kept}
 use Rattle.edit_plan.specs.Rows.{rowAt, rowFate}
 use Rattle.edit_plan.specs.Sorting.{sortFrom, comesAt, rankedPlaces, length-ranked}
-use Rattle.postorder.specs.Order.{ordered, runningPlaces}
+use Rattle.postorder.specs.Order.{ordered, ownerTold, runs, runningPlaces}
 
 -- ── How often a place runs ──────────────────────────────────────────────────────────────────────────────────
 
@@ -142,11 +142,15 @@ times-sorted comes i (suc n) y = rw (times-insert comes y i (sortFrom comes (suc
     go true e h = let q : i ≡ y = eqb-true i y e in omega (arith, times-before comes (suc i) n y (omega arith))
     go false e h = omega arith
 
--- the running order of n rows has at most n places
+-- however many may remain, the running order of n rows has at most n places
+pub runs-most : (w : List ℕ) (n m : ℕ) → length (runs w (rankedPlaces w n) m 0) ≤ n
+unfolding runs ownerTold rankedPlaces
+runs-most w n m =
+    omega (arith, ordered-most (λ k. rowFate (rowAt w k)) (rankedPlaces w n) (λ y. times-sorted (comesAt true w) 0 n y) m, length-ranked w n)
+
 pub running-most : (w : List ℕ) (n : ℕ) → length (runningPlaces w n) ≤ n
-unfolding runningPlaces rankedPlaces
-running-most w n =
-    omega (arith, ordered-most (λ k. rowFate (rowAt w k)) (rankedPlaces w n) (λ y. times-sorted (comesAt true w) 0 n y) n, length-ranked w n)
+unfolding runningPlaces
+running-most w n = runs-most w n n
 
 -- ── Fewer may remain ────────────────────────────────────────────────────────────────────────────────────────
 
@@ -172,3 +176,8 @@ module _ {A : Type 0} (owns : Option ℕ → A → Bool) (place : A → ℕ) (qs
           let e₁ = length-append (sub m q ++ (q ∷ [])) (flatMap (λ q. sub m q ++ (q ∷ [])) ks) in
           let e₂ = length-append (sub m q) (q ∷ []) in
           rw (fewer q (omega arith), go fewer ks (omega arith))
+
+-- as many as there are rows is enough
+pub runs-all : (w : List ℕ) (n : ℕ) → runs w (rankedPlaces w n) (suc n) 0 ≡ runningPlaces w n
+unfolding runningPlaces runs
+runs-all w n = sym (ordered-fewer (λ o k. owned o (rowFate (rowAt w k))) (λ k. k) (rankedPlaces w n) (suc n) n (ownerTold 0) (runs-most w n (suc n)) (omega arith))

@@ -12,7 +12,7 @@ use Rattle.definition.specs.Planning.{Planned, key}
 use Rattle.definition.specs.Running.{owned, ranked, order}
 use Rattle.syntax_editor.specs.ChangeRow.{ChangeRow, rowsOf}
 use Rattle.edit_plan.specs.Lists.{map-numbered, map-keep, map-falling, flatMap-map}
-use Rattle.edit_plan.specs.Rows.{rowAt, rowKey, rowFate, Tells, key-told}
+use Rattle.edit_plan.specs.Rows.{rowAt, rowKey, rowFate}
 use Rattle.edit_plan.specs.Sorting.{rankedPlaces, ranked-places}
 
 -- ── The order of things that have a place and an owner ──────────────────────────────────────────────────────
@@ -22,9 +22,22 @@ unfoldable pub ordered : {A : Type 0} → (Option ℕ → A → Bool) → (A →
 ordered owns place qs zero owner = []
 ordered owns place qs (suc n) owner = flatMap (λ q. ordered owns place qs n (some (place q)) ++ (q ∷ [])) (keep (owns owner) qs)
 
+-- an owner told as one more, 0 if there is none
+unfoldable pub ownerTold : ℕ → Option ℕ
+ownerTold zero = none
+ownerTold (suc k) = some k
+
+-- the row at place k has this owner, told so
+unfoldable pub ownedAt : List ℕ → ℕ → ℕ → Bool
+ownedAt w o k = owned (ownerTold o) (rowFate (rowAt w k))
+
+-- of the places qs, those that have this owner, each after its own dependents; n may remain
+unfoldable pub runs : List ℕ → List ℕ → ℕ → ℕ → List ℕ
+runs w qs n o = ordered (λ o k. owned o (rowFate (rowAt w k))) (λ k. k) qs n (ownerTold o)
+
 -- the places of n rows in the order in which they run
 unfoldable pub runningPlaces : List ℕ → ℕ → List ℕ
-runningPlaces w n = ordered (λ o k. owned o (rowFate (rowAt w k))) (λ k. k) (rankedPlaces w n) n none
+runningPlaces w n = runs w (rankedPlaces w n) n 0
 
 -- ── Each thing changed ──────────────────────────────────────────────────────────────────────────────────────
 
@@ -50,8 +63,8 @@ order-ordered qs (suc n) o =
 
 -- ── The definition's order ──────────────────────────────────────────────────────────────────────────────────
 
--- things that have a row and a planned change each
-module _ (T : Table) {X : Type 0} (row : X → ChangeRow) (plan : X → Planned) (tells : (x : X) → Tells T (row x) (plan x .change)) (fated : (x : X) → rowFate (row x) ≡ plan x .fate) where
+-- things that have a row and a planned change each, with the same key and fate
+module _ (T : Table) {X : Type 0} (row : X → ChangeRow) (plan : X → Planned) (keys : (x : X) → rowKey (row x) ≡ key T (plan x .change)) (fated : (x : X) → rowFate (row x) ≡ plan x .fate) where
   -- the things with their places, in the order in which they run
   unfoldable pub inOrder : List X → ℕ → List (ℕ × X)
   inOrder xs n = ordered (λ o q. owned o (plan (q .1) .fate)) (λ q. q .0) (falling (λ q. key T (plan (q .1) .change)) (numbered 0 xs)) n none
@@ -83,10 +96,10 @@ module _ (T : Table) {X : Type 0} (row : X → ChangeRow) (plan : X → Planned)
     ranked-told : map rowAtPlace (rankedPlaces w n) ≡ map rowedAt (falling keyed (numbered 0 xs))
     ranked-told =
         ranked-places w n
-        ∙ rw (e, ← map-numbered row 0 xs) (sym (map-falling rowedAt keyed (λ q. rowKey (q .1)) (λ q. sym (key-told (tells (q .1)))) (numbered 0 xs)))
+        ∙ rw (e, ← map-numbered row 0 xs) (sym (map-falling rowedAt keyed (λ q. rowKey (q .1)) (λ q. sym (keys (q .1))) (numbered 0 xs)))
 
     both-told : map rowAtPlace (runningPlaces w n) ≡ map rowedAt (inOrder xs n)
-    unfolding inOrder runningPlaces
+    unfolding inOrder runningPlaces runs ownerTold
     both-told =
         let ownsRow : Option ℕ → ℕ × ChangeRow → Bool = λ o q. owned o (rowFate (q .1)) in
         map-ordered rowAtPlace (λ o k. owned o (rowFate (rowAt w k))) (λ k. k) ownsRow (λ q. q .0) (λ o k. refl) (λ k. refl) (rankedPlaces w n) n none

@@ -18,8 +18,9 @@ use Rattle.definition.specs.Refusals.{operationOf, countOf, wrongCount, wrongCa
 use Rattle.words.specs.Bytes.{length-words, take-words, drop-words}
 use Rattle.definition.specs.Elements.{Table}
 use Rattle.element_table.specs.View.{view}
-use Rattle.element_table.proofs.Stack.{elementsFrom, elements-all, elements-none, elements-more}
-use Rattle.calls.specs.Told.{length-view}
+use Rattle.spelling.specs.Spelling.{elementsAt}
+use Rattle.spelling.specs.Stack.{elementsFrom, elements-all, elements-none, elements-more}
+use Rattle.element_table.specs.Told.{length-view}
 use Rattle.calls.specs.Fits.{countFits, callFits, judged}
 use Rattle.laws.specs.Right.{neither, none-passes}
 use Rattle.layout.specs.Truth.{or-true, twice}
@@ -90,6 +91,7 @@ module _ (T : Table) (b : List ℕ) (heads targets calls list listed : ℕ) wher
     pub verdict : judgedAll ≡ callsFit T (elementsFrom b heads targets calls i) (words (listed - taken) (drop (list + 4 * taken) b))
 
   pub calling-start : Calling 0 0
+  unfolding elementsAt
   calling-start =
       let e : listed - 0 ≡ listed = omega arith in
       let f : list + 4 * 0 ≡ list = omega arith in

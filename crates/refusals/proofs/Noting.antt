@@ -11,8 +11,8 @@ use Rattle.definition.specs.Basics.{any}
 use Rattle.definition.specs.Elements.{isNode}
 use Rattle.definition.specs.Refusals.{wrongMapping}
 use Rattle.element_table.specs.View.{view}
-use Rattle.calls.specs.Wellformed.{Wellformed}
-use Rattle.calls.specs.Told.{length-view, node-told, root-told}
+use Rattle.element_table.specs.Wellformed.{Wellformed}
+use Rattle.element_table.specs.Told.{length-view, node-told, root-told}
 use Rattle.layout.specs.Truth.{or-true}
 use Rattle.refusals.specs.Noted.{noteWrong}
 

@@ -12,7 +12,8 @@ use lib.Seq.{drop-cons, drop-drop}
 use borrow.Author.Tests.{le-leb, lt-leb, not-true, not-false}
 use Rattle.definition.specs.Basics.{any}
 use Rattle.definition.specs.Words.{word, words}
-use Rattle.element_table.proofs.Stack.{elementsFrom, elements-all, elements-none, elements-more}
+use Rattle.spelling.specs.Spelling.{elementsAt}
+use Rattle.spelling.specs.Stack.{elementsFrom, elements-all, elements-none, elements-more}
 use Rattle.words.specs.Bytes.{length-words, getD-words}
 
 module _ {A : Type 0} (p : A → Bool) (all : List A) {rest tail : List A} {x : A} (e : rest ≡ x ∷ tail) (v : any p all ≡ any p rest) where
@@ -70,6 +71,7 @@ module _ (p : ℕ × ℕ → Bool) (b : List ℕ) (first second count : ℕ) whe
     pub verdict : any p pairs ≡ any p (elementsFrom b first second count i)
 
   pub pairing-start : Pairing 0
+  unfolding elementsAt
   pairing-start = record { inside = omega arith; verdict = rw elements-all }
 
   module _ {i : ℕ} (v : Pairing i) where

@@ -9,7 +9,7 @@ ghost use Rattle.definition.specs.Basics.{any};
 ghost use Rattle.definition.specs.Words.{words as wordsOf};
 ghost use Rattle.definition.specs.Refusals.{operationOf, countOf, wrongCall, wrongMapping};
 ghost use Rattle.element_table.specs.View.{view};
-ghost use Rattle.calls.specs.Wellformed.{Wellformed};
+ghost use Rattle.element_table.specs.Wellformed.{Wellformed};
 ghost use Rattle.refusals.specs.Called.{callOf, callsFit};
 ghost use Rattle.refusals.specs.Noted.{noteWrong};
 
