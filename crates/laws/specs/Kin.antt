@@ -153,6 +153,7 @@ unfolding elementAt
 elementAt-one d e i g = let (c, a, b) = bind-some (childOf d i) (λ c. some c) g in a ∙ b
 
 module _ (ts : List (Tree ℕ)) where
+  -- what is known of each element of the trees
   abbrev T : Table
   T = table 0 0 ts
 
@@ -253,6 +254,7 @@ module _ (ts : List (Tree ℕ)) where
     pub tree : tree T n ≡ tree T m
     pub child : getElem? ((row T m) .children) (child T n) ≡ some n
 
+  -- what element n is in its tree
   pub data Kin (n : ℕ) : Type 0 where
     root : IsRoot n → Kin n
     below : (m : ℕ) → IsParent m n → Kin n
