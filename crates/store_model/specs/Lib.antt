@@ -1,0 +1,3 @@
+-- One step of the run on rows and marks, and the law that it is the definition's step.
+--     Store      the current trees as rows, elements, notes and changed elements as rows; one step
+pub mod Store
