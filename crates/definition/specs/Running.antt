@@ -137,16 +137,16 @@ tooLarge w =
     let ts = children w.trees in
     ltb 4096 (elementsOf ts) || ltb 16384 (length (textOf ts)) || ltb 1024 (length w.notes) || ltb 64 (deepestOf ts)
 
-module _ (T : Table) (first : World) where
-  -- "Each element that an undependent change puts into tree 0 is recorded as changed"
-  unfoldable pub records : Planned → Bool
-  records p = owned none p.fate && eqb (tree T (target p.change)) 0
+-- "Each element that an undependent change puts into tree 0 is recorded as changed"
+unfoldable pub records : Table → Planned → Bool
+records T p = owned none p.fate && eqb (tree T (target p.change)) 0
 
+module _ (T : Table) (first : World) where
   -- one performed change. 11: "A step's target is gone."
   unfoldable pub step : World → Planned → Answer World
   step w p = do
     r ← orRefuse 11 (place T w p.change)
-    let next = spliced r (map (yield first w) (news p.change)) (records p) w
+    let next = spliced r (map (yield first w) (news p.change)) (records T p) w
     _ ← refuse 12 (tooLarge next)
     gives next
 
