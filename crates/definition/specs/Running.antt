@@ -8,9 +8,9 @@ use lib.ListN.{length, getD}
 use lib.Dec.{ltb, eqb}
 use Rattle.orders.specs.Lists.{pick}
 use Rattle.orders.specs.Tree.{Tree, node, token, forest, Path, resolve, splice, adjust, elementsOf, textOf, deepestOf, children, last, front, strip}
-use Rattle.definition.specs.Basics.{Answer, refused, gives, _>>=_, refuse, orRefuse, keep, numbered, falling}
-use Rattle.definition.specs.Elements.{Table, Row, row, root?, tree}
-use Rattle.definition.specs.Recording.{Place, firstChild, after, Change, insert, replace, delete, replaceWithMany, replaceAll}
+use Rattle.definition.specs.Basics.{Answer, gives, _>>=_, refuse, orRefuse, keep, numbered, falling}
+use Rattle.definition.specs.Elements.{Table, row, root?, tree}
+use Rattle.definition.specs.Recording.{firstChild, after, Change, insert, replace, delete, replaceWithMany, replaceAll}
 use Rattle.definition.specs.Planning.{Fate, own, dependent, discarded, Planned, target, key}
 use Rattle.definition.specs.Rewriting.{Note}
 

@@ -1,17 +1,17 @@
 -- What the table tells of elements and their kin: paths, parents, children, descents.
 -- Assumes nothing.
 use mathlib.Core.Path.{_≡_, refl, sym, ap, _∙_}
-use mathlib.Core.Bool.{Bool, true, false}
-use mathlib.Core.List.{List, [], _∷_, _++_, map, tail, headD, append-assoc, append-nil}
+use mathlib.Core.Bool.{true, false}
+use mathlib.Core.List.{List, [], _∷_, _++_, headD, append-assoc, append-nil}
 use mathlib.Core.Option.{Option, none, some, Option·map, bind}
-use Prim.Native.Nat.{ℕ, zero, suc, _+_, _≤_, _<_}
+use Prim.Native.Nat.{ℕ, zero, suc, _+_, _<_}
 use native.Mathlib.Omega.{arith}
-use lib.ListN.{length, take, getD, getElem?, length-append}
+use lib.ListN.{length, take, getD, getElem?}
 use Rattle.orders.specs.ListLaws.{bool-absurd, some-inj, none-some, map-some, bind-some, get-lt}
-use Rattle.orders.specs.Tree.{Tree, Trees, node, token, nil, cons, list, forest, label, Path, resolve, elements, elementsOf, textOf, children, last, front, strip}
-use Rattle.orders.specs.TreeLaws.{list-forest, resolve-forest, resolve-at, resolve-child, strip-append, strip-some, front-child, last-child, front-last}
-use Rattle.definition.specs.Elements.{Row, Table, numbers, table, noRow, row, parent, root?, depth, tree, child, placeBelow, descend}
-use Rattle.laws.specs.Rows.{Element, rowOf, before, childOf, elementAt, rootOf, element, table-length, row-element, element-number}
+use Rattle.orders.specs.Tree.{Tree, Trees, node, token, nil, cons, list, forest, label, Path, resolve, elements, elementsOf, textOf, children, last, front}
+use Rattle.orders.specs.TreeLaws.{list-forest, strip-append, strip-some, last-child, front-last}
+use Rattle.definition.specs.Elements.{Table, numbers, table, noRow, row, parent, root?, depth, tree, child, placeBelow, descend}
+use Rattle.laws.specs.Rows.{Element, rowOf, before, childOf, elementAt, rootOf, element, row-element, element-number}
 
 -- ── Down the tree ───────────────────────────────────────────────────────────────────────────────────────────
 
@@ -62,7 +62,7 @@ element-path ts (t ∷ p) e g =
     let (c, f, h) = map-some _ (getElem? ts t) a in
     elementAt-path r e p b ∙ ap (λ x. x .path ++ p) (sym h)
 
-resolve-down : (i : ℕ) (p : Path) (t : Tree ℕ) → resolve (i ∷ p) t ≡ bind (getElem? (list (children t)) i) (λ c. resolve p c)
+pub resolve-down : (i : ℕ) (p : Path) (t : Tree ℕ) → resolve (i ∷ p) t ≡ bind (getElem? (list (children t)) i) (λ c. resolve p c)
 unfolding resolve children list bind
 resolve-down i p (node w cs) = refl
 resolve-down i p (token w own) = refl
@@ -174,6 +174,15 @@ module _ (ts : List (Tree ℕ)) where
       go : (p : Path) (e : Element) → element ts p ≡ some e → (x : Tree ℕ) × (resolve p (node w (forest ts)) ≡ some x) × (label x ≡ label e.tree)
       go [] e g = none-some g
       go (t ∷ p) e g = (e .tree, sym (element-tree ts t p w) ∙ ap (Option·map (λ d. d .tree)) g, refl)
+
+  -- it is not empty
+  pub path-long : (n : ℕ) → n < length T → 0 < length ((row T n) .path)
+  unfolding rowOf element
+  path-long n h = let s = stands n h in rw (s .told) (go (s .here .path) (s .here) (s .at))
+    where
+      go : (p : Path) (e : Element) → element ts p ≡ some e → 0 < length p
+      go [] e g = none-some g
+      go (t ∷ p) e g = omega arith
 
   -- two elements have two paths
   pub path-tells : (m n : ℕ) → m < length T → n < length T → (row T m) .path ≡ (row T n) .path → m ≡ n

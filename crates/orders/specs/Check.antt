@@ -1,105 +1,141 @@
--- A test for `Sound` that computes, and that it is right where it says yes.
+-- A test that says just whether splices are all apart.
 -- Assumes nothing.
-use mathlib.Core.Path.{_≡_, refl}
+use mathlib.Core.Path.{_≡_, refl, sym, _∙_}
 use mathlib.Core.Bool.{Bool, true, false, not, _&&_}
-use mathlib.Core.List.{List, [], _∷_, _++_}
+use mathlib.Core.List.{List, [], _∷_, head-eq-of-cons-eq, tail-eq-of-cons-eq, nil≢cons, cons≢nil}
+use mathlib.Core.Logic.{_↔_}
 use mathlib.Core.Option.{Option, none, some}
 use Prim.Native.Nat.{ℕ, _≤_, _<_}
+use native.Mathlib.Omega.{arith}
 use lib.ListN.{length}
 use lib.Dec.{leb, ltb, eqb}
-use borrow.Author.Tests.{leb-true, lt-ltb, le-leb, eqb-false, eq-eqb, not-true}
+use borrow.Author.Tests.{leb-true, ltb-true, eqb-true, le-leb, lt-ltb, eq-eqb}
 use Rattle.orders.specs.Lists.{All, Pairs}
-use Rattle.orders.specs.Tree.{Tree, node, token, list, resolve, Path}
-use Rattle.orders.specs.ListLaws.{bool-absurd, both-true}
-use Rattle.orders.specs.Splices.{Splice, samePath, Enters, Fits, Apart, Sound}
+use Rattle.orders.specs.Tree.{Tree, node, token, list, Path, resolve, HasRun}
+use Rattle.orders.specs.Splices.{samePath, Splice, under, Enters, Fits, Apart, AllApart}
+use Rattle.orders.specs.ListLaws.{bool-absurd, both-true, none-some}
 
-each : {X : Type 0} → (X → Bool) → List X → Bool
+-- ── The test ────────────────────────────────────────────────────────────────────────────────────────────────
+
+-- each element passes
+unfoldable pub each : {X : Type 0} → (X → Bool) → List X → Bool
 each p [] = true
 each p (x ∷ l) = p x && each p l
 
-pairs : {X : Type 0} → (X → X → Bool) → List X → Bool
+-- each element passes with each later one
+unfoldable pub pairs : {X : Type 0} → (X → X → Bool) → List X → Bool
 pairs p [] = true
 pairs p (x ∷ l) = each (p x) l && pairs p l
 
-module _ {X : Type 0} where
-  each-All : (p : X → Bool) (P : X → Type 0) → ((x : X) → p x ≡ true → P x) → (l : List X) → each p l ≡ true → All P l
-  unfolding each
-  each-All p P k [] e = tt
-  each-All p P k (x ∷ l) e = let r = both-true (p x) (each p l) e in (k x (r .0), each-All p P k l (r .1))
-
-  pairs-Pairs : (p : X → X → Bool) (R : X → X → Type 0) → ((x y : X) → p x y ≡ true → R x y) → (l : List X) → pairs p l ≡ true → Pairs R l
-  unfolding pairs
-  pairs-Pairs p R k [] e = tt
-  pairs-Pairs p R k (x ∷ l) e = let r = both-true (each (p x) l) (pairs p l) e in (each-All (p x) (R x) (k x) l (r .0), pairs-Pairs p R k l (r .1))
-
 -- the path e enters one of the children a to b - 1 of the element at p
-enters? : Path → ℕ → ℕ → Path → Bool
+unfoldable pub enters? : Path → ℕ → ℕ → Path → Bool
 enters? p a b [] = false
 enters? [] a b (i ∷ e) = leb a i && ltb i b
 enters? (j ∷ p) a b (i ∷ e) = eqb i j && enters? p a b e
 
-enters-in : (p : Path) (a b c : ℕ) (r : Path) → a ≤ c → c < b → enters? p a b (p ++ (c ∷ r)) ≡ true
-unfolding enters?
-enters-in [] a b c r h k = rw (le-leb a c h, lt-ltb c b k)
-enters-in (j ∷ p) a b c r h k = rw (eq-eqb j j refl, enters-in p a b c r h k)
+module _ {A : Type 0} where
+  -- a..b is a run of the children of what a path led to
+  unfoldable pub run? : ℕ → ℕ → Option (Tree A) → Bool
+  run? a b none = false
+  run? a b (some (token w text)) = false
+  run? a b (some (node w cs)) = leb a b && leb b (length (list cs))
 
-same-refl : (p : Path) → samePath p p ≡ true
+  -- s fits the old tree
+  unfoldable pub fits? : Tree A → Splice A → Bool
+  fits? old s = run? (s .from) (s .to) (resolve (s .parent) old)
+
+  -- two splices are apart
+  unfoldable pub apart? : Splice A → Splice A → Bool
+  apart? s t =
+      not (eqb (s .number) (t .number))
+      && (not (enters? (s .parent) (s .from) (s .to) (t .parent))
+      && (not (enters? (t .parent) (t .from) (t .to) (s .parent))
+      && not (samePath (s .parent) (t .parent) && (ltb (s .from) (t .to) && ltb (t .from) (s .to)))))
+
+  -- splices of the old tree are all apart
+  unfoldable pub allApart? : Tree A → List (Splice A) → Bool
+  allApart? old S = each (fits? old) S && pairs apart? S
+
+-- ── It is right ─────────────────────────────────────────────────────────────────────────────────────────────
+
+-- b says just whether P
+abbrev Says : Bool → Type 0 → Type 0
+Says b P = (b ≡ true) ↔ P
+
+says-both : {P Q : Type 0} (a b : Bool) → Says a P → Says b Q → Says (a && b) (P × Q)
+says-both a b h k = (λ e. let r = both-true a b e in (h .0 (r .0), k .0 (r .1)), λ z. rw (h .1 (z .0), k .1 (z .1)))
+
+says-not : {P : Type 0} (a : Bool) → Says a P → Says (not a) (¬ P)
+says-not true h = (λ e. bool-absurd e refl, λ n. absurd (n (h .0 refl)))
+says-not false h = (λ e z. bool-absurd (h .1 z) refl, λ n. refl)
+
+says-leb : (a b : ℕ) → Says (leb a b) (a ≤ b)
+says-leb a b = (leb-true a b, le-leb a b)
+
+says-ltb : (a b : ℕ) → Says (ltb a b) (a < b)
+says-ltb a b = (ltb-true a b, lt-ltb a b)
+
+says-eqb : (a b : ℕ) → Says (eqb a b) (a ≡ b)
+says-eqb a b = (eqb-true a b, eq-eqb a b)
+
+says-each : {X : Type 0} (p : X → Bool) (P : X → Type 0) → ((x : X) → Says (p x) (P x)) → (l : List X) → Says (each p l) (All P l)
+unfolding each
+says-each p P k [] = (λ e. tt, λ h. refl)
+says-each p P k (x ∷ l) = says-both (p x) (each p l) (k x) (says-each p P k l)
+
+says-pairs : {X : Type 0} (p : X → X → Bool) (R : X → X → Type 0) → ((x y : X) → Says (p x y) (R x y)) → (l : List X) → Says (pairs p l) (Pairs R l)
+unfolding pairs
+says-pairs p R k [] = (λ e. tt, λ h. refl)
+says-pairs p R k (x ∷ l) = says-both (each (p x) l) (pairs p l) (says-each (p x) (R x) (k x) l) (says-pairs p R k l)
+
+says-same : (p q : Path) → Says (samePath p q) (p ≡ q)
 unfolding samePath
-same-refl [] = refl
-same-refl (i ∷ p) = rw (eq-eqb i i refl, same-refl p)
+says-same [] [] = (λ e. refl, λ z. refl)
+says-same [] (j ∷ q) = (λ e. bool-absurd e refl, λ z. absurd (nil≢cons z))
+says-same (i ∷ p) [] = (λ e. bool-absurd e refl, λ z. absurd (cons≢nil z))
+says-same (i ∷ p) (j ∷ q) =
+    let r = says-both (eqb i j) (samePath p q) (says-eqb i j) (says-same p q) in
+    (λ e. let z = r .0 e in cc (z .0, z .1), λ z. r .1 (head-eq-of-cons-eq z, tail-eq-of-cons-eq z))
 
 module _ {A : Type 0} where
-  fits-node? : Splice A → Option (Tree A) → Bool
-  fits-node? s none = false
-  fits-node? s (some (token a text)) = false
-  fits-node? s (some (node a cs)) = leb (s .from) (s .to) && leb (s .to) (length (list cs))
+  says-enters : (s : Splice A) (e p : Path) → Says (enters? p (s .from) (s .to) e) (Enters (under p s) e)
+  unfolding enters? under
+  says-enters s [] [] = (λ z. bool-absurd z refl, λ h. absurd (nil≢cons (h .leads)))
+  says-enters s [] (j ∷ p) = (λ z. bool-absurd z refl, λ h. absurd (nil≢cons (h .leads)))
+  says-enters s (i ∷ e) [] =
+      let r = says-both (leb (s .from) i) (ltb i (s .to)) (says-leb (s .from) i) (says-ltb i (s .to)) in
+      (λ z. record { child = i; rest = e; leads = refl; low = r .0 z .0; high = r .0 z .1 }, λ h. let c : i ≡ h .child = head-eq-of-cons-eq (h .leads) in r .1 (rw c (h .low), rw c (h .high)))
+  says-enters s (i ∷ e) (j ∷ p) =
+      let r = says-both (eqb i j) (enters? p (s .from) (s .to) e) (says-eqb i j) (says-enters s e p) in (
+        λ z. let (x, y) = r .0 z in record { child = y .child; rest = y .rest; leads = cc (x, y .leads); low = y .low; high = y .high },
+        λ h. r .1 (head-eq-of-cons-eq (h .leads), record { child = h .child; rest = h .rest; leads = tail-eq-of-cons-eq (h .leads); low = h .low; high = h .high }),
+      )
 
-  unfoldable pub fits? : Tree A → Splice A → Bool
-  unfolding fits-node?
-  fits? old s = fits-node? s (resolve (s .parent) old)
-
-  fits-true : (old : Tree A) (s : Splice A) → fits? old s ≡ true → Fits old s
-  unfolding fits? fits-node?
-  fits-true old s e = go (resolve (s .parent) old) refl e
+  says-run : (old : Tree A) (p : Path) (a b : ℕ) → Says (run? a b (resolve p old)) (HasRun old p a b)
+  unfolding run?
+  says-run old p a b = go (resolve p old) refl
     where
-      go : (o : Option (Tree A)) → resolve (s .parent) old ≡ o → fits-node? s o ≡ true → Fits old s
-      go none f z = bool-absurd z refl
-      go (some (token a text)) f z = bool-absurd z refl
-      go (some (node a cs)) f z = let r = both-true (leb (s .from) (s .to)) (leb (s .to) (length (list cs))) z in
-          record { kind = a; children = cs; found = f; ordered = leb-true _ _ (r .0); within = leb-true _ _ (r .1) }
+      go : (o : Option (Tree A)) → resolve p old ≡ o → Says (run? a b o) (HasRun old p a b)
+      go none f = (λ e. bool-absurd e refl, λ h. none-some (sym f ∙ h .found))
+      go (some (token w text)) f = (λ e. bool-absurd e refl, λ h. let z : _≡_ {A = ℕ} 0 1 = cc (f, h .found) in absurd (omega arith))
+      go (some (node w cs)) f =
+          let r = says-both (leb a b) (leb b (length (list cs))) (says-leb a b) (says-leb b (length (list cs))) in (
+            λ e. let z = r .0 e in record { kind = w; children = cs; found = f; ordered = z .0; within = z .1 },
+            λ h. let z : cs ≡ h .children = cc (f, h .found) in r .1 (h .ordered, rw z (h .within)),
+          )
 
-  hits : Splice A → Splice A → Bool
-  hits s t = enters? (s .parent) (s .from) (s .to) (t .parent)
+  says-apart : (s t : Splice A) → Says (apart? s t) (Apart s t)
+  unfolding apart? under
+  says-apart s t =
+      let over = says-both (samePath (s .parent) (t .parent)) _ (says-same (s .parent) (t .parent)) (says-both _ _ (says-ltb (s .from) (t .to)) (says-ltb (t .from) (s .to))) in
+      let r = says-both _ _ (says-not _ (says-eqb (s .number) (t .number))) (says-both _ _ (says-not _ (says-enters s (t .parent) (s .parent))) (says-both _ _ (says-not _ (says-enters t (s .parent) (t .parent))) (says-not _ over))) in (
+        λ e. let (x, (y, (z, w))) = r .0 e in record { numbers = x; kept = y; kept′ = z; clear = λ p o. w (p, o) },
+        λ h. r .1 (h .numbers, (h .kept, (h .kept′, λ z. h .clear (z .0) (z .1)))),
+      )
 
-  over : Splice A → Splice A → Bool
-  over s t = samePath (s .parent) (t .parent) && (ltb (s .from) (t .to) && ltb (t .from) (s .to))
-
-  unfoldable pub apart? : Splice A → Splice A → Bool
-  unfolding hits over enters?
-  apart? s t = not (eqb (s .number) (t .number)) && (not (hits s t) && (not (hits t s) && not (over s t)))
-
-  not-hits : (s t : Splice A) → not (hits s t) ≡ true → ¬ Enters s (t .parent)
-  unfolding hits
-  not-hits s t e h = bool-absurd (enters-in (s .parent) (s .from) (s .to) (h .child) (h .rest) (h .low) (h .high)) (rw (h .leads) at (not-true (hits s t) e))
-
-  not-over : (s t : Splice A) → not (over s t) ≡ true → s .parent ≡ t .parent → ¬ ((s .from < t .to) × (t .from < s .to))
-  unfolding over
-  not-over s t e p h = bool-absurd {b = over s t} (rw (p, same-refl (t .parent), lt-ltb _ _ (h .0), lt-ltb _ _ (h .1))) (not-true (over s t) e)
-
-  apart-true : (s t : Splice A) → apart? s t ≡ true → Apart s t
-  unfolding apart?
-  apart-true s t e =
-      let r = both-true (not (eqb (s .number) (t .number))) (not (hits s t) && (not (hits t s) && not (over s t))) e in
-      let q = both-true (not (hits s t)) (not (hits t s) && not (over s t)) (r .1) in
-      let p = both-true (not (hits t s)) (not (over s t)) (q .1) in
-      record { numbers = eqb-false _ _ (not-true (eqb (s .number) (t .number)) (r .0)); kept = not-hits s t (q .0); kept′ = not-hits t s (p .0); clear = not-over s t (p .1) }
-
-  unfoldable pub sound? : Tree A → List (Splice A) → Bool
-  unfolding each pairs
-  sound? old S = each (fits? old) S && pairs apart? S
-
-  pub sound-true : (old : Tree A) (S : List (Splice A)) → sound? old S ≡ true → Sound old S
-  unfolding sound?
-  sound-true old S e =
-      let r = both-true (each (fits? old) S) (pairs apart? S) e in
-      record { fits = each-All (fits? old) (Fits old) (fits-true old) S (r .0); apart = pairs-Pairs apart? Apart apart-true S (r .1) }
+  -- what it says is so, and where it is so it says so
+  pub says-all-apart : (old : Tree A) (S : List (Splice A)) → (allApart? old S ≡ true) ↔ AllApart old S
+  unfolding allApart? fits?
+  says-all-apart old S =
+      let r = says-both (each (fits? old) S) (pairs apart? S) (says-each (fits? old) (Fits old) (λ s. says-run old (s .parent) (s .from) (s .to)) S) (says-pairs apart? Apart says-apart S) in
+      (λ e. let z = r .0 e in record { fits = z .0; apart = z .1 }, λ h. r .1 (h .fits, h .apart))

@@ -1,24 +1,36 @@
 -- Laws on truth values, options, numbers and lists that know nothing of trees. Others use them too.
 -- Assumes nothing.
 use mathlib.Core.Path.{_≡_, refl, sym, ap, _∙_, subst}
-use mathlib.Core.Bool.{Bool, true, false, _&&_, false≢true}
-use mathlib.Core.List.{List, [], _∷_, _++_, map, append-assoc, List·Memᴰ, List·Memᴰ·head, List·Memᴰ·tail, List·Memᴰ·cases-cons, List·Memᴰ·not-nil}
+use mathlib.Core.Bool.{Bool, true, false, _&&_, _||_, false≢true}
+use mathlib.Core.List.{List, [], _∷_, _++_, map, append-assoc, List·Memᴰ, List·Memᴰ·head, List·Memᴰ·tail, List·Memᴰ·cases-cons, List·Memᴰ·not-nil, List·Permᴰ, List·Permᴰ·nil, List·Permᴰ·cons, List·Permᴰ·swap, List·Permᴰ·trans, filterMap, Permᴰ·filterMap}
 use mathlib.Core.Logic.{_≢_, _⊎_, inl, inr}
-use mathlib.Core.Option.{Option, none, some, Option·map, bind, map-eq-some-iff, bind-eq-some-iff, Option·none-ne-some}
+use mathlib.Core.Option.{Option, none, some, Option·map, bind, Option·elim, map-eq-some-iff, bind-eq-some-iff, Option·none-ne-some}
 use Prim.Native.Nat.{ℕ, zero, suc, _+_, _-_, _≤_, _<_}
 use native.Mathlib.Omega.{arith}
 use native.Mathlib.Nat.{zero-add, le-of-suc-le-suc, not-suc-le-zero}
 use lib.Dec.{ltb}
 use lib.ListN.{length, take, drop, getElem?, length-append, length-drop, take-append-drop}
-use lib.Seq.{take-at, drop-at, take-add, drop-drop, length-take-le, take-append-le, take-take}
+use lib.Seq.{take-at, drop-at, drop-drop, length-take-le, take-append-le, take-take}
 use borrow.Author.Tests.{ltb-true, ltb-false, lt-ltb, le-ltb}
-use Rattle.orders.specs.Lists.{pick, All, Pairs, total}
+use Rattle.orders.specs.Lists.{more, pick, any, All, Pairs, total}
 use Rattle.orders.specs.Tree.{zone, modify}
 
 -- ── Truth values and options ────────────────────────────────────────────────────────────────────────────────
 
 pub bool-absurd {ℓ} : {X : Type ℓ} {b : Bool} → b ≡ true → b ≡ false → X
 bool-absurd p q = absurd (false≢true (sym q ∙ p))
+
+pub bool? : (b : Bool) → (b ≡ true) ⊎ (b ≡ false)
+bool? true = inl refl
+bool? false = inr refl
+
+pub either-true : (a b : Bool) → (a || b) ≡ true → (a ≡ true) ⊎ (b ≡ true)
+either-true true b e = inl refl
+either-true false b e = inr e
+
+pub either-false : (a b : Bool) → (a || b) ≡ false → (a ≡ false) × (b ≡ false)
+either-false true b e = bool-absurd refl e
+either-false false b e = (refl, e)
 
 pub both-true : (a b : Bool) → (a && b) ≡ true → (a ≡ true) × (b ≡ true)
 both-true true b e = (refl, e)
@@ -129,9 +141,6 @@ module _ {ℓ} {A : Type ℓ} where
   pub parts : (b c : ℕ) (xs : List A) → xs ≡ take b xs ++ (take c (drop b xs) ++ drop (b + c) xs)
   parts b c xs = sym (rw (← drop-drop c b xs, take-append-drop c (drop b xs), take-append-drop b xs))
 
-  pub parts₂ : (b c d : ℕ) (xs : List A) → take (b + (c + d)) xs ≡ take b xs ++ (take c (drop b xs) ++ take d (drop (b + c) xs))
-  parts₂ b c d xs = rw (take-add b (c + d) xs, take-add c d (drop b xs), drop-drop c b xs)
-
   -- of a list in three parts, the middle one gives way
   pub part-out : (L M R new : List A) (a d : ℕ) → length L ≡ a → length M ≡ d → take a (L ++ (M ++ R)) ++ (new ++ drop (a + d) (L ++ (M ++ R))) ≡ L ++ (new ++ R)
   part-out L M R new a d p q = rw (take-at L (M ++ R) a p, ← append-assoc L M R, drop-at (L ++ M) R (a + d) (length-append L M ∙ cc))
@@ -145,6 +154,9 @@ module _ {ℓ} {A : Type ℓ} where
 
     pub get-cut-before : (i : ℕ) → i < a → getElem? (take a l ++ (new ++ drop b l)) i ≡ getElem? l i
     get-cut-before i w = get-left (take a l) (new ++ drop b l) i (omega (arith, length-front)) ∙ get-take a l i w
+
+    pub get-cut-new : (i : ℕ) → i < length new → getElem? (take a l ++ (new ++ drop b l)) (a + i) ≡ getElem? new i
+    get-cut-new i w = get-right (take a l) (new ++ drop b l) (a + i) i (omega (arith, length-front)) ∙ get-left new (drop b l) i w
 
     pub get-cut-after : (i : ℕ) → b ≤ i → getElem? (take a l ++ (new ++ drop b l)) (i + length new - (b - a)) ≡ getElem? l i
     get-cut-after i w =
@@ -272,6 +284,16 @@ module _ {X Y : Type 0} (f : X → Y) where
   Pairs-over R T k [] h = tt
   Pairs-over R T k (x ∷ l) h = (All-over (R x) (T (f x)) (k x) l (h .0), Pairs-over R T k l (h .1))
 
+  pub any-over : (p : X → Bool) (q : Y → Bool) → ((x : X) → q (f x) ≡ p x) → (l : List X) → any q (map f l) ≡ any p l
+  unfolding any
+  any-over p q k [] = refl
+  any-over p q k (x ∷ l) = rw (k x, any-over p q k l)
+
+  pub total-over : (p : X → Bool) (g : X → ℕ) (q : Y → Bool) (h : Y → ℕ) → ((x : X) → q (f x) ≡ p x) → ((x : X) → h (f x) ≡ g x) → (l : List X) → total q h (map f l) ≡ total p g l
+  unfolding total
+  total-over p g q h k m [] = refl
+  total-over p g q h k m (x ∷ l) = rw (k x, m x, total-over p g q h k m l)
+
 -- ── What f picks of a list ──────────────────────────────────────────────────────────────────────────────────
 
 module _ {X Y : Type 0} (f : X → Option Y) where
@@ -339,3 +361,91 @@ module _ {X : Type 0} (p : X → Bool) (f : X → ℕ) where
   pub total-one : (x : X) (l : List X) → p x ≡ true → total p f (x ∷ l) ≡ f x + total p f l
   unfolding total
   total-one x l e = rw e
+
+  -- tests that agree
+  pub total-same : (q : X → Bool) (l : List X) → All (λ x. p x ≡ q x) l → total p f l ≡ total q f l
+  unfolding total
+  total-same q [] h = refl
+  total-same q (x ∷ l) h = rw (h .0, total-same q l (h .1))
+
+-- ── Some element passes a test ──────────────────────────────────────────────────────────────────────────────
+
+module _ {X : Type 0} (p : X → Bool) where
+  pub any-mem : (l : List X) → any p l ≡ true → (x : X) × List·Memᴰ x l × (p x ≡ true)
+  unfolding any
+  any-mem [] e = bool-absurd e refl
+  any-mem (x ∷ l) e = go (either-true (p x) (any p l) e) (any-mem l)
+    where
+      go : (p x ≡ true) ⊎ (any p l ≡ true) → (any p l ≡ true → (y : X) × List·Memᴰ y l × (p y ≡ true)) → (y : X) × List·Memᴰ y (x ∷ l) × (p y ≡ true)
+      go (inl q) r = (x, List·Memᴰ·head refl, q)
+      go (inr q) r = let z = r q in (z .0, List·Memᴰ·tail (z .1), z .2)
+
+  pub mem-any : (l : List X) (x : X) → List·Memᴰ x l → p x ≡ true → any p l ≡ true
+  unfolding any
+  mem-any [] x m e = absurd (List·Memᴰ·not-nil m)
+  mem-any (y ∷ l) x m e = go (List·Memᴰ·cases-cons m) (λ q. mem-any l x q e)
+    where
+      or : (b : Bool) → (b || true) ≡ true
+      or true = refl
+      or false = refl
+
+      go : (x ≡ y) ⊎ List·Memᴰ x l → (List·Memᴰ x l → any p l ≡ true) → (p y || any p l) ≡ true
+      go (inl q) r = rw (← q, e)
+      go (inr q) r = rw (r q) (or (p y))
+
+  pub none-passes : (l : List X) → any p l ≡ false → All (λ x. p x ≡ false) l
+  unfolding any
+  none-passes [] e = tt
+  none-passes (x ∷ l) e = let r = either-false (p x) (any p l) e in (r .0, none-passes l (r .1))
+
+  pub passes-none : (l : List X) → All (λ x. p x ≡ false) l → any p l ≡ false
+  unfolding any
+  passes-none [] h = refl
+  passes-none (x ∷ l) h = rw (h .0, passes-none l (h .1))
+
+-- ── A list in another order ─────────────────────────────────────────────────────────────────────────────────
+
+module _ {X : Type 0} where
+  pub All-perm : (P : X → Type 0) {l m : List X} → List·Permᴰ l m → All P l → All P m
+  All-perm P List·Permᴰ·nil h = h
+  All-perm P (List·Permᴰ·cons e d) h = (subst P e (h .0), All-perm P d (h .1))
+  All-perm P (List·Permᴰ·swap e f) h = (subst P f (h .1 .0), (subst P e (h .0), h .1 .1))
+  All-perm P (List·Permᴰ·trans d f) h = All-perm P f (All-perm P d h)
+
+  pub Pairs-perm : (R : X → X → Type 0) → ((x y : X) → R x y → R y x) → {l m : List X} → List·Permᴰ l m → Pairs R l → Pairs R m
+  Pairs-perm R s List·Permᴰ·nil h = h
+  Pairs-perm R s (List·Permᴰ·cons {a = a} {l₂ = m} e d) h = (subst (λ x. All (R x) m) e (All-perm (R a) d (h .0)), Pairs-perm R s d (h .1))
+  Pairs-perm R s (List·Permᴰ·swap {a = a} {b = b} e f) h = rw (← e, ← f) ((s a b (h .0 .0), h .1 .0), (h .0 .1, h .1 .1))
+  Pairs-perm R s (List·Permᴰ·trans d f) h = Pairs-perm R s f (Pairs-perm R s d h)
+
+  pub any-perm : (p : X → Bool) {l m : List X} → List·Permᴰ l m → any p l ≡ any p m
+  unfolding any
+  any-perm p List·Permᴰ·nil = refl
+  any-perm p (List·Permᴰ·cons e d) = rw (e, any-perm p d)
+  any-perm p (List·Permᴰ·swap {a = a} {b = b} {l = l} e f) = rw (← e, ← f) (go (p a) (p b))
+    where
+      go : (x y : Bool) → (x || (y || any p l)) ≡ (y || (x || any p l))
+      go true true = refl
+      go true false = refl
+      go false y = refl
+  any-perm p (List·Permᴰ·trans d f) = any-perm p d ∙ any-perm p f
+
+  pub total-perm : (p : X → Bool) (f : X → ℕ) {l m : List X} → List·Permᴰ l m → total p f l ≡ total p f m
+  unfolding total
+  total-perm p f List·Permᴰ·nil = refl
+  total-perm p f (List·Permᴰ·cons e d) = rw (e, total-perm p f d)
+  total-perm p f (List·Permᴰ·swap e g) = rw (← e, ← g) (omega arith)
+  total-perm p f (List·Permᴰ·trans d g) = total-perm p f d ∙ total-perm p f g
+
+  -- the library's word for what f picks
+  pick-filterMap : {Y : Type 0} (f : X → Option Y) (l : List X) → pick f l ≡ filterMap f l
+  unfolding pick filterMap Option·elim
+  pick-filterMap f [] = refl
+  pick-filterMap {Y} f (x ∷ l) = go (f x) (pick-filterMap f l)
+    where
+      go : (o : Option Y) → pick f l ≡ filterMap f l → more o (pick f l) ≡ Option·elim o (filterMap f l) (λ b. b ∷ filterMap f l)
+      go none e = e
+      go (some y) e = rw e
+
+  pub pick-perm : {Y : Type 0} (f : X → Option Y) {l m : List X} → List·Permᴰ l m → List·Permᴰ (pick f l) (pick f m)
+  pick-perm f {l} {m} d = rw (pick-filterMap f l, pick-filterMap f m) (Permᴰ·filterMap f d)

@@ -1,10 +1,11 @@
--- Lists: what a function picks, a property of each element, a relation between any two, a sum.
+-- Lists: what a function picks, tests and properties of the elements, a relation between any two, a sum.
 -- Assumes nothing.
-use mathlib.Core.Bool.{Bool, cond}
+use mathlib.Core.Bool.{Bool, false, cond, _||_}
 use mathlib.Core.List.{List, [], _∷_}
 use mathlib.Core.Option.{Option, none, some}
 use Prim.Native.Nat.{ℕ, _+_}
 
+-- the list behind what an option holds
 abbrev pub more {ℓ} : {A : Type ℓ} → Option A → List A → List A
 more none l = l
 more (some x) l = x ∷ l
@@ -13,6 +14,11 @@ more (some x) l = x ∷ l
 unfoldable pub pick {ℓ κ} : {A : Type ℓ} {B : Type κ} → (A → Option B) → List A → List B
 pick f [] = []
 pick f (x ∷ xs) = more (f x) (pick f xs)
+
+-- some element passes the test
+unfoldable pub any {ℓ} : {A : Type ℓ} → (A → Bool) → List A → Bool
+any p [] = false
+any p (x ∷ l) = p x || any p l
 
 -- a property of each element
 abbrev pub All {ℓ κ} : {A : Type ℓ} → (A → Type κ) → List A → Type κ

@@ -77,6 +77,12 @@ splice [] a b new (node w cs) = node w (forest (take a (list cs) ++ (new ++ drop
 splice (j ∷ q) a b new (token w own) = token w own
 splice (j ∷ q) a b new (node w cs) = node w (forest (modify j (λ c. splice q a b new c) (list cs)))
 
+-- the children `from` to `to` - 1 of the element at `parent`
+pub record Run : Type 0 where
+  pub parent : Path
+  pub from : ℕ
+  pub to : ℕ
+
 -- the path leads to a node of the tree, and a..b (b not included) is a run of its children, perhaps an empty one
 pub record HasRun {A : Type 0} (t : Tree A) (p : Path) (a b : ℕ) : Type 0 where
   pub kind : A

@@ -11,7 +11,7 @@ use lib.Dec.{eqb}
 use lib.ListN.{length, take, drop, getElem?}
 use borrow.Author.Tests.{eqb-true, eqb-false, eq-eqb, ne-eqb}
 use Rattle.orders.specs.Tree.{Tree, Trees, node, token, nil, cons, list, forest, label, Path, resolve, adjust, shift, modify, splice, HasRun, elements, elementsOf, strip, front, last}
-use Rattle.orders.specs.ListLaws.{some-inj, none-some, map-some, bind-some, Zone, before, inside, after, zone?, zone-before, zone-inside, zone-after, get-cut-before, get-cut-after, get-modify, get-modify-other, parts}
+use Rattle.orders.specs.ListLaws.{get-lt, some-inj, none-some, map-some, bind-some, Zone, before, inside, after, zone?, zone-before, zone-inside, zone-after, get-cut-before, get-cut-new, get-cut-after, get-modify, get-modify-other, parts}
 
 -- ── Trees and lists ─────────────────────────────────────────────────────────────────────────────────────────
 
@@ -205,7 +205,8 @@ module _ {A : Type 0} (a b : ℕ) (new : List (Tree A)) where
   splice-deep k cs j i q e c g = resolve-forest k (modify j (λ x. splice q a b new x) (list cs)) i e c g
 
   -- An adjusted path leads to the element that it led to before; what is below that is as it was, unless the parent is that element or below it.
-  pub resolve-splice : (q : Path) (t : Tree A) (e : Path) (v : Tree A) (e′ : Path) → HasRun t q a b → resolve e t ≡ some v → adjust q a b (length new) e ≡ some e′ → resolve e′ (splice q a b new t) ≡ some (spliceIn (strip e q) v)
+  pub resolve-splice : (q : Path) (t : Tree A) (e : Path) (v : Tree A) (e′ : Path) → HasRun t q a b → resolve e t ≡ some v → adjust q a b (length new) e ≡ some e′
+      → resolve e′ (splice q a b new t) ≡ some (spliceIn (strip e q) v)
   unfolding resolve strip spliceIn
   resolve-splice q t [] v e′ h f s = rw (some-inj (sym s ∙ adjust-root a b (length new) q), some-inj f)
   resolve-splice [] (token k own) (i ∷ e) v e′ h f s = none-some f
@@ -231,6 +232,63 @@ module _ {A : Type 0} (a b : ℕ) (new : List (Tree A)) where
       go false x c gc fc d gd ih =
           let ij : i ≢ j = eqb-false i j x in
           rw (some-inj (sym s ∙ adjust-out a b (length new) i j q e ij)) (splice-deep k cs j i q e c (get-modify-other (λ x. splice q a b new x) (list cs) j i ij ∙ gc) ∙ fc)
+
+  -- ── Each element of the new tree ──
+
+  -- what is inserted stands at its place
+  pub resolve-new : (q : Path) (t : Tree A) (i : ℕ) (c : Tree A) (r : Path) → HasRun t q a b → getElem? new i ≡ some c → resolve (q ++ ((a + i) ∷ r)) (splice q a b new t) ≡ resolve r c
+  unfolding splice
+  resolve-new [] (token k own) i c r h g = absurd (run-token k own [] a b h)
+  resolve-new (j ∷ q) (token k own) i c r h g = absurd (run-token k own (j ∷ q) a b h)
+  resolve-new [] (node k cs) i c r h g = resolve-forest k (take a (list cs) ++ (new ++ drop b (list cs))) (a + i) r c (get-cut-new (list cs) new a b (h .ordered) (run-here k cs a b h) i (get-lt new i g) ∙ g)
+  resolve-new (j ∷ q) (node k cs) i c r h g =
+      let (d, y, z) = run-child k cs j q a b h in
+      splice-deep k cs j j q (q ++ ((a + i) ∷ r)) (splice q a b new d) (get-modify (λ x. splice q a b new x) (list cs) j d y) ∙ resolve-new q d i c r z g
+
+  -- an old one that was kept, or one of an inserted subtree
+  pub data Origin (q : Path) (t : Tree A) (e′ : Path) (v : Tree A) : Type 0 where
+    kept : (e : Path) (u : Tree A) → resolve e t ≡ some u → adjust q a b (length new) e ≡ some e′ → v ≡ spliceIn (strip e q) u → Origin q t e′ v
+    came : (i : ℕ) (c : Tree A) (r : Path) → getElem? new i ≡ some c → e′ ≡ q ++ ((a + i) ∷ r) → resolve r c ≡ some v → Origin q t e′ v
+
+  origin-top : (k : A) (cs : Trees A) (i : ℕ) (e : Path) (c v : Tree A) → a ≤ b → b ≤ length (list cs) → getElem? (take a (list cs) ++ (new ++ drop b (list cs))) i ≡ some c → resolve e c ≡ some v → Origin [] (node k cs) (i ∷ e) v
+  unfolding strip spliceIn
+  origin-top k cs i e c v h w g f = elim (zone? i a (a + length new)) [
+    | before x ↦ kept (i ∷ e) v (resolve-at k cs i e c (sym (get-cut-before (list cs) new a b h w i x) ∙ g) ∙ f) (adjust-shift a b (length new) i e ∙ rw (shift-before a b (length new) i x)) refl
+    | inside x y ↦
+        let z : i ≡ a + (i - a) = omega arith in
+        came (i - a) c e (sym (get-cut-new (list cs) new a b h w (i - a) (omega arith)) ∙ (rw z at g)) (ap {B = Path} (λ n. n ∷ e) z) f
+    | after x y ↦
+        let o : ℕ = i + (b - a) - length new in
+        let z : o + length new - (b - a) ≡ i = omega arith in
+        kept (o ∷ e) v (resolve-at k cs o e c (sym (get-cut-after (list cs) new a b h w o (omega arith)) ∙ rw z g) ∙ f) (adjust-shift a b (length new) o e ∙ rw (shift-after a b (length new) o (omega arith) (omega arith), z)) refl
+  ]
+
+  pub splice-origin : (q : Path) (t : Tree A) (e : Path) (v : Tree A) → HasRun t q a b → resolve e (splice q a b new t) ≡ some v → Origin q t e v
+  unfolding resolve splice strip spliceIn
+  splice-origin q t [] v h f = kept [] t refl (adjust-root a b (length new) q) (sym (some-inj f))
+  splice-origin [] (token k own) (i ∷ e) v h f = none-some f
+  splice-origin [] (node k cs) (i ∷ e) v h f =
+      let (c, g, z) = resolve-child k (forest (take a (list cs) ++ (new ++ drop b (list cs)))) i e v f in
+      origin-top k cs i e c v (h .ordered) (run-here k cs a b h) (rw list-forest at g) z
+  splice-origin (j ∷ q) (token k own) (i ∷ e) v h f = none-some f
+  splice-origin (j ∷ q) (node k cs) (i ∷ e) v h f =
+      let (d, g, r) = run-child k cs j q a b h in
+      let (c, g′, z) = resolve-child k (forest (modify j (λ x. splice q a b new x) (list cs))) i e v f in
+      go (eqb i j) refl d g c (rw list-forest at g′) z (λ y. splice-origin q d e v r y)
+    where
+      deeper : i ≡ j → (d : Tree A) → getElem? (list cs) j ≡ some d → Origin q d e v → Origin (j ∷ q) (node k cs) (i ∷ e) v
+      deeper x d g (kept p u y m z) = kept (j ∷ p) u (resolve-at k cs j p d g ∙ y) (adjust-in a b (length new) j j q p refl ∙ rw (m, x)) (rw (eq-eqb j j refl) z)
+      deeper x d g (came n c r y m z) = came n c r y (rw (m, x)) z
+
+      go : (x : Bool) → eqb i j ≡ x → (d : Tree A) → getElem? (list cs) j ≡ some d → (c : Tree A) → getElem? (modify j (λ x. splice q a b new x) (list cs)) i ≡ some c → resolve e c ≡ some v
+          → (resolve e (splice q a b new d) ≡ some v → Origin q d e v) → Origin (j ∷ q) (node k cs) (i ∷ e) v
+      go true x d g c g′ z r =
+          let ij : i ≡ j = eqb-true i j x in
+          let cd : c ≡ splice q a b new d = some-inj (sym g′ ∙ (ap (getElem? (modify j (λ x. splice q a b new x) (list cs))) ij ∙ get-modify (λ x. splice q a b new x) (list cs) j d g)) in
+          deeper ij d g (r (rw cd at z))
+      go false x d g c g′ z r =
+          let ij : i ≢ j = eqb-false i j x in
+          kept (i ∷ e) v (resolve-at k cs i e c (sym (get-modify-other (λ x. splice q a b new x) (list cs) j i ij) ∙ g′) ∙ z) (adjust-out a b (length new) i j q e ij) (rw x)
 
   -- ── How many elements ──
 

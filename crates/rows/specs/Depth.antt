@@ -1,10 +1,10 @@
 -- What a splice does to the greatest depth: what stays keeps its depth, and what comes in stands below its parent.
 -- Assumes nothing.
 use mathlib.Core.Path.{_≡_, refl, sym, ap, _∙_}
-use mathlib.Core.List.{List, [], _∷_, _++_}
-use mathlib.Core.Logic.{_⊎_, inl, inr}
+use mathlib.Core.List.{List, [], _∷_}
+use mathlib.Core.Logic.{inl, inr}
 use mathlib.Core.Option.{some}
-use Prim.Native.Nat.{ℕ, zero, suc, _+_, _-_, _≤_, _<_, max}
+use Prim.Native.Nat.{ℕ, suc, _+_, _-_, _≤_, min, max}
 use native.Mathlib.Omega.{arith}
 use lib.Dec.{ltb}
 use lib.ListN.{length, take, drop, getElem?}
@@ -12,13 +12,9 @@ use borrow.Author.Tests.{lt-ltb, le-ltb}
 use Rattle.orders.specs.Tree.{Tree, Trees, node, token, list, forest, Path, modify, splice, HasRun, deepest, deepestOf, children}
 use Rattle.orders.specs.ListLaws.{lt-or-le, get-split, modify-split, parts}
 use Rattle.orders.specs.TreeLaws.{forest-list, run-child, run-token}
+use Rattle.laws.specs.Measures.{deepest-append}
 
 module _ {A : Type 0} where
-  deepest-append : (xs ys : List (Tree A)) → deepestOf (forest (xs ++ ys)) ≡ max (deepestOf (forest xs)) (deepestOf (forest ys))
-  unfolding deepestOf forest
-  deepest-append [] ys = omega arith
-  deepest-append (x ∷ xs) ys = omega (arith, deepest-append xs ys)
-
   -- trees parted at one of them, and with that one changed
   deepest-get : (xs : List (Tree A)) (i : ℕ) (x : Tree A) → getElem? xs i ≡ some x
       → deepestOf (forest xs) ≡ max (deepestOf (forest (take i xs))) (max (deepest x) (deepestOf (forest (drop (suc i) xs))))
@@ -77,3 +73,10 @@ module _ {A : Type 0} where
           | inl w ↦ lt-ltb d _ (omega (arith, r .0, r .1)) ∙ sym (lt-ltb d _ w)
           | inr w ↦ le-ltb d _ (omega (arith, r .0, r .1)) ∙ sym (le-ltb d _ w)
         ]
+
+-- a height that is told as 65 where it is more than 64 is judged alike
+pub capped : (d h : ℕ) → ltb 64 (d + min 65 h) ≡ ltb 64 (d + h)
+capped d h = elim (lt-or-le 64 (d + h)) [
+  | inl w ↦ lt-ltb 64 (d + min 65 h) (omega arith) ∙ sym (lt-ltb 64 (d + h) w)
+  | inr w ↦ le-ltb 64 (d + min 65 h) (omega arith) ∙ sym (le-ltb 64 (d + h) w)
+]

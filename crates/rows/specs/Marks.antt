@@ -1,22 +1,18 @@
 -- Marks after a splice, one and all; what an element that survives keeps; the elements that come in.
 -- Assumes nothing.
 use mathlib.Core.Path.{_≡_, refl, sym, ap, _∙_}
-use mathlib.Core.Bool.{Bool, true, false, cond}
 use mathlib.Core.List.{List, [], _∷_, _++_, map, append-nil}
-use mathlib.Core.Logic.{_≢_}
 use mathlib.Core.Option.{Option, none, some, Option·map, bind}
-use Prim.Native.Nat.{ℕ, zero, suc, _+_, _-_, _≤_, _<_}
+use Prim.Native.Nat.{ℕ, _+_, _-_, _≤_, _<_}
 use native.Mathlib.Omega.{arith}
-use lib.Dec.{eqb}
 use lib.ListN.{length, take, drop, getElem?}
 use lib.Seq.{length-take-le, take-append-add, take-append-le}
-use borrow.Author.Tests.{eqb-true, eqb-false}
 use Rattle.orders.specs.Lists.{more, pick, All}
-use Rattle.orders.specs.Tree.{Tree, Trees, node, token, list, Path, resolve, label, adjust, shift, splice, HasRun, forest, strip, front}
-use Rattle.orders.specs.ListLaws.{some-inj, none-some, map-some, Zone, before, inside, after, zone?, get-lt, get-left, get-right, All-over}
-use Rattle.orders.specs.TreeLaws.{shift-before, shift-inside, shift-after, adjust-root, adjust-shift, adjust-in, adjust-out, adjust-length, resolve-append, resolve-forest, resolve-splice, spliceIn, label-spliceIn, strip-append}
-use Rattle.rows.specs.Row.{rowsOf, rowsAll}
-use Rattle.rows.specs.Place.{size, weight, place, mark, markOf, movedMark, Held}
+use Rattle.orders.specs.Tree.{Tree, node, list, Path, resolve, label, adjust, shift, splice, HasRun, forest, strip, front, last}
+use Rattle.orders.specs.ListLaws.{some-inj, before, inside, after, zone?, get-lt, get-left, get-right, All-over}
+use Rattle.orders.specs.TreeLaws.{shift-before, shift-inside, shift-after, adjust-root, adjust-in, resolve-append, resolve-forest, resolve-splice, spliceIn, label-spliceIn, strip-append, front-child, front-last}
+use Rattle.laws.specs.Moves.{adjust-keeps}
+use Rattle.rows.specs.Place.{weight, place, mark, markOf, movedMark, Held}
 use Rattle.rows.specs.RowLaws.{weight-append}
 use Rattle.rows.specs.PlaceLaws.{place-forest, place-child, place-down, run-after}
 use Rattle.rows.specs.Moves.{adjust-place}
@@ -28,36 +24,11 @@ pub kept : (q : Path) (t : Tree ℕ) (a b : ℕ) (new : List (Tree ℕ)) (e : Pa
     → (w : Tree ℕ) × (resolve e′ (splice q a b new t) ≡ some w) × (label w ≡ label v)
 kept q t a b new e v e′ h f s = (spliceIn a b new (strip e q) v, resolve-splice a b new q t e v e′ h f s, label-spliceIn a b new (strip e q) v)
 
-front-one : (p : Path) → length p ≡ 1 → front p ≡ []
-unfolding front
-front-one [] h = refl
-front-one (i ∷ []) h = refl
-front-one (i ∷ j ∷ p) h = absurd (omega arith)
-
-front-more : (i : ℕ) (p : Path) → 0 < length p → front (i ∷ p) ≡ i ∷ front p
-unfolding front
-front-more i [] h = absurd (omega arith)
-front-more i (j ∷ p) h = refl
-
 -- its parent: that survives too, and is the parent still
 pub adjust-front : (a b n : ℕ) (q : Path) (i : ℕ) (e e′ : Path) → adjust q a b n (i ∷ e) ≡ some e′ → adjust q a b n (front (i ∷ e)) ≡ some (front e′)
-adjust-front a b n q i [] e′ s = rw (front-one e′ (adjust-length a b n q (i ∷ []) e′ s), front-one (i ∷ []) refl) (adjust-root a b n q)
-adjust-front a b n [] i (j ∷ e) e′ s = go (shift a b n i) refl (sym (adjust-shift a b n i (j ∷ e)) ∙ s)
-  where
-    go : (o : Option ℕ) → shift a b n i ≡ o → Option·map (λ x. x ∷ j ∷ e) o ≡ some e′ → adjust [] a b n (front (i ∷ j ∷ e)) ≡ some (front e′)
-    go none y z = none-some z
-    go (some x) y z = rw (← some-inj z, front-more i (j ∷ e) (omega arith), front-more x (j ∷ e) (omega arith), adjust-shift a b n i (front (j ∷ e)), y)
-adjust-front a b n (k ∷ q) i (j ∷ e) e′ s = go (eqb i k) refl (adjust-front a b n q j e)
-  where
-    go : (x : Bool) → eqb i k ≡ x → ((r : Path) → adjust q a b n (j ∷ e) ≡ some r → adjust q a b n (front (j ∷ e)) ≡ some (front r)) → adjust (k ∷ q) a b n (front (i ∷ j ∷ e)) ≡ some (front e′)
-    go true x ih =
-        let ik : i ≡ k = eqb-true i k x in
-        let (r, y, z) = map-some (λ r. i ∷ r) (adjust q a b n (j ∷ e)) (sym (adjust-in a b n i k q (j ∷ e) ik) ∙ s) in
-        let l = adjust-length a b n q (j ∷ e) r y in
-        rw (front-more i (j ∷ e) (omega arith), adjust-in a b n i k q (front (j ∷ e)) ik, ih r y) (ap {B = Option Path} some (sym (front-more i r (omega arith)) ∙ ap front z))
-    go false x ih =
-        let ik : i ≢ k = eqb-false i k x in
-        rw (← some-inj (sym (adjust-out a b n i k q (j ∷ e) ik) ∙ s), front-more i (j ∷ e) (omega arith), adjust-out a b n i k q (front (j ∷ e)) ik)
+adjust-front a b n q i e e′ s =
+    let (r, k, f, z) = adjust-keeps q a b n .child (front (i ∷ e)) e′ (last (i ∷ e)) (ap (adjust q a b n) (front-last i e) ∙ s) in
+    f ∙ ap {B = Option Path} some (sym (ap front z ∙ front-child r k))
 
 -- ── Marks ───────────────────────────────────────────────────────────────────────────────────────────────────
 

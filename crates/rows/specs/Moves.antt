@@ -2,20 +2,18 @@
 -- Assumes nothing.
 use mathlib.Core.Path.{_≡_, refl, sym, ap, _∙_}
 use mathlib.Core.Bool.{cond}
-use mathlib.Core.List.{List, [], _∷_, _++_, map}
-use mathlib.Core.Option.{Option, none, some, Option·map, bind}
-use Prim.Native.Nat.{ℕ, zero, suc, _+_, _-_, _≤_, _<_}
+use mathlib.Core.List.{List, [], _∷_, _++_}
+use mathlib.Core.Option.{Option, none, some, Option·map}
+use Prim.Native.Nat.{ℕ, suc, _+_, _-_, _≤_, _<_}
 use native.Mathlib.Omega.{arith}
 use lib.Dec.{eqb}
 use borrow.Author.Tests.{eq-eqb, ne-eqb}
 use lib.ListN.{length, take, drop, getElem?, length-append}
 use lib.Seq.{take-append-add, take-add, length-take-le}
-use Rattle.orders.specs.Lists.{pick, All}
-use Rattle.orders.specs.Tree.{Tree, Trees, node, token, list, forest, Path, resolve, zone, adjust, shift, modify, splice, HasRun, strip}
+use Rattle.orders.specs.Tree.{Tree, Trees, node, token, list, forest, Path, resolve, adjust, shift, modify, splice, HasRun, strip}
 use Rattle.orders.specs.ListLaws.{some-inj, none-some, Zone, before, inside, after, zone?, zone-before, zone-inside, zone-after, get-take, get-cut-before, get-cut-after, take-cut-before, get-modify, get-modify-other, take-modify, take-modify-before}
-use Rattle.orders.specs.TreeLaws.{resolve-child, run-here, run-child, run-token, shift-before, shift-inside, shift-after, shift-add, adjust-root, adjust-shift, adjust-in, adjust-out, resolve-splice}
-use Rattle.rows.specs.Row.{rowsOf, rowsAll}
-use Rattle.rows.specs.Place.{size, weight, place, mark, markOf, movedMark, inRun, Held}
+use Rattle.orders.specs.TreeLaws.{resolve-child, run-here, run-child, shift-before, shift-inside, shift-after, shift-add, adjust-root, adjust-shift, adjust-in, adjust-out}
+use Rattle.rows.specs.Place.{size, weight, place, inRun}
 use Rattle.rows.specs.RowLaws.{size-pos, weight-append, rows-get, rows-modify}
 use Rattle.rows.specs.PlaceLaws.{place-at, place-forest, place-child, place-bound, place-lt, weight-suc, weight-mono, run-order, run-after, run-within, size-splice}
 

@@ -4,10 +4,10 @@ use mathlib.Core.Path.{_≡_}
 use mathlib.Core.Bool.{cond}
 use mathlib.Core.List.{List, [], _∷_, _++_}
 use mathlib.Core.Option.{Option, none, some, Option·map, bind}
-use Prim.Native.Nat.{ℕ, zero, suc, _+_, _-_}
+use Prim.Native.Nat.{ℕ, suc, _+_, _-_}
 use lib.ListN.{length, take, drop, getElem?}
 use lib.Dec.{ltb}
-use Rattle.orders.specs.Tree.{Tree, Trees, node, token, list, Path, resolve, zone, modify, shift, HasRun}
+use Rattle.orders.specs.Tree.{Tree, node, token, list, Path, resolve, zone, modify, shift, HasRun}
 use Rattle.rows.specs.Row.{Row, tok, nod, outside, owes, rowsOf, rowsAll, skip}
 
 -- ── Places in trees ─────────────────────────────────────────────────────────────────────────────────────────

@@ -1,7 +1,7 @@
 -- The rows of a tree around an element, and around a run of its children, before and after a splice.
 -- Assumes nothing.
 use mathlib.Core.Path.{_≡_, refl, sym, ap, _∙_}
-use mathlib.Core.Bool.{true, false, cond}
+use mathlib.Core.Bool.{cond}
 use mathlib.Core.List.{List, [], _∷_, _++_, append-assoc, append-nil}
 use mathlib.Core.Logic.{_⊎_, inl, inr}
 use mathlib.Core.Option.{Option, none, some, Option·map, bind}
@@ -13,11 +13,11 @@ use lib.Dec.{ltb}
 use borrow.Author.Tests.{lt-ltb, le-ltb}
 use lib.Seq.{take-at, drop-at, take-add, length-take-le}
 use Rattle.orders.specs.Tree.{Tree, Trees, node, token, list, forest, Path, resolve, modify, splice, HasRun}
-use Rattle.orders.specs.ListLaws.{some-inj, none-some, bind-some, lt-or-le, lt-get, get-right, length-cut, length-modify, modify-right, parts, part-out}
+use Rattle.orders.specs.ListLaws.{some-inj, none-some, bind-some, lt-or-le, lt-get, get-lt, get-right, length-cut, length-modify, modify-right, parts, part-out}
 use Rattle.orders.specs.TreeLaws.{list-forest, resolve-child, resolve-append}
-use Rattle.rows.specs.Row.{Row, nod, rowOf, rowsOf, rowsIn, rowsAll, skip, bytes}
+use Rattle.rows.specs.Row.{Row, nod, rowOf, rowsOf, rowsIn, rowsAll, skip, treesIn, bytes}
 use Rattle.rows.specs.Place.{size, weight, orZero, place, runOf, rowsAfter, childRow, follow, between, subtree, regain, spliceRows}
-use Rattle.rows.specs.RowLaws.{rowsIn-list, rows-node, rows-append, weight-append, rows-get, rows-modify, size-pos, bytes-append, skip-none, skip-tree, skip-all}
+use Rattle.rows.specs.RowLaws.{rowsIn-list, rows-node, rows-append, weight-append, rows-get, rows-modify, size-pos, bytes-append, skip-none, skip-tree, skip-all, trees-count}
 
 -- ── Places below a child ────────────────────────────────────────────────────────────────────────────────────
 
@@ -155,12 +155,28 @@ module _ (q : Path) (t : Tree ℕ) (k : ℕ) (cs : Trees ℕ) (f : resolve q t �
   pub place-next : (i : ℕ) (c : Tree ℕ) → getElem? (list cs) i ≡ some c → place (q ++ (suc i ∷ [])) t ≡ place (q ++ (i ∷ [])) t + size c
   place-next i c g = rw (place-down q t (node k cs) f (suc i ∷ []), place-down q t (node k cs) f (i ∷ []), place-child k cs (suc i), place-child k cs i) (omega (arith, weight-suc (list cs) i c g))
 
+  -- the first child stands right behind its parent
+  pub place-first : place (q ++ (0 ∷ [])) t ≡ suc (place q t)
+  place-first = place-down q t (node k cs) f (0 ∷ []) ∙ rw (place-child k cs 0) (omega arith)
+
+-- the end of a child's rows is where the next child stands
+pub after-child : (q : Path) (i : ℕ) (t c : Tree ℕ) → resolve (q ++ (i ∷ [])) t ≡ some c → rowsAfter (rowsOf t) (place (q ++ (i ∷ [])) t) 1 ≡ place (q ++ (suc i ∷ [])) t
+after-child q i t c f =
+    let (k, cs, g, y) = parent-of q i t c f in
+    after-at (q ++ (i ∷ [])) t c f ∙ sym (place-next q t k cs g i c y)
+
+-- no element stands where the root does
+pub place-pos : (i : ℕ) (p : Path) (t u : Tree ℕ) → resolve (i ∷ p) t ≡ some u → 0 < place (i ∷ p) t
+unfolding resolve
+place-pos i p (token k x) u f = none-some f
+place-pos i p (node k cs) u f = omega arith
+
 -- ── A path followed ─────────────────────────────────────────────────────────────────────────────────────────
 
-get-none : (ts : List (Tree ℕ)) (i : ℕ) → length ts ≤ i → getElem? ts i ≡ none
+pub get-none : {A : Type 0} (l : List A) (i : ℕ) → length l ≤ i → getElem? l i ≡ none
 get-none [] i h = refl
-get-none (t ∷ ts) zero h = absurd (omega arith)
-get-none (t ∷ ts) (suc i) h = get-none ts i (omega arith)
+get-none (x ∷ l) zero h = absurd (omega arith)
+get-none (x ∷ l) (suc i) h = get-none l i (omega arith)
 
 -- followed in the rows from the place of u on, a path leads where it leads in u
 pub follow-at : (p q : Path) (t u : Tree ℕ) → resolve q t ≡ some u → follow (rowsOf t) (place q t) p ≡ Option·map (λ v. place (q ++ p) t) (resolve p u)
@@ -183,6 +199,20 @@ unfolding resolve
 follow-path p t = follow-at p [] t t refl
 
 -- ── The rows around a run of children ───────────────────────────────────────────────────────────────────────
+
+-- the run up to a child with it, the empty run behind a child, and the one before the first
+pub run-to : (q : Path) (i j : ℕ) (t d : Tree ℕ) → resolve (q ++ (j ∷ [])) t ≡ some d → i ≤ j → HasRun t q i (suc j)
+run-to q i j t d g h =
+    let (k, cs, z, y) = parent-of q j t d g in
+    record { kind = k; children = cs; found = z; ordered = omega arith; within = get-lt (list cs) j y }
+
+pub run-behind : (q : Path) (i : ℕ) (t c : Tree ℕ) → resolve (q ++ (i ∷ [])) t ≡ some c → HasRun t q (suc i) (suc i)
+run-behind q i t c f =
+    let (k, cs, z, y) = parent-of q i t c f in
+    record { kind = k; children = cs; found = z; ordered = omega arith; within = get-lt (list cs) i y }
+
+pub run-first : (q : Path) (t : Tree ℕ) (k : ℕ) (cs : Trees ℕ) → resolve q t ≡ some (node k cs) → HasRun t q 0 0
+run-first q t k cs f = record { kind = k; children = cs; found = f; ordered = omega arith; within = omega arith }
 
 -- the rows before the node at q, its own, those of its children left of the run, of the run, and the others
 pub record Site (q : Path) (t : Tree ℕ) (a b : ℕ) (run : List (Tree ℕ)) : Type 0 where
@@ -296,9 +326,13 @@ module _ (q : Path) (t : Tree ℕ) (a b : ℕ) (h : HasRun t q a b) where
       let f : size (splice q a b new t) ≡ length (site .before) + suc (length (site .left) + (weight new + length (site .right))) = ap length (site .is new) ∙ simp length-append in
       omega (arith, size-was, run-long)
 
+  -- the number of trees of the run: what the parent's measure loses
+  pub run-trees : treesIn (between (place (q ++ (a ∷ [])) t) (place (q ++ (b ∷ [])) t) (rowsOf t)) ≡ b - a
+  run-trees = rw run-rows (trees-count (runOf h) ∙ site .trees)
+
   -- the length of the text
-  pub bytes-splice : (new : List (Tree ℕ)) → bytes (rowsOf (splice q a b new t)) + bytes (rowsAll (runOf h)) ≡ bytes (rowsOf t) + bytes (rowsAll new)
+  pub bytes-splice : (new : List (Tree ℕ)) → bytes (rowsOf (splice q a b new t)) + bytes (between (place (q ++ (a ∷ [])) t) (place (q ++ (b ∷ [])) t) (rowsOf t)) ≡ bytes (rowsOf t) + bytes (rowsAll new)
   bytes-splice new =
       let e : bytes (rowsOf t) ≡ bytes (site .before) + (bytes (site .left) + (bytes (rowsAll (runOf h)) + bytes (site .right))) = ap bytes (site .was) ∙ simp bytes-append (omega arith) in
       let f : bytes (rowsOf (splice q a b new t)) ≡ bytes (site .before) + (bytes (site .left) + (bytes (rowsAll new) + bytes (site .right))) = ap bytes (site .is new) ∙ simp bytes-append (omega arith) in
-      omega arith
+      rw run-rows (omega arith)

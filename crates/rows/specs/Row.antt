@@ -2,8 +2,8 @@
 -- Assumes nothing.
 use mathlib.Core.Bool.{cond}
 use mathlib.Core.List.{List, [], _∷_, _++_}
-use Prim.Native.Nat.{ℕ, zero, suc, _+_, max}
-use lib.ListN.{length, take, drop}
+use Prim.Native.Nat.{ℕ, zero, suc, _+_, _*_, max}
+use lib.ListN.{length, take, drop, getD}
 use lib.Dec.{ltb, leb}
 use Rattle.orders.specs.Tree.{Tree, Trees, node, token, nil, cons, list}
 
@@ -81,6 +81,14 @@ triples text (k ∷ []) = []
 triples text (k ∷ m ∷ []) = []
 triples text (k ∷ m ∷ o ∷ ws) = rowAt text k m o ∷ triples text ws
 
+-- the first n of them
+abbrev pub firstRows : List ℕ → ℕ → List ℕ → List Row
+firstRows text n ws = triples text (take (3 * n) ws)
+
+-- the row that stands at i
+abbrev pub rowIn : List ℕ → List ℕ → ℕ → Row
+rowIn text ws i = rowAt text (getD ws (3 * i) 0) (getD ws (3 * i + 1) 0) (getD ws (3 * i + 2) 0)
+
 -- ── What rows tell ──────────────────────────────────────────────────────────────────────────────────────────
 
 -- the number of rows of the next `owed` trees: each row is one element owed less, and a node's row owes its children
@@ -107,13 +115,13 @@ bytes (r ∷ rs) = textLength r + bytes rs
 -- the nodes that are open, from the innermost, each told by the children that it still owes: what is left of them as one more child begins
 abbrev pub opened : List ℕ → List ℕ
 opened [] = []
-opened (zero ∷ open′) = opened open′
-opened (suc owed ∷ open′) = owed ∷ open′
+opened (zero ∷ above) = opened above
+opened (suc owed ∷ above) = owed ∷ above
 
 -- the greatest depth, where those nodes are open
 unfoldable pub heightIn : List ℕ → List Row → ℕ
-heightIn open′ [] = 0
-heightIn open′ (r ∷ rs) = max (suc (length (opened open′))) (heightIn (owes r ∷ opened open′) rs)
+heightIn above [] = 0
+heightIn above (r ∷ rs) = max (suc (length (opened above))) (heightIn (owes r ∷ opened above) rs)
 
 -- the greatest depth of trees
 abbrev pub height : List Row → ℕ

@@ -3,14 +3,15 @@
 use mathlib.Core.Path.{_≡_, refl, sym, ap, _∙_}
 use mathlib.Core.List.{List, [], _∷_, _++_, map, flatMap, append-assoc, append-nil}
 use mathlib.Core.Option.{some}
-use Prim.Native.Nat.{ℕ, zero, suc, _+_, _-_, _≤_, _<_, max}
+use Prim.Native.Nat.{ℕ, zero, suc, _+_, _≤_, _<_, max}
 use native.Mathlib.Omega.{arith}
 use native.Mathlib.Nat.{zero-add, suc-add, add-zero, add-comm}
 use lib.ListN.{length, take, drop, getElem?, length-append}
 use Rattle.orders.specs.Tree.{Tree, Trees, node, token, nil, cons, list, forest, label, modify, preorder, preorders, elements, elementsOf, text, textOf, deepest, deepestOf, children, measure as measureOf}
 use Rattle.orders.specs.ListLaws.{map-append, get-split, modify-split}
-use Rattle.orders.specs.TreeLaws.{list-forest, forest-list}
-use Rattle.rows.specs.Row.{Row, tok, nod, outside, kind, measure, own, owes, textLength, rowOf, rowsOf, rowsIn, rowsAll, skip, treesFrom, treesIn, bytes, opened, heightIn, height}
+use Rattle.orders.specs.TreeLaws.{list-forest}
+use Rattle.laws.specs.Basics.{flatMap-append}
+use Rattle.rows.specs.Row.{Row, nod, kind, measure, own, owes, rowOf, rowsOf, rowsIn, rowsAll, skip, treesFrom, treesIn, bytes, opened, heightIn, height}
 use Rattle.rows.specs.Place.{size, weight}
 
 -- ── Parts ───────────────────────────────────────────────────────────────────────────────────────────────────
@@ -116,11 +117,6 @@ mutual
   bytes-trees nil = refl
   bytes-trees (cons c cs) = rw (bytes-append (rowsOf c) (rowsIn cs), length-append (text c) (textOf cs)) (omega (arith, bytes-tree c, bytes-trees cs))
 
-own-append : (rs ss : List Row) → flatMap own (rs ++ ss) ≡ flatMap own rs ++ flatMap own ss
-unfolding flatMap
-own-append [] ss = refl
-own-append (r ∷ rs) ss = rw (own-append rs ss) (sym (append-assoc (own r) (flatMap own rs) (flatMap own ss)))
-
 mutual
   unfolding text flatMap
 
@@ -130,7 +126,7 @@ mutual
 
   text-trees : (cs : Trees ℕ) → flatMap own (rowsIn cs) ≡ textOf cs
   text-trees nil = refl
-  text-trees (cons c cs) = own-append (rowsOf c) (rowsIn cs) ∙ rw (text-tree c, text-trees cs)
+  text-trees (cons c cs) = flatMap-append own (rowsOf c) (rowsIn cs) ∙ rw (text-tree c, text-trees cs)
 
 pub bytes-all : (ts : List (Tree ℕ)) → bytes (rowsAll ts) ≡ length (textOf (forest ts))
 bytes-all ts = ap bytes (sym (rowsIn-forest ts)) ∙ bytes-trees (forest ts)
@@ -146,9 +142,7 @@ mutual
 
   pub skip-tree : (t : Tree ℕ) (o : ℕ) (r : List Row) → skip (suc o) (rowsOf t ++ r) ≡ size t + skip o r
   skip-tree (token k x) o r = rw (add-zero o) (omega arith)
-  skip-tree (node k cs) o r =
-      let e : o + length (list cs) ≡ length (list cs) + o = omega arith in
-      rw e (omega (arith, skip-trees cs o r))
+  skip-tree (node k cs) o r = ap (λ n. suc (skip n (rowsIn cs ++ r))) (add-comm o (length (list cs))) ∙ omega (arith, skip-trees cs o r)
 
   skip-trees : (cs : Trees ℕ) (o : ℕ) (r : List Row) → skip (length (list cs) + o) (rowsIn cs ++ r) ≡ length (rowsIn cs) + skip o r
   skip-trees nil o r = rw (zero-add o) (omega arith)

@@ -1,0 +1,115 @@
+// The judgement of one call by what the element table tells, for a batch's calls and for rewritten ones.
+ghost use mathlib.Core.Path.{_≡_};
+ghost use mathlib.Core.Bool.{not, _&&_};
+ghost use Prim.Native.Nat.{suc, _+_, _*_, _^_, _≤_, _<_};
+ghost use lib.ListN.{length, getD};
+ghost use lib.Dec.{eqb};
+ghost use Rattle.definition.specs.Elements.{isNode};
+ghost use Rattle.element_table.specs.View.{view};
+ghost use Rattle.element_table.specs.Wellformed.{Wellformed};
+ghost use Rattle.element_table.specs.Told.{childCount};
+ghost use Rattle.calls.specs.Fits.{countFits, callFits, runFits};
+
+// Word `k` of element `e` in the element table.
+pub fn entry(table: &[u32], e: usize, k: usize) -> usize
+    requires { ⌜ (k < 8) × (8 * e + 8 ≤ length (now table)) ⌝ }
+    ensures { λ r. ⌜ (r ≡ getD (now (table .entry)) (8 * e + k) 0) × (r < 2 ^ 32) ⌝ }
+{
+    words::word(table, 8 * e + k)
+}
+
+// Word `k` of the row of element `e`.
+pub fn row_word(source: &[u32], e: usize, k: usize) -> usize
+    requires { ⌜ (k < 3) × (3 * e + 6 ≤ length (now source)) ⌝ }
+    ensures { λ r. ⌜ (r ≡ getD (now (source .entry)) (3 * suc e + k) 0) × (r < 2 ^ 32) ⌝ }
+{
+    words::word(source, 3 * e + 3 + k)
+}
+
+// Whether element `e` is a node.
+pub fn is_node(source: &[u32], e: usize) -> bool
+    requires { ⌜ 3 * e + 6 ≤ length (now source) ⌝ }
+    ensures { λ r. ⌜ r ≡ isNode (getD (now (source .entry)) (3 * suc e) 0) ⌝ }
+{
+    0x8000_0000 <= row_word(source, e, 0)
+}
+
+// Whether element `e` is a root.
+pub fn is_root(table: &[u32], e: usize) -> bool
+    requires { ⌜ 8 * e + 8 ≤ length (now table) ⌝ }
+    ensures { λ r. ⌜ r ≡ eqb (getD (now (table .entry)) (8 * e + 1) 0) 0 ⌝ }
+{
+    entry(table, e, 1) == 0
+}
+
+// How many children element `e` has.
+pub fn child_count(source: &[u32], e: usize) -> usize
+    requires { ⌜ 3 * e + 6 ≤ length (now source) ⌝ }
+    ensures { λ r. ⌜ r ≡ childCount (now (source .entry)) e ⌝ }
+{
+    if is_node(source, e) {
+        return row_word(source, e, 1);
+    }
+    0
+}
+
+// Whether `x` and `y` are children of one parent (or both roots), and `y` does not come before `x`.
+pub fn run_fits(table: &[u32], x: usize, y: usize) -> bool
+    requires { ⌜ (8 * x + 8 ≤ length (now table)) × (8 * y + 8 ≤ length (now table)) ⌝ }
+    ensures { λ r. ⌜ r ≡ runFits (now (table .entry)) x y ⌝ }
+{
+    if entry(table, x, 1) == entry(table, y, 1) {
+        return entry(table, x, 2) <= entry(table, y, 2);
+    }
+    false
+}
+
+// Whether the operation is known and may list `count` elements.
+pub fn count_fits(operation: usize, count: usize) -> bool
+    ensures { λ r. ⌜ r ≡ countFits operation count ⌝ }
+{
+    if operation == 2 {
+        return count == 1;
+    }
+    if operation == 3 {
+        return count == 0;
+    }
+    if operation == 5 {
+        return 0 < count;
+    }
+    if operation == 6 {
+        return count == 0;
+    }
+    operation <= 6
+}
+
+// What else is asked of a call of a known operation, by its target and the first listed element (any element if it lists none).
+pub fn call_fits(
+    table: &[u32],
+    source: &[u32],
+    n: usize,
+    operation: usize,
+    target: usize,
+    first: usize,
+) -> bool
+    requires { ⌜ Wellformed n (now table) (now source) ⌝ }
+    requires { ⌜ (operation ≤ 6) × (target < n) × (first < n) ⌝ }
+    ensures { λ r. ⌜ r ≡ callFits (view n (now (table .entry)) (now (source .entry))) operation target first ⌝ }
+{
+    if operation == 0 {
+        return 0 < child_count(source, target);
+    }
+    if operation == 6 {
+        return target == 0;
+    }
+    if is_root(table, target) {
+        if operation == 2 {
+            return is_node(source, first);
+        }
+        return false;
+    }
+    if operation == 5 {
+        return run_fits(table, target, first);
+    }
+    true
+}

@@ -1,0 +1,2 @@
+-- The loop of `fill_elements`.
+pub mod Writing

@@ -1,0 +1,5 @@
+-- The order in which changes run.
+--     Order        as places of rows, and that it is what the definition says
+--     Counting     that no change runs twice
+pub mod Order
+pub mod Counting
