@@ -1,3 +1,5 @@
 -- One step of the run on rows and marks, and the law that it is the definition's step.
 --     Store      the current trees as rows, elements, notes and changed elements as rows; one step
+--     Gaps       where a change goes, in rows
 pub mod Store
+pub mod Gaps

@@ -53,8 +53,13 @@ unfoldable pub withRow : HeldNote → ℕ → HeldNote
 withRow n row = record { row = row; number = n .number; place = n .place }
 
 -- a mark that is not 0
+abbrev pub there : ℕ → Option ℕ
+there zero = none
+there (suc m) = some (suc m)
+
+-- the row of element e, none once its path is dropped
 unfoldable pub marked : Store → ℕ → Option ℕ
-marked s e = elim (getD s.marks e 0) [ zero ↦ none | suc m ↦ some (suc m) ]
+marked s e = there (getD s.marks e 0)
 
 -- ── Where a change goes ─────────────────────────────────────────────────────────────────────────────────────
 
@@ -65,9 +70,14 @@ pub record Gap : Type 0 where
   pub to : ℕ
   pub lost : ℕ
 
+-- the row of an element, and of none the root of all
+abbrev pub rowOrTop : Store → Option ℕ → ℕ
+rowOrTop s none = 0
+rowOrTop s (some p) = getD s.marks p 0
+
 -- the row of the parent of element x: the root of all for a root
 unfoldable pub parentRow : Table → Store → ℕ → ℕ
-parentRow T s x = elim (parent T x) [ none ↦ 0 | some p ↦ getD s.marks p 0 ]
+parentRow T s x = rowOrTop s (parent T x)
 
 -- the row after the element at the row m and all that is below it
 unfoldable pub endRow : Store → ℕ → ℕ
