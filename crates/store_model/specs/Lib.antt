@@ -1,5 +1,7 @@
 -- One step of the run on rows and marks, and the law that it is the definition's step.
 --     Store      the current trees as rows, elements, notes and changed elements as rows; one step
 --     Gaps       where a change goes, in rows
+--     Parts      what a listed element yields, in rows
 pub mod Store
 pub mod Gaps
+pub mod Parts
