@@ -2,6 +2,8 @@
 --     Store      the current trees as rows, elements, notes and changed elements as rows; one step
 --     Gaps       where a change goes, in rows
 --     Parts      what a listed element yields, in rows
+--     Spliced    what is held after a splice
 pub mod Store
 pub mod Gaps
 pub mod Parts
+pub mod Spliced
