@@ -6,7 +6,7 @@ use mathlib.Core.List.{List, [], _∷_, _++_, map}
 use mathlib.Core.Option.{Option, none, some, Option·map, bind}
 use Prim.Native.Nat.{ℕ, zero, suc, _-_, _<_}
 use native.Mathlib.Omega.{arith}
-use lib.ListN.{length, getD, getElem?, length-append}
+use lib.ListN.{length, getD, length-append}
 use Rattle.orders.specs.ListLaws.{some-inj, lt-get}
 use Rattle.orders.specs.Tree.{Tree, list, Path, resolve, HasRun, last, front}
 use Rattle.orders.specs.TreeLaws.{front-child, last-child, resolve-append}
@@ -21,7 +21,7 @@ use Rattle.rows.specs.Row.{rowsOf, treesIn}
 use Rattle.rows.specs.Place.{place, runOf, rowsAfter, childRow, between, markOf}
 use Rattle.rows.specs.RowLaws.{trees-count}
 use Rattle.rows.specs.PlaceLaws.{place-pos, place-first, child-at, after-child, site, run-rows}
-use Rattle.store_model.specs.Store.{Store, store, there, marked, rowOrTop, parentRow, endRow, Gap, gapOf, gapAfter, gapRun, gap, depthAbove}
+use Rattle.store_model.specs.Store.{store, there, marked, rowOrTop, parentRow, endRow, Gap, gapOf, gapAfter, gapRun, gap, depthAbove}
 
 -- a run of the current trees, in rows
 unfoldable pub gapAt : Tree ℕ → Run → Gap

@@ -3,7 +3,9 @@
 --     Gaps       where a change goes, in rows
 --     Parts      what a listed element yields, in rows
 --     Spliced    what is held after a splice
+--     Sizes      refusal 12, told from rows
 pub mod Store
 pub mod Gaps
 pub mod Parts
 pub mod Spliced
+pub mod Sizes

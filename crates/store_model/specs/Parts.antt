@@ -14,10 +14,10 @@ use Rattle.definition.specs.Running.{World, present, withPath, notesAt, Yield, 
 use Rattle.laws.specs.Running.{Follows, present-kind}
 use Rattle.laws.specs.Held.{Leads, Holds}
 use Rattle.rows.specs.Row.{Row, rowsOf}
-use Rattle.rows.specs.Place.{size, place, subtree, markOf, inRun}
+use Rattle.rows.specs.Place.{size, place, markOf, inRun}
 use Rattle.rows.specs.PlaceLaws.{after-at, subtree-at}
 use Rattle.rows.specs.Moves.{strip-place}
-use Rattle.store_model.specs.Store.{HeldNote, Store, heldNote, store, withRow, marked, endRow, Part, partAt, partOf}
+use Rattle.store_model.specs.Store.{HeldNote, heldNote, store, withRow, marked, endRow, Part, partAt, partOf}
 use Rattle.store_model.specs.Gaps.{mark-present, marked-none, marked-some}
 
 -- what is picked from a list, told in another way

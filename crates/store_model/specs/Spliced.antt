@@ -2,7 +2,7 @@
 -- Assumes nothing.
 use mathlib.Core.Path.{_≡_, refl, sym, ap, _∙_}
 use mathlib.Core.Bool.{Bool, true, false, cond}
-use mathlib.Core.List.{List, [], _∷_, _++_, map, flatMap, append-assoc, map-map}
+use mathlib.Core.List.{List, [], _∷_, _++_, map, flatMap, append-assoc}
 use mathlib.Core.Option.{Option, none, some, Option·map, bind}
 use Prim.Native.Nat.{ℕ, suc, _+_, _-_}
 use native.Mathlib.Omega.{arith}
@@ -18,7 +18,7 @@ use Rattle.rows.specs.Place.{sizeAll, place, spliceRows, markOf, movedMark, Hel
 use Rattle.rows.specs.PlaceLaws.{rows-splice}
 use Rattle.rows.specs.Moves.{adjust-place}
 use Rattle.rows.specs.Marks.{marks-follow, places-follow, new-place}
-use Rattle.store_model.specs.Store.{HeldNote, Store, heldNote, store, withRow, Part, newRows, placedParts, splicedStore}
+use Rattle.store_model.specs.Store.{HeldNote, Store, heldNote, store, withRow, newRows, placedParts, splicedStore}
 use Rattle.store_model.specs.Gaps.{gapAt}
 use Rattle.store_model.specs.Parts.{pick-square, partIn}
 
@@ -138,16 +138,16 @@ spliced-store w r new recorded run h held = store-same rows marks notes changed
     keptNotes =
         ap (λ m. pick (keepRow m) (map (heldNote t) w.notes)) many ∙ pick-square (heldNote t) (heldNote next) keep (keepRow (sizeAll (treesOf new))) w.notes (All-map one w.notes (h .notes))
 
-    newOnes : List Note
-    newOnes = flatMap (λ y. map (λ n. withPath n (y .0 ++ n .path)) (y .1 .notes)) (placed r.parent r.from new)
+    newNotes : List Note
+    newNotes = flatMap (λ y. map (λ n. withPath n (y .0 ++ n .path)) (y .1 .notes)) (placed r.parent r.from new)
 
-    newRowsOnes : List HeldNote
-    newRowsOnes = flatMap (λ y. map (λ n. withRow n (y .0 + n .row)) (y .1 .notes)) (placedParts P (map partIn new))
+    newHeld : List HeldNote
+    newHeld = flatMap (λ y. map (λ n. withRow n (y .0 + n .row)) (y .1 .notes)) (placedParts P (map partIn new))
 
-    notes : pick (keepRow (length (newRows (map partIn new)))) (map (heldNote t) w.notes) ++ newRowsOnes ≡ map (heldNote next) (pick keep w.notes ++ newOnes)
+    notes : pick (keepRow (length (newRows (map partIn new)))) (map (heldNote t) w.notes) ++ newHeld ≡ map (heldNote next) (pick keep w.notes ++ newNotes)
     notes =
-        ap (λ (l : List HeldNote). l ++ newRowsOnes) keptNotes
-        ∙ (ap (λ (l : List HeldNote). map (heldNote next) (pick keep w.notes) ++ l) (new-notes next r.parent r.from P new standing) ∙ sym (map-append (heldNote next) (pick keep w.notes) newOnes))
+        ap (λ (l : List HeldNote). l ++ newHeld) keptNotes
+        ∙ (ap (λ (l : List HeldNote). map (heldNote next) (pick keep w.notes) ++ l) (new-notes next r.parent r.from P new standing) ∙ sym (map-append (heldNote next) (pick keep w.notes) newNotes))
 
     keptChanged : pick (shift P Q (length (newRows (map partIn new)))) (map (λ p. place p t) w.changed) ≡ map (λ p. place p next) (pick (adjust r.parent r.from r.to (length new)) w.changed)
     keptChanged =

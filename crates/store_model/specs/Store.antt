@@ -1,16 +1,16 @@
 -- The run as the code holds it: the current trees are rows, and each element, note and changed element is the row where it stands.
 -- Assumes nothing.
-use mathlib.Core.Bool.{Bool, true, false, cond, _&&_, _||_}
+use mathlib.Core.Bool.{Bool, cond, _||_}
 use mathlib.Core.List.{List, [], _∷_, _++_, map, flatMap}
 use mathlib.Core.Option.{Option, none, some, Option·map, bind}
 use Prim.Native.Nat.{ℕ, zero, suc, _+_, _-_}
 use lib.ListN.{length, getD}
-use lib.Dec.{ltb, eqb}
+use lib.Dec.{ltb}
 use Rattle.orders.specs.Lists.{pick}
-use Rattle.orders.specs.Tree.{Tree, Path, shift}
-use Rattle.definition.specs.Basics.{Answer, refused, gives, _>>=_, refuse, orRefuse}
+use Rattle.orders.specs.Tree.{Tree, shift}
+use Rattle.definition.specs.Basics.{Answer, gives, _>>=_, refuse, orRefuse}
 use Rattle.definition.specs.Elements.{Table, root?, parent, depth, tree}
-use Rattle.definition.specs.Recording.{Place, firstChild, after, Change, insert, replace, delete, replaceWithMany, replaceAll}
+use Rattle.definition.specs.Recording.{firstChild, after, Change, insert, replace, delete, replaceWithMany, replaceAll}
 use Rattle.definition.specs.Planning.{Planned}
 use Rattle.definition.specs.Rewriting.{Note}
 use Rattle.definition.specs.Running.{World, news, records}
