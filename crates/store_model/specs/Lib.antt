@@ -4,8 +4,10 @@
 --     Parts      what a listed element yields, in rows
 --     Spliced    what is held after a splice
 --     Sizes      refusal 12, told from rows
+--     Step       one step, and all steps: the definition's
 pub mod Store
 pub mod Gaps
 pub mod Parts
 pub mod Spliced
 pub mod Sizes
+pub mod Step
