@@ -1,0 +1,3 @@
+-- Demand 3's last sentence, on the definition: a batch whose splices are apart, and leave the root unreplaced, answers with the old tree rewritten in one go.
+--     Tree0    tree 0 among all current trees: what a splice does to it and to its paths
+pub mod Tree0
