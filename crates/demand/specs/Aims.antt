@@ -62,7 +62,7 @@ replacesRoot T (replaceWithMany x l) = false
 replacesRoot T (replaceAll x y l) = false
 
 -- a change that aims at a root puts one element there
-abbrev AtRoot : Table → Change → Aim → Type 0
+abbrev pub AtRoot : Table → Change → Aim → Type 0
 AtRoot T c (within t b) = Unit
 AtRoot T c (root t) = (length (news c) ≡ 1) × (t ≡ 0 → replacesRoot T c ≡ true)
 
