@@ -2,6 +2,8 @@
 --     Tree0    tree 0 among all current trees: what a splice does to it and to its paths
 --     Aims     where a change aims, told by the old paths of its targets
 --     Step     one step of a run is a splice in tree 0 where its target tells, or leaves tree 0
+--     Run      any performed list of changes whose splices are apart: tree 0 and its paths are as demand 3 says
 pub mod Tree0
 pub mod Aims
 pub mod Step
+pub mod Run
