@@ -3,11 +3,11 @@
 use mathlib.Core.Path.{_≡_, refl, sym, ap, _∙_, subst}
 use mathlib.Core.Bool.{false}
 use mathlib.Core.List.{List, [], _∷_, map}
-use mathlib.Core.Option.{Option, none, some, Option·map, bind}
+use mathlib.Core.Option.{none, some, Option·map, bind}
 use Prim.Native.Nat.{ℕ, suc, _≤_, _<_}
 use native.Mathlib.Omega.{arith}
 use lib.ListN.{length, take}
-use Rattle.orders.specs.Lists.{pick, All, Pairs}
+use Rattle.orders.specs.Lists.{pick, All}
 use Rattle.orders.specs.ListLaws.{some-inj, All-map, pick-none, pick-some}
 use Rattle.orders.specs.Tree.{Tree, forest, list, children, Path}
 use Rattle.orders.specs.Tree as Tree
@@ -27,7 +27,7 @@ use Rattle.laws.specs.Answers.{gives-inj, given}
 use Rattle.laws.specs.Moves.{stay-keeps}
 use Rattle.laws.specs.Right.{Sits}
 use Rattle.demand.specs.Tree0.{Tree0}
-use Rattle.demand.specs.Aims.{Below, oldRun, replacesRoot}
+use Rattle.demand.specs.Aims.{oldRun, replacesRoot}
 use Rattle.demand.specs.Step.{aimSplice, aimTarget, Stepped, apart, done, stepped}
 
 -- ── The splices of a run ────────────────────────────────────────────────────────────────────────────────────
