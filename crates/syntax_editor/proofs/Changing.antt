@@ -6,16 +6,17 @@ use mathlib.Core.Path.{_≡_, refl, sym, ap, _∙_}
 use Prim.Native.Nat.{ℕ, zero, suc, _+_, _-_, _*_, _^_, _≤_, _<_}
 use native.Mathlib.Omega.{arith}
 use lib.ListN.{length, getD}
-use lib.Seq.{paste}
+use lib.Seq.{paste, getD-drop}
 use lib.Dec.{eqb}
 use borrow.Author.Tests.{eq-eqb, ne-eqb}
 use Rattle.definition.specs.Elements.{isNode}
 use Rattle.words.specs.Parts.{paste-paste}
-use Rattle.syntax_editor.specs.ChangeRow.{rowWords}
+use Rattle.syntax_editor.specs.ChangeRow.{rowWords, rowOf}
+use Rattle.syntax_editor.specs.ChangeRowLaws.{rowAt}
 use Rattle.element_table.specs.View.{view}
 use Rattle.element_table.specs.Wellformed.{Wellformed}
 use Rattle.element_table.specs.Told.{deep}
-use Rattle.syntax_editor.specs.Numbers.{placeNumber, numbersOf, asChange, runAsked, changeAsked, rowWith}
+use Rattle.syntax_editor.specs.Numbers.{placeNumber, numbersOf, asChange, runAsked, changeAsked, rowWith, changeBy, changeIn}
 use Rattle.syntax_editor.specs.Spots.{spotOf, Named, spotIn, insertionIn, runIn, aboveWord, regionBy, spot-insert, spot-replace, spot-delete, spot-many, spot-run}
 use Rattle.syntax_editor.specs.declared.Place.{Place}
 use Rattle.syntax_editor.specs.declared.Place.the-variants.{FirstChild, After}
@@ -163,3 +164,38 @@ row-stored w w₁ w₂ k at m s e h e₁ e₂ =
     let five : List ℕ = s .depth ∷ m .rank ∷ s .region ∷ 0 ∷ 0 ∷ [] in
     let eight : List ℕ = m .operation ∷ m .target ∷ m .end ∷ m .list ∷ m .count ∷ s .tree ∷ s .from ∷ s .to ∷ [] in
     e₂ ∙ (ap (λ (v : List ℕ). paste v (at + 8) five 5) e₁ ∙ (paste-paste w at eight 8 five 5 (at + 8) 13 refl refl (omega arith) (omega arith) refl ∙ ap (λ (i : ℕ). paste w i (eight ++ five) 13) e))
+
+-- ── A change read ───────────────────────────────────────────────────────────────────────────────────────────
+
+module _ (op x y : ℕ) (l : Listed) where
+  pub by-first-child : op ≡ 0 → Insert FirstChild x l ≡ changeBy op x y l
+  unfolding changeBy
+  by-first-child e = rw e
+
+  pub by-after : op ≡ 1 → Insert After x l ≡ changeBy op x y l
+  unfolding changeBy
+  by-after e = rw e
+
+  pub by-replace : op ≡ 2 → Replace x (l .at) ≡ changeBy op x y l
+  unfolding changeBy
+  by-replace e = rw e
+
+  pub by-delete : op ≡ 3 → Delete x (l .at) ≡ changeBy op x y l
+  unfolding changeBy
+  by-delete e = rw e
+
+  pub by-many : op ≡ 4 → ReplaceWithMany x l ≡ changeBy op x y l
+  unfolding changeBy
+  by-many e = rw e
+
+  pub by-run : (op ≡ 0 → ⊥) → (op ≡ 1 → ⊥) → (op ≡ 2 → ⊥) → (op ≡ 3 → ⊥) → (op ≡ 4 → ⊥) → ReplaceAll x y l ≡ changeBy op x y l
+  unfolding changeBy
+  by-run a b c d e = rw (ne-eqb op 0 a, ne-eqb op 1 b, ne-eqb op 2 c, ne-eqb op 3 d, ne-eqb op 4 e)
+
+-- the five words that tell a change
+pub change-words : (w : List ℕ) (k op x y at n : ℕ) (r : Change) → op ≡ getD w (13 * k) 0 → x ≡ getD w (13 * k + 1) 0 → y ≡ getD w (13 * k + 2) 0 → at ≡ getD w (13 * k + 3) 0 → n ≡ getD w (13 * k + 4) 0
+    → r ≡ changeBy op x y (record { at = at; count = n }) → r ≡ changeIn (rowAt w k)
+unfolding changeIn rowAt rowOf
+change-words w k op x y at n r e₀ e₁ e₂ e₃ e₄ e =
+    let z : 13 * k + 0 ≡ 13 * k = omega arith in
+    e ∙ rw (e₀, e₁, e₂, e₃, e₄, getD-drop (13 * k) w 0 0, getD-drop (13 * k) w 1 0, getD-drop (13 * k) w 2 0, getD-drop (13 * k) w 3 0, getD-drop (13 * k) w 4 0, z)

@@ -1,4 +1,2 @@
--- Changing     each answer of the functions on one change
--- Recordings   a change recorded among rows
+-- Changing   each answer of the functions on one change
 pub mod Changing
-pub mod Recordings

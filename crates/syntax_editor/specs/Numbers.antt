@@ -88,3 +88,28 @@ changeAsked op x at k y =
     (cond (eqb op 3) (Delete x at)
     (cond (eqb op 4) (ReplaceWithMany x (record { at = at; count = k }))
     (runAsked x y (record { at = at + 1; count = k - 1 }))))))
+
+-- ── The change that a row holds ─────────────────────────────────────────────────────────────────────────────
+
+-- by its numbers: the operation op, the target x, the run's end y, the elements that go in
+unfoldable pub changeBy : ℕ → ℕ → ℕ → Listed → Change
+changeBy op x y l =
+    cond (eqb op 0) (Insert FirstChild x l)
+    (cond (eqb op 1) (Insert After x l)
+    (cond (eqb op 2) (Replace x (l .at))
+    (cond (eqb op 3) (Delete x (l .at))
+    (cond (eqb op 4) (ReplaceWithMany x l)
+    (ReplaceAll x y l)))))
+
+unfoldable pub changeIn : ChangeRow → Change
+changeIn r = changeBy (r .operation) (r .target) (r .end) (record { at = r .list; count = r .count })
+
+-- what was written is read back
+pub change-read : (c : Change) (s : Spot) → changeIn (rowWith (numbersOf c) s) ≡ c
+unfolding changeIn changeBy rowWith
+change-read (Insert FirstChild x l) s = refl
+change-read (Insert After x l) s = refl
+change-read (Replace x at) s = refl
+change-read (Delete x at) s = refl
+change-read (ReplaceWithMany x l) s = refl
+change-read (ReplaceAll x y l) s = refl

@@ -1,9 +1,9 @@
 -- `is_single` meets its contract.
 -- Assumes nothing.
-use Rattle.syntax_editor.proofs.Recordings.{single-replace, single-delete}
+use Rattle.recording.proofs.Recordings.{single-replace, single-delete}
 use borrow.Author.Needs.{needs}
-use Rattle.syntax_editor.proofs.is_single.Statement.{statement}
-use Rattle.syntax_editor.proofs.is_single.Tie as tie
+use Rattle.recording.proofs.is_single.Statement.{statement}
+use Rattle.recording.proofs.is_single.Tie as tie
 
 returns : tie.Need-returns
 returns c = search (single-replace, needs)

@@ -1,9 +1,9 @@
 -- `first_listed` meets its contract.
 -- Assumes nothing.
-use Rattle.syntax_editor.proofs.Recordings.{first-none, first-some}
+use Rattle.recording.proofs.Recordings.{first-none, first-some}
 use borrow.Author.Needs.{needs}
-use Rattle.syntax_editor.proofs.first_listed.Statement.{statement}
-use Rattle.syntax_editor.proofs.first_listed.Tie as tie
+use Rattle.recording.proofs.first_listed.Statement.{statement}
+use Rattle.recording.proofs.first_listed.Tie as tie
 
 returns : tie.Need-returns
 returns c = search (first-none, needs)

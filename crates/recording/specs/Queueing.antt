@@ -8,6 +8,7 @@ use Prim.Native.Nat.{ℕ, zero, suc, _+_, _≤_, _<_}
 use native.Mathlib.Omega.{arith}
 use lib.ListN.{length, getD, take, drop, length-drop, take-append-drop}
 use lib.Seq.{drop-cons, drop-drop, drop-length, take-length, take-add, take-at, drop-at, length-take-le, getD-drop, split-at}
+use Rattle.orders.specs.Lists.{All}
 use Rattle.orders.specs.ListLaws.{map-append}
 
 -- the place of the first element that passes the test; the length if there is none
@@ -26,6 +27,15 @@ module _ {A : Type 0} (p : A → Bool) (l : List A) (k : ℕ) (z : A) (h : k < l
   unfolding place
   place-found q = rw (drop-cons l k z h, q) (omega arith)
 
+-- what a call asks for, if it asks for anything, has the property
+abbrev pub Asks : {A : Type 0} → (A → Type 0) → Option A → Type 0
+Asks P none = Unit {0}
+Asks P (some c) = P c
+
+All-append : {A : Type 0} (P : A → Type 0) (l m : List A) → All P l → All P m → All P (l ++ m)
+All-append P [] m a b = b
+All-append P (x ∷ l) m a b = (a .0, All-append P l m (a .1) b)
+
 -- ── Queues ──────────────────────────────────────────────────────────────────────────────────────────────────
 
 -- `meets c d`: c and the earlier d are both calls 2 or 3 of one element; `merged c d` is what d then becomes
@@ -40,6 +50,24 @@ module _ {A : Type 0} (meets : A → A → Bool) (merged : A → A → A) where
   through js q [] = js ++ q
   through js q (none ∷ cs) = through (js ++ q) [] cs
   through js q (some c ∷ cs) = through js (put c q) cs
+
+  -- ── What holds of each change that is asked for holds of all ──────────────────────────────────────────────
+
+  module _ (P : A → Type 0) (keeps : (c d : A) → P c → P d → P (merged c d)) where
+    put-all : (c : A) (q : List A) → P c → All P q → All P (put c q)
+    unfolding put
+    put-all c [] h a = (h, tt)
+    put-all c (d ∷ q) h a = go (meets c d) (put-all c q h (a .1))
+      where
+        go : (t : Bool) → All P (put c q) → All P (cond t (merged c d ∷ q) (d ∷ put c q))
+        go true b = (keeps c d h (a .0), a .1)
+        go false b = (a .0, b)
+
+    pub through-all : (js q : List A) (cs : List (Option A)) → All P js → All P q → All (Asks P) cs → All P (through js q cs)
+    unfolding through
+    through-all js q [] a b h = All-append P js q a b
+    through-all js q (none ∷ cs) a b h = through-all (js ++ q) [] cs (All-append P js q a b) tt (h .1)
+    through-all js q (some c ∷ cs) a b h = through-all js (put c q) cs a (put-all c q (h .0) b) (h .1)
 
   -- ── One more change, by its place ─────────────────────────────────────────────────────────────────────────
 

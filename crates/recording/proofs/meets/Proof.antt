@@ -1,9 +1,9 @@
 -- `meets` meets its contract. A row's first word is its operation, its second the target.
 -- Assumes nothing.
-use Rattle.syntax_editor.proofs.Recordings.{meets-neither, meets-other, meets-target}
+use Rattle.recording.proofs.Recordings.{meets-neither, meets-other, meets-target}
 use borrow.Author.Needs.{needs}
-use Rattle.syntax_editor.proofs.meets.Statement.{statement}
-use Rattle.syntax_editor.proofs.meets.Tie as tie
+use Rattle.recording.proofs.meets.Statement.{statement}
+use Rattle.recording.proofs.meets.Tie as tie
 
 is-single-requires : tie.Need-is-single-requires
 is-single-requires c κs = search needs

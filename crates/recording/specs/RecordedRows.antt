@@ -11,10 +11,10 @@ use Rattle.definition.specs.Elements.{Table}
 use Rattle.definition.specs.Refusals.{Call}
 use Rattle.definition.specs.Recording.{firstChild, after, Change, insert, replace, delete, replaceWithMany, replaceAll, merges}
 use Rattle.definition.specs.Planning.{target}
 use Rattle.syntax_editor.specs.ChangeRow.{ChangeRow, rowsOf, operation, changeRow}
 use Rattle.syntax_editor.specs.ChangeRowLaws.{rowsWords}
-use Rattle.syntax_editor.specs.Queueing.{put, through, through-map}
-use Rattle.syntax_editor.specs.Recorded.{meets, isDelete, meetsAt, mergedAt, askedAt, allAsked, recordedAt}
+use Rattle.recording.specs.Queueing.{put, through, through-map}
+use Rattle.recording.specs.Recorded.{meets, isDelete, meetsAt, mergedAt, askedAt, allAsked, recordedAt}
 
 -- "Only 2 and 3 merge."
 unfoldable pub isSingle : ℕ → Bool
@@ -83,7 +83,8 @@ pub record Put (r : ChangeRow) (start count : ℕ) (w : List ℕ) (count′ : �
   pub rows : rowsOf count′ w′ ≡ take start (rowsOf count w) ++ put meetsRow mergedRow r (drop start (rowsOf count w))
   pub beyond : drop (13 * count′) w′ ≡ drop (13 * count′) w
 
--- THE PROMISE: the words w with the rows rs in front are w′; how many rows there are
-pub record RowsRecorded (rs : List ChangeRow) (w : List ℕ) (count : ℕ) (w′ : List ℕ) : Type 0 where
+-- THE PROMISE: the words w with the rows rs in front are w′; how many rows there are, no more than calls
+pub record RowsRecorded (calls : ℕ) (rs : List ChangeRow) (w : List ℕ) (count : ℕ) (w′ : List ℕ) : Type 0 where
+  pub few : count ≤ calls
   pub counted : count ≡ length rs
   pub written : w′ ≡ rowsWords rs ++ drop (13 * length rs) w

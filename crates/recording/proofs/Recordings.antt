@@ -12,29 +12,29 @@ use lib.Seq.{paste, getD-drop, split-at, drop-drop, drop-paste}
 use lib.Dec.{eqb}
 use borrow.Author.Tests.{eq-eqb, ne-eqb, not-true, not-false}
 use Rattle.orders.specs.ListLaws.{bool-absurd}
 use Rattle.syntax_editor.specs.ChangeRow.{ChangeRow, rowWords, rowOf, rowsOf}
 use Rattle.syntax_editor.specs.ChangeRowLaws.{rowAt, length-row, length-rowsOf, rows-written, row-among, row-set, row-added}
-use Rattle.syntax_editor.specs.Queueing.{place, place-passed, place-found, put, put-found, put-new, through, through-editor, through-put, through-end}
+use Rattle.recording.specs.Queueing.{place, place-passed, place-found, put, put-found, put-new, through, through-editor, through-put, through-end}
 use Rattle.definition.specs.Elements.{Table}
 use Rattle.definition.specs.Words.{word, words}
 use Rattle.definition.specs.Refusals.{Call, operationOf, countOf}
 use Rattle.orders.specs.Lists.{All}
 use Rattle.words.specs.Bytes.{length-words, take-words, drop-words}
 use Rattle.definition.specs.Recording.{change}
 use Rattle.syntax_editor.specs.ChangeRow.{changeRow}
 use Rattle.syntax_editor.specs.Numbers.{placeNumber, numbersOf, asChange, runAsked, changeAsked, rowWith, NumbersFit}
 use Rattle.syntax_editor.specs.Spots.{spotOf, Named}
-use Rattle.syntax_editor.specs.Recorded.{newsAt, askedAt, allAsked}
+use Rattle.recording.specs.Recorded.{newsAt, askedAt, allAsked}
 use Rattle.element_table.specs.Wellformed.{Wellformed}
-use Rattle.syntax_editor.specs.CallList.{callAs, callsOf, Fit, callsFrom, calls-all, calls-more, calls-none, Stands, CallFits, CallPut}
-use Rattle.syntax_editor.specs.Asked.{rowOfChange, row-asked}
+use Rattle.recording.specs.CallList.{callAs, callsOf, Fit, callsFrom, calls-all, calls-more, calls-none, Stands, CallFits, CallPut}
+use Rattle.recording.specs.Asked.{rowOfChange, row-asked}
 use Rattle.syntax_editor.specs.declared.Place.{Place}
 use Rattle.syntax_editor.specs.declared.Place.the-variants.{FirstChild, After}
 use Rattle.syntax_editor.specs.declared.Change.{Change}
 use Rattle.syntax_editor.specs.declared.Change.the-variants.{Insert, Replace, Delete, ReplaceWithMany, ReplaceAll}
 use Rattle.syntax_editor.specs.declared.Numbers.{Numbers}
 use Rattle.syntax_editor.specs.declared.Spot.{Spot}
-use Rattle.syntax_editor.specs.RecordedRows.{isSingle, meetsBy, meetsRow, mergedRow, rowFor, changeRows, rowsAsked, rows-through, Put, RowsRecorded}
+use Rattle.recording.specs.RecordedRows.{isSingle, meetsBy, meetsRow, mergedRow, rowFor, changeRows, rowsAsked, rows-through, Put, RowsRecorded}
 
 -- ── Which row ───────────────────────────────────────────────────────────────────────────────────────────────
 
@@ -309,11 +309,12 @@ module _ (T : Table) (n : ℕ) (b : List ℕ) (heads targets calls list listed :
 
 module _ {T : Table} {n : ℕ} {b : List ℕ} {heads targets calls list listed : ℕ} {w₀ : List ℕ} {start count taken i : ℕ} {w : List ℕ} (v : Recording T n b heads targets calls list listed w₀ start count taken i w) where
   -- no call is left
-  pub recording-done : calls ≤ i → 13 * calls ≤ length w₀ → RowsRecorded (changeRows T (all T n b heads targets calls list listed w₀)) w₀ count w
+  pub recording-done : calls ≤ i → 13 * calls ≤ length w₀ → RowsRecorded calls (changeRows T (all T n b heads targets calls list listed w₀)) w₀ count w
   unfolding callsOf allAsked
   recording-done h l =
       let e : changeRows T (all T n b heads targets calls list listed w₀) ≡ rowsOf count w = v .verdict ∙ rw (calls-none b heads targets calls i h) (through-end meetsRow mergedRow (rowsOf count w) start) in
       record {
+        few = omega (arith, v .high, v .inside);
         counted = rw e (sym (length-rowsOf count w));
         written = rw (e, length-rowsOf count w, rows-written count w (omega (arith, v .long, v .high, v .inside)), ← v .beyond) (sym (take-append-drop (13 * count) w));
       }

@@ -15,14 +15,14 @@ use Rattle.definition.specs.Refusals.{Call}
 use Rattle.definition.specs.Recording.{change, run, insert, firstChild, after, replace, delete, replaceWithMany, replaceAll}
 use Rattle.definition.specs.Planning.{target, rank, from, to, parentDepth, addsRegion, nodeByNode}
 use Rattle.definition.specs.Running.{news}
 use Rattle.syntax_editor.specs.ChangeRow.{ChangeRow, changeRow, operation, endOf, regionOf}
-use Rattle.syntax_editor.specs.Recorded.{newsAt}
-use Rattle.syntax_editor.specs.CallList.{callAs}
+use Rattle.recording.specs.Recorded.{newsAt}
+use Rattle.recording.specs.CallList.{callAs}
 use Rattle.syntax_editor.specs.Numbers.{numbersOf, asChange, rowWith, runAsked, changeAsked, NumbersFit}
 use Rattle.syntax_editor.specs.Spots.{spotOf}
 use Rattle.syntax_editor.specs.declared.Change.{Change}
 use Rattle.syntax_editor.specs.declared.Change.the-variants.{ReplaceWithMany, ReplaceAll}
 use Rattle.syntax_editor.specs.declared.Listed.{Listed}
 
 -- the row of one of the code's changes, y the first of its call's listed elements
 unfoldable pub rowOfChange : Table → ℕ → Change → ChangeRow

@@ -16,10 +16,10 @@ use Rattle.definition.specs.Basics.{any, among}
 use Rattle.definition.specs.Elements.{Table, node?, root?}
 use Rattle.definition.specs.Refusals.{Call, operationOf, countOf, calls, wrongCount, childless, wrongRun, wrongCall}
 use Rattle.definition.specs.Words.{word, words}
 use Rattle.syntax_editor.specs.ChangeRow.{ChangeRow, rowsOf}
-use Rattle.syntax_editor.specs.Queueing.{through}
-use Rattle.syntax_editor.specs.Recorded.{askedAt}
-use Rattle.syntax_editor.specs.RecordedRows.{meetsRow, mergedRow, rowFor}
+use Rattle.recording.specs.Queueing.{through}
+use Rattle.recording.specs.Recorded.{askedAt}
+use Rattle.recording.specs.RecordedRows.{meetsRow, mergedRow, rowFor}
 
 -- ── The calls ───────────────────────────────────────────────────────────────────────────────────────────────
 

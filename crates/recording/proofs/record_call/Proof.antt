@@ -1,10 +1,10 @@
 -- `record_call` meets its contract: a further editor starts, or a change is recorded.
 -- Assumes nothing.
 use Rattle.words.specs.Bytes.{length-words}
-use Rattle.syntax_editor.proofs.Recordings.{first-below, call-named, call-numbers, call-editor, call-put}
+use Rattle.recording.proofs.Recordings.{first-below, call-named, call-numbers, call-editor, call-put}
 use borrow.Author.Needs.{needs}
-use Rattle.syntax_editor.proofs.record_call.Statement.{statement}
-use Rattle.syntax_editor.proofs.record_call.Tie as tie
+use Rattle.recording.proofs.record_call.Statement.{statement}
+use Rattle.recording.proofs.record_call.Tie as tie
 
 returns : tie.Need-returns
 returns c = search (call-editor, needs)

@@ -9,7 +9,7 @@ use lib.ListN.{length, take, drop}
 use lib.Dec.{ltb, eqb}
 use Rattle.definition.specs.Refusals.{Call}
 use Rattle.definition.specs.Recording.{Change, insert, replace, delete, replaceWithMany, replaceAll, change, merges, merged, merge, queued, Queues, recordCall, recorded}
-use Rattle.syntax_editor.specs.Queueing.{put, through, through-map}
+use Rattle.recording.specs.Queueing.{put, through, through-map}
 
 -- ── The definition's recording, in one form ─────────────────────────────────────────────────────────────────
 

@@ -1,9 +1,9 @@
 -- `record_change` meets its contract: a row is added, a delete stays, any other row that it meets is written over.
 -- Assumes nothing.
-use Rattle.syntax_editor.proofs.Recordings.{record-added, record-stays, record-over}
+use Rattle.recording.proofs.Recordings.{record-added, record-stays, record-over}
 use borrow.Author.Needs.{needs}
-use Rattle.syntax_editor.proofs.record_change.Statement.{statement}
-use Rattle.syntax_editor.proofs.record_change.Tie as tie
+use Rattle.recording.proofs.record_change.Statement.{statement}
+use Rattle.recording.proofs.record_change.Tie as tie
 
 place-of-requires : tie.Need-place-of-requires
 place-of-requires c κs = search needs

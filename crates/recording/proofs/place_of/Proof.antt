@@ -1,10 +1,10 @@
 -- `place_of` meets its contract. The invariant: what is sought stands from place k on.
 -- Assumes nothing.
 use Prim.Native.Nat.{_-_}
-use Rattle.syntax_editor.proofs.Recordings.{Seeking, seeking-start, seeking-next, seeking-found, seeking-none}
+use Rattle.recording.proofs.Recordings.{Seeking, seeking-start, seeking-next, seeking-found, seeking-none}
 use borrow.Author.Needs.{needs}
-use Rattle.syntax_editor.proofs.place_of.Statement.{statement}
-use Rattle.syntax_editor.proofs.place_of.Tie as tie
+use Rattle.recording.proofs.place_of.Statement.{statement}
+use Rattle.recording.proofs.place_of.Tie as tie
 
 abbrev Inv-loop : tie.InvT-loop
 Inv-loop rows start count operation target k₀ k = Seeking rows start count operation target k

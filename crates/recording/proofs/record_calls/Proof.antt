@@ -2,11 +2,11 @@
 -- Assumes nothing.
 use Prim.Native.Nat.{_-_}
 use Rattle.element_table.specs.View.{view}
-use Rattle.syntax_editor.proofs.Recordings.{Recording, recording-start, recording-fits, recording-next, recording-done}
+use Rattle.recording.proofs.Recordings.{Recording, recording-start, recording-fits, recording-next, recording-done}
 use borrow.Author.Needs.{needs}
 use native.Mathlib.Omega.{arith}
-use Rattle.syntax_editor.proofs.record_calls.Statement.{statement}
-use Rattle.syntax_editor.proofs.record_calls.Tie as tie
+use Rattle.recording.proofs.record_calls.Statement.{statement}
+use Rattle.recording.proofs.record_calls.Tie as tie
 
 abbrev Inv-loop : tie.InvT-loop
 Inv-loop b words targets calls list listed n table source rows₀ q₀ taken₀ i₀ rows q taken i = Recording (view n table source) n b words targets calls list listed rows₀ (q .start) (q .count) taken i rows
