@@ -1,8 +1,8 @@
 -- A change recorded among rows: each answer, from the tests that led there.
 -- Assumes nothing.
-use mathlib.Core.Bool.{Bool, true, false, cond, not, _&&_}
-use mathlib.Core.List.{List, [], _∷_, _++_, headD, map, zip}
-use mathlib.Core.Option.{Option, none, some, Option·map}
+use mathlib.Core.Bool.{Bool, true, false, cond, not}
+use mathlib.Core.List.{List, [], _∷_, _++_, headD, zip}
+use mathlib.Core.Option.{Option, Option·map}
 use mathlib.Core.Path.{_≡_, refl, sym, ap, _∙_}
 use Prim.Native.Nat.{ℕ, zero, suc, _+_, _-_, _*_, _/_, _%_, _^_, _≤_, _<_}
 use native.Mathlib.Numerals.{add-one}
@@ -11,7 +11,6 @@ use lib.ListN.{length, getD, take, drop, drop-of-length-le, take-append-drop}
 use lib.Seq.{paste, getD-drop, split-at, drop-drop, drop-paste}
 use lib.Dec.{eqb}
 use borrow.Author.Tests.{eq-eqb, ne-eqb, not-true, not-false}
-use Rattle.orders.specs.ListLaws.{bool-absurd}
 use Rattle.syntax_editor.specs.ChangeRow.{ChangeRow, rowWords, rowOf, rowsOf}
 use Rattle.syntax_editor.specs.ChangeRowLaws.{rowAt, length-row, length-rowsOf, rows-written, row-among, row-set, row-added}
 use Rattle.recording.specs.Queueing.{place, place-passed, place-found, put, put-found, put-new, through, through-editor, through-put, through-end}

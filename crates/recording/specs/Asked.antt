@@ -1,28 +1,26 @@
 -- The row of what a call asks for is the definition's.
 -- Assumes nothing.
-use mathlib.Core.Bool.{Bool, true, false, cond, _&&_}
+use mathlib.Core.Bool.{Bool, true, false, cond}
 use mathlib.Core.List.{List, [], _∷_, headD, tail}
-use mathlib.Core.Path.{_≡_, refl, sym, ap, _∙_}
-use Prim.Native.Nat.{ℕ, zero, suc, _+_, _-_, _≤_, _<_, _^_}
+use mathlib.Core.Path.{_≡_, refl}
+use Prim.Native.Nat.{ℕ, zero, suc, _-_, _≤_}
 use native.Mathlib.Nat.{zero-sub}
 use native.Mathlib.Numerals.{add-one}
 use native.Mathlib.Omega.{arith}
 use lib.ListN.{length}
-use lib.Dec.{eqb, ltb}
+use lib.Dec.{eqb}
 use borrow.Author.Tests.{ne-eqb, le-ltb}
 use Rattle.definition.specs.Elements.{Table}
-use Rattle.definition.specs.Refusals.{Call}
-use Rattle.definition.specs.Recording.{change, run, insert, firstChild, after, replace, delete, replaceWithMany, replaceAll}
+use Rattle.definition.specs.Recording.{change, run, replaceWithMany, replaceAll}
 use Rattle.definition.specs.Planning.{target, rank, from, to, parentDepth, addsRegion, nodeByNode}
 use Rattle.definition.specs.Running.{news}
 use Rattle.syntax_editor.specs.ChangeRow.{ChangeRow, changeRow, operation, endOf, regionOf}
 use Rattle.recording.specs.Recorded.{newsAt}
 use Rattle.recording.specs.CallList.{callAs}
-use Rattle.syntax_editor.specs.Numbers.{numbersOf, asChange, rowWith, runAsked, changeAsked, NumbersFit}
+use Rattle.syntax_editor.specs.Numbers.{numbersOf, asChange, rowWith, runAsked, changeAsked}
 use Rattle.syntax_editor.specs.Spots.{spotOf}
 use Rattle.syntax_editor.specs.declared.Change.{Change}
 use Rattle.syntax_editor.specs.declared.Change.the-variants.{ReplaceWithMany, ReplaceAll}
-use Rattle.syntax_editor.specs.declared.Listed.{Listed}
 
 -- the row of one of the code's changes, y the first of its call's listed elements
 unfoldable pub rowOfChange : Table → ℕ → Change → ChangeRow

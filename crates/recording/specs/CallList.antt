@@ -1,10 +1,10 @@
 -- The calls of a batch, one by one.
 -- Assumes nothing.
 use mathlib.Core.Bool.{Bool, true, false, cond, not, _&&_, _||_}
-use mathlib.Core.List.{List, [], _∷_, _++_, map, headD, zip, zipWith}
+use mathlib.Core.List.{List, [], _∷_, headD, zip, zipWith}
 use mathlib.Core.Option.{Option, none, some, Option·map}
 use mathlib.Core.Path.{_≡_, refl, sym, ap, _∙_}
-use Prim.Native.Nat.{ℕ, zero, suc, _+_, _-_, _*_, _^_, _≤_, _<_}
+use Prim.Native.Nat.{ℕ, suc, _+_, _-_, _*_, _^_, _≤_, _<_}
 use native.Mathlib.Omega.{arith}
 use lib.ListN.{length, take, drop}
 use lib.Seq.{drop-drop}

@@ -1,13 +1,13 @@
 -- The elements that a recorded change puts in stand in the batch's list where its row says.
 -- Assumes nothing.
 use mathlib.Core.Bool.{Bool, true, false, cond, not, _&&_, _||_}
-use mathlib.Core.List.{List, [], _∷_, _++_, headD, tail}
-use mathlib.Core.Option.{Option, none, some, Option·map}
+use mathlib.Core.List.{List, [], _∷_, headD, tail}
+use mathlib.Core.Option.{none, some, Option·map}
 use mathlib.Core.Path.{_≡_, refl, sym, ap, _∙_}
-use Prim.Native.Nat.{ℕ, zero, suc, _+_, _-_, _≤_, _<_}
+use Prim.Native.Nat.{ℕ, zero, suc, _+_, _≤_}
 use native.Mathlib.Omega.{arith}
-use lib.ListN.{length, take, drop, length-take}
-use lib.Seq.{drop-drop, length-take-le, take-take}
+use lib.ListN.{length, take, drop}
+use lib.Seq.{drop-drop, length-take-le}
 use lib.Dec.{leb, ltb, eqb}
 use borrow.Author.Tests.{leb-true, ne-eqb, le-ltb}
 use Rattle.orders.specs.Lists.{All}
@@ -15,7 +15,7 @@ use Rattle.orders.specs.ListLaws.{bool-absurd, either-false, none-some, some-in
 use Rattle.definition.specs.Basics.{any, among}
 use Rattle.definition.specs.Elements.{Table, node?, root?}
 use Rattle.definition.specs.Refusals.{Call, operationOf, countOf, calls, wrongCount, childless, wrongRun, wrongCall}
-use Rattle.definition.specs.Recording.{Change, change, run, insert, replace, delete, replaceWithMany, replaceAll, firstChild, after}
+use Rattle.definition.specs.Recording.{Change, change, run, replaceWithMany, replaceAll}
 use Rattle.definition.specs.Running.{news}
 use Rattle.recording.specs.Queueing.{Asks, through-all}
 use Rattle.recording.specs.Recorded.{newsAt, askedAt, allAsked, isDelete, meetsAt, mergedAt, recordedAt}

@@ -7,7 +7,7 @@ use mathlib.Core.Path.{_≡_, refl, sym, ap, _∙_}
 use Prim.Native.Nat.{ℕ, zero, suc, _+_, _≤_, _<_}
 use native.Mathlib.Omega.{arith}
 use lib.ListN.{length, getD, take, drop, length-drop, take-append-drop}
-use lib.Seq.{drop-cons, drop-drop, drop-length, take-length, take-add, take-at, drop-at, length-take-le, getD-drop, split-at}
+use lib.Seq.{drop-cons, drop-drop, drop-length, take-length, take-add, take-at, drop-at, length-take-le, getD-drop}
 use Rattle.orders.specs.Lists.{All}
 use Rattle.orders.specs.ListLaws.{map-append}
 

@@ -1,11 +1,11 @@
 -- The recorded changes, each with the place in the batch's list where its elements start.
 -- Assumes nothing.
 use mathlib.Core.Bool.{Bool, true, false, cond}
-use mathlib.Core.List.{List, [], _∷_, _++_, map, headD, tail, foldl}
+use mathlib.Core.List.{List, [], _∷_, _++_, map, foldl}
 use mathlib.Core.Option.{Option, none, some, Option·map}
-use mathlib.Core.Path.{_≡_, refl, sym, ap, _∙_}
-use Prim.Native.Nat.{ℕ, zero, suc, _+_}
-use lib.ListN.{length, take, drop}
+use mathlib.Core.Path.{_≡_, refl, ap, _∙_}
+use Prim.Native.Nat.{ℕ, suc, _+_}
+use lib.ListN.{length}
 use lib.Dec.{ltb, eqb}
 use Rattle.definition.specs.Refusals.{Call}
 use Rattle.definition.specs.Recording.{Change, insert, replace, delete, replaceWithMany, replaceAll, change, merges, merged, merge, queued, Queues, recordCall, recorded}

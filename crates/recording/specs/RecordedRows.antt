@@ -1,10 +1,10 @@
 -- Recording on rows: which row a call 2 or 3 meets, and what it makes of it.
 -- Assumes nothing.
-use mathlib.Core.Bool.{Bool, true, false, cond, _&&_, _||_}
-use mathlib.Core.List.{List, [], _∷_, _++_, map}
-use mathlib.Core.Option.{Option, none, some, Option·map}
-use mathlib.Core.Path.{_≡_, refl, sym, ap, _∙_}
-use Prim.Native.Nat.{ℕ, zero, suc, _+_, _*_, _≤_}
+use mathlib.Core.Bool.{Bool, cond, _&&_, _||_}
+use mathlib.Core.List.{List, [], _++_, map}
+use mathlib.Core.Option.{Option, Option·map}
+use mathlib.Core.Path.{_≡_, refl}
+use Prim.Native.Nat.{ℕ, _+_, _*_, _≤_}
 use lib.ListN.{length, take, drop}
 use lib.Dec.{eqb}
 use Rattle.definition.specs.Elements.{Table}
@@ -14,7 +14,7 @@ use Rattle.definition.specs.Planning.{target}
 use Rattle.syntax_editor.specs.ChangeRow.{ChangeRow, rowsOf, operation, changeRow}
 use Rattle.syntax_editor.specs.ChangeRowLaws.{rowsWords}
 use Rattle.recording.specs.Queueing.{put, through, through-map}
-use Rattle.recording.specs.Recorded.{meets, isDelete, meetsAt, mergedAt, askedAt, allAsked, recordedAt}
+use Rattle.recording.specs.Recorded.{meets, isDelete, meetsAt, mergedAt, allAsked, recordedAt}
 
 -- "Only 2 and 3 merge."
 unfoldable pub isSingle : ℕ → Bool

@@ -1,13 +1,10 @@
 -- The code's changes: the paper's numbers of each case, and the definition's change that each is.
 -- Assumes nothing.
-use mathlib.Core.Bool.{Bool, true, false, cond}
-use mathlib.Core.List.{List, [], _∷_, headD, tail}
-use mathlib.Core.Path.{_≡_, refl, sym, ap, _∙_}
-use Prim.Native.Nat.{ℕ, zero, suc, _+_, _-_, _^_, _≤_, _<_}
-use native.Mathlib.Omega.{arith}
-use lib.ListN.{length}
-use lib.Dec.{eqb, ltb}
-use Rattle.definition.specs.Refusals.{Call}
+use mathlib.Core.Bool.{cond}
+use mathlib.Core.List.{List, headD}
+use mathlib.Core.Path.{_≡_, refl}
+use Prim.Native.Nat.{ℕ, _+_, _-_, _^_, _<_}
+use lib.Dec.{eqb}
 use Rattle.definition.specs.Recording as def
 use Rattle.definition.specs.Recording.{firstChild, after, insert, replace, delete, replaceWithMany, replaceAll}
 use Rattle.syntax_editor.specs.ChangeRow.{ChangeRow}

@@ -1,19 +1,19 @@
 -- What planning needs of a change, from the words of the element table.
 -- Assumes nothing.
 use mathlib.Core.Bool.{Bool, true, false, cond, _&&_}
-use mathlib.Core.List.{List, [], _∷_}
-use mathlib.Core.Path.{_≡_, refl, sym, ap, _∙_}
-use Prim.Native.Nat.{ℕ, zero, suc, _+_, _-_, _*_, _^_, _<_}
+use mathlib.Core.List.{List}
+use mathlib.Core.Path.{_≡_, refl, ap}
+use Prim.Native.Nat.{ℕ, suc, _+_, _-_, _*_, _^_, _<_}
 use lib.ListN.{getD}
 use lib.Dec.{eqb}
-use Rattle.definition.specs.Elements.{Table, row, node?, root?, depth, tree, isNode}
-use Rattle.definition.specs.Recording.{Change, firstChild, after, insert, replace, delete, replaceWithMany, replaceAll}
+use Rattle.definition.specs.Elements.{Table, row, depth, tree, isNode}
+use Rattle.definition.specs.Recording.{Change, insert, replace, delete, replaceWithMany, replaceAll}
 use Rattle.definition.specs.Planning.{target, from, to, above, parentDepth, addsRegion, nodeByNode}
 use Rattle.element_table.specs.View.{view, rowAt, field}
 use Rattle.element_table.specs.Wellformed.{Wellformed}
 use Rattle.element_table.specs.Told.{row-view, root-told, depth-told, tree-told, node-told}
 use Rattle.syntax_editor.specs.ChangeRow.{regionOf}
-use Rattle.syntax_editor.specs.Numbers.{placeOf, numbersOf, asChange}
+use Rattle.syntax_editor.specs.Numbers.{placeOf, numbersOf}
 use Rattle.syntax_editor.specs.declared.Place.{Place}
 use Rattle.syntax_editor.specs.declared.Place.the-variants.{FirstChild, After}
 use Rattle.syntax_editor.specs.declared.Change as code
