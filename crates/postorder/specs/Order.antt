@@ -11,7 +11,8 @@ use Rattle.definition.specs.Elements.{Table}
 use Rattle.definition.specs.Planning.{Planned, key}
 use Rattle.definition.specs.Running.{owned, ranked, order}
 use Rattle.syntax_editor.specs.ChangeRow.{ChangeRow, rowsOf}
-use Rattle.edit_plan.specs.Lists.{map-numbered, map-keep, map-falling}
+use Rattle.laws.specs.Sorting.{map-falling}
+use Rattle.edit_plan.specs.Lists.{map-numbered, map-keep}
 use Rattle.syntax_editor.specs.ChangeRowLaws.{rowAt}
 use Rattle.edit_plan.specs.Rows.{rowKey, rowFate}
 use Rattle.edit_plan.specs.Sorting.{rankedPlaces, ranked-places}
