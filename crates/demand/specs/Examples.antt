@@ -2,7 +2,7 @@
 -- Assumes nothing.
 use mathlib.Core.Path.{_≡_, refl}
 use mathlib.Core.Bool.{Bool, true, false}
-use mathlib.Core.List.{List, [], _∷_, flatMap}
+use mathlib.Core.List.{List, [], _∷_, _++_, flatMap}
 use Prim.Native.Nat.{ℕ, _+_}
 use Prim.Native.String.{String}
 use Rattle.orders.specs.Tree.{Tree, node, token, forest, text}
@@ -50,6 +50,15 @@ notApart = onP (call 5 2 (3 ∷ []) ∷ call 2 4 (8 ∷ []) ∷ call 1 2 (6 ∷ 
 abbrev rootReplaced : Told
 rootReplaced = onP (call 2 0 (5 ∷ []) ∷ [])
 
+-- P by R(P′(a)), P mapped to P′, c after a: c comes into R, in its own tree, and then R into tree 0. R is 9, P′ 10
+abbrev dependent : Told
+dependent = record {
+  trees = (onP []) .trees ++ (nodeOf 6 (nodeOf 2 (tokenOf 3 "a" ∷ []) ∷ []) ∷ []);
+  calls = call 2 1 (9 ∷ []) ∷ call 1 2 (6 ∷ []) ∷ [];
+  mappings = (1, 10) ∷ [];
+  notes = [];
+}
+
 -- of a batch: whether demand 3's last sentence speaks of it, its new text, and that of tree 0 rewritten in one go
 abbrev Compared : Type 0
 Compared = Answer Bool × Answer (List ℕ) × Answer (List ℕ)
@@ -59,10 +68,11 @@ compared b = (apartBatch? (inBytes b), (edit (inBytes b) >>= λ r. gives (r .tex
 
 -- Where it speaks, both texts are one; where splices are not apart, or the root is replaced, they differ.
 pub compares : (compared apart ≡ (gives true, gives (ascii "adce"), gives (ascii "adce")))
+    × (compared dependent ≡ (gives true, gives (ascii "acb"), gives (ascii "acb")))
     × (compared notApart ≡ (gives false, gives (ascii "e"), gives (ascii "ce")))
     × (compared rootReplaced ≡ (gives false, gives (ascii "cde"), gives (ascii "ab")))
 unfolding
     computed inBytes compared replacesRoot apartIn? apartPlan? apartBatch? oneGoOf
     Check.each Check.pairs Check.enters? Check.run? Check.fits? Check.apart? Check.allApart?
     Splices.samePath Splices.leftOf Splices.under Splices.fromRoot Splices.fromChild Splices.atRoot Splices.below Splices.insertByLeft Splices.leftToRight Splices.newChildren Splices.oneGo Splices.oneGoAll
-compares = (refl, refl, refl)
+compares = (refl, refl, refl, refl)
