@@ -14,6 +14,7 @@
 --     Plans      what is known of its plan: changes, climb steps, notes
 --     Running    what holds of the current trees and the present paths, whatever steps are performed
 --     Held       notes and changed elements stand in the current trees, whatever steps are performed
+--     Performed  the splices that a batch performs on tree 0 fit it, and their numbers rise
 --     Limits     an accepted answer's sizes are within the limits, and its bytes as many as the sizes tell
 pub mod Basics
 pub mod Answers
@@ -30,4 +31,5 @@ pub mod Accepted
 pub mod Plans
 pub mod Running
 pub mod Held
+pub mod Performed
 pub mod Limits

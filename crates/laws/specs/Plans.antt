@@ -44,6 +44,7 @@ mapping-all P (m ∷ ms) e y h g = go (mapping ms e) refl g (λ k. mapping-all P
     go (some x) z q k = k (z ∙ q)
 
 module _ (ts : List (Tree ℕ)) (mapped : ℕ → Option ℕ) (within : (a y : ℕ) → mapped a ≡ some y → y < length (table 0 0 ts)) where
+  -- what is known of each element of the trees
   abbrev T : Table
   T = table 0 0 ts
 

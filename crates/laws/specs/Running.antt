@@ -94,6 +94,7 @@ follows-begin ts notes h = record {
 }
 
 module _ (ts : List (Tree ℕ)) (w : World) (f : Follows ts w) where
+  -- what is known of each element of the trees
   abbrev T : Table
   T = table 0 0 ts
 

@@ -264,7 +264,7 @@ module _ (T : Table) (mapped : ℕ → Option ℕ) where
 -- ── The order of running ────────────────────────────────────────────────────────────────────────────────────
 
 module _ {A : Type 0} where
-  numbered-all : (P : A → Type 0) (n : ℕ) (l : List A) → All P l → All (λ q. P (q .1)) (numbered n l)
+  pub numbered-all : (P : A → Type 0) (n : ℕ) (l : List A) → All P l → All (λ q. P (q .1)) (numbered n l)
   unfolding numbered
   numbered-all P n [] h = tt
   numbered-all P n (x ∷ l) h = (h .0, numbered-all P (suc n) l (h .1))

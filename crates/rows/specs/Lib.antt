@@ -8,6 +8,7 @@
 --     Depth        what a splice does to the greatest depth
 --     Numbers      element e of a batch stands at row e + 1
 --     Words        parts of words are parts of rows; what is read is what the row has
+--     Examples     the definitions compute
 pub mod Row
 pub mod Place
 pub mod RowLaws
@@ -17,3 +18,4 @@ pub mod Marks
 pub mod Depth
 pub mod Numbers
 pub mod Words
+pub mod Examples

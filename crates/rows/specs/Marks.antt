@@ -12,8 +12,8 @@ use Rattle.orders.specs.Tree.{Tree, node, list, Path, resolve, label, adjust, s
 use Rattle.orders.specs.ListLaws.{some-inj, before, inside, after, zone?, get-lt, get-left, get-right, All-over}
 use Rattle.orders.specs.TreeLaws.{shift-before, shift-inside, shift-after, adjust-root, adjust-in, resolve-append, resolve-forest, resolve-splice, spliceIn, label-spliceIn, strip-append, front-child, front-last}
 use Rattle.laws.specs.Moves.{adjust-keeps}
-use Rattle.rows.specs.Place.{weight, place, mark, markOf, movedMark, Held}
-use Rattle.rows.specs.RowLaws.{weight-append}
+use Rattle.rows.specs.Place.{sizeAll, place, mark, markOf, movedMark, Held}
+use Rattle.rows.specs.RowLaws.{sizeAll-append}
 use Rattle.rows.specs.PlaceLaws.{place-forest, place-child, place-down, run-after}
 use Rattle.rows.specs.Moves.{adjust-place}
 
@@ -35,9 +35,9 @@ adjust-front a b n q i e e′ s =
 module _ (q : Path) (t : Tree ℕ) (a b : ℕ) (new : List (Tree ℕ)) (h : HasRun t q a b) where
   -- the mark of a path after the splice is the mark before, moved
   pub mark-follows : (o : Option Path) → Held t o
-      → markOf (splice q a b new t) (bind o (adjust q a b (length new))) ≡ movedMark (place (q ++ (a ∷ [])) t) (place (q ++ (b ∷ [])) t) (weight new) (markOf t o)
+      → markOf (splice q a b new t) (bind o (adjust q a b (length new))) ≡ movedMark (place (q ++ (a ∷ [])) t) (place (q ++ (b ∷ [])) t) (sizeAll new) (markOf t o)
   unfolding markOf movedMark bind
-  mark-follows none w = ap mark (sym (shift-before (place (q ++ (a ∷ [])) t) (place (q ++ (b ∷ [])) t) (weight new) 0 (omega (arith, run-after q t a b h))))
+  mark-follows none w = ap mark (sym (shift-before (place (q ++ (a ∷ [])) t) (place (q ++ (b ∷ [])) t) (sizeAll new) 0 (omega (arith, run-after q t a b h))))
   mark-follows (some e) w = ap mark (adjust-place q t a b new e (w .0) h (w .1))
 
   pub held-after : (o : Option Path) → Held t o → Held (splice q a b new t) (bind o (adjust q a b (length new)))
@@ -52,7 +52,7 @@ module _ (q : Path) (t : Tree ℕ) (a b : ℕ) (new : List (Tree ℕ)) (h : HasR
   -- all marks together
   pub marks-follow : (os : List (Option Path)) → All (Held t) os
       → map (markOf (splice q a b new t)) (map (λ o. bind o (adjust q a b (length new))) os)
-      ≡ map (movedMark (place (q ++ (a ∷ [])) t) (place (q ++ (b ∷ [])) t) (weight new)) (map (markOf t) os)
+      ≡ map (movedMark (place (q ++ (a ∷ [])) t) (place (q ++ (b ∷ [])) t) (sizeAll new)) (map (markOf t) os)
   marks-follow [] w = refl
   marks-follow (o ∷ os) w = cc (mark-follows o (w .0), marks-follow os (w .1))
 
@@ -61,10 +61,10 @@ module _ (q : Path) (t : Tree ℕ) (a b : ℕ) (new : List (Tree ℕ)) (h : HasR
 
   -- the places of those paths of a list that survive
   pub places-follow : (es : List Path) → All (λ e. Held t (some e)) es
-      → map (λ e. place e (splice q a b new t)) (pick (adjust q a b (length new)) es) ≡ pick (shift (place (q ++ (a ∷ [])) t) (place (q ++ (b ∷ [])) t) (weight new)) (map (λ e. place e t) es)
+      → map (λ e. place e (splice q a b new t)) (pick (adjust q a b (length new)) es) ≡ pick (shift (place (q ++ (a ∷ [])) t) (place (q ++ (b ∷ [])) t) (sizeAll new)) (map (λ e. place e t) es)
   unfolding pick
   places-follow [] w = refl
-  places-follow (e ∷ es) w = go (adjust q a b (length new) e) (shift (place (q ++ (a ∷ [])) t) (place (q ++ (b ∷ [])) t) (weight new) (place e t)) _ _ (adjust-place q t a b new e (w .0 .0) h (w .0 .1)) (places-follow es (w .1))
+  places-follow (e ∷ es) w = go (adjust q a b (length new) e) (shift (place (q ++ (a ∷ [])) t) (place (q ++ (b ∷ [])) t) (sizeAll new) (place e t)) _ _ (adjust-place q t a b new e (w .0 .0) h (w .0 .1)) (places-follow es (w .1))
     where
       F : Path → ℕ
       F y = place y (splice q a b new t)
@@ -97,7 +97,7 @@ module _ (q : Path) (t : Tree ℕ) (a b : ℕ) (new : List (Tree ℕ)) (h : HasR
   parent-stays =
       let u : Tree ℕ = node (h .kind) (h .children) in
       let e = adjust-place q t a b new q u h (h .found) in
-      some-inj (sym (ap (Option·map (λ r. place r (splice q a b new t))) (adjust-self a b (length new) q)) ∙ (e ∙ shift-before (place (q ++ (a ∷ [])) t) (place (q ++ (b ∷ [])) t) (weight new) (place q t) (run-after q t a b h)))
+      some-inj (sym (ap (Option·map (λ r. place r (splice q a b new t))) (adjust-self a b (length new) q)) ∙ (e ∙ shift-before (place (q ++ (a ∷ [])) t) (place (q ++ (b ∷ [])) t) (sizeAll new) (place q t) (run-after q t a b h)))
 
   parent-is : resolve q (splice q a b new t) ≡ some (node (h .kind) (forest (take a (list (h .children)) ++ (new ++ drop b (list (h .children))))))
   unfolding spliceIn splice
@@ -117,12 +117,12 @@ module _ (q : Path) (t : Tree ℕ) (a b : ℕ) (new : List (Tree ℕ)) (h : HasR
     unfolding bind
     new-resolve = resolve-append q ((a + i) ∷ r) (splice q a b new t) ∙ rw parent-is (resolve-forest (h .kind) (take a (list (h .children)) ++ (new ++ drop b (list (h .children)))) (a + i) r y among)
 
-    pub new-place : place (q ++ ((a + i) ∷ r)) (splice q a b new t) ≡ place (q ++ (a ∷ [])) t + weight (take i new) + place r y
+    pub new-place : place (q ++ ((a + i) ∷ r)) (splice q a b new t) ≡ place (q ++ (a ∷ [])) t + sizeAll (take i new) + place r y
     new-place =
         let l : List (Tree ℕ) = list (h .children) in
         let l′ : List (Tree ℕ) = take a l ++ (new ++ drop b l) in
         let n : length (take a l) + i ≡ a + i = omega (arith, length-take-le a l (omega (arith, h .ordered, h .within))) in
-        let w : weight (take (a + i) l′) ≡ weight (take a l) + weight (take i new) =
-        rw (← n, take-append-add (take a l) (new ++ drop b l) i, take-append-le i new (drop b l) (omega (arith, get-lt new i g))) (weight-append (take a l) (take i new)) in
+        let w : sizeAll (take (a + i) l′) ≡ sizeAll (take a l) + sizeAll (take i new) =
+        rw (← n, take-append-add (take a l) (new ++ drop b l) i, take-append-le i new (drop b l) (omega (arith, get-lt new i g))) (sizeAll-append (take a l) (take i new)) in
         let p = place-down q t (node (h .kind) (h .children)) (h .found) (a ∷ []) in
         place-down q (splice q a b new t) (node (h .kind) (forest l′)) parent-is ((a + i) ∷ r) ∙ omega (arith, parent-stays, place-forest (h .kind) l′ (a + i) r y among, p, place-child (h .kind) (h .children) a)

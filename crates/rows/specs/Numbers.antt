@@ -12,11 +12,11 @@ use Rattle.orders.specs.ListLaws.{some-inj, none-some, map-some, bind-some, All
 use Rattle.definition.specs.Elements.{Table, table, row}
 use Rattle.laws.specs.Rows.{Element, rowOf, before, childOf, elementAt, rootOf, element}
 use Rattle.laws.specs.Kin.{child-is, stands, path-leads}
-use Rattle.rows.specs.Place.{weight, place, Held}
-use Rattle.rows.specs.RowLaws.{weight-elements}
+use Rattle.rows.specs.Place.{sizeAll, place, Held}
+use Rattle.rows.specs.RowLaws.{sizeAll-elements}
 use Rattle.rows.specs.PlaceLaws.{place-at, place-forest}
 
-place-below : (t : Tree ℕ) (i : ℕ) (p : Path) (c : Tree ℕ) → getElem? (list (children t)) i ≡ some c → place (i ∷ p) t ≡ suc (weight (take i (list (children t))) + place p c)
+place-below : (t : Tree ℕ) (i : ℕ) (p : Path) (c : Tree ℕ) → getElem? (list (children t)) i ≡ some c → place (i ∷ p) t ≡ suc (sizeAll (take i (list (children t))) + place p c)
 unfolding children list
 place-below (node k cs) i p c g = place-at k cs i p c g
 place-below (token k x) i p c g = none-some g
@@ -28,7 +28,7 @@ below-number [] e d g = ap (λ x. x .number) (sym (some-inj g)) ∙ omega arith
 below-number (i ∷ p) e d g =
     let (c, a, b) = bind-some (childOf e i) (λ c. elementAt c p) g in
     let k = child-is e c i a in
-    below-number p c d b ∙ omega (arith, k .number, place-below e.tree i p c.tree (k .found), weight-elements (take i (list (children e.tree))))
+    below-number p c d b ∙ omega (arith, k .number, place-below e.tree i p c.tree (k .found), sizeAll-elements (take i (list (children e.tree))))
 
 -- the place of an element is one more than its number: the root of all stands before the first
 pub element-place : (ts : List (Tree ℕ)) (w : ℕ) (p : Path) (e : Element) → element ts p ≡ some e → place p (node w (forest ts)) ≡ suc (e .number)
@@ -37,7 +37,7 @@ element-place ts w [] e g = none-some g
 element-place ts w (t ∷ p) e g =
     let (r, a, b) = bind-some (rootOf ts t) (λ r. elementAt r p) g in
     let (c, f, h) = map-some _ (getElem? ts t) a in
-    place-forest w ts t p c f ∙ omega (arith, below-number p r e b, weight-elements (take t ts), ap (λ x. x .number) h, ap (λ x. place p x.tree) h)
+    place-forest w ts t p c f ∙ omega (arith, below-number p r e b, sizeAll-elements (take t ts), ap (λ x. x .number) h, ap (λ x. place p x.tree) h)
 
 module _ (ts : List (Tree ℕ)) (w : ℕ) where
   pub element-row : (n : ℕ) → n < length (table 0 0 ts) → place ((row (table 0 0 ts) n) .path) (node w (forest ts)) ≡ suc n

@@ -16,8 +16,8 @@ use Rattle.rows.specs.Row.{Row, tok, nod, outside, owes, rowsOf, rowsAll
 abbrev pub size : Tree ℕ → ℕ
 size t = length (rowsOf t)
 
-abbrev pub weight : List (Tree ℕ) → ℕ
-weight ts = length (rowsAll ts)
+abbrev pub sizeAll : List (Tree ℕ) → ℕ
+sizeAll ts = length (rowsAll ts)
 
 abbrev pub orZero : (Tree ℕ → ℕ) → Option (Tree ℕ) → ℕ
 orZero f none = 0
@@ -27,7 +27,7 @@ orZero f (some t) = f t
 abbrev pub place : Path → Tree ℕ → ℕ
 place [] t = 0
 place (i ∷ p) (token k x) = 0
-place (i ∷ p) (node k cs) = suc (weight (take i (list cs)) + orZero (place p) (getElem? (list cs) i))
+place (i ∷ p) (node k cs) = suc (sizeAll (take i (list cs)) + orZero (place p) (getElem? (list cs) i))
 
 -- the trees of a run
 unfoldable pub runOf : {t : Tree ℕ} {q : Path} {a b : ℕ} → HasRun t q a b → List (Tree ℕ)
@@ -59,14 +59,14 @@ follow rs at (i ∷ p) = bind (getElem? rs at) (λ r. cond (ltb i (owes r)) (fol
 -- ── A splice of rows ────────────────────────────────────────────────────────────────────────────────────────
 
 -- a parent that loses some children and gains others
-abbrev pub regain : ℕ → ℕ → Row → Row
-regain lost gained (tok k x) = tok k x
-regain lost gained (nod k m) = nod k (m + gained - lost)
-regain lost gained (outside k m) = outside k m
+abbrev pub remeasure : ℕ → ℕ → Row → Row
+remeasure lost gained (tok k x) = tok k x
+remeasure lost gained (nod k m) = nod k (m + gained - lost)
+remeasure lost gained (outside k m) = outside k m
 
 -- the rows p up to q, of `lost` trees below the row `parent`, give way to the rows `new`, of `gained` trees
 unfoldable pub spliceRows : List Row → ℕ → ℕ → ℕ → ℕ → List Row → ℕ → List Row
-spliceRows rs parent p q lost new gained = modify parent (regain lost gained) (take p rs ++ (new ++ drop q rs))
+spliceRows rs parent p q lost new gained = modify parent (remeasure lost gained) (take p rs ++ (new ++ drop q rs))
 
 -- ── Marks ───────────────────────────────────────────────────────────────────────────────────────────────────
 

@@ -16,23 +16,23 @@ use Rattle.orders.specs.Tree.{Tree, Trees, node, token, list, forest, Path, res
 use Rattle.orders.specs.ListLaws.{some-inj, none-some, bind-some, lt-or-le, lt-get, get-lt, get-right, length-cut, length-modify, modify-right, parts, part-out}
 use Rattle.orders.specs.TreeLaws.{list-forest, resolve-child, resolve-append}
 use Rattle.rows.specs.Row.{Row, nod, rowOf, rowsOf, rowsIn, rowsAll, skip, treesIn, bytes}
-use Rattle.rows.specs.Place.{size, weight, orZero, place, runOf, rowsAfter, childRow, follow, between, subtree, regain, spliceRows}
-use Rattle.rows.specs.RowLaws.{rowsIn-list, rows-node, rows-append, weight-append, rows-get, rows-modify, size-pos, bytes-append, skip-none, skip-tree, skip-all, trees-count}
+use Rattle.rows.specs.Place.{size, sizeAll, orZero, place, runOf, rowsAfter, childRow, follow, between, subtree, remeasure, spliceRows}
+use Rattle.rows.specs.RowLaws.{rowsIn-list, rows-node, rows-append, sizeAll-append, rows-get, rows-modify, size-pos, bytes-append, skip-none, skip-tree, skip-all, trees-count}
 
 -- ── Places below a child ────────────────────────────────────────────────────────────────────────────────────
 
-pub place-at : (k : ℕ) (cs : Trees ℕ) (i : ℕ) (p : Path) (c : Tree ℕ) → getElem? (list cs) i ≡ some c → place (i ∷ p) (node k cs) ≡ suc (weight (take i (list cs)) + place p c)
+pub place-at : (k : ℕ) (cs : Trees ℕ) (i : ℕ) (p : Path) (c : Tree ℕ) → getElem? (list cs) i ≡ some c → place (i ∷ p) (node k cs) ≡ suc (sizeAll (take i (list cs)) + place p c)
 place-at k cs i p c g = rw g
 
 -- the same where the children are told as a list
-pub place-forest : (k : ℕ) (ts : List (Tree ℕ)) (i : ℕ) (p : Path) (c : Tree ℕ) → getElem? ts i ≡ some c → place (i ∷ p) (node k (forest ts)) ≡ suc (weight (take i ts) + place p c)
+pub place-forest : (k : ℕ) (ts : List (Tree ℕ)) (i : ℕ) (p : Path) (c : Tree ℕ) → getElem? ts i ≡ some c → place (i ∷ p) (node k (forest ts)) ≡ suc (sizeAll (take i ts) + place p c)
 place-forest k ts i p c g = rw (list-forest ts, g)
 
 -- the place of a child, and of the end of the children
-pub place-child : (k : ℕ) (cs : Trees ℕ) (i : ℕ) → place (i ∷ []) (node k cs) ≡ suc (weight (take i (list cs)))
+pub place-child : (k : ℕ) (cs : Trees ℕ) (i : ℕ) → place (i ∷ []) (node k cs) ≡ suc (sizeAll (take i (list cs)))
 place-child k cs i = ap suc (go (getElem? (list cs) i))
   where
-    go : (o : Option (Tree ℕ)) → weight (take i (list cs)) + orZero (place []) o ≡ weight (take i (list cs))
+    go : (o : Option (Tree ℕ)) → sizeAll (take i (list cs)) + orZero (place []) o ≡ sizeAll (take i (list cs))
     go none = omega arith
     go (some c) = omega arith
 
@@ -115,16 +115,16 @@ module _ (q : Path) (t u : Tree ℕ) (f : resolve q t ≡ some u) where
 
 -- ── Children ────────────────────────────────────────────────────────────────────────────────────────────────
 
-pub weight-suc : (ts : List (Tree ℕ)) (i : ℕ) (c : Tree ℕ) → getElem? ts i ≡ some c → weight (take (suc i) ts) ≡ weight (take i ts) + size c
-weight-suc [] i c g = none-some g
-weight-suc (t ∷ ts) zero c g = rw (length-append (rowsOf t) [], some-inj g) (omega arith)
-weight-suc (t ∷ ts) (suc i) c g = rw (length-append (rowsOf t) (rowsAll (take (suc i) ts)), length-append (rowsOf t) (rowsAll (take i ts))) (omega (arith, weight-suc ts i c g))
+pub sizeAll-suc : (ts : List (Tree ℕ)) (i : ℕ) (c : Tree ℕ) → getElem? ts i ≡ some c → sizeAll (take (suc i) ts) ≡ sizeAll (take i ts) + size c
+sizeAll-suc [] i c g = none-some g
+sizeAll-suc (t ∷ ts) zero c g = rw (length-append (rowsOf t) [], some-inj g) (omega arith)
+sizeAll-suc (t ∷ ts) (suc i) c g = rw (length-append (rowsOf t) (rowsAll (take (suc i) ts)), length-append (rowsOf t) (rowsAll (take i ts))) (omega (arith, sizeAll-suc ts i c g))
 
-pub weight-mono : (ts : List (Tree ℕ)) (i j : ℕ) → i ≤ j → weight (take i ts) ≤ weight (take j ts)
-weight-mono ts zero j h = omega arith
-weight-mono ts (suc i) zero h = absurd (omega arith)
-weight-mono [] (suc i) (suc j) h = omega arith
-weight-mono (t ∷ ts) (suc i) (suc j) h = rw (length-append (rowsOf t) (rowsAll (take i ts)), length-append (rowsOf t) (rowsAll (take j ts))) (omega (arith, weight-mono ts i j (omega arith)))
+pub sizeAll-mono : (ts : List (Tree ℕ)) (i j : ℕ) → i ≤ j → sizeAll (take i ts) ≤ sizeAll (take j ts)
+sizeAll-mono ts zero j h = omega arith
+sizeAll-mono ts (suc i) zero h = absurd (omega arith)
+sizeAll-mono [] (suc i) (suc j) h = omega arith
+sizeAll-mono (t ∷ ts) (suc i) (suc j) h = rw (length-append (rowsOf t) (rowsAll (take i ts)), length-append (rowsOf t) (rowsAll (take j ts))) (omega (arith, sizeAll-mono ts i j (omega arith)))
 
 -- a child's parent is a node
 pub parent-of : (q : Path) (i : ℕ) (t c : Tree ℕ) → resolve (q ++ (i ∷ [])) t ≡ some c → (k : ℕ) × (cs : Trees ℕ) × (resolve q t ≡ some (node k cs)) × (getElem? (list cs) i ≡ some c)
@@ -153,7 +153,7 @@ module _ (q : Path) (t : Tree ℕ) (k : ℕ) (cs : Trees ℕ) (f : resolve q t �
 
   -- the next child stands behind all rows of this one
   pub place-next : (i : ℕ) (c : Tree ℕ) → getElem? (list cs) i ≡ some c → place (q ++ (suc i ∷ [])) t ≡ place (q ++ (i ∷ [])) t + size c
-  place-next i c g = rw (place-down q t (node k cs) f (suc i ∷ []), place-down q t (node k cs) f (i ∷ []), place-child k cs (suc i), place-child k cs i) (omega (arith, weight-suc (list cs) i c g))
+  place-next i c g = rw (place-down q t (node k cs) f (suc i ∷ []), place-down q t (node k cs) f (i ∷ []), place-child k cs (suc i), place-child k cs i) (omega (arith, sizeAll-suc (list cs) i c g))
 
   -- the first child stands right behind its parent
   pub place-first : place (q ++ (0 ∷ [])) t ≡ suc (place q t)
@@ -214,6 +214,11 @@ run-behind q i t c f =
 pub run-first : (q : Path) (t : Tree ℕ) (k : ℕ) (cs : Trees ℕ) → resolve q t ≡ some (node k cs) → HasRun t q 0 0
 run-first q t k cs f = record { kind = k; children = cs; found = f; ordered = omega arith; within = omega arith }
 
+-- a run of the root's own children: under the root of all, whole trees
+pub run-root : (k : ℕ) (cs : Trees ℕ) (a b : ℕ) → a ≤ b → b ≤ length (list cs) → HasRun (node k cs) [] a b
+unfolding resolve
+run-root k cs a b h l = record { kind = k; children = cs; found = refl; ordered = h; within = l }
+
 -- the rows before the node at q, its own, those of its children left of the run, of the run, and the others
 pub record Site (q : Path) (t : Tree ℕ) (a b : ℕ) (run : List (Tree ℕ)) : Type 0 where
   pub kind : ℕ
@@ -224,7 +229,7 @@ pub record Site (q : Path) (t : Tree ℕ) (a b : ℕ) (run : List (Tree ℕ)) : 
   pub right : List Row
   pub at : length before ≡ place q t
   pub from : place (q ++ (a ∷ [])) t ≡ suc (length before + length left)
-  pub to : place (q ++ (b ∷ [])) t ≡ suc (length before + (length left + weight run))
+  pub to : place (q ++ (b ∷ [])) t ≡ suc (length before + (length left + sizeAll run))
   pub trees : length run ≡ b - a
   pub was : rowsOf t ≡ before ++ (nod kind many ∷ (left ++ (rowsAll run ++ right)))
   pub is : (new : List (Tree ℕ)) → rowsOf (splice q a b new t) ≡ before ++ (nod kind (many + length new - (b - a)) ∷ (left ++ (rowsAll new ++ right)))
@@ -266,8 +271,8 @@ module _ (q : Path) (t : Tree ℕ) (a b : ℕ) (h : HasRun t q a b) where
       whole : rowsAll l ≡ rowsAll (take a l) ++ (rowsAll (take (b - a) (drop a l)) ++ rowsAll (drop b l))
       whole = ap rowsAll (parts a (b - a) l) ∙ (rows-append (take a l) _ ∙ ap (λ (r : List Row). rowsAll (take a l) ++ r) (rows-append (take (b - a) (drop a l)) _ ∙ rw ab))
 
-      both : weight (take b l) ≡ weight (take a l) + weight (take (b - a) (drop a l))
-      both = ap (λ (n : ℕ). weight (take n l)) (sym ab) ∙ (ap weight (take-add a (b - a) l) ∙ weight-append (take a l) (take (b - a) (drop a l)))
+      both : sizeAll (take b l) ≡ sizeAll (take a l) + sizeAll (take (b - a) (drop a l))
+      both = ap (λ (n : ℕ). sizeAll (take n l)) (sym ab) ∙ (ap sizeAll (take-add a (b - a) l) ∙ sizeAll-append (take a l) (take (b - a) (drop a l)))
 
       here : (new : List (Tree ℕ)) → rowsOf (splice [] a b new (node (h .kind) (h .children))) ≡ nod (h .kind) (length l + length new - (b - a)) ∷ (rowsAll (take a l) ++ (rowsAll new ++ rowsAll (drop b l)))
       here new = rows-here (h .kind) (h .children) a b new ∙ rw (length-cut l new a b (h .ordered) (h .within), rows-append (take a l) (new ++ drop b l), rows-append new (drop b l))
@@ -280,7 +285,7 @@ module _ (q : Path) (t : Tree ℕ) (a b : ℕ) (h : HasRun t q a b) where
   pub run-after : place q t < place (q ++ (a ∷ [])) t
   run-after = omega (arith, site .from, site .at)
 
-  size-was : size t ≡ length (site .before) + suc (length (site .left) + (weight (runOf h) + length (site .right)))
+  size-was : size t ≡ length (site .before) + suc (length (site .left) + (sizeAll (runOf h) + length (site .right)))
   size-was = ap length (site .was) ∙ simp length-append
 
   pub run-within : place (q ++ (b ∷ [])) t ≤ size t
@@ -293,7 +298,7 @@ module _ (q : Path) (t : Tree ℕ) (a b : ℕ) (h : HasRun t q a b) where
   unfolding head
   head-long = simp length-append (omega (arith, site .from))
 
-  run-long : place (q ++ (b ∷ [])) t ≡ place (q ++ (a ∷ [])) t + weight (runOf h)
+  run-long : place (q ++ (b ∷ [])) t ≡ place (q ++ (a ∷ [])) t + sizeAll (runOf h)
   run-long = omega (arith, site .from, site .to)
 
   rows-cut : rowsOf t ≡ head ++ (rowsAll (runOf h) ++ site .right)
@@ -304,8 +309,8 @@ module _ (q : Path) (t : Tree ℕ) (a b : ℕ) (h : HasRun t q a b) where
   pub run-rows : between (place (q ++ (a ∷ [])) t) (place (q ++ (b ∷ [])) t) (rowsOf t) ≡ rowsAll (runOf h)
   unfolding between
   run-rows =
-      let n : place (q ++ (b ∷ [])) t - place (q ++ (a ∷ [])) t ≡ weight (runOf h) = omega (arith, run-long) in
-      rw (n, rows-cut, drop-at head (rowsAll (runOf h) ++ site .right) (place (q ++ (a ∷ [])) t) head-long) (take-at (rowsAll (runOf h)) (site .right) (weight (runOf h)) refl)
+      let n : place (q ++ (b ∷ [])) t - place (q ++ (a ∷ [])) t ≡ sizeAll (runOf h) = omega (arith, run-long) in
+      rw (n, rows-cut, drop-at head (rowsAll (runOf h) ++ site .right) (place (q ++ (a ∷ [])) t) head-long) (take-at (rowsAll (runOf h)) (site .right) (sizeAll (runOf h)) refl)
 
   -- ── What a splice does to the rows ──
 
@@ -317,13 +322,13 @@ module _ (q : Path) (t : Tree ℕ) (a b : ℕ) (h : HasRun t q a b) where
       let x : Row = nod (site .kind) (site .many) in
       let e : head ++ (rowsAll new ++ site .right) ≡ site .before ++ (x ∷ (site .left ++ (rowsAll new ++ site .right))) = simp append-assoc in
       site .is new
-      ∙ sym (rw (run-long, rows-cut, part-out head (rowsAll (runOf h)) (site .right) (rowsAll new) (place (q ++ (a ∷ [])) t) (weight (runOf h)) head-long refl, e)
-      (modify-right (regain (b - a) (length new)) (site .before) (x ∷ (site .left ++ (rowsAll new ++ site .right))) (place q t) 0 (omega (arith, site .at))))
+      ∙ sym (rw (run-long, rows-cut, part-out head (rowsAll (runOf h)) (site .right) (rowsAll new) (place (q ++ (a ∷ [])) t) (sizeAll (runOf h)) head-long refl, e)
+      (modify-right (remeasure (b - a) (length new)) (site .before) (x ∷ (site .left ++ (rowsAll new ++ site .right))) (place q t) 0 (omega (arith, site .at))))
 
   -- the number of rows
-  pub size-splice : (new : List (Tree ℕ)) → size (splice q a b new t) + (place (q ++ (b ∷ [])) t - place (q ++ (a ∷ [])) t) ≡ size t + weight new
+  pub size-splice : (new : List (Tree ℕ)) → size (splice q a b new t) + (place (q ++ (b ∷ [])) t - place (q ++ (a ∷ [])) t) ≡ size t + sizeAll new
   size-splice new =
-      let f : size (splice q a b new t) ≡ length (site .before) + suc (length (site .left) + (weight new + length (site .right))) = ap length (site .is new) ∙ simp length-append in
+      let f : size (splice q a b new t) ≡ length (site .before) + suc (length (site .left) + (sizeAll new + length (site .right))) = ap length (site .is new) ∙ simp length-append in
       omega (arith, size-was, run-long)
 
   -- the number of trees of the run: what the parent's measure loses

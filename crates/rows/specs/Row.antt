@@ -34,17 +34,17 @@ own (tok k x) = x
 own (nod k m) = []
 own (outside k m) = []
 
--- the number of children that follow
-abbrev pub owes : Row → ℕ
-owes (tok k x) = 0
-owes (nod k m) = m
-owes (outside k m) = 0
-
 -- the length of that text, by the words
 abbrev pub textLength : Row → ℕ
 textLength (tok k x) = length x
 textLength (nod k m) = 0
 textLength (outside k m) = m
+
+-- the number of children that follow
+abbrev pub owes : Row → ℕ
+owes (tok k x) = 0
+owes (nod k m) = m
+owes (outside k m) = 0
 
 -- ── The rows of trees ───────────────────────────────────────────────────────────────────────────────────────
 

@@ -12,7 +12,7 @@ use Rattle.orders.specs.ListLaws.{map-append, get-split, modify-split}
 use Rattle.orders.specs.TreeLaws.{list-forest}
 use Rattle.laws.specs.Basics.{flatMap-append}
 use Rattle.rows.specs.Row.{Row, nod, kind, measure, own, owes, rowOf, rowsOf, rowsIn, rowsAll, skip, treesFrom, treesIn, bytes, opened, heightIn, height}
-use Rattle.rows.specs.Place.{size, weight}
+use Rattle.rows.specs.Place.{size, sizeAll}
 
 -- ── Parts ───────────────────────────────────────────────────────────────────────────────────────────────────
 
@@ -32,8 +32,8 @@ pub rows-append : (ts us : List (Tree ℕ)) → rowsAll (ts ++ us) ≡ rowsAll t
 rows-append [] us = refl
 rows-append (t ∷ ts) us = rw (rows-append ts us) (sym (append-assoc (rowsOf t) (rowsAll ts) (rowsAll us)))
 
-pub weight-append : (ts us : List (Tree ℕ)) → weight (ts ++ us) ≡ weight ts + weight us
-weight-append ts us = ap length (rows-append ts us) ∙ length-append (rowsAll ts) (rowsAll us)
+pub sizeAll-append : (ts us : List (Tree ℕ)) → sizeAll (ts ++ us) ≡ sizeAll ts + sizeAll us
+sizeAll-append ts us = ap length (rows-append ts us) ∙ length-append (rowsAll ts) (rowsAll us)
 
 -- trees parted at one of them, and with that one changed
 pub rows-get : (ts : List (Tree ℕ)) (i : ℕ) (c : Tree ℕ) → getElem? ts i ≡ some c → rowsAll ts ≡ rowsAll (take i ts) ++ (rowsOf c ++ rowsAll (drop (suc i) ts))
@@ -86,8 +86,8 @@ mutual
   rows-elements nil = refl
   rows-elements (cons c cs) = length-append (rowsOf c) (rowsIn cs) ∙ omega (arith, size-elements c, rows-elements cs)
 
-pub weight-elements : (ts : List (Tree ℕ)) → weight ts ≡ elementsOf (forest ts)
-weight-elements ts = ap length (sym (rowsIn-forest ts)) ∙ rows-elements (forest ts)
+pub sizeAll-elements : (ts : List (Tree ℕ)) → sizeAll ts ≡ elementsOf (forest ts)
+sizeAll-elements ts = ap length (sym (rowsIn-forest ts)) ∙ rows-elements (forest ts)
 
 pub size-below : (t : Tree ℕ) → size t ≡ suc (elementsOf (children t))
 unfolding children elementsOf
@@ -149,7 +149,7 @@ mutual
   skip-trees (cons t ts) o r =
       rw (suc-add (length (list ts)) o, append-assoc, length-append (rowsOf t) (rowsIn ts)) (omega (arith, skip-tree t (length (list ts) + o) (rowsIn ts ++ r), skip-trees ts o r))
 
-pub skip-all : (ts : List (Tree ℕ)) (n : ℕ) (r : List Row) → length ts ≡ n → skip n (rowsAll ts ++ r) ≡ weight ts
+pub skip-all : (ts : List (Tree ℕ)) (n : ℕ) (r : List Row) → length ts ≡ n → skip n (rowsAll ts ++ r) ≡ sizeAll ts
 skip-all [] n r e = rw (← e) (skip-none r)
 skip-all (t ∷ ts) n r e =
     rw (← e, append-assoc, length-append (rowsOf t) (rowsAll ts)) (omega (arith, skip-tree t (length ts) (rowsAll ts ++ r), skip-all ts (length ts) r refl))

@@ -19,12 +19,12 @@ use Rattle.orders.specs.TreeLaws.{shift-before, shift-inside, shift-after}
 use Rattle.laws.specs.Basics.{getD-map}
 use Rattle.words.specs.Parts.{spliced, getD-above, length-spliced, take-spliced}
 use Rattle.rows.specs.Row.{Row, owes, textLength, rowIn, firstRows, triples, skip, treesFrom, treesIn, bytes, opened, heightIn, height}
-use Rattle.rows.specs.Place.{rowsAfter, childRow, between, subtree, follow, regain, spliceRows, movedMark}
+use Rattle.rows.specs.Place.{rowsAfter, childRow, between, subtree, follow, remeasure, spliceRows, movedMark}
 use Rattle.rows.specs.RowLaws.{skip-none, height-closed}
 use Rattle.rows.specs.PlaceLaws.{get-none}
 use Rattle.rows.specs.Marks.{marks-below}
 use Rattle.rows.specs.Words.{node-row, token-owes, token-length, first-at, first-end, first-get, length-triples, triples-at, triples-end, triples-append, triples-take, triples-drop, triples-set, length-first, words-between}
-use Rattle.syntax_node.specs.Promises.{Counted, Measured, After, ChildAt, Trees, TreesBetween, Bytes, Height, Part, Appended, Spliced, Moved, Shifted, found}
+use Rattle.syntax_node.specs.Promises.{Counted, Measured, After, ChildAt, TreesIn, TreesBetween, Bytes, Height, Part, Appended, Spliced, Moved, Shifted, found}
 use Rattle.syntax_node.specs.declared.Found.the-variants.{At, Nothing}
 
 -- ── One row ─────────────────────────────────────────────────────────────────────────────────────────────────
@@ -195,7 +195,7 @@ module _ {run : List ℕ} {trees o i : ℕ} (v : Grouping run trees o i) where
         rest = λ text. rw (add-one i) (v .rest text ∙ rw (trees-cons o _ _ (rowIn text run i) (triples-at text i run h) z, ← c .count text));
       }
 
-  pub grouping-done : length run ≤ 3 * i + 2 → Trees run trees
+  pub grouping-done : length run ≤ 3 * i + 2 → TreesIn run trees
   grouping-done h =
       record {
         count = λ text. sym (v .rest text ∙ rw (triples-end text i run h) (omega arith));
@@ -203,7 +203,7 @@ module _ {run : List ℕ} {trees o i : ℕ} (v : Grouping run trees o i) where
       }
 
 -- a run that is a part of rows
-pub trees-between : (rows run : List ℕ) (n p q r : ℕ) → (3 * n ≤ length rows) × (n < 2 ^ 16) × (p ≤ q) × (q ≤ n) → run ≡ take (3 * q - 3 * p) (drop (3 * p) rows) → Trees run r → TreesBetween rows n p q r
+pub trees-between : (rows run : List ℕ) (n p q r : ℕ) → (3 * n ≤ length rows) × (n < 2 ^ 16) × (p ≤ q) × (q ≤ n) → run ≡ take (3 * q - 3 * p) (drop (3 * p) rows) → TreesIn run r → TreesBetween rows n p q r
 trees-between rows run n p q r h e v =
     record {
       count = λ text. v .count text ∙ ap treesIn (ap (triples text) e ∙ words-between text n rows p q (h .2) (h .3));
@@ -240,14 +240,14 @@ module _ (rows rows′ run : List ℕ) (n parent p q removed gain m : ℕ)
   written = set rows (3 * parent + 1) (m + gain - removed)
 
   -- the rows of what is written
-  rows-written : (text : List ℕ) → triples text (take (3 * n) written) ≡ modify parent (regain removed gain) (firstRows text n rows)
+  rows-written : (text : List ℕ) → triples text (take (3 * n) written) ≡ modify parent (remeasure removed gain) (firstRows text n rows)
   rows-written text =
       let t : List ℕ = take (3 * n) rows in
       let a : getD t (3 * parent) 0 ≡ getD rows (3 * parent) 0 = getD-take (3 * n) rows (3 * parent) 0 (omega arith) in
       let b : getD t (3 * parent + 1) 0 ≡ m = getD-take (3 * n) rows (3 * parent + 1) 0 (omega arith) ∙ sym (e .0) in
       let z : 2147483648 ≤ getD t (3 * parent) 0 = rw a (l .0) in
       rw (take-set-lt (3 * n) rows (3 * parent + 1) (m + gain - removed) (omega arith))
-      (triples-set text parent t (m + gain - removed) (regain removed gain) (omega (arith, length-take-le (3 * n) rows (h .0)))
+      (triples-set text parent t (m + gain - removed) (remeasure removed gain) (omega (arith, length-take-le (3 * n) rows (h .0)))
       (rw (node-row text (getD t (3 * parent) 0) (getD t (3 * parent + 1) 0) (getD t (3 * parent + 2) 0) z, b) (sym (node-row text (getD t (3 * parent) 0) (m + gain - removed) (getD t (3 * parent + 2) 0) z))))
 
   cut-written : (g : Row → Row) (R new : List Row) → length R ≡ n → take p (modify parent g R) ++ (new ++ drop q (modify parent g R)) ≡ modify parent g (take p R ++ (new ++ drop q R))
@@ -272,7 +272,7 @@ module _ (rows rows′ run : List ℕ) (n parent p q removed gain m : ℕ)
           triples-drop text q X,
           rows-written text,
         )
-            (cut-written (regain removed gain) (firstRows text n rows) (triples text run) (length-first text n rows (h .0)));
+            (cut-written (remeasure removed gain) (firstRows text n rows) (triples text run) (length-first text n rows (h .0)));
         count = refl;
         beyond = rw (w, f, drop-at (spliced (3 * p) (3 * q) run X) (drop (3 * p + length run + (3 * n - 3 * q)) written) (3 * p + length run + (3 * n - 3 * q)) (length-spliced written run (3 * n) (3 * p) (3 * q) (omega arith) (omega arith) y))
             (drop-set-lt (3 * p + length run + (3 * n - 3 * q)) rows (3 * parent + 1) (m + gain - removed) (omega arith));

@@ -34,7 +34,7 @@ pub record ChildAt (rows : List ℕ) (n parent i r : ℕ) : Type 0 where
   pub high : r ≤ n
 
 -- the number of trees of a run
-pub record Trees (run : List ℕ) (r : ℕ) : Type 0 where
+pub record TreesIn (run : List ℕ) (r : ℕ) : Type 0 where
   pub count : (text : List ℕ) → r ≡ treesIn (triples text run)
   pub few : 3 * r ≤ length run
 

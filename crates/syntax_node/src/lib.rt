@@ -6,7 +6,7 @@ ghost use lib.ListN.{length, getD};
 ghost use Rattle.orders.specs.Lists.{All};
 ghost use Rattle.rows.specs.Row.{firstRows};
 ghost use Rattle.rows.specs.Place.{follow};
-ghost use Rattle.syntax_node.specs.Promises.{Counted, Measured, After, ChildAt, Trees, TreesBetween, Bytes, Height, Part, Appended, Spliced, Moved, Shifted, found};
+ghost use Rattle.syntax_node.specs.Promises.{Counted, Measured, After, ChildAt, TreesIn, TreesBetween, Bytes, Height, Part, Appended, Spliced, Moved, Shifted, found};
 use words::copy_in;
 use words::splice_words;
 use words::word;
@@ -110,7 +110,7 @@ pub fn resolve(rows: &[u32], n: usize, path: &[u32]) -> Found
 // The number of trees of a run.
 pub fn trees_in(run: &[u32]) -> usize
     requires { ⌜ length (now run) < 3 * 2 ^ 16 ⌝ }
-    ensures { λ r. ⌜ Trees (now (run .entry)) r ⌝ }
+    ensures { λ r. ⌜ TreesIn (now (run .entry)) r ⌝ }
 {
     let mut trees = 0;
     let mut o = 0;
