@@ -15,12 +15,12 @@ use Rattle.definition.specs.Planning.{Planned}
 use Rattle.definition.specs.Rewriting.{Note}
 use Rattle.definition.specs.Running.{World, steps}
 use Rattle.definition.specs.Running as Running
-use Rattle.definition.specs.Finishing.{Result}
-use Rattle.definition.specs.Answers.{Plan, plan, edit}
+use Rattle.definition.specs.Finishing.{Result, encoded}
+use Rattle.definition.specs.Answers.{Plan, plan, edit, edited}
 use Rattle.laws.specs.Right.{Sits}
 use Rattle.demand.specs.Aims.{replacesRoot}
 use Rattle.demand.specs.Run.{splicesIn0, DemandedOf, run-demanded}
-use Rattle.demand.specs.Answered.{ApartIn, AnswersOneGo, answers-one-go}
+use Rattle.demand.specs.Answered.{ApartIn, AnswersOneGo, answers-one-go, edited-result}
 
 -- what demand 3 says
 pub record Demand3 : Type 1 where
@@ -38,6 +38,8 @@ pub record Demand3 : Type 1 where
       → DemandedOf old (splicesIn0 T first ps) T w
   -- "every accepted batch whose splices are apart and leave the root unreplaced answers with that tree"
   pub answer : (bytes : List ℕ) (r : Result) → edit bytes ≡ gives r → (a : Accepted) (p : Plan) → accepted bytes ≡ gives a → plan a ≡ gives p → (old : Tree ℕ) → ApartIn old a p → AnswersOneGo old a p r
+  -- and what THE EDIT writes is such an answer, as bytes
+  pub bytes : (work : List (ℕ × ℕ)) (bytes : List ℕ) (room : ℕ) (out : List ℕ) → edited work bytes room ≡ gives out → (r : Result) × (edit bytes ≡ gives r) × (encoded r ≡ out)
 
 pub demand-3 : Demand3
-demand-3 = record { law = demand; agree = orders-agree; run = run-demanded; answer = answers-one-go }
+demand-3 = record { law = demand; agree = orders-agree; run = run-demanded; answer = answers-one-go; bytes = edited-result }
