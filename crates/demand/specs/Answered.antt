@@ -4,21 +4,22 @@ use mathlib.Core.Path.{_≡_, refl, ap, _∙_}
 use mathlib.Core.Bool.{Bool, true, false, not, _&&_}
 use mathlib.Core.List.{List, [], _∷_, map, flatMap, append-nil, head-eq-of-cons-eq, nil≢cons}
 use Prim.Native.Nat.{ℕ}
-use lib.ListN.{take}
+use lib.Dec.{ltb}
+use lib.ListN.{length, take}
 use borrow.Author.Tests.{not-true}
 use Rattle.orders.specs.Lists.{any, All}
 use Rattle.orders.specs.ListLaws.{bool-absurd, both-true, All-map, none-passes, passes-none}
 use Rattle.orders.specs.Tree.{Tree, label, preorder, text, measure}
 use Rattle.orders.specs.Splices.{Splice, oneGo, AllApart}
 use Rattle.orders.specs.Check.{allApart?, says-all-apart}
-use Rattle.definition.specs.Basics.{Answer, gives, _>>=_}
+use Rattle.definition.specs.Basics.{Answer, gives, _>>=_, refuse}
 use Rattle.definition.specs.Elements.{Table, table}
 use Rattle.definition.specs.Refusals.{Accepted, accepted}
 use Rattle.definition.specs.Planning.{Planned}
 use Rattle.definition.specs.Rewriting.{Note}
 use Rattle.definition.specs.Running.{World, begin, steps}
-use Rattle.definition.specs.Finishing.{newTree, Result, result}
-use Rattle.definition.specs.Answers.{Plan, plan, performed, atFirst, ran, edit}
+use Rattle.definition.specs.Finishing.{newTree, Result, result, encoded, fitting}
+use Rattle.definition.specs.Answers.{Plan, plan, performed, atFirst, ran, edit, tooShort, withWork, edited}
 use Rattle.definition.specs.Performed.{splices}
 use Rattle.laws.specs.Answers.{gives-inj, given, both-given}
 use Rattle.laws.specs.Accepted.{accepts}
@@ -84,6 +85,16 @@ answers-one-go bytes r e a p x y old h =
     let (w, z, u) = both-given (ran a p) (λ w. gives (result p.changes p.climbs w)) (rw (x, y) at e) in
     let d = ran-demanded old bytes a p w x y z h in
     record { end = w; run = z; demanded = d; shows = rw (← gives-inj u) (result-shows (oneGo (splices a p) old) p.changes p.climbs w (d .tree ∙ ap (λ t. t ∷ []) (d .demanded .tree))) }
+
+-- the bytes that an edit writes are those of its result
+pub edited-result : (work : List (ℕ × ℕ)) (bytes : List ℕ) (room : ℕ) (out : List ℕ) → edited work bytes room ≡ gives out → (r : Result) × (edit bytes ≡ gives r) × (encoded r ≡ out)
+unfolding edited withWork fitting
+edited-result work bytes room out e =
+    given (refuse 1 (tooShort work)) _ e λ u x e.
+    given (edit bytes) _ e λ r y e.
+    given (fitting room r) _ e λ s z e.
+    given (refuse 13 (ltb room (length (encoded r)))) _ z λ v a z.
+    (r, y, ap encoded (gives-inj z) ∙ gives-inj e)
 
 -- ── The test ────────────────────────────────────────────────────────────────────────────────────────────────
 

@@ -8,8 +8,8 @@ use Prim.Native.Nat.{ℕ, suc, _≤_, _<_}
 use native.Mathlib.Omega.{arith}
 use lib.ListN.{length, take}
 use Rattle.orders.specs.Lists.{pick, All}
-use Rattle.orders.specs.ListLaws.{some-inj, All-map, pick-none, pick-some}
-use Rattle.orders.specs.Tree.{Tree, forest, list, children, Path}
+use Rattle.orders.specs.ListLaws.{some-inj, map-some, All-map, pick-none, pick-some}
+use Rattle.orders.specs.Tree.{Tree, forest, list, children, Path, resolve}
 use Rattle.orders.specs.Tree as Tree
 use Rattle.orders.specs.Splices.{Splice, State, performAt, AllApart}
 use Rattle.orders.specs.Splices as Splices
@@ -24,6 +24,8 @@ use Rattle.definition.specs.Finishing.{newTree}
 use Rattle.definition.specs.Performed.{toSplice, met, yields, told}
 use Rattle.laws.specs.Basics.{getD-map}
 use Rattle.laws.specs.Answers.{gives-inj, given}
+use Rattle.laws.specs.Rows.{Element, rowOf, element}
+use Rattle.laws.specs.Kin.{element-path, element-tree, row-told, element-stands, stands-within}
 use Rattle.laws.specs.Moves.{stay-keeps}
 use Rattle.laws.specs.Right.{Sits}
 use Rattle.demand.specs.Tree0.{Tree0}
@@ -109,6 +111,8 @@ pub record DemandedOf (old : Tree ℕ) (S : List (Splice ℕ)) (T : Table) (w : 
   pub demanded : Demanded old S now
   pub tree : newTree w ≡ now .tree ∷ []
   pub paths : (x : ℕ) (e : Path) → x < length T → (row T x) .path ≡ 0 ∷ e → present w x ≡ Option·map (λ p. 0 ∷ p) (now .path e)
+  -- "An old path is an old element's": each is the path of an element of the table
+  pub elements : (e : Path) (t : Tree ℕ) → resolve e old ≡ some t → (x : ℕ) × (x < length T) × ((row T x) .path ≡ 0 ∷ e)
 
 module _ (old : Tree ℕ) (others : List (Tree ℕ)) (notes : List Note) where
   abbrev T₀ : Table
@@ -131,13 +135,21 @@ module _ (old : Tree ℕ) (others : List (Tree ℕ)) (notes : List Note) where
     elsewhere = λ t e q z. (e, sym (some-inj z));
   }
 
-  tree0-told : (T : Table) (w : World) (S : List (Splice ℕ)) (now : State ℕ) → Tree0 T w now → Demanded old S now → DemandedOf old S T w
+  old-row : (e : Path) (t : Tree ℕ) → resolve e old ≡ some t → (x : ℕ) × (x < length T₀) × ((row T₀ x) .path ≡ 0 ∷ e)
+  unfolding forest list resolve bind rowOf
+  old-row e t z =
+      let ts : List (Tree ℕ) = old ∷ others in
+      let (d, a, b) = map-some (λ (d : Element). d .tree) (element ts (0 ∷ e)) (element-tree ts 0 e 0 ∙ z) in
+      (d .number, stands-within ts d.number (element-stands ts (0 ∷ e) d a), ap (λ r. r .path) (row-told ts (0 ∷ e) d a) ∙ element-path ts (0 ∷ e) d a)
+
+  tree0-told : (w : World) (S : List (Splice ℕ)) (now : State ℕ) → Tree0 T₀ w now → Demanded old S now → DemandedOf old S T₀ w
   unfolding newTree children list present row
-  tree0-told T w S now h d = record {
+  tree0-told w S now h d = record {
     now = now;
     demanded = d;
     tree = ap (λ t. take 1 (list (children t))) (h .trees);
-    paths = λ x e l z. rw (h .paths) (getD-map (λ r. h .move (r .path)) T x none noRow l ∙ (ap (h .move) z ∙ h .here e));
+    paths = λ x e l z. rw (h .paths) (getD-map (λ r. h .move (r .path)) T₀ x none noRow l ∙ (ap (h .move) z ∙ h .here e));
+    elements = old-row;
   }
 
   -- Any steps performed on the batch's trees, whatever planned them: if their splices in tree 0 are apart and none replaces its root, tree 0 is the old tree rewritten in one go, and each old path is where
@@ -147,4 +159,4 @@ module _ (old : Tree ℕ) (others : List (Tree ℕ)) (notes : List Note) where
   run-demanded ps w s k e h =
       let m = run-made (old ∷ others) notes ps 0 first₀ w (Splices.begin old) tree0-begin s k e in
       let S = splicesIn0 T₀ first₀ ps in
-      tree0-told T₀ w S (m .final) (m .tree0) (demanded-by-targets old S (m .targets) (m .final) h (splices-rise T₀ first₀ 0 (met T₀ first₀ first₀ ps)) (m .made))
+      tree0-told w S (m .final) (m .tree0) (demanded-by-targets old S (m .targets) (m .final) h (splices-rise T₀ first₀ 0 (met T₀ first₀ first₀ ps)) (m .made))
