@@ -1,0 +1,2 @@
+-- Measuring   what planning goes by, word by word
+pub mod Measuring

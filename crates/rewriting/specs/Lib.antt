@@ -1,0 +1,7 @@
+-- Rewriting dependents on change rows.
+--     Rewritten   the rows rewritten, and that they are what the definition says
+--     Judged      line 6 of a rewritten change
+--     Answers     what each answer means
+pub mod Rewritten
+pub mod Judged
+pub mod Answers
