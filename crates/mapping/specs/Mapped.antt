@@ -1,6 +1,6 @@
 -- The mappings as an array by element number: word e is 0 if element e is not mapped, y + 1 if it is mapped to y.
 -- Assumes nothing.
-use mathlib.Core.Bool.{Bool, true, false, cond}
+use mathlib.Core.Bool.{Bool, true, false, cond, not, _||_}
 use mathlib.Core.List.{List, [], _∷_, foldl}
 use mathlib.Core.Option.{Option, none, some}
 use mathlib.Core.Path.{_≡_, refl, sym, ap, _∙_, fun-ext}
@@ -8,11 +8,14 @@ use Prim.Native.Nat.{ℕ, zero, suc, _+_, _≤_, _<_}
 use native.Mathlib.Omega.{arith}
 use lib.ListN.{length, getD, set, replicate, length-set, length-replicate}
 use lib.Seq.{set-out, getD-set-same, getD-set-other}
-use lib.Dec.{eqb}
-use borrow.Author.Tests.{eqb-true, eqb-false}
+use lib.Dec.{eqb, leb}
+use borrow.Author.Tests.{eqb-true, eqb-false, leb-false}
 use mathlib.Core.Logic.{⊎-elim}
 use Rattle.orders.specs.Lists.{All}
-use Rattle.orders.specs.ListLaws.{lt-or-le}
+use Rattle.orders.specs.ListLaws.{lt-or-le, bool-absurd}
+use Rattle.definition.specs.Basics.{any}
+use Rattle.definition.specs.Elements.{Table, node?, root?}
+use Rattle.definition.specs.Refusals.{wrongMapping}
 use Rattle.definition.specs.Rewriting.{mapping}
 use Rattle.element_table.specs.Told.{elementOf}
 
@@ -107,3 +110,20 @@ low-noted k n (m ∷ ms) w h f = low-noted k n ms (noted w m) (h .1) (λ e. one 
 pub mapped-elements : (k n : ℕ) (ms : List (ℕ × ℕ)) → n ≤ k → Bounded k n ms → Mapped n (mappingWords k ms)
 unfolding mappingWords
 mapped-elements k n ms l h = record { long = omega (arith, length-mappingWords k ms); low = low-noted k n ms (replicate k 0) h (λ e. omega (arith, zeros k e)) }
+
+-- ── What line 7 accepts ─────────────────────────────────────────────────────────────────────────────────────
+
+neither : (a b : Bool) → (a || b) ≡ false → (a ≡ false) × (b ≡ false)
+neither true b h = bool-absurd refl h
+neither false b h = (refl, h)
+
+pub accepted-bounded : (T : Table) (k : ℕ) (ms : List (ℕ × ℕ)) → length T ≤ k → any (wrongMapping T) ms ≡ false → Bounded k (length T) ms
+unfolding any wrongMapping
+accepted-bounded T k [] l h = tt
+accepted-bounded T k (m ∷ ms) l h =
+    let both = neither _ (any (wrongMapping T) ms) h in
+    let ends = neither _ (root? T (m .1)) (both .0) .0 in
+    let each = neither (leb (length T) (m .0) || not (node? T (m .0))) _ ends in
+    let low = neither (leb (length T) (m .0)) (not (node? T (m .0))) (each .0) .0 in
+    let out = neither (leb (length T) (m .1)) (not (node? T (m .1))) (neither _ false (each .1) .0) .0 in
+    ((omega (arith, leb-false (length T) (m .0) low), leb-false (length T) (m .1) out), accepted-bounded T k ms l (both .1))

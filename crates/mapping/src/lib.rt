@@ -100,12 +100,14 @@ pub fn upmap_to_ancestor(
             outcome = Climb::Refused(10);
             break;
         }
-        if p - 1 == output {
+        let parent = p - 1;
+        let next = upmap_node_single(map, n, parent);
+        if parent == output {
             outcome = Climb::Trail(k);
             break;
         }
-        x = upmap_node_single(map, n, p - 1);
-        trail[k] = table[8 * x + 2];
+        trail[k] = table[8 * next + 2];
+        x = next;
         k += 1;
     }
     outcome

@@ -1,6 +1,7 @@
 -- `upmap_to_ancestor` meets its contract. At the loop's head the rest of the definition's climb stands before it, with as many steps left.
 -- Assumes nothing.
 use borrow.Author.Needs.{needs}
+use native.Mathlib.Omega.{arith}
 use Rattle.mapping.specs.declared.Climb.the-variants.{Refused}
 use Rattle.mapping.proofs.Climbing.{Climbing, climbing-same, climbing-start, climbing-9, climbing-10, climbing-done, climbing-next, parent-element}
 use mathlib.Core.Path.{_≡_, refl}
@@ -41,26 +42,23 @@ loop-holds c = (climbing-start _ _ _ _ _ (c .before .before .before .before .bef
 entry-requires : tie.Need-entry-requires Inv-loop μ-loop
 entry-requires c κs = search needs
 
-sub-if4 : tie.Need-sub-if4 Inv-loop μ-loop
-sub-if4 c = search needs
-
-sub-upmap-node-single : tie.Need-sub-upmap-node-single Inv-loop μ-loop
-sub-upmap-node-single c = search needs
+sub-parent : tie.Need-sub-parent Inv-loop μ-loop
+sub-parent c = search needs
 
 upmap-node-single-requires-2 : tie.Need-upmap-node-single-requires-2 Inv-loop μ-loop
-upmap-node-single-requires-2 c κs = search (parent-element, needs)
+upmap-node-single-requires-2 c κs = (c .before .before .before .before .before .before .before .before .before .pre .1 .0, parent-element _ _ _ _ (c .before .before .before .before .before .before .before .before .before .pre .0) (c .before .before .before .loop .inv .0 .here) (c .before .before .entry .ensures .0))
 
 mul-trail-3 : tie.Need-mul-trail-3 Inv-loop μ-loop
-mul-trail-3 c = search needs
+mul-trail-3 c = omega (arith, parent-element _ _ _ _ (c .before .before .before .before .before .before .before .before .before .before .before .pre .0) (c .before .before .before .before .before .loop .inv .0 .here) (c .before .before .before .before .entry .ensures .0))
 
 add-trail-2 : tie.Need-add-trail-2 Inv-loop μ-loop
-add-trail-2 c = search needs
+add-trail-2 c = omega (arith, parent-element _ _ _ _ (c .before .before .before .before .before .before .before .before .before .before .before .pre .0) (c .before .before .before .before .before .loop .inv .0 .here) (c .before .before .before .before .entry .ensures .0))
 
 mul-trail-4 : tie.Need-mul-trail-4 Inv-loop μ-loop
 mul-trail-4 c = search needs
 
 shared-slice-read-trail-2 : tie.Need-shared-slice-read-trail-2 Inv-loop μ-loop
-shared-slice-read-trail-2 c = search needs
+shared-slice-read-trail-2 c = omega (arith, parent-element _ _ _ _ (c .before .before .before .before .before .before .before .before .before .before .before .before .pre .0) (c .before .before .before .before .before .before .loop .inv .0 .here) (c .before .before .before .before .before .entry .ensures .0))
 
 mul-trail-5 : tie.Need-mul-trail-5 Inv-loop μ-loop
 mul-trail-5 c = search needs
@@ -101,8 +99,7 @@ upmap-to-ancestor-spec =
     element-write-trail
     loop-holds
     entry-requires
-    sub-if4
-    sub-upmap-node-single
+    sub-parent
     upmap-node-single-requires-2
     mul-trail-3
     add-trail-2

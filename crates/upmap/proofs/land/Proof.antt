@@ -26,7 +26,7 @@ returns-2 : tie.Need-returns-2
 returns-2 c = search (landing-on-node, needs)
 
 is-node-requires-2 : tie.Need-is-node-requires-2
-is-node-requires-2 c κs = search needs
+is-node-requires-2 c κs = omega (arith, within-at _ _ _ (c .before .before .before .before .before .descend .ensures .within) (c .before .before .before .to .given .1))
 
 returns-3 : tie.Need-returns-3
 returns-3 c = search (landing-refused, needs)
