@@ -1,0 +1,4 @@
+-- Stored     the store that words tell
+-- Promises   what the functions promise
+pub mod Stored
+pub mod Promises
