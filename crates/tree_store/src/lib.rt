@@ -3,7 +3,15 @@ ghost use mathlib.Core.Path.{_≡_};
 ghost use Prim.Native.Nat.{_+_, _*_, _^_, _≤_, _<_};
 ghost use lib.ListN.{length};
 ghost use Rattle.orders.specs.Lists.{All};
-ghost use Rattle.tree_store.specs.Promises.{Prepared};
+ghost use Rattle.element_table.specs.Wellformed.{Lines};
+ghost use Rattle.syntax_node.specs.Promises.{TreesBetween};
+ghost use Rattle.tree_store.specs.Promises.{Prepared, GapOf, GapAfter, GapRun, SiteAt};
+ghost use Rattle.tree_store.specs.Gaps.{markOrTop, parentMark};
+use calls::entry;
+use calls::is_root;
+use syntax_node::child_row;
+use syntax_node::children_between;
+use syntax_node::rows_after;
 use syntax_node::subtree;
 use words::word;
 
@@ -26,4 +34,108 @@ pub fn prepared_rows<'a>(
         return subtree(source, marks.len() + 1, e + 1);
     }
     subtree(rows, n, m)
+}
+
+// ── Where a change goes ──
+
+// The rows `from` up to `to` below the row `parent`, which are `lost` trees.
+pub struct Gap {
+    pub parent: usize,
+    pub from: usize,
+    pub to: usize,
+    pub lost: usize,
+}
+
+// Where a change goes, if its target is still there.
+pub enum Site {
+    Gone,
+    At(Gap),
+}
+
+// The row of element `p` - 1; the root of all where `p` is 0.
+fn row_or_top(marks: &[u32], p: usize) -> usize
+    requires { ⌜ p ≤ length (now marks) ⌝ }
+    ensures { λ r. ⌜ r ≡ markOrTop (now (marks .entry)) p ⌝ }
+{
+    if p == 0 {
+        return 0;
+    }
+    word(marks, p - 1)
+}
+
+// The row of the parent of element `x`: 0, the root of all, for a root.
+fn parent_row(table: &[u32], marks: &[u32], x: usize) -> usize
+    requires { ⌜ Lines (length (now marks)) (now table) × (x < length (now marks)) ⌝ }
+    ensures { λ r. ⌜ r ≡ parentMark (now (table .entry)) (now (marks .entry)) x ⌝ }
+{
+    let p = entry(table, x, 1);
+    row_or_top(marks, p)
+}
+
+// The number of trees of the rows `p` up to `q`: none if `q` comes first.
+fn trees_between(rows: &[u32], n: usize, p: usize, q: usize) -> usize
+    requires { ⌜ (3 * n ≤ length (now rows)) × (n < 2 ^ 16) × (q ≤ n) ⌝ }
+    ensures { λ r. ⌜ TreesBetween (now (rows .entry)) n p q r ⌝ }
+{
+    if q < p {
+        return 0;
+    }
+    children_between(rows, n, p, q)
+}
+
+// The element `x` at row `m` gives way.
+fn gap_of(rows: &[u32], n: usize, table: &[u32], marks: &[u32], x: usize, m: usize) -> Gap
+    requires { ⌜ (3 * n ≤ length (now rows)) × (n < 2 ^ 16) × (m ≤ n) ⌝ }
+    requires { ⌜ Lines (length (now marks)) (now table) × (x < length (now marks)) ⌝ }
+    ensures { λ r. ⌜ GapOf (now (rows .entry)) n (now (table .entry)) (now (marks .entry)) x m r ⌝ }
+{
+    let parent = parent_row(table, marks, x);
+    let to = rows_after(rows, n, m, 1);
+    Gap {
+        parent,
+        from: m,
+        to,
+        lost: 1,
+    }
+}
+
+// The place behind the element `x` at row `m`.
+fn gap_after(rows: &[u32], n: usize, table: &[u32], marks: &[u32], x: usize, m: usize) -> Gap
+    requires { ⌜ (3 * n ≤ length (now rows)) × (n < 2 ^ 16) × (m ≤ n) ⌝ }
+    requires { ⌜ Lines (length (now marks)) (now table) × (x < length (now marks)) ⌝ }
+    ensures { λ r. ⌜ GapAfter (now (rows .entry)) n (now (table .entry)) (now (marks .entry)) x m r ⌝ }
+{
+    let parent = parent_row(table, marks, x);
+    let to = rows_after(rows, n, m, 1);
+    Gap {
+        parent,
+        from: to,
+        to,
+        lost: 0,
+    }
+}
+
+// The run from the element `x` at row `m` to the element at row `k`.
+fn gap_run(
+    rows: &[u32],
+    n: usize,
+    table: &[u32],
+    marks: &[u32],
+    x: usize,
+    m: usize,
+    k: usize,
+) -> Gap
+    requires { ⌜ (3 * n ≤ length (now rows)) × (n < 2 ^ 16) × (k ≤ n) ⌝ }
+    requires { ⌜ Lines (length (now marks)) (now table) × (x < length (now marks)) ⌝ }
+    ensures { λ r. ⌜ GapRun (now (rows .entry)) n (now (table .entry)) (now (marks .entry)) x m k r ⌝ }
+{
+    let parent = parent_row(table, marks, x);
+    let to = rows_after(rows, n, k, 1);
+    let lost = trees_between(rows, n, m, to);
+    Gap {
+        parent,
+        from: m,
+        to,
+        lost,
+    }
 }
