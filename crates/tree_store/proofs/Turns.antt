@@ -1,22 +1,29 @@
 -- Each answer, from the tests that led there.
 -- Assumes nothing.
 use mathlib.Core.Path.{_≡_, refl, sym, ap, _∙_}
+use mathlib.Core.Bool.{Bool, true, false, cond}
 use mathlib.Core.List.{List, [], _∷_}
-use mathlib.Core.Option.{Option, none, some}
+use mathlib.Core.Option.{Option, none, some, Option·map}
 use Prim.Native.Nat.{ℕ, zero, suc, _+_, _-_, _*_, _^_, _≤_, _<_}
 use native.Mathlib.Omega.{arith}
 use lib.ListN.{length, getD}
+use lib.Dec.{eqb}
+use borrow.Author.Tests.{ne-eqb}
 use Rattle.orders.specs.Lists.{All}
 use Rattle.element_table.specs.View.{upFrom, view}
 use Rattle.element_table.specs.Wellformed.{Lines}
+use Rattle.element_table.specs.Told.{root-told, tree-told}
+use Rattle.definition.specs.Elements.{Table, root?, tree}
 use Rattle.rows.specs.Row.{Row, triples, firstRows, treesIn}
-use Rattle.rows.specs.Place.{between, subtree}
+use Rattle.rows.specs.Place.{childRow, between, subtree}
 use Rattle.store_model.specs.Store.{HeldNote, Store, there, marked, parentRow, endRow, gapOf, gapAfter, gapRun, Part, partAt, partOf}
 use Rattle.syntax_node.specs.Promises as node
 use Rattle.tree_store.specs.Stored.{stored, storedFirst}
-use Rattle.tree_store.specs.Gaps.{markOrTop, parentMark, parent-mark, held}
-use Rattle.tree_store.specs.Promises.{Prepared, GapOf, GapAfter, GapRun}
+use Rattle.tree_store.specs.Gaps.{markOrTop, parentMark, parent-mark, gapMarked, gapBy, held, siteOf}
+use Rattle.tree_store.specs.Promises.{Prepared, GapOf, GapAfter, GapRun, RunSite, SiteAt}
 use Rattle.tree_store.specs.declared.Gap.{Gap}
+use Rattle.tree_store.specs.declared.Site.{Site}
+use Rattle.tree_store.specs.declared.Site.the-variants.{Gone, At}
 
 -- ── Marks ───────────────────────────────────────────────────────────────────────────────────────────────────
 
@@ -114,3 +121,106 @@ module _ (rows : List ℕ) (n : ℕ) (table marks : List ℕ) (x m a b : ℕ) (L
   pub gap-run : (k l : ℕ) → node.After rows n k 1 b → node.TreesBetween rows n m b l → GapRun rows n table marks x m k (record { parent = a; from = m; to = b; lost = l })
   unfolding held gapRun endRow stored
   gap-run k l f g = record { gap = λ text source notes changed. gap-same (above text source notes changed) refl (f .row text) (g .count text ∙ ap (λ (i : ℕ). treesIn (between m i (firstRows text n rows))) (f .row text)) }
+
+module _ (rows : List ℕ) (n : ℕ) (table marks : List ℕ) (x m y k : ℕ) (v : (k ≡ getD marks y 0) × (k < 2 ^ 32)) where
+  pub run-gone : k ≡ 0 → RunSite rows n table marks x m y Gone
+  unfolding siteOf marked stored
+  run-gone z = record { site = λ text source notes changed. ap (λ (o : Option ℕ). siteOf (Option·map (gapRun (view (length marks) table source) (stored text n rows marks notes changed) x m) o)) (sym (ap there (sym (v .0) ∙ z))) }
+
+  pub run-there : (g : Gap) → (k ≡ 0 → ⊥) → GapRun rows n table marks x m k g → RunSite rows n table marks x m y (At g)
+  unfolding siteOf marked stored
+  run-there g z h = record {
+    site = λ text source notes changed.
+        ap At (h .gap text source notes changed)
+        ∙ ap (λ (o : Option ℕ). siteOf (Option·map (gapRun (view (length marks) table source) (stored text n rows marks notes changed) x m) o)) (sym (ap there (sym (v .0)) ∙ there-not k z));
+  }
+
+-- a call 2
+abbrev replacedBy : Table → Store → ℕ → Option ℕ → Site
+replacedBy T s x o = siteOf (Option·map (gapOf T s x) o)
+
+pub replaced-root : (rows : List ℕ) (n : ℕ) (table marks : List ℕ) (x t m : ℕ) (b : Bool) (g : Gap) → Lines (length marks) table × (x < length marks) → b ≡ eqb (getD table (8 * x + 1) 0) 0 → b ≡ true
+    → (t ≡ getD table (8 * x + 7) 0) × (t < 2 ^ 32) → node.ChildAt rows n 0 t m → GapOf rows n table marks x m g → SiteAt rows n table marks 2 x x (At g)
+unfolding gapBy siteOf stored
+replaced-root rows n table marks x t m b g L e z f c h = record {
+  site = λ text source notes changed.
+      let T : Table = view (length marks) table source in
+      let s : Store = stored text n rows marks notes changed in
+      let r : root? T x ≡ true = root-told (length marks) table source (L .0) x (L .1) ∙ (sym e ∙ z) in
+      let d : m ≡ childRow (firstRows text n rows) 0 (tree T x) = c .row text ∙ ap (childRow (firstRows text n rows) 0) (f .0 ∙ sym (tree-told (length marks) table source (L .0) x (L .1))) in
+      ap At (h .gap text source notes changed)
+      ∙ (ap (λ (i : ℕ). replacedBy T s x (some i)) d ∙ ap (λ (a : Bool). replacedBy T s x (cond a (some (childRow (firstRows text n rows) 0 (tree T x))) (marked s x))) (sym r));
+}
+
+module _ (rows : List ℕ) (n : ℕ) (table marks : List ℕ) (x m : ℕ) (b : Bool) (L : Lines (length marks) table × (x < length marks)) (e : b ≡ eqb (getD table (8 * x + 1) 0) 0) (z : b ≡ false) (v : (m ≡ getD marks x 0) × (m < 2 ^ 32)) where
+  replaced : (o : Option ℕ) → there m ≡ o → (text source : List ℕ) (notes : List HeldNote) (changed : List ℕ)
+      → replacedBy (view (length marks) table source) (stored text n rows marks notes changed) x o ≡ siteOf (gapBy (view (length marks) table source) (stored text n rows marks notes changed) 2 x x)
+  unfolding gapBy stored marked
+  replaced o q text source notes changed =
+      let T : Table = view (length marks) table source in
+      let s : Store = stored text n rows marks notes changed in
+      let r : root? T x ≡ false = root-told (length marks) table source (L .0) x (L .1) ∙ (sym e ∙ z) in
+      ap (replacedBy T s x) (sym (ap there (sym (v .0)) ∙ q)) ∙ ap (λ (a : Bool). replacedBy T s x (cond a (some (childRow (firstRows text n rows) 0 (tree T x))) (marked s x))) (sym r)
+
+  pub replaced-gone : m ≡ 0 → SiteAt rows n table marks 2 x x Gone
+  unfolding siteOf
+  replaced-gone q = record { site = replaced none (ap there q) }
+
+  pub replaced-there : (g : Gap) → (m ≡ 0 → ⊥) → GapOf rows n table marks x m g → SiteAt rows n table marks 2 x x (At g)
+  unfolding siteOf
+  replaced-there g q h = record { site = λ text source notes changed. ap At (h .gap text source notes changed) ∙ replaced (some m) (there-not m q) text source notes changed }
+
+-- any operation
+pub site-replaced : (rows : List ℕ) (n : ℕ) (table marks : List ℕ) (op x y : ℕ) (r : Site) → op ≡ 2 → SiteAt rows n table marks 2 x x r → SiteAt rows n table marks op x y r
+unfolding gapBy
+site-replaced rows n table marks op x y r e h = rw e (record { site = λ text source notes changed. h .site text source notes changed })
+
+module _ (rows : List ℕ) (n : ℕ) (table marks : List ℕ) (op x y m : ℕ) (z : op ≡ 2 → ⊥) (v : (m ≡ getD marks x 0) × (m < 2 ^ 32)) where
+  by-mark : (o : Option ℕ) → there m ≡ o → (text source : List ℕ) (notes : List HeldNote) (changed : List ℕ)
+      → siteOf (gapMarked (view (length marks) table source) (stored text n rows marks notes changed) op x y o) ≡ siteOf (gapBy (view (length marks) table source) (stored text n rows marks notes changed) op x y)
+  unfolding gapBy stored marked
+  by-mark o q text source notes changed =
+      let T : Table = view (length marks) table source in
+      let s : Store = stored text n rows marks notes changed in
+      ap (λ (o : Option ℕ). siteOf (gapMarked T s op x y o)) (sym (ap there (sym (v .0)) ∙ q))
+      ∙ ap (λ (a : Bool). siteOf (cond a (Option·map (gapOf T s x) (cond (root? T x) (some (childRow (firstRows text n rows) 0 (tree T x))) (marked s x))) (gapMarked T s op x y (marked s x)))) (sym (ne-eqb op 2 z))
+
+  pub site-gone : m ≡ 0 → SiteAt rows n table marks op x y Gone
+  unfolding siteOf gapMarked
+  site-gone q = record { site = by-mark none (ap there q) }
+
+  module _ (q : m ≡ 0 → ⊥) where
+    pub site-first : op ≡ 0 → SiteAt rows n table marks op x y (At (record { parent = m; from = m + 1; to = m + 1; lost = 0 }))
+    unfolding siteOf gapMarked held
+    site-first e = record {
+      site = λ text source notes changed.
+          let i : m + 1 ≡ suc m = omega arith in
+          ap At (gap-same refl i i refl)
+          ∙ (ap (λ (j : ℕ). siteOf (gapMarked (view (length marks) table source) (stored text n rows marks notes changed) j x y (some m))) (sym e) ∙ by-mark (some m) (there-not m q) text source notes changed);
+    }
+
+    pub site-after : (g : Gap) → op ≡ 1 → GapAfter rows n table marks x m g → SiteAt rows n table marks op x y (At g)
+    unfolding siteOf gapMarked
+    site-after g e h = record {
+      site = λ text source notes changed.
+          ap At (h .gap text source notes changed)
+          ∙ (ap (λ (j : ℕ). siteOf (gapMarked (view (length marks) table source) (stored text n rows marks notes changed) j x y (some m))) (sym e) ∙ by-mark (some m) (there-not m q) text source notes changed);
+    }
+
+    pub site-run : (r : Site) → op ≡ 5 → RunSite rows n table marks x m y r → SiteAt rows n table marks op x y r
+    unfolding gapMarked
+    site-run r e h = record {
+      site = λ text source notes changed.
+          h .site text source notes changed
+          ∙ (ap (λ (j : ℕ). siteOf (gapMarked (view (length marks) table source) (stored text n rows marks notes changed) j x y (some m))) (sym e) ∙ by-mark (some m) (there-not m q) text source notes changed);
+    }
+
+    pub site-one : (g : Gap) → (op ≡ 0 → ⊥) → (op ≡ 1 → ⊥) → (op ≡ 5 → ⊥) → GapOf rows n table marks x m g → SiteAt rows n table marks op x y (At g)
+    unfolding siteOf gapMarked
+    site-one g a b c h = record {
+      site = λ text source notes changed. ap At (h .gap text source notes changed) ∙ (ap siteOf (sym (one text source notes changed)) ∙ by-mark (some m) (there-not m q) text source notes changed);
+    }
+      where
+        one : (text source : List ℕ) (notes : List HeldNote) (changed : List ℕ)
+            → gapMarked (view (length marks) table source) (stored text n rows marks notes changed) op x y (some m) ≡ some (gapOf (view (length marks) table source) (stored text n rows marks notes changed) x m)
+        one text source notes changed = rw (ne-eqb op 0 a, ne-eqb op 1 b, ne-eqb op 5 c)

@@ -39,23 +39,46 @@ parent-mark table source s x L h = go (getD table (8 * x + 1) 0) ∙ ap (rowOrTo
     go zero = refl
     go (suc p) = refl
 
+-- where a change goes whose target stands at a row, by its operation, its target and its end
+unfoldable pub gapMarked : Table → Store → ℕ → ℕ → ℕ → Option ℕ → Option model.Gap
+gapMarked T s op x y none = none
+gapMarked T s op x y (some m) =
+    cond (eqb op 0) (some (record { parent = m; from = suc m; to = suc m; lost = 0 }))
+    (cond (eqb op 1) (some (gapAfter T s x m)) (cond (eqb op 5) (Option·map (gapRun T s x m) (marked s y)) (some (gapOf T s x m))))
+
 -- where a change goes, by its operation, its target and its end
 unfoldable pub gapBy : Table → Store → ℕ → ℕ → ℕ → Option model.Gap
-gapBy T s op x y =
-    cond (eqb op 2) (Option·map (gapOf T s x) (cond (root? T x) (some (childRow s.rows 0 (tree T x))) (marked s x)))
-    (cond (eqb op 0) (Option·map (λ m. record { parent = m; from = suc m; to = suc m; lost = 0 }) (marked s x))
-    (cond (eqb op 1) (Option·map (gapAfter T s x) (marked s x))
-    (cond (eqb op 5) (bind (marked s x) (λ m. Option·map (gapRun T s x m) (marked s y))) (Option·map (gapOf T s x) (marked s x)))))
+gapBy T s op x y = cond (eqb op 2) (Option·map (gapOf T s x) (cond (root? T x) (some (childRow s.rows 0 (tree T x))) (marked s x))) (gapMarked T s op x y (marked s x))
 
 -- By its numbers a change goes where it goes.
 pub gap-by : (T : Table) (s : Store) (c : Change) → gapBy T s (operation c) (target c) (endOf c) ≡ gap T s c
-unfolding gapBy gap operation target endOf
-gap-by T s (insert firstChild x l) = refl
-gap-by T s (insert after x l) = refl
+unfolding gapBy gapMarked gap operation target endOf bind
+gap-by T s (insert firstChild x l) = go (marked s x)
+  where
+    go : (o : Option ℕ) → gapMarked T s 0 x x o ≡ Option·map (λ m. record { parent = m; from = suc m; to = suc m; lost = 0 }) o
+    go none = refl
+    go (some m) = refl
+gap-by T s (insert after x l) = go (marked s x)
+  where
+    go : (o : Option ℕ) → gapMarked T s 1 x x o ≡ Option·map (gapAfter T s x) o
+    go none = refl
+    go (some m) = refl
 gap-by T s (replace x y) = refl
-gap-by T s (delete x) = refl
-gap-by T s (replaceWithMany x l) = refl
-gap-by T s (replaceAll x y l) = refl
+gap-by T s (delete x) = go (marked s x)
+  where
+    go : (o : Option ℕ) → gapMarked T s 3 x x o ≡ Option·map (gapOf T s x) o
+    go none = refl
+    go (some m) = refl
+gap-by T s (replaceWithMany x l) = go (marked s x)
+  where
+    go : (o : Option ℕ) → gapMarked T s 4 x x o ≡ Option·map (gapOf T s x) o
+    go none = refl
+    go (some m) = refl
+gap-by T s (replaceAll x y l) = go (marked s x)
+  where
+    go : (o : Option ℕ) → gapMarked T s 5 x y o ≡ bind o (λ m. Option·map (gapRun T s x m) (marked s y))
+    go none = refl
+    go (some m) = refl
 
 -- a gap as the code holds it
 unfoldable pub held : model.Gap → Gap

@@ -2,11 +2,12 @@
 -- Assumes nothing.
 use mathlib.Core.Path.{_≡_}
 use mathlib.Core.List.{List}
+use mathlib.Core.Option.{Option·map}
 use Prim.Native.Nat.{ℕ, _*_}
 use lib.ListN.{length}
 use Rattle.element_table.specs.View.{view}
 use Rattle.rows.specs.Row.{triples}
-use Rattle.store_model.specs.Store.{HeldNote, partOf, gapOf, gapAfter, gapRun}
+use Rattle.store_model.specs.Store.{HeldNote, marked, partOf, gapOf, gapAfter, gapRun}
 use Rattle.tree_store.specs.Stored.{stored, storedFirst}
 use Rattle.tree_store.specs.Gaps.{gapBy, held, siteOf}
 use Rattle.tree_store.specs.declared.Gap.{Gap}
@@ -29,6 +30,11 @@ pub record GapAfter (rows : List ℕ) (n : ℕ) (table marks : List ℕ) (x m : 
 -- the run from it to the element at row k
 pub record GapRun (rows : List ℕ) (n : ℕ) (table marks : List ℕ) (x m k : ℕ) (r : Gap) : Type 0 where
   pub gap : (text source : List ℕ) (notes : List HeldNote) (changed : List ℕ) → r ≡ held (gapRun (view (length marks) table source) (stored text n rows marks notes changed) x m k)
+
+-- the run from it to the element y
+pub record RunSite (rows : List ℕ) (n : ℕ) (table marks : List ℕ) (x m y : ℕ) (r : Site) : Type 0 where
+  pub site : (text source : List ℕ) (notes : List HeldNote) (changed : List ℕ)
+      → r ≡ siteOf (Option·map (gapRun (view (length marks) table source) (stored text n rows marks notes changed) x m) (marked (stored text n rows marks notes changed) y))
 
 -- where a change goes, by its operation, its target and its end
 pub record SiteAt (rows : List ℕ) (n : ℕ) (table marks : List ℕ) (op x y : ℕ) (r : Site) : Type 0 where

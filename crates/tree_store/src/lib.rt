@@ -5,7 +5,7 @@ ghost use lib.ListN.{length};
 ghost use Rattle.orders.specs.Lists.{All};
 ghost use Rattle.element_table.specs.Wellformed.{Lines};
 ghost use Rattle.syntax_node.specs.Promises.{TreesBetween};
-ghost use Rattle.tree_store.specs.Promises.{Prepared, GapOf, GapAfter, GapRun, SiteAt};
+ghost use Rattle.tree_store.specs.Promises.{Prepared, GapOf, GapAfter, GapRun, RunSite, SiteAt};
 ghost use Rattle.tree_store.specs.Gaps.{markOrTop, parentMark};
 use calls::entry;
 use calls::is_root;
@@ -138,4 +138,88 @@ fn gap_run(
         to,
         lost,
     }
+}
+
+// The run from the element `x` at row `m` to the element `y`.
+fn run_site(
+    rows: &[u32],
+    n: usize,
+    table: &[u32],
+    marks: &[u32],
+    x: usize,
+    m: usize,
+    y: usize,
+) -> Site
+    requires { ⌜ (3 * n ≤ length (now rows)) × (n < 2 ^ 16) × All (λ m. m < n) (now marks) ⌝ }
+    requires { ⌜ Lines (length (now marks)) (now table) × (x < length (now marks)) ⌝ }
+    requires { ⌜ y < length (now marks) ⌝ }
+    ensures { λ r. ⌜ RunSite (now (rows .entry)) n (now (table .entry)) (now (marks .entry)) x m y r ⌝ }
+{
+    let k = word(marks, y);
+    if k == 0 {
+        return Site::Gone;
+    }
+    let g = gap_run(rows, n, table, marks, x, m, k);
+    Site::At(g)
+}
+
+// Where a call 2 on the element `x` goes: a root is found by counting, and needs no mark.
+fn replaced_site(rows: &[u32], n: usize, table: &[u32], marks: &[u32], x: usize) -> Site
+    requires { ⌜ (3 * n ≤ length (now rows)) × (n < 2 ^ 16) × (0 < n) × All (λ m. m < n) (now marks) ⌝ }
+    requires { ⌜ Lines (length (now marks)) (now table) × (x < length (now marks)) ⌝ }
+    ensures { λ r. ⌜ SiteAt (now (rows .entry)) n (now (table .entry)) (now (marks .entry)) 2 x x r ⌝ }
+{
+    if is_root(table, x) {
+        let t = entry(table, x, 7);
+        let top = child_row(rows, n, 0, t);
+        let g = gap_of(rows, n, table, marks, x, top);
+        return Site::At(g);
+    }
+    let m = word(marks, x);
+    if m == 0 {
+        return Site::Gone;
+    }
+    let g = gap_of(rows, n, table, marks, x, m);
+    Site::At(g)
+}
+
+// Where a change goes, by its operation, its target `x` and its end `y`: gone if a mark that it needs is.
+pub fn find_gap(
+    rows: &[u32],
+    n: usize,
+    table: &[u32],
+    marks: &[u32],
+    operation: usize,
+    x: usize,
+    y: usize,
+) -> Site
+    requires { ⌜ (3 * n ≤ length (now rows)) × (n < 2 ^ 16) × (0 < n) × All (λ m. m < n) (now marks) ⌝ }
+    requires { ⌜ Lines (length (now marks)) (now table) × (x < length (now marks)) ⌝ }
+    requires { ⌜ y < length (now marks) ⌝ }
+    ensures { λ r. ⌜ SiteAt (now (rows .entry)) n (now (table .entry)) (now (marks .entry)) operation x y r ⌝ }
+{
+    if operation == 2 {
+        return replaced_site(rows, n, table, marks, x);
+    }
+    let m = word(marks, x);
+    if m == 0 {
+        return Site::Gone;
+    }
+    if operation == 0 {
+        return Site::At(Gap {
+            parent: m,
+            from: m + 1,
+            to: m + 1,
+            lost: 0,
+        });
+    }
+    if operation == 1 {
+        let g = gap_after(rows, n, table, marks, x, m);
+        return Site::At(g);
+    }
+    if operation == 5 {
+        return run_site(rows, n, table, marks, x, m, y);
+    }
+    let g = gap_of(rows, n, table, marks, x, m);
+    Site::At(g)
 }
