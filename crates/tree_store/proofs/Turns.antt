@@ -7,8 +7,8 @@ use mathlib.Core.Option.{Option, none, some, Option·map}
 use Prim.Native.Nat.{ℕ, zero, suc, _+_, _-_, _*_, _^_, _≤_, _<_}
 use native.Mathlib.Omega.{arith}
 use lib.ListN.{length, getD}
-use lib.Dec.{eqb}
-use borrow.Author.Tests.{ne-eqb}
+use lib.Dec.{eqb, ltb}
+use borrow.Author.Tests.{lt-ltb, le-ltb, ne-eqb}
 use Rattle.orders.specs.Lists.{All}
 use Rattle.element_table.specs.View.{upFrom, view}
 use Rattle.element_table.specs.Wellformed.{Lines}
@@ -17,6 +17,7 @@ use Rattle.definition.specs.Elements.{Table, root?, tree}
 use Rattle.rows.specs.Row.{Row, triples, firstRows, treesIn}
 use Rattle.rows.specs.Place.{childRow, between, subtree}
 use Rattle.store_model.specs.Store.{HeldNote, Store, there, marked, parentRow, endRow, gapOf, gapAfter, gapRun, Part, partAt, partOf}
+use Rattle.store_model.specs.Sums.{tooLargeBy}
 use Rattle.syntax_node.specs.Promises as node
 use Rattle.tree_store.specs.Stored.{stored, storedFirst}
 use Rattle.tree_store.specs.Gaps.{markOrTop, parentMark, parent-mark, gapMarked, gapBy, held, siteOf}
@@ -224,3 +225,22 @@ module _ (rows : List ℕ) (n : ℕ) (table marks : List ℕ) (op x y m : ℕ) (
         one : (text source : List ℕ) (notes : List HeldNote) (changed : List ℕ)
             → gapMarked (view (length marks) table source) (stored text n rows marks notes changed) op x y (some m) ≡ some (gapOf (view (length marks) table source) (stored text n rows marks notes changed) x m)
         one text source notes changed = rw (ne-eqb op 0 a, ne-eqb op 1 b, ne-eqb op 5 c)
+
+-- ── Refusal 12 ──────────────────────────────────────────────────────────────────────────────────────────────
+
+module _ (rows bytes notes depth : ℕ) where
+  pub large-rows : 4097 < rows → true ≡ tooLargeBy rows bytes notes depth
+  unfolding tooLargeBy
+  large-rows h = rw (lt-ltb 4097 rows h)
+
+  pub large-bytes : rows ≤ 4097 → 16384 < bytes → true ≡ tooLargeBy rows bytes notes depth
+  unfolding tooLargeBy
+  large-bytes a h = rw (le-ltb 4097 rows a, lt-ltb 16384 bytes h)
+
+  pub large-notes : rows ≤ 4097 → bytes ≤ 16384 → 1024 < notes → true ≡ tooLargeBy rows bytes notes depth
+  unfolding tooLargeBy
+  large-notes a b h = rw (le-ltb 4097 rows a, le-ltb 16384 bytes b, lt-ltb 1024 notes h)
+
+  pub large-depth : rows ≤ 4097 → bytes ≤ 16384 → notes ≤ 1024 → ltb 64 depth ≡ tooLargeBy rows bytes notes depth
+  unfolding tooLargeBy
+  large-depth a b c = rw (le-ltb 4097 rows a, le-ltb 16384 bytes b, le-ltb 1024 notes c)

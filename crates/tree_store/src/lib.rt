@@ -5,6 +5,7 @@ ghost use lib.ListN.{length};
 ghost use Rattle.orders.specs.Lists.{All};
 ghost use Rattle.element_table.specs.Wellformed.{Lines};
 ghost use Rattle.syntax_node.specs.Promises.{TreesBetween};
+ghost use Rattle.store_model.specs.Sums.{tooLargeBy};
 ghost use Rattle.tree_store.specs.Promises.{Prepared, GapOf, GapAfter, GapRun, RunSite, SiteAt};
 ghost use Rattle.tree_store.specs.Gaps.{markOrTop, parentMark};
 use calls::entry;
@@ -222,4 +223,22 @@ pub fn find_gap(
     }
     let g = gap_of(rows, n, table, marks, x, m);
     Site::At(g)
+}
+
+// ── Refusal 12 ──
+
+// Whether a step makes too much, by the rows, text bytes and notes that there would be, and by the depth of what comes in.
+pub fn too_large(rows: usize, bytes: usize, notes: usize, depth: usize) -> bool
+    ensures { λ r. ⌜ r ≡ tooLargeBy rows bytes notes depth ⌝ }
+{
+    if 4097 < rows {
+        return true;
+    }
+    if 16384 < bytes {
+        return true;
+    }
+    if 1024 < notes {
+        return true;
+    }
+    64 < depth
 }
