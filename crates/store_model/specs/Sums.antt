@@ -13,7 +13,7 @@ use borrow.Author.Tests.{lt-ltb}
 use Rattle.orders.specs.ListLaws.{lt-or-le, length-modify}
 use Rattle.orders.specs.Tree.{Tree, modify, HasRun}
 use Rattle.definition.specs.Running.{Run}
-use Rattle.rows.specs.Row.{Row, tok, nod, outside, textLength, rowsOf, bytes, height}
+use Rattle.rows.specs.Row.{Row, tok, nod, outside, textLength, bytes, height}
 use Rattle.rows.specs.Place.{size, between, remeasure, spliceRows}
 use Rattle.rows.specs.RowLaws.{bytes-append}
 use Rattle.rows.specs.PlaceLaws.{run-order, run-after, run-within}

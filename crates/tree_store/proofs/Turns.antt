@@ -14,7 +14,7 @@ use Rattle.element_table.specs.View.{upFrom, view}
 use Rattle.element_table.specs.Wellformed.{Lines}
 use Rattle.element_table.specs.Told.{root-told, tree-told}
 use Rattle.definition.specs.Elements.{Table, root?, tree}
-use Rattle.rows.specs.Row.{Row, triples, firstRows, treesIn}
+use Rattle.rows.specs.Row.{Row, firstRows, treesIn}
 use Rattle.rows.specs.Place.{childRow, between, subtree}
 use Rattle.store_model.specs.Store.{HeldNote, Store, there, marked, parentRow, endRow, gapOf, gapAfter, gapRun, Part, partAt, partOf}
 use Rattle.store_model.specs.Sums.{tooLargeBy}

@@ -1,7 +1,7 @@
 -- Where a change goes, by the change's numbers, as the code answers it.
 -- Assumes nothing.
 use mathlib.Core.Path.{_≡_, refl, sym, ap, _∙_}
-use mathlib.Core.Bool.{Bool, cond}
+use mathlib.Core.Bool.{cond}
 use mathlib.Core.List.{List}
 use mathlib.Core.Option.{Option, none, some, Option·map, bind}
 use Prim.Native.Nat.{ℕ, zero, suc, _+_, _*_, _<_}
@@ -17,7 +17,6 @@ use Rattle.rows.specs.Place.{childRow}
 use Rattle.store_model.specs.Store as model
 use Rattle.store_model.specs.Store.{Store, marked, rowOrTop, parentRow, gapOf, gapAfter, gapRun, gap}
 use Rattle.syntax_editor.specs.ChangeRow.{operation, endOf}
-use Rattle.tree_store.specs.Stored.{stored}
 use Rattle.tree_store.specs.declared.Gap.{Gap}
 use Rattle.tree_store.specs.declared.Site.{Site}
 use Rattle.tree_store.specs.declared.Site.the-variants.{Gone, At}

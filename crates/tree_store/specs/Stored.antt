@@ -2,7 +2,6 @@
 -- Assumes nothing.
 use mathlib.Core.List.{List}
 use Prim.Native.Nat.{ℕ, suc}
-use lib.ListN.{length}
 use Rattle.rows.specs.Row.{firstRows}
 use Rattle.element_table.specs.View.{upFrom}
 use Rattle.store_model.specs.Store.{HeldNote, Store}
