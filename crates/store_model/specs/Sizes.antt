@@ -33,7 +33,8 @@ unfolding text
 bytes-below q a b new (token k x) h = absurd (run-token k x q a b h)
 bytes-below q a b new (node k cs) h = ap (λ u. bytes (rowsOf u)) (root-node a b new q k cs) ∙ bytes-tree (node k (children (splice q a b new (node k cs))))
 
-any-same : {a a′ b b′ c c′ d d′ : Bool} → a ≡ a′ → b ≡ b′ → c ≡ c′ → d ≡ d′ → (a || b || c || d) ≡ (a′ || b′ || c′ || d′)
+-- two judgements alike, part by part
+pub any-same : {a a′ b b′ c c′ d d′ : Bool} → a ≡ a′ → b ≡ b′ → c ≡ c′ → d ≡ d′ → (a || b || c || d) ≡ (a′ || b′ || c′ || d′)
 any-same e f g h = rw (e, f, g, h)
 
 -- What a step makes is too large by its rows just where it is by the definition, if what was before it was within depth 64.
