@@ -1,18 +1,20 @@
 -- The loops: for each its invariant, that it holds at the start, after a turn, and what it says at the end.
 -- Assumes nothing.
-use mathlib.Core.Path.{_≡_, refl, sym, ap, _∙_}
+use mathlib.Core.Path.{_≡_, refl, sym, ap, subst, _∙_}
 use mathlib.Core.List.{List, [], _∷_, _++_, append-nil}
-use mathlib.Core.Option.{Option, none, some}
+use mathlib.Core.Option.{Option, none, some, Option·map}
 use Prim.Native.Nat.{ℕ, zero, suc, _+_, _-_, _*_, _^_, _≤_, _<_}
 use native.Mathlib.Omega.{arith}
 use native.Mathlib.Numerals.{add-one}
 use native.Mathlib.Nat.{add-zero}
 use lib.ListN.{length, getD, set, take, drop, length-set}
-use lib.Seq.{take-suc, take-suc-set, take-all, drop-set-lt, drop-drop, length-take-le, getD-take, getD-drop}
+use lib.Seq.{paste, take-suc, take-suc-set, take-all, drop-set-lt, drop-drop, length-take-le, getD-take, getD-drop}
 use Rattle.orders.specs.Lists.{All, more, pick}
 use Rattle.orders.specs.Tree.{shift}
 use Rattle.orders.specs.TreeLaws.{shift-before, shift-inside, shift-after}
-use Rattle.annotations.specs.Promises.{RowMoved, RowsMoved}
+use Rattle.store_model.specs.Store.{HeldNote, withRow}
+use Rattle.annotations.specs.Notes.{noteWords, notesOf, noteAt, length-notesOf, note-row, note-words, notes-to, note-among, notes-added, drop-note, length-note}
+use Rattle.annotations.specs.Promises.{RowMoved, RowsMoved, movedNote, NoteMoved, NotesMoved}
 
 -- ── Lists ───────────────────────────────────────────────────────────────────────────────────────────────────
 
@@ -93,5 +95,86 @@ module _ {l : List ℕ} {k p q m : ℕ} {out : List ℕ} {i r : ℕ} (v : Moving
       record {
         rows = rw (← e) (v .kept);
         count = rw (← e, ← v .kept) (sym (length-take-le r out (omega (arith, v .most, v .long))));
+        most = omega (arith, v .most);
+      }
+
+-- ── Notes ───────────────────────────────────────────────────────────────────────────────────────────────────
+
+pub kept-note : (l : List ℕ) (i r row : ℕ) {b c : ℕ} {out : List ℕ} → (b ≡ getD l (3 * i + 1) 0) × (b < 2 ^ 32) → (c ≡ getD l (3 * i + 2) 0) × (c < 2 ^ 32)
+    → out ≡ paste l (3 * r) (row ∷ b ∷ c ∷ []) 3 → out ≡ paste l (3 * r) (noteWords (withRow (noteAt l i) row)) 3
+kept-note l i r row e f g = rw (note-words l i row (e .0) (f .0)) g
+
+module _ {l : List ℕ} {i r p q m : ℕ} where
+  -- the note is written behind the first r, at the row y
+  note-set : {x y : ℕ} {out : List ℕ} → r ≤ i → 3 * i + 3 ≤ length l → x ≡ getD l (3 * i) 0 → shift p q m x ≡ some y
+      → out ≡ paste l (3 * r) (noteWords (withRow (noteAt l i) y)) 3 → NoteMoved l i r p q m out (r + 1)
+  note-set {x} {y} h k e s w =
+      let n : HeldNote = withRow (noteAt l i) y in
+      let b : 3 * r + 3 ≤ length l = omega arith in
+      let g : movedNote p q m (noteAt l i) ≡ some n = ap (λ (o : Option ℕ). Option·map (withRow (noteAt l i)) o) (ap (shift p q m) (note-row l i ∙ sym e) ∙ s) in
+      record {
+        kept = rw (w, g) (notes-added l r n b);
+        rest = rw w (drop-note l r n b i h);
+        long = rw w (length-note l r n b);
+        most = omega arith;
+      }
+
+  pub note-before : {x : ℕ} {out : List ℕ} → r ≤ i → 3 * i + 3 ≤ length l → (x ≡ getD l (3 * i) 0) × (x < 2 ^ 32) → x < p
+      → out ≡ paste l (3 * r) (noteWords (withRow (noteAt l i) x)) 3 → NoteMoved l i r p q m out (r + 1)
+  note-before {x} h k e b w = note-set h k (e .0) (shift-before p q m x b) w
+
+  pub note-inside : {x : ℕ} → r ≤ i → (x ≡ getD l (3 * i) 0) × (x < 2 ^ 32) → p ≤ x → x < q → NoteMoved l i r p q m l r
+  note-inside {x} h e a b =
+      let g : movedNote p q m (noteAt l i) ≡ none = ap (λ (o : Option ℕ). Option·map (withRow (noteAt l i)) o) (ap (shift p q m) (note-row l i ∙ sym (e .0)) ∙ shift-inside p q m x a b) in
+      record { kept = rw g (sym (append-nil (notesOf r l))); rest = refl; long = refl; most = omega arith }
+
+  pub note-after : {x : ℕ} {out : List ℕ} → r ≤ i → 3 * i + 3 ≤ length l → (x ≡ getD l (3 * i) 0) × (x < 2 ^ 32) → p ≤ x → q ≤ x
+      → out ≡ paste l (3 * r) (noteWords (withRow (noteAt l i) (x + m - (q - p)))) 3 → NoteMoved l i r p q m out (r + 1)
+  note-after {x} h k e a b w = note-set h k (e .0) (shift-after p q m x a b) w
+
+-- a row among the first k notes
+row-small : (l : List ℕ) (k i : ℕ) → i < k → All (λ n. n .row < 2 ^ 16) (notesOf k l) → noteAt l i .row < 2 ^ 16
+row-small l k i h a =
+    let z : HeldNote = noteAt l i in
+    subst (λ (n : HeldNote). n .row < 2 ^ 16) (note-among l k i z h) (All-get (λ n. n .row < 2 ^ 16) z (notesOf k l) i (omega (arith, length-notesOf k l)) a)
+
+-- the first i notes are moved, and r of them are left
+pub record MovingNotes (l : List ℕ) (k p q m : ℕ) (out : List ℕ) (i r : ℕ) : Type 0 where
+  pub kept : notesOf r out ≡ pick (movedNote p q m) (notesOf i l)
+  pub rest : drop (3 * i) out ≡ drop (3 * i) l
+  pub long : length out ≡ length l
+  pub most : r ≤ i
+  pub inside : i ≤ k
+
+pub notes-start : (l : List ℕ) (k p q m : ℕ) → MovingNotes l k p q m l 0 0
+unfolding pick notesOf
+notes-start l k p q m = record { kept = refl; rest = refl; long = refl; most = omega arith; inside = omega arith }
+
+module _ {l : List ℕ} {k p q m : ℕ} {out : List ℕ} {i r : ℕ} (v : MovingNotes l k p q m out i r) where
+  -- a note that the loop has not come to yet
+  note-unmoved : noteAt out i ≡ noteAt l i
+  unfolding noteAt
+  note-unmoved = rw (v .rest)
+
+  pub notes-small : i < k → All (λ n. n .row < 2 ^ 16) (notesOf k l) → getD out (3 * i) 0 < 2 ^ 16
+  notes-small h a = rw (← note-row out i, note-unmoved) (row-small l k i h a)
+
+  pub notes-next : {out′ : List ℕ} {r′ : ℕ} → i < k → NoteMoved out i r p q m out′ r′ → MovingNotes l k p q m out′ (i + 1) r′
+  notes-next h w =
+      let e : 3 * suc i ≡ 3 * i + 3 = omega arith in
+      record {
+        kept = rw (add-one i, notes-to l i, pick-more (movedNote p q m) (notesOf i l) (noteAt l i), ← v .kept, ← note-unmoved) (w .kept);
+        rest = rw (add-one i, w .rest, e, ← drop-drop 3 (3 * i) out, ← drop-drop 3 (3 * i) l, v .rest);
+        long = w .long ∙ v .long;
+        most = omega (arith, w .most);
+        inside = omega arith;
+      }
+
+  pub notes-done : k ≤ i → NotesMoved l k p q m out r
+  notes-done h =
+      let e : i ≡ k = omega (arith, v .inside) in
+      record {
+        notes = rw (← e) (v .kept);
+        count = rw (← e, ← v .kept) (sym (length-notesOf r out));
         most = omega (arith, v .most);
       }
