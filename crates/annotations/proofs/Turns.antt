@@ -1,20 +1,24 @@
 -- The loops: for each its invariant, that it holds at the start, after a turn, and what it says at the end.
 -- Assumes nothing.
 use mathlib.Core.Path.{_≡_, refl, sym, ap, subst, _∙_}
-use mathlib.Core.List.{List, [], _∷_, _++_, append-nil}
+use mathlib.Core.List.{List, [], _∷_, _++_, map, append-nil, append-assoc}
 use mathlib.Core.Option.{Option, none, some, Option·map}
 use Prim.Native.Nat.{ℕ, zero, suc, _+_, _-_, _*_, _^_, _≤_, _<_}
 use native.Mathlib.Omega.{arith}
 use native.Mathlib.Numerals.{add-one}
 use native.Mathlib.Nat.{add-zero}
-use lib.ListN.{length, getD, set, take, drop, length-set}
+use borrow.Author.Tests.{lt-ltb, le-ltb}
+use lib.ListN.{length, getD, set, take, drop, length-set, length-append, length-map}
 use lib.Seq.{paste, take-suc, take-suc-set, take-all, drop-set-lt, drop-drop, length-take-le, getD-take, getD-drop}
 use Rattle.orders.specs.Lists.{All, more, pick}
 use Rattle.orders.specs.Tree.{shift}
+use Rattle.orders.specs.ListLaws.{zone-before, zone-inside, zone-after}
 use Rattle.orders.specs.TreeLaws.{shift-before, shift-inside, shift-after}
+use Rattle.rows.specs.Place.{inRun}
 use Rattle.store_model.specs.Store.{HeldNote, withRow}
 use Rattle.annotations.specs.Notes.{noteWords, notesOf, noteAt, length-notesOf, note-row, note-words, notes-to, note-among, notes-added, drop-note, length-note}
-use Rattle.annotations.specs.Promises.{RowMoved, RowsMoved, movedNote, NoteMoved, NotesMoved}
+use Rattle.annotations.specs.Promises.{RowMoved, RowsMoved, movedNote, NoteMoved, NotesMoved, noteIn, placedNote, NoteTaken, taken, NotesTaken}
+use Rattle.annotations.specs.declared.Taken.the-variants.{Full, Count}
 
 -- ── Lists ───────────────────────────────────────────────────────────────────────────────────────────────────
 
@@ -100,9 +104,9 @@ module _ {l : List ℕ} {k p q m : ℕ} {out : List ℕ} {i r : ℕ} (v : Moving
 
 -- ── Notes ───────────────────────────────────────────────────────────────────────────────────────────────────
 
-pub kept-note : (l : List ℕ) (i r row : ℕ) {b c : ℕ} {out : List ℕ} → (b ≡ getD l (3 * i + 1) 0) × (b < 2 ^ 32) → (c ≡ getD l (3 * i + 2) 0) × (c < 2 ^ 32)
-    → out ≡ paste l (3 * r) (row ∷ b ∷ c ∷ []) 3 → out ≡ paste l (3 * r) (noteWords (withRow (noteAt l i) row)) 3
-kept-note l i r row e f g = rw (note-words l i row (e .0) (f .0)) g
+pub kept-note : (l old : List ℕ) (i r row : ℕ) {b c : ℕ} {out : List ℕ} → (b ≡ getD l (3 * i + 1) 0) × (b < 2 ^ 32) → (c ≡ getD l (3 * i + 2) 0) × (c < 2 ^ 32)
+    → out ≡ paste old (3 * r) (row ∷ b ∷ c ∷ []) 3 → out ≡ paste old (3 * r) (noteWords (withRow (noteAt l i) row)) 3
+kept-note l old i r row e f g = rw (note-words l i row (e .0) (f .0)) g
 
 module _ {l : List ℕ} {i r p q m : ℕ} where
   -- the note is written behind the first r, at the row y
@@ -178,3 +182,101 @@ module _ {l : List ℕ} {k p q m : ℕ} {out : List ℕ} {i r : ℕ} (v : Moving
         count = rw (← e, ← v .kept) (sym (length-notesOf r out));
         most = omega (arith, v .most);
       }
+
+-- ── The notes that come in with a part ──────────────────────────────────────────────────────────────────────
+
+module _ (l : List ℕ) (i p q at : ℕ) where
+  -- what becomes of the note is what becomes of its row
+  placed-by : (x : ℕ) (o : Option ℕ) → x ≡ getD l (3 * i) 0 → inRun p q x ≡ o → placedNote p q at (noteAt l i) ≡ Option·map (λ row. withRow (noteAt l i) (at + row)) o
+  placed-by x o e g = ap (λ (y : Option ℕ). Option·map (λ row. withRow (noteAt l i) (at + row)) y) (ap (inRun p q) (note-row l i ∙ sym e) ∙ g)
+
+  placed-inside : (x : ℕ) → x ≡ getD l (3 * i) 0 → p ≤ x → x < q → placedNote p q at (noteAt l i) ≡ some (withRow (noteAt l i) (at + (x - p)))
+  unfolding inRun
+  placed-inside x e a b = placed-by x (some (x - p)) e (zone-inside x p q none (some (x - p)) none a b)
+
+module _ {l : List ℕ} {i p q at most : ℕ} {old : List ℕ} {c : ℕ} where
+  -- the note is elsewhere
+  left-out : (x : ℕ) → x ≡ getD l (3 * i) 0 → inRun p q x ≡ none → NoteTaken l i p q at most old c old c
+  left-out x e g =
+      let f : placedNote p q at (noteAt l i) ≡ none = placed-by l i p q at x none e g in
+      record { count = rw f (sym (add-zero c)); notes = λ b. rw f (sym (append-nil (notesOf c old))); long = refl; low = omega arith; high = omega arith }
+
+  pub taken-before : {x : ℕ} → (x ≡ getD l (3 * i) 0) × (x < 2 ^ 32) → x < p → NoteTaken l i p q at most old c old c
+  unfolding inRun
+  taken-before {x} e a = left-out x (e .0) (zone-before x p q none (some (x - p)) none a)
+
+  pub taken-after : {x : ℕ} → (x ≡ getD l (3 * i) 0) × (x < 2 ^ 32) → p ≤ x → q ≤ x → NoteTaken l i p q at most old c old c
+  unfolding inRun
+  taken-after {x} e a b = left-out x (e .0) (zone-after x p q none (some (x - p)) none a b)
+
+  -- no room: it is counted
+  pub taken-full : {x : ℕ} → (x ≡ getD l (3 * i) 0) × (x < 2 ^ 32) → p ≤ x → x < q → most ≤ c → NoteTaken l i p q at most old c old (c + 1)
+  taken-full {x} e a b h = record { count = rw (placed-inside l i p q at x (e .0) a b) refl; notes = λ k. absurd (omega arith); long = refl; low = omega arith; high = omega arith }
+
+  pub taken-inside : {x : ℕ} {out : List ℕ} → 3 * most ≤ length old → (x ≡ getD l (3 * i) 0) × (x < 2 ^ 32) → p ≤ x → x < q → c < most
+      → out ≡ paste old (3 * c) (noteWords (withRow (noteAt l i) (at + (x - p)))) 3 → NoteTaken l i p q at most old c out (c + 1)
+  taken-inside {x} m e a b h w =
+      let n : HeldNote = withRow (noteAt l i) (at + (x - p)) in
+      let k : 3 * c + 3 ≤ length old = omega arith in
+      record {
+        count = rw (placed-inside l i p q at x (e .0) a b) refl;
+        notes = λ _. rw (w, placed-inside l i p q at x (e .0) a b) (notes-added old c n k);
+        long = rw w (length-note old c n k);
+        low = omega arith;
+        high = omega arith;
+      }
+
+-- told from p on and then from `at` on, at once
+placed-notes : (p q at : ℕ) (l : List HeldNote) → pick (placedNote p q at) l ≡ map (λ n. withRow n (at + n .row)) (pick (noteIn p q) l)
+unfolding pick withRow
+placed-notes p q at [] = refl
+placed-notes p q at (n ∷ l) = go (inRun p q n.row) (pick (placedNote p q at) l) (pick (noteIn p q) l) (placed-notes p q at l)
+  where
+    go : (o : Option ℕ) (a b : List HeldNote) → a ≡ map (λ n. withRow n (at + n .row)) b → more (Option·map (λ row. withRow n (at + row)) o) a ≡ map (λ n. withRow n (at + n .row)) (more (Option·map (withRow n) o) b)
+    go none a b e = e
+    go (some y) a b e = ap {B = List HeldNote} (λ r. withRow n (at + y) ∷ r) e
+
+-- the first i notes are looked at
+pub record Taking (l : List ℕ) (k p q at most : ℕ) (old : List ℕ) (c : ℕ) (out : List ℕ) (i n : ℕ) : Type 0 where
+  pub count : n ≡ c + length (pick (placedNote p q at) (notesOf i l))
+  pub notes : n ≤ most → notesOf n out ≡ notesOf c old ++ pick (placedNote p q at) (notesOf i l)
+  pub long : length out ≡ length old
+  pub high : n ≤ c + i
+  pub inside : i ≤ k
+
+pub taking-start : (l : List ℕ) (k p q at most : ℕ) (old : List ℕ) (c : ℕ) → Taking l k p q at most old c old 0 c
+unfolding pick notesOf
+taking-start l k p q at most old c = record { count = sym (add-zero c); notes = λ _. sym (append-nil (notesOf c old)); long = refl; high = omega arith; inside = omega arith }
+
+module _ {l : List ℕ} {k p q at most : ℕ} {old : List ℕ} {c : ℕ} {out : List ℕ} {i n : ℕ} (v : Taking l k p q at most old c out i n) where
+  pub taking-next : {out′ : List ℕ} {n′ : ℕ} → i < k → NoteTaken l i p q at most out n out′ n′ → Taking l k p q at most old c out′ (i + 1) n′
+  taking-next h w =
+      let P : List HeldNote = pick (placedNote p q at) (notesOf i l) in
+      let M : List HeldNote = more (placedNote p q at (noteAt l i)) [] in
+      let e : pick (placedNote p q at) (notesOf (i + 1) l) ≡ P ++ M = rw (add-one i, notes-to l i) (pick-more (placedNote p q at) (notesOf i l) (noteAt l i)) in
+      record {
+        count = rw (e, length-append P M) (omega (arith, w .count, v .count));
+        notes = λ b. rw e (w .notes b ∙ (ap (λ (s : List HeldNote). s ++ M) (v .notes (omega (arith, w .low))) ∙ append-assoc (notesOf c old) P M));
+        long = w .long ∙ v .long;
+        high = omega (arith, w .high, v .high);
+        inside = omega arith;
+      }
+
+  total : k ≤ i → n ≡ c + length (pick (noteIn p q) (notesOf k l))
+  total h =
+      let e : i ≡ k = omega (arith, v .inside) in
+      v .count ∙ ap (λ (s : ℕ). c + s) (rw (e, placed-notes p q at (notesOf k l)) (length-map (pick (noteIn p q) (notesOf k l)) (λ n. withRow n (at + n .row))))
+
+  written : k ≤ i → c + length (pick (noteIn p q) (notesOf k l)) ≤ most
+      → notesOf (c + length (pick (noteIn p q) (notesOf k l))) out ≡ notesOf c old ++ map (λ n. withRow n (at + n .row)) (pick (noteIn p q) (notesOf k l))
+  written h b =
+      let e : i ≡ k = omega (arith, v .inside) in
+      rw (← total h, ← placed-notes p q at (notesOf k l), ← e) (v .notes (omega (arith, total h)))
+
+  pub taking-full : k ≤ i → most < n → NotesTaken l k p q at most old c out Full
+  unfolding taken
+  taking-full h b = record { answer = rw (← total h, lt-ltb most n b); notes = written h }
+
+  pub taking-done : k ≤ i → n ≤ most → NotesTaken l k p q at most old c out (Count n)
+  unfolding taken
+  taking-done h b = record { answer = rw (← total h, le-ltb most n b); notes = written h }

@@ -6,7 +6,7 @@ ghost use lib.Seq.{paste};
 ghost use Rattle.orders.specs.Lists.{All};
 ghost use Rattle.store_model.specs.Store.{withRow};
 ghost use Rattle.annotations.specs.Notes.{noteWords, notesOf, noteAt};
-ghost use Rattle.annotations.specs.Promises.{RowMoved, RowsMoved, NoteMoved, NotesMoved};
+ghost use Rattle.annotations.specs.Promises.{RowMoved, RowsMoved, NoteMoved, NotesMoved, NoteTaken, NotesTaken};
 use words::store3;
 use words::word;
 
@@ -84,4 +84,76 @@ pub fn move_notes(notes: &mut [u32], k: usize, p: usize, q: usize, m: usize) -> 
         i += 1;
     }
     r
+}
+
+// ── The notes that come in with a part ──
+
+// The notes are more than there is room for, or how many there are now.
+pub enum Taken {
+    Full,
+    Count(usize),
+}
+
+// The note at `i` is written to `out` at place `r`, with another row.
+fn copy_note(notes: &[u32], i: usize, out: &mut [u32], r: usize, row: usize)
+    requires { ⌜ (3 * i + 3 ≤ length (now notes)) × (3 * r + 3 ≤ length (now out)) × (row < 2 ^ 32) ⌝ }
+    ensures { λ _. ⌜ now (out .exit) ≡ paste (now (out .entry)) (3 * r) (noteWords (withRow (noteAt (now (notes .entry)) i) row)) 3 ⌝ }
+{
+    let number = word(notes, 3 * i + 1);
+    let place = word(notes, 3 * i + 2);
+    store3(out, 3 * r, row, number, place);
+}
+
+// The note at `i`, if it is in the rows `p` up to `q`, goes behind the first `c` of `out`; from `most` on it is only counted.
+fn take_note(
+    notes: &[u32],
+    i: usize,
+    p: usize,
+    q: usize,
+    at: usize,
+    out: &mut [u32],
+    c: usize,
+    most: usize,
+) -> usize
+    requires { ⌜ (3 * i + 3 ≤ length (now notes)) × (3 * most ≤ length (now out)) × (c < 2 ^ 17) × (q < 2 ^ 16) × (at < 2 ^ 16) ⌝ }
+    ensures { λ n. ⌜ NoteTaken (now (notes .entry)) i p q at most (now (out .entry)) c (now (out .exit)) n ⌝ }
+{
+    let x = word(notes, 3 * i);
+    if x < p {
+        return c;
+    }
+    if q <= x {
+        return c;
+    }
+    if most <= c {
+        return c + 1;
+    }
+    copy_note(notes, i, out, c, at + (x - p));
+    c + 1
+}
+
+// Of the first `k` notes those in the rows `p` up to `q` go behind the first `count` of `out`, where `p` comes to stand at the row `at`.
+pub fn notes_in(
+    notes: &[u32],
+    k: usize,
+    p: usize,
+    q: usize,
+    at: usize,
+    out: &mut [u32],
+    count: usize,
+    most: usize,
+) -> Taken
+    requires { ⌜ (3 * k ≤ length (now notes)) × (3 * most ≤ length (now out)) × (count ≤ most) × (most < 2 ^ 16) × (k < 2 ^ 16) × (q < 2 ^ 16) × (at < 2 ^ 16) ⌝ }
+    ensures { λ r. ⌜ NotesTaken (now (notes .entry)) k p q at most (now (out .entry)) count (now (out .exit)) r ⌝ }
+{
+    let mut i = 0;
+    let mut c = count;
+    while i < k {
+        c = take_note(notes, i, p, q, at, out, c, most);
+        i += 1;
+    }
+    if most < c {
+        return Taken::Full;
+    }
+    Taken::Count(c)
 }
