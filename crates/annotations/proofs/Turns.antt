@@ -9,7 +9,7 @@ use native.Mathlib.Numerals.{add-one}
 use native.Mathlib.Nat.{add-zero}
 use borrow.Author.Tests.{lt-ltb, le-ltb}
 use lib.ListN.{length, getD, set, take, drop, length-set, length-append, length-map}
-use lib.Seq.{paste, take-suc, take-suc-set, take-all, drop-set-lt, drop-drop, length-take-le, getD-take, getD-drop}
+use lib.Seq.{paste, paste-zero, paste-suc, take-paste, drop-cons, take-suc, take-suc-set, take-all, drop-set-lt, drop-drop, length-take-le, getD-take, getD-drop}
 use Rattle.orders.specs.Lists.{All, more, pick}
 use Rattle.orders.specs.Tree.{shift}
 use Rattle.orders.specs.ListLaws.{zone-before, zone-inside, zone-after}
@@ -17,7 +17,8 @@ use Rattle.orders.specs.TreeLaws.{shift-before, shift-inside, shift-after}
 use Rattle.rows.specs.Place.{inRun}
 use Rattle.store_model.specs.Store.{HeldNote, withRow}
 use Rattle.annotations.specs.Notes.{noteWords, notesOf, noteAt, length-notesOf, note-row, note-words, notes-to, note-among, notes-added, drop-note, length-note}
-use Rattle.annotations.specs.Promises.{RowMoved, RowsMoved, movedNote, NoteMoved, NotesMoved, noteIn, placedNote, NoteTaken, taken, NotesTaken}
+use Rattle.annotations.specs.Promises.{RowMoved, RowsMoved, movedNote, NoteMoved, NotesMoved, noteIn, placedNote, NoteTaken, taken, NotesTaken, RowsAdded}
+use Rattle.annotations.specs.Places.{partRows, length-partRows}
 use Rattle.annotations.specs.declared.Taken.the-variants.{Full, Count}
 
 -- ── Lists ───────────────────────────────────────────────────────────────────────────────────────────────────
@@ -280,3 +281,41 @@ module _ {l : List ℕ} {k p q at most : ℕ} {old : List ℕ} {c : ℕ} {out : 
   pub taking-done : k ≤ i → n ≤ most → NotesTaken l k p q at most old c out (Count n)
   unfolding taken
   taking-done h b = record { answer = rw (← total h, le-ltb most n b); notes = written h }
+
+-- ── The rows of the parts that come in ──────────────────────────────────────────────────────────────────────
+
+-- the rows of the first i parts are added, and the next part stands at `row`
+pub record Adding (l : List ℕ) (k at : ℕ) (sizes out : List ℕ) (i row : ℕ) : Type 0 where
+  pub inside : i ≤ length sizes
+  pub long : length out ≡ length l
+  pub added : out ≡ paste l k (partRows at sizes) i
+  pub rest : drop i (partRows at sizes) ≡ partRows row (drop i sizes)
+  pub small : row ≤ at + 2 ^ 16 * i
+
+pub adding-start : (l : List ℕ) (k at : ℕ) (sizes : List ℕ) → Adding l k at sizes l 0 at
+adding-start l k at sizes = record { inside = omega arith; long = refl; added = paste-zero l k (partRows at sizes); rest = refl; small = omega arith }
+
+module _ {l : List ℕ} {k at : ℕ} {sizes out : List ℕ} {i row : ℕ} (v : Adding l k at sizes out i row) where
+  pub adding-next : {n : ℕ} → i < length sizes → k + length sizes ≤ length l → All (λ x. x < 2 ^ 16) sizes → (n ≡ getD sizes i 0) × (n < 2 ^ 32) → Adding l k at sizes (set out (k + i) row) (i + 1) (row + n)
+  unfolding partRows
+  adding-next {n} h b a e =
+      let P : List ℕ = partRows at sizes in
+      let s : n < 2 ^ 16 = rw (e .0) (All-get (λ x. x < 2 ^ 16) 0 sizes i h a) in
+      let f : drop i P ≡ row ∷ partRows (row + n) (drop (suc i) sizes) = v .rest ∙ rw (drop-cons sizes i 0 h, ← e .0) refl in
+      let g : getD P i 0 ≡ row = ap (λ (j : ℕ). getD P j 0) (sym (add-zero i)) ∙ (sym (getD-drop i P 0 0) ∙ ap (λ (d : List ℕ). getD d 0 0) f) in
+      record {
+        inside = omega arith;
+        long = length-set out (k + i) row ∙ v .long;
+        added = ap (λ (d : List ℕ). set d (k + i) row) (v .added) ∙ (ap (λ (x : ℕ). set (paste l k P i) (k + i) x) (sym g) ∙ (paste-suc l k P i 0 (omega arith) (omega (arith, length-partRows at sizes)) ∙ ap (λ (j : ℕ). paste l k P j) (sym (add-one i))));
+        rest = sym (drop-drop 1 i P) ∙ (ap (λ (d : List ℕ). drop 1 d) f ∙ ap (λ (j : ℕ). partRows (row + n) (drop j sizes)) (sym (add-one i)));
+        small = omega (arith, v .small);
+      }
+
+  pub adding-done : length sizes ≤ i → k + length sizes ≤ length l → RowsAdded l k at sizes out (k + i)
+  adding-done h b =
+      let P : List ℕ = partRows at sizes in
+      let m = length-partRows at sizes in
+      record {
+        rows = rw (v .added) (take-paste l k P i (omega arith) (omega (arith, v .inside)) ∙ ap (λ (s : List ℕ). take k l ++ s) (take-all i P (omega arith)));
+        count = omega (arith, v .inside);
+      }

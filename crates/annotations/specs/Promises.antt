@@ -12,6 +12,7 @@ use Rattle.orders.specs.Tree.{shift}
 use Rattle.rows.specs.Place.{inRun}
 use Rattle.store_model.specs.Store.{HeldNote, withRow}
 use Rattle.annotations.specs.Notes.{notesOf, noteAt}
+use Rattle.annotations.specs.Places.{partRows}
 use Rattle.annotations.specs.declared.Taken.{Taken}
 use Rattle.annotations.specs.declared.Taken.the-variants.{Full, Count}
 
@@ -70,3 +71,8 @@ pub record NotesTaken (l : List ℕ) (k p q at most : ℕ) (old : List ℕ) (c :
   pub answer : r ≡ taken most (c + length (pick (noteIn p q) (notesOf k l)))
   pub notes : c + length (pick (noteIn p q) (notesOf k l)) ≤ most
       → notesOf (c + length (pick (noteIn p q) (notesOf k l))) out ≡ notesOf c old ++ map (λ n. withRow n (at + n .row)) (pick (noteIn p q) (notesOf k l))
+
+-- the rows of parts of some sizes added behind the first k changed rows, the first part at the row `at`
+pub record RowsAdded (l : List ℕ) (k at : ℕ) (sizes out : List ℕ) (r : ℕ) : Type 0 where
+  pub rows : take r out ≡ take k l ++ partRows at sizes
+  pub count : r ≡ k + length sizes

@@ -6,7 +6,7 @@ ghost use lib.Seq.{paste};
 ghost use Rattle.orders.specs.Lists.{All};
 ghost use Rattle.store_model.specs.Store.{withRow};
 ghost use Rattle.annotations.specs.Notes.{noteWords, notesOf, noteAt};
-ghost use Rattle.annotations.specs.Promises.{RowMoved, RowsMoved, NoteMoved, NotesMoved, NoteTaken, NotesTaken};
+ghost use Rattle.annotations.specs.Promises.{RowMoved, RowsMoved, NoteMoved, NotesMoved, NoteTaken, NotesTaken, RowsAdded};
 use words::store3;
 use words::word;
 
@@ -41,6 +41,21 @@ pub fn move_changed(changed: &mut [u32], k: usize, p: usize, q: usize, m: usize)
         i += 1;
     }
     r
+}
+
+// The rows at which parts of some sizes come to stand go behind the first `k` changed rows; the first stands at the row `at`.
+pub fn add_changed(changed: &mut [u32], k: usize, at: usize, sizes: &[u32]) -> usize
+    requires { ⌜ (k + length (now sizes) ≤ length (now changed)) × (at < 2 ^ 16) × (length (now sizes) < 2 ^ 12) × All (λ x. x < 2 ^ 16) (now sizes) ⌝ }
+    ensures { λ r. ⌜ RowsAdded (now (changed .entry)) k at (now (sizes .entry)) (now (changed .exit)) r ⌝ }
+{
+    let mut i = 0;
+    let mut row = at;
+    while i < sizes.len() {
+        changed[k + i] = row as u32;
+        row += word(sizes, i);
+        i += 1;
+    }
+    k + i
 }
 
 // ── Notes: three words each, the row, the number and the place in the queue ──
