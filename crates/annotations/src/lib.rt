@@ -1,6 +1,6 @@
 // The changed rows and the notes that are held, moved through one splice.
 ghost use mathlib.Core.Path.{_≡_};
-ghost use Prim.Native.Nat.{ℕ, _+_, _-_, _*_, _^_, _≤_, _<_};
+ghost use Prim.Native.Nat.{_+_, _-_, _*_, _^_, _≤_, _<_};
 ghost use lib.ListN.{length, getD, take};
 ghost use lib.Seq.{paste};
 ghost use Rattle.orders.specs.Lists.{All};
@@ -75,15 +75,15 @@ fn move_note(notes: &mut [u32], i: usize, r: usize, p: usize, q: usize, m: usize
     requires { ⌜ (r ≤ i) × (3 * i + 3 ≤ length (now notes)) × (p ≤ q) × (q < 2 ^ 16) × (m < 2 ^ 16) × (getD (now notes) (3 * i) 0 < 2 ^ 16) ⌝ }
     ensures { λ n. ⌜ NoteMoved (now (notes .entry)) i r p q m (now (notes .exit)) n ⌝ }
 {
-    let x = word(notes, 3 * i);
-    if x < p {
-        keep_note(notes, i, r, x);
+    let row = word(notes, 3 * i);
+    if row < p {
+        keep_note(notes, i, r, row);
         return r + 1;
     }
-    if x < q {
+    if row < q {
         return r;
     }
-    keep_note(notes, i, r, x + m - (q - p));
+    keep_note(notes, i, r, row + m - (q - p));
     r + 1
 }
 
