@@ -1,0 +1,1 @@
+-- What the functions promise is told in finish_model, rows and the definition.
