@@ -1,0 +1,3 @@
+-- Where the notes of a batch settle.
+--     Notes   the settled notes by element number, the definition's notes told by them, and their words
+pub mod Notes
