@@ -11,6 +11,7 @@ use Rattle.orders.specs.Lists.{All}
 use Rattle.definition.specs.Basics.{Answer, refused, gives, _>>=_}
 use Rattle.definition.specs.Rewriting.{settle}
 use Rattle.definition.specs.Words.{word, words}
+use Rattle.laws.specs.Basics.{All-append}
 use Rattle.words.specs.Parts.{paste-paste}
 use Rattle.spelling.specs.Spelling.{elementsAt}
 use Rattle.spelling.specs.Stack.{elementsFrom, elements-all, elements-none, elements-more}
@@ -19,7 +20,7 @@ use Rattle.element_table.specs.Told.{length-view}
 use Rattle.mapping.specs.Mapped.{mappedBy}
 use Rattle.upmap.specs.declared.Settled.{Settled}
 use Rattle.upmap.specs.declared.Settled.the-variants.{At, Refused}
-use Rattle.upmap.specs.Settling.{settledBy, SettledAt}
+use Rattle.upmap.specs.Settling.{settledBy, settled-at, SettledAt}
 use Rattle.settling.specs.declared.Notes.the-variants.{Settled as Done, Refused as Not}
 use Rattle.settling.specs.Notes.{settledAt, noteWords, words-behind}
 use Rattle.settling.specs.Answers.{notesBy, NotesSettled}
@@ -42,6 +43,7 @@ module _ (b : List ℕ) (noted numbers k n : ℕ) (w s m before : List ℕ) wher
     pub long : length after ≡ length before
     pub elements : All (λ x. x .0 < n) (elementsFrom b noted numbers k i)
     pub sofar : List (ℕ × ℕ × ℕ)
+    pub low : All (λ x. x .0 < n) sofar
     pub count : length (noteWords sofar) ≡ 3 * i
     pub rest : settledAt (view n w s) (mappedBy m) 0 (elementsFrom b noted numbers k 0) ≡ (settledAt (view n w s) (mappedBy m) i (elementsFrom b noted numbers k i) >>= λ l. gives (sofar ++ l))
     pub written : after ≡ paste before 0 (noteWords sofar) (3 * i)
@@ -54,6 +56,7 @@ module _ (b : List ℕ) (noted numbers k n : ℕ) (w s m before : List ℕ) wher
         long = refl;
         elements = rw (elements-all b noted numbers k) h;
         sofar = [];
+        low = tt;
         count = refl;
         rest = none-before _;
         written = paste-zero before 0 [];
@@ -66,7 +69,7 @@ module _ (b : List ℕ) (noted numbers k n : ℕ) (w s m before : List ℕ) wher
         let e : i ≡ k = omega (arith, S .inside) in
         let all : settledAt (view n w s) (mappedBy m) 0 (elementsAt b noted numbers k) ≡ gives (S .sofar) =
         rw (← elements-all b noted numbers k) (S .rest ∙ rw (elements-none b noted numbers k i h, append-nil (S .sofar))) in
-        record { words = rw all (ap gives (S .written ∙ ap (λ (j : ℕ). paste before 0 (noteWords (S .sofar)) (3 * j)) e)) }
+        record { words = rw all (ap gives (S .written ∙ ap (λ (j : ℕ). paste before 0 (noteWords (S .sofar)) (3 * j)) e)); within = rw all (S .low) }
 
     module _ (h : i < k) (x y : ℕ) (ex : x ≡ word (drop (noted + 4 * i) b)) (ey : y ≡ word (drop (numbers + 4 * i) b)) where
       next : elementsFrom b noted numbers k i ≡ (x, y) ∷ elementsFrom b noted numbers k (i + 1)
@@ -87,7 +90,7 @@ module _ (b : List ℕ) (noted numbers k n : ℕ) (w s m before : List ℕ) wher
         unfolding notesBy _>>=_ settledBy elementsAt
         settling-refused number q =
             let all : settledAt (view n w s) (mappedBy m) 0 (elementsAt b noted numbers k) ≡ refused number = rw (← elements-all b noted numbers k) (S .rest ∙ rw (turn, q)) in
-            record { words = rw all }
+            record { words = rw all; within = rw all tt }
 
         module _ (e : ℕ) (q : o ≡ At e) where
           pub settling-next : (after′ : List ℕ) → 3 * k ≤ length before → length after′ ≡ length after → after′ ≡ paste after (3 * i) ((e + 1) ∷ y ∷ i ∷ []) 3 → Settling (i + 1) after′
@@ -100,6 +103,7 @@ module _ (b : List ℕ) (noted numbers k n : ℕ) (w s m before : List ℕ) wher
                 long = l ∙ S .long;
                 elements = left .1;
                 sofar = p ++ (e, y, i) ∷ [];
+                low = All-append (λ x. x .0 < n) p ((e, y, i) ∷ []) (S .low) (settled-at (A .within) q, tt);
                 count = ap length (words-behind p (e, y, i)) ∙ omega (arith, length-append (noteWords p) (suc e ∷ y ∷ i ∷ []), S .count);
                 rest = S .rest ∙ (rw (turn, q, ← add-one i) (one-more p (e, y, i) T));
                 written = g ∙ rw (S .written, add-one e, words-behind p (e, y, i)) (paste-paste before 0 (noteWords p) (3 * i) (suc e ∷ y ∷ i ∷ []) 3 (3 * i) (3 * (i + 1)) (omega arith) (omega arith) (omega arith) (omega (arith, S .count)) (omega (arith, S .count)));
