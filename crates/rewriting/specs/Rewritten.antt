@@ -3,10 +3,11 @@
 use mathlib.Core.Bool.{Bool, true, false, cond}
 use mathlib.Core.List.{List, [], _∷_, map}
 use mathlib.Core.Option.{Option}
-use mathlib.Core.Path.{_≡_, refl, sym, ap}
-use Prim.Native.Nat.{ℕ, zero, suc, _+_, _≤_}
+use mathlib.Core.Path.{_≡_, refl, sym, ap, _∙_, subst}
+use Prim.Native.Nat.{ℕ, zero, suc, _+_, _*_, _≤_, _<_}
 use native.Mathlib.Omega.{arith}
 use lib.ListN.{length, getD, take, drop, List·getD-map}
+use lib.Seq.{drop-drop}
 use lib.Dec.{eqb}
 use Rattle.orders.specs.Lists.{All}
 use Rattle.definition.specs.Basics.{Answer, refused, gives, _>>=_, refuse}
@@ -14,12 +15,19 @@ use Rattle.definition.specs.Elements.{Table}
 use Rattle.definition.specs.Refusals.{wrongCall}
 use Rattle.definition.specs.Recording.{firstChild, after, Change, insert, replace, delete, replaceWithMany, replaceAll, call}
 use Rattle.definition.specs.Planning.{Fate, own, dependent, discarded, Planned, target}
-use Rattle.definition.specs.Rewriting.{replacement, moved, retarget, rewriteInto, rewriteOne, rewriting}
+use Rattle.definition.specs.Rewriting.{replacement, moved, retarget, rewriteInto, rewriteOne, rewriting, rewritten}
 use Rattle.definition.specs.Running.{news}
+<<<<<<< HEAD
 use Rattle.syntax_editor.specs.ChangeRow.{ChangeRow, operation, endOf, changeRow}
 use Rattle.syntax_editor.specs.ChangeRowLaws.{rowAt}
 use Rattle.edit_plan.specs.Rows.{rowFate, withFate, fate-stated}
 use Rattle.change_row.specs.Stated.{changeBy, newOf, changeOf, planOf, Stated}
+=======
+use Rattle.syntax_editor.specs.ChangeRow.{ChangeRow, rowsOf, operation, endOf, changeRow}
+use Rattle.edit_plan.specs.Rows.{rowAt, rowFate, withFate, fate-stated}
+use Rattle.change_row.specs.Stated.{changeBy, newOf, changeOf, planOf, Stated, Rewritable}
+use Rattle.change_row.specs.Exact.{Exact}
+>>>>>>> mapping
 
 -- ── Rewriting on rows ───────────────────────────────────────────────────────────────────────────────────────
 
@@ -157,6 +165,9 @@ unfoldable pub toldRows : List ℕ → Answer (List ChangeRow × ℕ) → Answer
 toldRows listed (refused n) = refused n
 toldRows listed (gives q) = gives (map (planOf listed) (q .0), q .1)
 
+given : {A : Type 0} {x y : A} → _≡_ {A = Answer A} (gives x) (gives y) → x ≡ y
+given e = cc
+
 -- a change with its fate, and the steps
 abbrev plannedWith : Fate → Change × ℕ → Answer (Planned × ℕ)
 plannedWith f m = gives (record { change = m .0; fate = f }, m .1)
@@ -205,9 +216,6 @@ module _ (T : Table) (mapped : ℕ → Option ℕ) (listed : List ℕ) where
   one-more f (refused n) (gives m) l e = cc
   one-more f (gives n) (refused m) l e = cc
   one-more f (gives n) (gives m) l e = ap {B = Answer (List Planned × ℕ)} (λ p. gives (p .0 ∷ map (planOf listed) (l .0), p .1 + l .1)) (given e)
-    where
-      given : {x y : Planned × ℕ} → _≡_ {A = Answer (Planned × ℕ)} (gives x) (gives y) → x ≡ y
-      given q = cc
 
   -- on rows that state changes it is the definition's
   pub rewrite-told : (n : ℕ) (rs later : List ChangeRow) → All (Stated n listed) later
@@ -224,3 +232,68 @@ module _ (T : Table) (mapped : ℕ → Option ℕ) (listed : List ℕ) where
       go (gives l) =
           one-more (rowFate r) (rewriteOne T mapped (map (changeOf listed) rs) (rowFate r) (changeOf listed r)) (rewriteRow T mapped listed rs r) l
           (row-told n rs r (rowFate r) refl (h .0))
+
+-- ── The whole, for rows in words ────────────────────────────────────────────────────────────────────────────
+
+all-rows : (P : ChangeRow → Type 0) (w : List ℕ) (c : ℕ) → ((i : ℕ) → i < c → P (rowAt w i)) → All P (rowsOf c w)
+unfolding rowsOf rowAt
+all-rows P w zero h = tt
+all-rows P w (suc c) h = (h 0 (omega arith), all-rows P (drop 13 w) c (λ i b. rw (behind i) (h (suc i) (omega arith))))
+  where
+    behind : (i : ℕ) → drop (13 * i) (drop 13 w) ≡ drop (13 * suc i) w
+    behind i = let e : 13 * suc i ≡ 13 + 13 * i = omega arith in rw e (drop-drop (13 * i) 13 w)
+
+map-both : (listed : List ℕ) (rs : List ChangeRow) → map (λ (p : Planned). p .change) (map (planOf listed) rs) ≡ map (changeOf listed) rs
+unfolding planOf
+map-both listed [] = refl
+map-both listed (r ∷ rs) = ap (λ l. changeOf listed r ∷ l) (map-both listed rs)
+
+-- "From the last dependent to the first": the definition's rewriting of all planned changes
+pub rewritten-told : (n : ℕ) (T : Table) (mapped : ℕ → Option ℕ) (listed v : List ℕ) (c : ℕ) → Rewritable n listed v c
+    → rewritten T mapped (map (planOf listed) (rowsOf c v)) ≡ toldRows listed (rewriteRows T mapped listed (rowsOf c v) (rowsOf c v))
+unfolding rewritten
+rewritten-told n T mapped listed v c R = rw (map-both listed (rowsOf c v)) (rewrite-told T mapped listed n (rowsOf c v) (rowsOf c v) (all-rows (Stated n listed) v c (R .stated)))
+
+-- ── Exact rows stay exact ───────────────────────────────────────────────────────────────────────────────────
+
+then-gives : {A B : Type 0} (a : Answer A) (f : A → Answer B) (y : B) → _>>=_ {B = B} a f ≡ gives y → (x : A) × (a ≡ gives x) × (f x ≡ gives y)
+unfolding _>>=_
+then-gives (refused n) f y e = absurd (let z : _≡_ {A = ℕ} 0 1 = cc in omega arith)
+then-gives (gives x) f y e = (x, refl, e)
+
+module _ (T : Table) (mapped : ℕ → Option ℕ) (listed : List ℕ) where
+  exact-by : (r : ChangeRow) (x y : ℕ) → r .operation ≤ 5 → Exact T listed (withFate (changeRow T (r .list) (changeBy (r .operation) x y (getD listed (r .list) 0) (newOf listed r))) (rowFate r))
+  unfolding withFate changeRow newOf
+  exact-by r x y h =
+      record {
+        same =
+            rw (change-back T listed (r .list) (r .count) (rowFate r) (r .operation) x y h, fate-stated (changeRow T (r .list) (changeBy (r .operation) x y (getD listed (r .list) 0) (newOf listed r))) (rowFate r));
+      }
+
+  exact-row : (n : ℕ) (rs : List ChangeRow) (r : ChangeRow) (f : Fate) (m : ChangeRow × ℕ) → Stated n listed r → Exact T listed r → rewriteFated T mapped listed rs f r ≡ gives m → Exact T listed (m .0)
+  unfolding rewriteFated rewriteUnder changeOf
+  exact-row n rs r own m S E e = subst (Exact T listed) (ap (λ (q : ChangeRow × ℕ). q .0) (given e)) E
+  exact-row n rs r (dependent k) m S E e =
+      let o : Change = changeOf listed (getD rs k noChange) in
+      let z : ℕ = getD listed (r .list) 0 in
+      let new : List ℕ = newOf listed r in
+      let u = then-gives (rewriteInto T mapped (target o) (replacement o) (changeBy (r .operation) (r .target) (r .end) z new)) (λ p. gives (withFate (changeRow T (r .list) (p .0)) (rowFate r), p .1)) m e in
+      let v =
+      then-gives (movedEnds (moved T mapped (target o) (replacement o)) (r .operation) (r .target) (r .end)) (judgedEnds T (r .operation) z new) (u .0)
+      (sym (rewriteInto-by T mapped (target o) (replacement o) (r .operation) (r .target) (r .end) z new (S .known)) ∙ u .1) in
+      let q : ℕ × ℕ × ℕ = v .0 in
+      let x = then-gives (refuse 9 (wrongCall T (call (changeBy (r .operation) (q .0) (q .1) z new)))) (λ _. withEnds (r .operation) z new q) (u .0) (v .2) in
+      let c : changeBy (r .operation) (q .0) (q .1) z new ≡ u .0 .0 = ap (λ (p : Change × ℕ). p .0) (given (x .2)) in
+      let d : withFate (changeRow T (r .list) (u .0 .0)) (rowFate r) ≡ m .0 = ap (λ (p : ChangeRow × ℕ). p .0) (given (u .2)) in
+      subst (Exact T listed) (ap (λ (p : Change). withFate (changeRow T (r .list) p) (rowFate r)) c ∙ d) (exact-by r (q .0) (q .1) (S .known))
+  exact-row n rs r (discarded k) m S E e = subst (Exact T listed) (ap (λ (q : ChangeRow × ℕ). q .0) (given e)) E
+
+  pub rewritten-exact : (n : ℕ) (rs later : List ChangeRow) (q : List ChangeRow × ℕ) → All (Stated n listed) later → All (Exact T listed) later → rewriteRows T mapped listed rs later ≡ gives q → All (Exact T listed) (q .0)
+  unfolding rewriteRows rewriteRow
+  rewritten-exact n rs [] q S E e = subst (All (Exact T listed)) (ap (λ (p : List ChangeRow × ℕ). p .0) (given e)) tt
+  rewritten-exact n rs (r ∷ later) q S E e =
+      let u = then-gives (rewriteRows T mapped listed rs later) (λ l. _>>=_ {B = List ChangeRow × ℕ} (rewriteRow T mapped listed rs r) (λ m. gives (m .0 ∷ l .0, m .1 + l .1))) q e in
+      let l : List ChangeRow × ℕ = u .0 in
+      let v = then-gives (rewriteRow T mapped listed rs r) (λ m. gives (m .0 ∷ l .0, m .1 + l .1)) q (u .2) in
+      subst (All (Exact T listed)) (ap (λ (p : List ChangeRow × ℕ). p .0) (given (v .2)))
+      (exact-row n rs r (rowFate r) (v .0) (S .0) (E .0) (v .1), rewritten-exact n rs later l (S .1) (E .1) (u .1))

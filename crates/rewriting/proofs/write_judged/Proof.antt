@@ -1,6 +1,7 @@
 -- `write_judged` meets its contract. One law for each answer.
 -- Assumes nothing.
 use borrow.Author.Needs.{needs}
+use native.Mathlib.Omega.{arith}
 use Rattle.rewriting.proofs.Writing.{lists-one, call-known, row-written, row-refused}
 use Rattle.rewriting.proofs.write_judged.Statement.{statement}
 use Rattle.rewriting.proofs.write_judged.Tie as tie
@@ -15,7 +16,7 @@ judged-by-requires : tie.Need-judged-by-requires
 judged-by-requires c κs = (search needs, lists-one _ _ _ _ _ _ _ _ (c .before .before .before .before .before .before .before .pre .1 .1) _ _ (c .before .field .ensures .0) (c .field2 .ensures .0))
 
 call-fits-requires : tie.Need-call-fits-requires
-call-fits-requires c κs = (search needs, call-known _ _ _ _ _ _ _ _ (c .before .before .before .before .before .before .before .before .pre .1 .1) _ _ (c .before .before .field .ensures .0) (c .before .field2 .ensures .0) _ (c .judged-by .ensures))
+call-fits-requires c κs = (search needs, omega (arith, c .before .before .before .before .before .before .before .before .pre .1 .1 .end, call-known _ _ _ _ _ _ _ _ (c .before .before .before .before .before .before .before .before .pre .1 .1) _ _ (c .before .before .field .ensures .0) (c .before .field2 .ensures .0) _ (c .judged-by .ensures)))
 
 write-row-requires : tie.Need-write-row-requires
 write-row-requires c κs = (search needs, (c .before .before .before .before .before .before .before .before .before .before .before .pre .1 .1 .target, c .before .before .before .before .before .before .before .before .before .before .before .pre .1 .1 .end, call-known _ _ _ _ _ _ _ _ (c .before .before .before .before .before .before .before .before .before .before .before .pre .1 .1) _ _ (c .before .before .before .before .before .field .ensures .0) (c .before .before .before .before .field2 .ensures .0) _ (c .before .before .before .judged-by .ensures) .2, search needs, search needs))
