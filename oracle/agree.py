@@ -3,6 +3,7 @@
 from batches import decode_arrays
 
 GONE = "an edit target must still be present"
+THE_RUST = ("edit_algo.rs:", "mapping.rs:", "syntax_editor.rs:")
 MOST_NOTES = 1024
 AGREED, NOTES, DIFFERENT = "agreed", "refused 12 for notes on the way", "different"
 
@@ -16,8 +17,10 @@ def expected(answer):
     word = answer.printed.split()[0]
     if answer.remark.startswith("childless"):
         return refused(9)  # document 01's own rule: the Rust's answer is not compared
-    if word == "panic":
+    if word == "panic" and answer.remark.startswith(THE_RUST):
         return refused(11 if answer.remark.endswith(GONE) else 9)
+    if word == "panic" or answer.remark == "touched":
+        return "a fault of the oracle\n"  # a panic of the stand-in, or an overlap after which the tree was not left as it was
     return {"overlap": refused(8), "loop": refused(10), "large": refused(12)}.get(word, answer.printed)
 
 

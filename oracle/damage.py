@@ -28,7 +28,8 @@ class Parts:
         return self.numbers(lambda i, kind: kind < NODE)
 
     def nodes(self):
-        return self.numbers(lambda i, kind: kind >= NODE)
+        """All nodes; the first element where an earlier fault has left none."""
+        return self.numbers(lambda i, kind: kind >= NODE) or [0]
 
     def childless(self):
         return self.numbers(lambda i, kind: kind >= NODE and self.arrays[MEASURES][i] == 0)

@@ -2,6 +2,7 @@
 
 import importlib.util
 import subprocess
+from pathlib import Path
 
 from rust import ROOT
 
@@ -17,7 +18,7 @@ def load_module(path):
 
 
 def caught(function):
-    """A loaded program that fails prints what it failed with."""
+    """A program that fails counts as printing what it failed with."""
 
     def run(batch):
         try:
@@ -30,7 +31,9 @@ def caught(function):
 
 def load(path):
     """Two functions: what the program prints for a batch, and its `find_element`, None if it has none."""
+    if not Path(path).exists():
+        raise SystemExit("no program %s" % path)
     if path.endswith(".py"):
         module = load_module(path)
         return caught(module.edit_program), getattr(module, "find_element", None)
-    return lambda batch: subprocess.run([path], input=batch, capture_output=True).stdout.decode("latin-1"), None
+    return caught(lambda batch: subprocess.run([path], input=batch, capture_output=True, timeout=60).stdout.decode("latin-1")), None

@@ -16,7 +16,7 @@ use Rattle.element_table.specs.Wellformed.{Lines, Wellformed}
 use Rattle.element_table.specs.Told.{row-view, root-told, depth-told, tree-told, node-told}
 use Rattle.change_row.specs.Measured.{DepthTold, RegionTold, Measured}
 use Rattle.syntax_editor.specs.ChangeRow.{rowWords, rowOf}
-use Rattle.edit_plan.specs.Rows.{rowAt as rowIn}
+use Rattle.syntax_editor.specs.ChangeRowLaws.{rowAt as rowIn}
 use Rattle.change_row.specs.declared.Measures.{Measures}
 use Rattle.change_row.specs.Stated.{fromBy, toBy, depthBy, regionBy, rowAnew}
 

@@ -13,7 +13,8 @@ use Rattle.definition.specs.Recording.{firstChild, after, Change, insert, repla
 use Rattle.definition.specs.Planning.{own, dependent, discarded, Planned, target, rank, from, to, above, parentDepth, addsRegion, nodeByNode}
 use Rattle.definition.specs.Running.{news}
 use Rattle.syntax_editor.specs.ChangeRow.{ChangeRow, operation, endOf, regionOf, changeRow, fateOf, ownerOf}
-use Rattle.edit_plan.specs.Rows.{rowAt, rowFate, withFate}
+use Rattle.syntax_editor.specs.ChangeRowLaws.{rowAt}
+use Rattle.edit_plan.specs.Rows.{rowFate, withFate}
 use Rattle.orders.specs.Lists.{All}
 
 -- ── The change ──────────────────────────────────────────────────────────────────────────────────────────────

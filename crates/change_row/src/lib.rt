@@ -9,7 +9,7 @@ ghost use lib.Dec.{eqb};
 ghost use Rattle.element_table.specs.View.{view};
 ghost use Rattle.element_table.specs.Wellformed.{Lines, Wellformed};
 ghost use Rattle.syntax_editor.specs.ChangeRow.{rowWords};
-ghost use Rattle.edit_plan.specs.Rows.{rowAt};
+ghost use Rattle.syntax_editor.specs.ChangeRowLaws.{rowAt};
 ghost use Rattle.change_row.specs.Stated.{rowAnew};
 ghost use Rattle.change_row.specs.Measured.{DepthTold, RegionTold, Small, Measured};
 

@@ -14,7 +14,8 @@ use borrow.Author.Tests.{eq-eqb, ne-eqb, le-leb, lt-leb}
 use Rattle.orders.specs.Lists.{All}
 use Rattle.definition.specs.Planning.{own, dependent, discarded, isDiscarded, fate}
 use Rattle.syntax_editor.specs.ChangeRow.{ChangeRow, rowOf, rowsOf, fateOf, ownerOf}
-use Rattle.edit_plan.specs.Rows.{rowAt, rowsWords, rows-to, rows-same, rows-written, rowFate}
+use Rattle.syntax_editor.specs.ChangeRowLaws.{rowAt, rowsWords, rows-to, rows-same, rows-written}
+use Rattle.edit_plan.specs.Rows.{rowFate}
 use Rattle.changed_region.specs.Fates.{rowInner, rowRegion, rowsFates, plannedRows}
 use Rattle.changed_region.specs.Stacks.{outer, regionAt, stackTo, contains, enclosing, Outward, stated, stack-last, stack-lift, enclosing-here, enclosing-lift, enclosing-most}
 use Rattle.changed_region.specs.Steps.{All-get, regionAround, nextRows, nextTops, next-before, next-rest, fates-next, outward-next, tops-next}

@@ -14,7 +14,8 @@ use borrow.Author.Tests.{eq-eqb, ne-eqb}
 use lib.Seq.{getD-drop, drop-set-lt, drop-set-add, getD-set-other, getD-set-same}
 use Rattle.definition.specs.Planning.{Fate, Region, around, fate}
 use Rattle.syntax_editor.specs.ChangeRow.{ChangeRow, rowOf, fateOf, ownerOf}
-use Rattle.edit_plan.specs.Rows.{rowAt, row-ext, rowFate, withFate}
+use Rattle.syntax_editor.specs.ChangeRowLaws.{rowAt, row-ext}
+use Rattle.edit_plan.specs.Rows.{rowFate, withFate}
 use Rattle.changed_region.specs.Fates.{rowRegion}
 
 -- ── Stacks ──────────────────────────────────────────────────────────────────────────────────────────────────

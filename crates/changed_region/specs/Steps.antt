@@ -12,7 +12,8 @@ use Rattle.orders.specs.Lists.{All}
 use Rattle.orders.specs.ListLaws.{All-map, lt-or-le}
 use Rattle.definition.specs.Planning.{Fate, dependent, discarded, isDiscarded, around, fate}
 use Rattle.syntax_editor.specs.ChangeRow.{ChangeRow, rowsOf, fateOf, ownerOf}
-use Rattle.edit_plan.specs.Rows.{rowAt, rows-from, rowFate, withFate, fate-stated}
+use Rattle.syntax_editor.specs.ChangeRowLaws.{rowAt, rows-from}
+use Rattle.edit_plan.specs.Rows.{rowFate, withFate, fate-stated}
 use Rattle.changed_region.specs.Fates.{rowInner, rowRegion, rowPushed, rowsFates}
 use Rattle.changed_region.specs.Stacks.{outer, regionAt, stackTo, enclosing, Outward, stated, stack-last, stack-before, stack-none, stack-lift, enclosing-most, enclosing-around, stated-row, stated-before, stated-after}
 

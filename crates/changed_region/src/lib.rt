@@ -9,7 +9,7 @@ ghost use lib.Dec.{eqb};
 ghost use Rattle.orders.specs.Lists.{All};
 ghost use Rattle.definition.specs.Planning.{fate};
 ghost use Rattle.syntax_editor.specs.ChangeRow.{rowsOf, fateOf};
-ghost use Rattle.edit_plan.specs.Rows.{rowAt, rowsWords};
+ghost use Rattle.syntax_editor.specs.ChangeRowLaws.{rowAt, rowsWords};
 ghost use Rattle.changed_region.specs.Fates.{plannedRows};
 ghost use Rattle.changed_region.specs.Stacks.{outer, contains, stackTo, enclosing, Outward, stated};
 ghost use Rattle.changed_region.specs.Steps.{regionAround, nextRows, nextTops};

@@ -25,9 +25,9 @@ use Rattle.definition.specs.Printed
 unfoldable pub computed : List ℕ → List ℕ
 unfolding
     List.flatMap List.zip List.headD Option.bind
-    Lists.pick
+    Lists.pick Lists.any
     Tree.list Tree.forest Tree.label Tree.resolve Tree.zone Tree.adjust Tree.modify Tree.splice Tree.preorder Tree.preorders Tree.elements Tree.elementsOf Tree.text Tree.textOf Tree.deepest Tree.deepestOf Tree.measure Tree.children Tree.last Tree.front Tree.strip
-    Basics._>>=_ Basics.refuse Basics.orRefuse Basics.isSome Basics.any Basics.among Basics.keep Basics.first Basics.numbered Basics.lower Basics.insertBy Basics.sortBy Basics.rising Basics.falling
+    Basics._>>=_ Basics.refuse Basics.orRefuse Basics.isSome Basics.among Basics.keep Basics.first Basics.numbered Basics.lower Basics.insertBy Basics.sortBy Basics.rising Basics.falling
     Words.word Words.words Words.bytes Words.written
     Batch.sizes Batch.beyond Batch.whole Batch.arrays Batch.batch
     Elements.isNode Elements.kindOf Elements.malformed Elements.pieces Elements.plant Elements.grow Elements.startsWithToken Elements.unspelled Elements.spelled Elements.numbers Elements.rows Elements.rowsBelow Elements.table Elements.noRow Elements.row Elements.node? Elements.parent Elements.root? Elements.depth Elements.tree Elements.child Elements.placeBelow Elements.descend

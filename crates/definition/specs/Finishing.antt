@@ -1,8 +1,8 @@
 -- Finishing: the result, and its bytes; refusal 13.
 -- Assumes nothing.
-use mathlib.Core.Bool.{Bool, true, false, cond}
+use mathlib.Core.Bool.{cond}
 use mathlib.Core.List.{List, [], _∷_, _++_, map, flatMap}
-use mathlib.Core.Option.{Option, none, some, Option·map}
+use mathlib.Core.Option.{Option, none, Option·map}
 use Prim.Native.Nat.{ℕ}
 use lib.ListN.{length, take}
 use lib.Dec.{ltb, eqb}

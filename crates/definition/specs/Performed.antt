@@ -1,7 +1,7 @@
 -- Running and splicing: "A batch's splices are those these rules perform on tree 0, each with what its listed elements yield then, numbered as performed
 -- and placed by rewritten targets".
 -- Assumes nothing.
-use mathlib.Core.Bool.{Bool, true, false, cond}
+use mathlib.Core.Bool.{cond}
 use mathlib.Core.List.{List, [], _∷_, map}
 use mathlib.Core.Option.{Option, none, some, bind}
 use Prim.Native.Nat.{ℕ}
@@ -13,7 +13,7 @@ use Rattle.definition.specs.Basics.{Answer, refused, gives, _>>=_, numbe
 use Rattle.definition.specs.Elements.{Table}
 use Rattle.definition.specs.Refusals.{Accepted, accepted}
 use Rattle.definition.specs.Planning.{Planned}
-use Rattle.definition.specs.Running.{World, Run, Yield, news, place, yield, step}
+use Rattle.definition.specs.Running.{World, Run, news, place, yield, step}
 use Rattle.definition.specs.Answers.{Plan, plan, performed, atFirst, ran}
 
 -- a run of children of an element of tree 0, told in tree 0 alone; none in another tree, and none for a root (it is no one's child)

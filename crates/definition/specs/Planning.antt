@@ -8,7 +8,7 @@ use lib.ListN.{getD, set, replicate}
 use lib.Dec.{leb, ltb, eqb}
 use Rattle.definition.specs.Basics.{keep, first, numbered, rising}
 use Rattle.definition.specs.Elements.{Table, row, node?, root?, depth, tree}
-use Rattle.definition.specs.Recording.{Place, firstChild, after, Change, insert, replace, delete, replaceWithMany, replaceAll}
+use Rattle.definition.specs.Recording.{firstChild, after, Change, insert, replace, delete, replaceWithMany, replaceAll}
 
 -- ── Sorting ─────────────────────────────────────────────────────────────────────────────────────────────────
 

@@ -8,7 +8,7 @@ use lib.ListN.{length, take, drop}
 use lib.Dec.{leb, ltb, eqb}
 use Rattle.orders.specs.Tree.{Tree}
 use Rattle.definition.specs.Basics.{Answer, gives, _>>=_, refuse, orRefuse, any, among}
-use Rattle.definition.specs.Batch.{Batch, batch}
+use Rattle.definition.specs.Batch.{batch}
 use Rattle.definition.specs.Elements.{Table, row, node?, root?, parent, child, spelled, table}
 
 -- ── Calls ───────────────────────────────────────────────────────────────────────────────────────────────────

@@ -8,7 +8,7 @@ use lib.ListN.{length, getD}
 use lib.Dec.{eqb}
 use Rattle.orders.specs.Tree.{Path}
 use Rattle.definition.specs.Basics.{Answer, refused, gives, _>>=_, refuse, orRefuse, isSome, first}
-use Rattle.definition.specs.Elements.{Table, Row, row, node?, parent, child, placeBelow, descend}
+use Rattle.definition.specs.Elements.{Table, row, node?, parent, child, placeBelow, descend}
 use Rattle.definition.specs.Refusals.{wrongCall}
 use Rattle.definition.specs.Recording.{Change, insert, replace, delete, replaceWithMany, replaceAll, call}
 use Rattle.definition.specs.Planning.{Fate, own, dependent, discarded, Planned, target}

@@ -7,10 +7,11 @@ use Prim.Native.Nat.{ℕ, zero, suc}
 use lib.ListN.{length, getD}
 use lib.Dec.{ltb, eqb}
 use Rattle.orders.specs.Lists.{pick}
+pub use Rattle.orders.specs.Tree.{Run}
 use Rattle.orders.specs.Tree.{Tree, node, token, forest, Path, resolve, splice, adjust, elementsOf, textOf, deepestOf, children, last, front, strip}
-use Rattle.definition.specs.Basics.{Answer, refused, gives, _>>=_, refuse, orRefuse, keep, numbered, falling}
-use Rattle.definition.specs.Elements.{Table, Row, row, root?, tree}
-use Rattle.definition.specs.Recording.{Place, firstChild, after, Change, insert, replace, delete, replaceWithMany, replaceAll}
+use Rattle.definition.specs.Basics.{Answer, gives, _>>=_, refuse, orRefuse, keep, numbered, falling}
+use Rattle.definition.specs.Elements.{Table, row, root?, tree}
+use Rattle.definition.specs.Recording.{firstChild, after, Change, insert, replace, delete, replaceWithMany, replaceAll}
 use Rattle.definition.specs.Planning.{Fate, own, dependent, discarded, Planned, target, key}
 use Rattle.definition.specs.Rewriting.{Note}
 
@@ -87,12 +88,6 @@ news (replaceWithMany x l) = l
 news (replaceAll x y l) = l
 
 -- ── Where a change goes ─────────────────────────────────────────────────────────────────────────────────────
-
--- the children `from` to `to` - 1 of the element at `parent`, in the current trees
-pub record Run : Type 0 where
-  pub parent : Path
-  pub from : ℕ
-  pub to : ℕ
 
 -- the run from the element at p to the one at q
 unfoldable pub fromTo : Path → Path → Run

@@ -13,7 +13,8 @@ use Rattle.definition.specs.Recording.{Change}
 use Rattle.definition.specs.Planning.{rank, peers, exceeds, overlapping, overlap}
 use Rattle.syntax_editor.specs.ChangeRow.{ChangeRow, rowsOf}
 use Rattle.edit_plan.specs.Lists.{map-numbered, map-keep, map-first}
-use Rattle.edit_plan.specs.Rows.{rowAt, Tells}
+use Rattle.syntax_editor.specs.ChangeRowLaws.{rowAt}
+use Rattle.edit_plan.specs.Rows.{Tells}
 use Rattle.edit_plan.specs.declared.Replacements.{Replacements}
 use Rattle.edit_plan.specs.declared.Replacements.the-variants.{Disjoint, Overlap}
 

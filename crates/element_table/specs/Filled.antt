@@ -2,27 +2,32 @@
 -- Assumes nothing.
 use mathlib.Core.Path.{_≡_, refl, sym, ap, _∙_}
 use mathlib.Core.Bool.{Bool, true, false, cond, not, _||_}
-use mathlib.Core.List.{List, [], _++_, map, zip, append-nil}
+use mathlib.Core.List.{List, [], _∷_, _++_, map, zip, append-nil}
 use mathlib.Core.Option.{Option, none, some}
 use Prim.Native.Nat.{ℕ, _+_, _*_, _≤_, _<_}
 use native.Mathlib.Omega.{arith}
 use borrow.Author.Tests.{eqb-true}
 use lib.Dec.{ltb, eqb}
-use lib.ListN.{length, drop, length-map}
-use lib.Seq.{paste, take-all, length-paste}
+use lib.ListN.{length, take, drop, length-map}
+use lib.Seq.{paste, take-all, take-at, length-paste}
 use Rattle.orders.specs.ListLaws.{bind-some, some-inj, none-some, bool-absurd}
-use Rattle.orders.specs.Tree.{Tree, forest, deepest, label, measure, preorders, elementsOf}
+use Rattle.orders.specs.Tree.{Tree, node, forest, deepest, label, measure, preorders, elementsOf}
+use Rattle.orders.specs.TreeLaws.{list-forest}
 use Rattle.definition.specs.Basics.{any, isSome}
+use Rattle.definition.specs.Words.{words}
 use Rattle.definition.specs.Batch.{Batch}
 use Rattle.definition.specs.Elements.{malformed, startsWithToken, unspelled, spelled, table}
 use Rattle.element_table.specs.View.{view, field}
-use Rattle.spelling.specs.Spelling.{accepts}
+use Rattle.rows.specs.Row.{nod, rowsOf, firstRows}
+use Rattle.words.specs.Bytes.{length-words}
+use Rattle.spelling.specs.Spelling.{elementsAt, accepts}
 use Rattle.spelling.specs.SpellingLaws.{kindsOf, measuresOf, kinds-zip, measures-zip, grown, spelled-grown, accepts-spelled}
-use Rattle.element_table.specs.Filling.{tableOf, sourceOf}
+use Rattle.element_table.specs.Filling.{tableOf, sourceOf, Filled}
 use Rattle.spelling.specs.Preorder.{kinds-flats, measures-flats, length-flats, Spelt, spelt}
 use Rattle.element_table.specs.FillingLaws.{wordsAll, length-all, table-words, length-source}
 use Rattle.element_table.specs.ViewLaws.{told-all}
 use Rattle.element_table.specs.Wellformed.{Wellformed}
+use Rattle.element_table.specs.SourceRows.{rows-told as source-told}
 use Rattle.element_table.specs.Sound.{hop, Sound, sound-all}
 
 -- the elements of a batch, each with kind word and measure
@@ -109,6 +114,16 @@ module _ (b : Batch) (ts : List (Tree ℕ)) (h : spelled b ≡ some ts) where
         rw (take-all (8 * n) w (omega (arith, length-table)), take-all (3 * (n + 1)) (sourceOf (b .trees) (elementsIn b)) (omega (arith, length-source (b .trees) (elementsIn b), count)))
         (rw spelled-count at (told-all (w ++ r) (b .trees) (elementsIn b) z ts (s .worded) 0 0 0 r [] (rw spelled-words) (rw (append-nil, s .elements))))
 
+    -- THE THEOREM: the rows of the source are those of the trees, in preorder, under the node above them all
+    pub filled-rows : (s₀ : List ℕ) → firstRows (b .text) (length (b .kinds) + 1) (paste s₀ 0 (sourceOf (b .trees) (elementsIn b)) (3 * (length (b .kinds) + 1))) ≡ rowsOf (node 2147483648 (forest ts))
+    unfolding sourceOf
+    filled-rows s₀ =
+        let n : ℕ = length (b .kinds) in
+        let r : List ℕ = sourceOf (b .trees) (elementsIn b) in
+        let l : length r ≡ 3 * (n + 1) = omega (arith, length-source (b .trees) (elementsIn b), count) in
+        let whole : take (3 * (n + 1)) (paste s₀ 0 r (3 * (n + 1))) ≡ r = rw (take-all (3 * (n + 1)) r (omega arith)) (take-at r (drop (0 + 3 * (n + 1)) s₀) (3 * (n + 1)) l) in
+        rw (whole, list-forest ts, spelled-trees) (ap (λ z. nod 2147483648 (b .trees) ∷ z) (rw (← s .elements, ← s .text) (source-told (forest ts) (s .worded))))
+
     -- and the words are well formed
     module _ (t₀ s₀ : List ℕ) where
       ws : List ℕ
@@ -147,3 +162,39 @@ module _ (b : Batch) (ts : List (Tree ℕ)) (h : spelled b ≡ some ts) where
             long = omega (arith, length-paste s₀ 0 x (3 * (n + 1)) (omega arith) (omega (arith, length-source (b .trees) (elementsIn b), count)));
             children = λ e q. sound e q .children;
           }
+
+-- ── What a caller of the fill has ───────────────────────────────────────────────────────────────────────────
+
+-- what the two slices tell of the trees
+pub record Tells (b : Batch) (ts : List (Tree ℕ)) (n : ℕ) (table′ source : List ℕ) : Type 0 where
+  pub table-told : view n table′ source ≡ table 0 0 ts
+  pub rows-told : firstRows (b .text) (n + 1) source ≡ rowsOf (node 2147483648 (forest ts))
+  pub wellformed : Wellformed n table′ source
+
+-- the arrays of the batch stand in its bytes
+module _ (b : Batch) (input : List ℕ) (kinds measures n : ℕ) (ek : b .kinds ≡ words n (drop kinds input)) (em : b .measures ≡ words n (drop measures input)) where
+  pub elements-in : elementsIn b ≡ elementsAt input kinds measures n
+  unfolding elementsIn elementsAt
+  elements-in = rw (ek, em)
+
+  long : length (b .kinds) ≡ n
+  long = rw ek (length-words n (drop kinds input))
+
+  alike : length (b .kinds) ≡ length (b .measures)
+  alike = long ∙ sym (rw em (length-words n (drop measures input)))
+
+  -- line 5 accepts just if trees are spelled
+  pub accepts-elements : accepts (b .trees) (length (b .text)) (elementsAt input kinds measures n) ≡ isSome (spelled b)
+  unfolding elementsIn
+  accepts-elements = rw (← elements-in) (accepts-spelled b alike)
+
+  -- and what is filled then tells of the trees
+  pub filled-tells : {ts : List (Tree ℕ)} {t₀ s₀ t s : List ℕ} → spelled b ≡ some ts → Filled (b .trees) n (elementsAt input kinds measures n) t₀ s₀ t s → n ≤ 2048 → 8 * n ≤ length t₀ → 3 * (n + 1) ≤ length s₀ → Tells b ts n t s
+  filled-tells {ts} {t₀} {s₀} {t} {s} h f few lt ls =
+      let wt : t ≡ paste t₀ 0 (tableOf (b .trees) (elementsIn b)) (8 * length (b .kinds)) = rw (elements-in, long) (f .words) in
+      let ws : s ≡ paste s₀ 0 (sourceOf (b .trees) (elementsIn b)) (3 * (length (b .kinds) + 1)) = rw (elements-in, long) (f .rows) in
+      record {
+        table-told = rw (wt, ws, ← long) (filled-view b ts h alike t₀ s₀);
+        rows-told = rw (ws, ← long) (filled-rows b ts h alike s₀);
+        wellformed = rw (wt, ws, ← long) (filled-wellformed b ts h alike t₀ s₀ (omega (arith, long)) (omega (arith, long)) (omega (arith, long)));
+      }

@@ -6,6 +6,7 @@
 --     FillingLaws   the walk writes the words that the trees have
 --     ViewLaws      those words tell the definition's table
 --     Sound         and are well formed
+--     SourceRows    the rows are those of the trees
 --     Filled        the theorems for a batch
 pub mod View
 pub mod Wellformed
@@ -14,4 +15,5 @@ pub mod Filling
 pub mod FillingLaws
 pub mod ViewLaws
 pub mod Sound
+pub mod SourceRows
 pub mod Filled

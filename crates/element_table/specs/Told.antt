@@ -174,6 +174,14 @@ module _ (n : ℕ) (w r : List ℕ) (e : ℕ) (h : e < n) where
   unfolding node? rowAt kindWord
   node-told = rw (row-view n w r e h)
 
+  pub start-told : (row (view n w r) e) .start ≡ getD w (8 * e + 4) 0
+  unfolding rowAt field
+  start-told = rw (row-view n w r e h)
+
+  pub end-told : (row (view n w r) e) .end ≡ getD w (8 * e + 5) 0
+  unfolding rowAt field
+  end-told = rw (row-view n w r e h)
+
   pub children-told : (row (view n w r) e) .children ≡ siblings w r (childCount r e) (suc e)
   unfolding rowAt kindWord measureWord childCount
   children-told = rw (row-view n w r e h)

@@ -38,7 +38,8 @@ fn close(table: &mut [u32], owner: usize, end: usize, after: usize)
     table[at + 6] = after as u32;
 }
 
-// The words of all elements in the table, and their rows behind the first row of the source.
+// The words of all elements in the table, and their rows behind the first row of the source. Each turn closes the innermost open element,
+// if all its children have come, or opens the next one; closing gives its words 5 and 6, which hold `s` and `i` till then.
 fn fill_elements(
     b: &[u8],
     kinds: usize,

@@ -1,14 +1,16 @@
 -- Laws on lists: what passes a test, lists joined, pairs of two lists' elements, an element by its place.
 -- Assumes nothing.
 use mathlib.Core.Path.{_≡_, refl, sym, ap, _∙_}
-use mathlib.Core.Bool.{Bool, true, false}
+use mathlib.Core.Bool.{Bool, true, false, cond}
+use mathlib.Core.Option.{none, some}
 use mathlib.Core.List.{List, [], _∷_, _++_, map, flatMap, zip, append-assoc}
-use Prim.Native.Nat.{ℕ, zero, suc, _+_, _<_}
+use Prim.Native.Nat.{ℕ, zero, suc, _+_, _≤_, _<_}
 use native.Mathlib.Omega.{arith}
-use lib.ListN.{length, getD}
-use Rattle.orders.specs.Lists.{pick, All}
-use Rattle.orders.specs.ListLaws.{map-append}
-use Rattle.definition.specs.Basics.{keep}
+use lib.ListN.{length, take, drop, getD, take-append-drop}
+use Rattle.orders.specs.Lists.{more, pick, All, total}
+use Rattle.orders.specs.Tree.{modify}
+use Rattle.orders.specs.ListLaws.{some-inj, none-some, map-append}
+use Rattle.definition.specs.Basics.{keep, first}
 
 -- ── What passes a test ──────────────────────────────────────────────────────────────────────────────────────
 
@@ -31,6 +33,37 @@ module _ {A : Type 0} (P : A → Type 0) where
   pub append-All : (l m : List A) → All P (l ++ m) → All P l × All P m
   append-All [] m h = (tt, h)
   append-All (x ∷ l) m h = let r = append-All l m (h .1) in ((h .0, r .0), r .1)
+
+  pub All-take : (n : ℕ) (l : List A) → All P l → All P (take n l)
+  All-take n l h = (append-All (take n l) (drop n l) (rw (take-append-drop n l) h)) .0
+
+  pub All-drop : (n : ℕ) (l : List A) → All P l → All P (drop n l)
+  All-drop n l h = (append-All (take n l) (drop n l) (rw (take-append-drop n l) h)) .1
+
+  pub All-modify : (f : A → A) → ((x : A) → P x → P (f x)) → (n : ℕ) (l : List A) → All P l → All P (modify n f l)
+  unfolding modify
+  All-modify f k n [] h = tt
+  All-modify f k zero (x ∷ l) h = (k x (h .0), h .1)
+  All-modify f k (suc n) (x ∷ l) h = (h .0, All-modify f k n l (h .1))
+
+  pub All-keep : (p : A → Bool) (l : List A) → All P l → All P (keep p l)
+  unfolding keep pick
+  All-keep p [] h = tt
+  All-keep p (x ∷ l) h = go (p x) (All-keep p l (h .1))
+    where
+      go : (b : Bool) → All P (keep p l) → All P (more (cond b (some x) none) (keep p l))
+      go true r = (h .0, r)
+      go false r = r
+
+pub map-All : {A B : Type 0} (P : B → Type 0) (f : A → B) (l : List A) → All P (map f l) → All (λ x. P (f x)) l
+map-All P f [] h = tt
+map-All P f (x ∷ l) h = (h .0, map-All P f l (h .1))
+
+module _ {A B : Type 0} (P : A → Type 0) (Q : B → Type 0) where
+  pub All-flatMap : (f : A → List B) → ((x : A) → P x → All Q (f x)) → (l : List A) → All P l → All Q (flatMap f l)
+  unfolding flatMap
+  All-flatMap f k [] h = tt
+  All-flatMap f k (x ∷ l) h = All-append Q (f x) (flatMap f l) (k x (h .0)) (All-flatMap f k l (h .1))
 
 -- ── Lists joined ────────────────────────────────────────────────────────────────────────────────────────────
 
@@ -77,3 +110,60 @@ pub getD-map : {A B : Type 0} (f : A → B) (l : List A) (k : ℕ) (d : B) (d′
 getD-map f [] k d d′ h = absurd (omega arith)
 getD-map f (x ∷ l) zero d d′ h = refl
 getD-map f (x ∷ l) (suc k) d d′ h = getD-map f l k d d′ (omega arith)
+
+-- ── Sums ────────────────────────────────────────────────────────────────────────────────────────────────────
+
+module _ {A : Type 0} (p : A → Bool) (f : A → ℕ) where
+  pub total-append : (l m : List A) → total p f (l ++ m) ≡ total p f l + total p f m
+  unfolding total
+  total-append [] m = omega arith
+  total-append (x ∷ l) m = omega (arith, total-append l m)
+
+  -- each term at most another's
+  pub total-le : (q : A → Bool) (g : A → ℕ) → ((x : A) → cond (p x) (f x) 0 ≤ cond (q x) (g x) 0) → (l : List A) → total p f l ≤ total q g l
+  unfolding total
+  total-le q g h [] = omega arith
+  total-le q g h (x ∷ l) = omega (arith, h x, total-le q g h l)
+
+  -- no term but 0
+  pub total-zeros : ((x : A) → p x ≡ true → f x ≡ 0) → (l : List A) → total p f l ≡ 0
+  unfolding total
+  total-zeros h [] = refl
+  total-zeros h (x ∷ l) = go (p x) refl (total-zeros h l)
+    where
+      go : (b : Bool) → p x ≡ b → total p f l ≡ 0 → cond b (f x) 0 + total p f l ≡ 0
+      go true e r = omega (arith, h x e)
+      go false e r = omega arith
+
+  pub total-flatMap : {B : Type 0} (t : B → Bool) (g : B → List A) (l : List B) → total p f (flatMap g (keep t l)) ≡ total t (λ x. total p f (g x)) l
+  unfolding total flatMap keep pick
+  total-flatMap t g [] = refl
+  total-flatMap {B} t g (x ∷ l) = go (t x) refl (total-flatMap t g l)
+    where
+      go : (b : Bool) → t x ≡ b → total p f (flatMap g (keep t l)) ≡ total t (λ x. total p f (g x)) l
+          → total p f (flatMap g (keep t (x ∷ l))) ≡ cond b (total p f (g x)) 0 + total t (λ x. total p f (g x)) l
+      go true e r = rw (keep-yes t x l e) (total-append (g x) (flatMap g (keep t l)) ∙ rw r)
+      go false e r = rw (keep-no t x l e) (omega arith)
+
+-- a list's length is a sum of ones
+pub total-length : {A : Type 0} (l : List A) → total (λ x. true) (λ x. 1) l ≡ length l
+unfolding total
+total-length [] = refl
+total-length (x ∷ l) = omega (arith, total-length l)
+
+-- a sum over what is told of each element
+pub total-map : {A B : Type 0} (g : A → B) (f : B → ℕ) (l : List A) → total (λ x. true) (λ x. f (g x)) l ≡ total (λ y. true) f (map g l)
+unfolding total
+total-map g f [] = refl
+total-map g f (x ∷ l) = ap (λ n. f (g x) + n) (total-map g f l)
+
+-- ── The first that passes a test ────────────────────────────────────────────────────────────────────────────
+
+pub first-passes : {A : Type 0} (p : A → Bool) (l : List A) (x : A) → first p l ≡ some x → p x ≡ true
+unfolding first
+first-passes p [] x e = none-some e
+first-passes {A} p (y ∷ l) x e = go (p y) refl e (first-passes p l x)
+  where
+    go : (b : Bool) → p y ≡ b → cond b (some y) (first p l) ≡ some x → (first p l ≡ some x → p x ≡ true) → p x ≡ true
+    go true h q k = rw (some-inj q) at h
+    go false h q k = k q

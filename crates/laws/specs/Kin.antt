@@ -1,17 +1,18 @@
 -- What the table tells of elements and their kin: paths, parents, children, descents.
 -- Assumes nothing.
-use mathlib.Core.Path.{_≡_, refl, sym, ap, _∙_}
-use mathlib.Core.Bool.{Bool, true, false}
-use mathlib.Core.List.{List, [], _∷_, _++_, map, tail, headD, append-assoc, append-nil}
+use mathlib.Core.Path.{_≡_, refl, sym, ap, _∙_, subst}
+use mathlib.Core.Bool.{true, false}
+use mathlib.Core.List.{List, [], _∷_, _++_, headD, append-assoc, append-nil, List·Memᴰ, List·Memᴰ·cases-cons, List·Memᴰ·eq-of-singleton}
+use mathlib.Core.Logic.{_⊎_, inl, inr}
 use mathlib.Core.Option.{Option, none, some, Option·map, bind}
-use Prim.Native.Nat.{ℕ, zero, suc, _+_, _≤_, _<_}
+use Prim.Native.Nat.{ℕ, zero, suc, _+_, _<_}
 use native.Mathlib.Omega.{arith}
-use lib.ListN.{length, take, getD, getElem?, length-append}
+use lib.ListN.{length, take, getD, getElem?}
 use Rattle.orders.specs.ListLaws.{bool-absurd, some-inj, none-some, map-some, bind-some, get-lt}
 use Rattle.orders.specs.Tree.{Tree, Trees, node, token, nil, cons, list, forest, label, Path, resolve, elements, elementsOf, textOf, children, last, front, strip}
-use Rattle.orders.specs.TreeLaws.{list-forest, resolve-forest, resolve-at, resolve-child, strip-append, strip-some, front-child, last-child, front-last}
-use Rattle.definition.specs.Elements.{Row, Table, numbers, table, noRow, row, parent, root?, depth, tree, child, placeBelow, descend}
-use Rattle.laws.specs.Rows.{Element, rowOf, before, childOf, elementAt, rootOf, element, table-length, row-element, element-number}
+use Rattle.orders.specs.TreeLaws.{list-forest, strip-append, strip-some, last-child, front-last}
+use Rattle.definition.specs.Elements.{Table, numbers, table, noRow, row, parent, root?, depth, tree, child, placeBelow, descend}
+use Rattle.laws.specs.Rows.{Element, rowOf, before, childOf, elementAt, rootOf, element, row-element, element-number}
 
 -- ── Down the tree ───────────────────────────────────────────────────────────────────────────────────────────
 
@@ -62,7 +63,7 @@ element-path ts (t ∷ p) e g =
     let (c, f, h) = map-some _ (getElem? ts t) a in
     elementAt-path r e p b ∙ ap (λ x. x .path ++ p) (sym h)
 
-resolve-down : (i : ℕ) (p : Path) (t : Tree ℕ) → resolve (i ∷ p) t ≡ bind (getElem? (list (children t)) i) (λ c. resolve p c)
+pub resolve-down : (i : ℕ) (p : Path) (t : Tree ℕ) → resolve (i ∷ p) t ≡ bind (getElem? (list (children t)) i) (λ c. resolve p c)
 unfolding resolve children list bind
 resolve-down i p (node w cs) = refl
 resolve-down i p (token w own) = refl
@@ -87,13 +88,19 @@ element-tree ts t p w = rw (list-forest ts) (go (getElem? ts t))
     go none = refl
     go (some c) = elementAt-tree _ p
 
--- the children that a row lists are its element's
-get-numbers : (cs : Trees ℕ) (n i : ℕ) → getElem? (numbers n cs) i ≡ Option·map (λ (c : Tree ℕ). n + elementsOf (forest (take i (list cs)))) (getElem? (list cs) i)
+-- the numbers of trees one behind another
+pub numbers-length : (cs : Trees ℕ) (n : ℕ) → length (numbers n cs) ≡ length (list cs)
+unfolding numbers list
+numbers-length nil n = refl
+numbers-length (cons c cs) n = ap suc (numbers-length cs (n + elements c))
+
+pub get-numbers : (cs : Trees ℕ) (n i : ℕ) → getElem? (numbers n cs) i ≡ Option·map (λ (c : Tree ℕ). n + elementsOf (forest (take i (list cs)))) (getElem? (list cs) i)
 unfolding numbers list forest elements
 get-numbers nil n i = refl
 get-numbers (cons c cs) n zero = ap {B = Option ℕ} some (omega arith)
 get-numbers (cons c cs) n (suc i) = get-numbers cs (n + elements c) i ∙ ap (λ m. Option·map (λ (x : Tree ℕ). m) (getElem? (list cs) i)) (omega arith)
 
+-- the children that a row lists are its element's
 pub child-number : (e : Element) (i : ℕ) → getElem? ((rowOf e) .children) i ≡ Option·map (λ c. c .number) (childOf e i)
 unfolding rowOf childOf before
 child-number e i = get-numbers (children e.tree) (suc e.number) i ∙ go (getElem? (list (children e.tree)) i)
@@ -146,6 +153,7 @@ unfolding elementAt
 elementAt-one d e i g = let (c, a, b) = bind-some (childOf d i) (λ c. some c) g in a ∙ b
 
 module _ (ts : List (Tree ℕ)) where
+  -- what is known of each element of the trees
   abbrev T : Table
   T = table 0 0 ts
 
@@ -174,6 +182,15 @@ module _ (ts : List (Tree ℕ)) where
       go : (p : Path) (e : Element) → element ts p ≡ some e → (x : Tree ℕ) × (resolve p (node w (forest ts)) ≡ some x) × (label x ≡ label e.tree)
       go [] e g = none-some g
       go (t ∷ p) e g = (e .tree, sym (element-tree ts t p w) ∙ ap (Option·map (λ d. d .tree)) g, refl)
+
+  -- it is not empty
+  pub path-long : (n : ℕ) → n < length T → 0 < length ((row T n) .path)
+  unfolding rowOf element
+  path-long n h = let s = stands n h in rw (s .told) (go (s .here .path) (s .here) (s .at))
+    where
+      go : (p : Path) (e : Element) → element ts p ≡ some e → 0 < length p
+      go [] e g = none-some g
+      go (t ∷ p) e g = omega arith
 
   -- two elements have two paths
   pub path-tells : (m n : ℕ) → m < length T → n < length T → (row T m) .path ≡ (row T n) .path → m ≡ n
@@ -237,6 +254,7 @@ module _ (ts : List (Tree ℕ)) where
     pub tree : tree T n ≡ tree T m
     pub child : getElem? ((row T m) .children) (child T n) ≡ some n
 
+  -- what element n is in its tree
   pub data Kin (n : ℕ) : Type 0 where
     root : IsRoot n → Kin n
     below : (m : ℕ) → IsParent m n → Kin n
@@ -319,6 +337,34 @@ module _ (ts : List (Tree ℕ)) where
       go : (p : Path) (e : Element) → element ts p ≡ some e → (c : Element) → childOf e i ≡ some c → IsParent e.number c.number × (child T c.number ≡ i)
       go [] e g c a = none-some g
       go (t ∷ p) e g c a = child-kin t p e c i g a
+
+  -- ── Ancestors ──
+
+  -- each element of a line is its element or above it; fuel as much as the element's number
+  line-above : (k n a : ℕ) → n < k → n < length T → List·Memᴰ a ((row T n) .line) → (a < length T) × ((p : Path) × ((row T n) .path ≡ (row T a) .path ++ p))
+  line-above zero n a l h m = absurd (omega arith)
+  line-above (suc k) n a l h m = go (kin n h) (λ b i q. line-above k b a (omega (arith, i .before)) (i .within) q)
+    where
+      here : a ≡ n → (a < length T) × ((p : Path) × ((row T n) .path ≡ (row T a) .path ++ p))
+      here e = rw e (h, ([], sym (append-nil ((row T n) .path))))
+
+      go : Kin n → ((b : ℕ) → IsParent b n → List·Memᴰ a ((row T b) .line) → (a < length T) × ((p : Path) × ((row T b) .path ≡ (row T a) .path ++ p)))
+          → (a < length T) × ((p : Path) × ((row T n) .path ≡ (row T a) .path ++ p))
+      go (root r) ih = here (List·Memᴰ·eq-of-singleton (subst (List·Memᴰ a) (r .line) m))
+      go (below b i) ih = either (List·Memᴰ·cases-cons (subst (List·Memᴰ a) (i .line) m))
+        where
+          either : (a ≡ n) ⊎ List·Memᴰ a ((row T b) .line) → (a < length T) × ((p : Path) × ((row T n) .path ≡ (row T a) .path ++ p))
+          either (inl e) = here e
+          either (inr q) =
+              let (w, (p, z)) = ih b i q in
+              (w, (p ++ (child T n ∷ []), i .path ∙ (ap (λ r. r ++ (child T n ∷ [])) z ∙ append-assoc ((row T a) .path) p (child T n ∷ []))))
+
+  -- the element itself and its ancestors have it at or below them
+  pub line-place : (n a : ℕ) → n < length T → List·Memᴰ a ((row T n) .line) → (a < length T) × ((p : Path) × (placeBelow T a n ≡ some p))
+  unfolding placeBelow
+  line-place n a h m =
+      let (w, (p, z)) = line-above (suc n) n a (omega arith) h m in
+      (w, (p, ap (strip ((row T a) .path)) z ∙ strip-append ((row T a) .path) p))
 
   -- ── Depths ──
 

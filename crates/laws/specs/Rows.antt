@@ -6,8 +6,8 @@ use mathlib.Core.Logic.{_⊎_, inl, inr}
 use mathlib.Core.Option.{Option, none, some, Option·map, bind}
 use Prim.Native.Nat.{ℕ, zero, suc, _+_, _-_, _≤_, _<_}
 use native.Mathlib.Omega.{arith}
-use lib.ListN.{length, take, drop, getD, getElem?, length-append}
-use Rattle.orders.specs.ListLaws.{some-inj, none-some, map-some, bind-some, get-lt, get-left, get-right, lt-or-le, map-append}
+use lib.ListN.{length, take, getElem?, length-append}
+use Rattle.orders.specs.ListLaws.{some-inj, none-some, map-some, bind-some, get-left, get-right, lt-or-le, map-append}
 use Rattle.orders.specs.Tree.{Tree, Trees, node, token, nil, cons, list, forest, label, Path, elements, elementsOf, text, textOf, children, preorder, preorders}
 use Rattle.orders.specs.TreeLaws.{list-forest, forest-list}
 use Rattle.definition.specs.Elements.{Row, Table, numbers, rows, rowsBelow, table}

@@ -3,8 +3,8 @@
 use mathlib.Core.Path.{_≡_, refl, sym, ap, ap₂, _∙_}
 use mathlib.Core.Bool.{Bool, true, false, cond}
 use mathlib.Core.List.{List, [], _∷_, _++_, map, flatMap, zip, append-assoc, append-nil, map-map}
-use mathlib.Core.Option.{Option, none, some, Option·map, bind}
-use Prim.Native.Nat.{ℕ, zero, suc, _+_, _≤_}
+use mathlib.Core.Option.{none, some, Option·map, bind}
+use Prim.Native.Nat.{ℕ}
 use native.Mathlib.Omega.{arith}
 use lib.Dec.{leb}
 use lib.ListN.{length, take, drop, length-append, take-append-drop}
@@ -54,6 +54,9 @@ pub list-worded : (cs : Trees ℕ) → All Worded (list cs) → WordedAll cs
 unfolding list
 list-worded nil h = tt
 list-worded (cons c cs) h = (h .0, list-worded cs (h .1))
+
+pub forest-worded : (l : List (Tree ℕ)) → All Worded l → WordedAll (forest l)
+forest-worded l h = list-worded (forest l) (rw (list-forest l) h)
 
 -- the text of trees is that of their elements
 mutual
@@ -181,7 +184,7 @@ plant-some p g ts f w e = go (isNode p.kind) refl (leb p.measure (length g)) ref
         let (x, y) = append-All Worded (take m g) (drop m g) (rw (take-append-drop m g) w) in
         rw (← some-inj q) (
           ap (map piece) (preorder-node p.kind (take m g) (drop m g)) ∙ rw (take-append-drop m g) (ap {B = List Piece} (λ r. r ∷ map piece (flatMap preorder g)) (same-piece (piece t) p refl size own)),
-          ((n, list-worded (forest (take m g)) (rw (list-forest (take m g)) x)), y),
+          ((n, forest-worded (take m g) x), y),
         )
     go true n false b f q = none-some q
     go false n b c f q = rw (← some-inj q) (ap {B = List Piece} (λ r. r ∷ map piece (flatMap preorder g)) (same-piece (piece (token p.kind p.own)) p refl f refl), (n, w))

@@ -14,10 +14,11 @@ use Rattle.orders.specs.Lists.{total}
 use Rattle.definition.specs.Basics.{keep, insertBy}
 use Rattle.definition.specs.Planning.{Fate, own, dependent, discarded}
 use Rattle.definition.specs.Running.{owned}
-use Rattle.edit_plan.specs.Lists.{all, total-le, total-add, total-zero, total-count, total-most, total-swap, length-kept}
-use Rattle.edit_plan.specs.Rows.{rowAt, rowFate}
+use Rattle.syntax_editor.specs.ChangeRowLaws.{rowAt}
+use Rattle.edit_plan.specs.Rows.{rowFate}
 use Rattle.edit_plan.specs.Sorting.{sortFrom, comesAt, rankedPlaces, length-ranked}
-use Rattle.postorder.specs.Order.{ordered, runningPlaces}
+use Rattle.postorder.specs.Sums.{all, total-at-most, total-add, total-zero, total-count, total-most, total-swap, length-kept}
+use Rattle.postorder.specs.Order.{ordered, ownerTold, runs, runningPlaces}
 
 -- ── How often a place runs ──────────────────────────────────────────────────────────────────────────────────
 
@@ -101,13 +102,13 @@ module _ (fateAt : ℕ → Fate) where
         let sub : ℕ → List ℕ = λ q. ordered (λ o k. owned o (fateAt k)) (λ k. k) qs m (some q) in
         let e₁ : length (ordered (λ o k. owned o (fateAt k)) (λ k. k) qs (suc m) o) ≡ total p (λ q. length (sub q ++ (q ∷ []))) qs = length-kept p (λ q. sub q ++ (q ∷ [])) qs in
         let e₂ : total p (λ q. length (sub q ++ (q ∷ []))) qs ≤ total p (λ q. 1 + total all (below m (some q)) qs) qs =
-        total-le p (λ q. length (sub q ++ (q ∷ []))) (λ q. 1 + total all (below m (some q)) qs) (λ q. rw (length-append (sub q) (q ∷ [])) (omega (arith, length-ordered m (some q)))) qs in
+        total-at-most p (λ q. length (sub q ++ (q ∷ []))) (λ q. 1 + total all (below m (some q)) qs) (λ q. rw (length-append (sub q) (q ∷ [])) (omega (arith, length-ordered m (some q)))) qs in
         let e₃ : total p (λ q. 1 + total all (below m (some q)) qs) qs ≡ total p (λ q. 1) qs + total p (λ q. total all (below m (some q)) qs) qs =
         total-add p (λ q. 1) (λ q. total all (below m (some q)) qs) qs in
         let e₄ : total p (λ q. total all (below m (some q)) qs) qs ≡ total all (λ x. total p (λ q. below m (some q) x) qs) qs =
         total-swap p all (λ q x. below m (some q) x) qs qs in
         let e₅ : total all (λ x. total p (λ q. below m (some q) x) qs) qs ≤ total all (λ x. ofOwner (below m o) (fateAt x)) qs =
-        total-le all (λ x. total p (λ q. below m (some q) x) qs) (λ x. ofOwner (below m o) (fateAt x)) (λ x. below-owned m o x) qs in
+        total-at-most all (λ x. total p (λ q. below m (some q) x) qs) (λ x. ofOwner (below m o) (fateAt x)) (λ x. below-owned m o x) qs in
         let e₆ : total all (below (suc m) o) qs ≡ total p (λ q. 1) qs + total all (λ x. ofOwner (below m o) (fateAt x)) qs =
         total-add all (λ x. cond (p x) 1 0) (λ x. ofOwner (below m o) (fateAt x)) qs ∙ rw (total-count p qs) in
         omega arith
@@ -142,11 +143,15 @@ times-sorted comes i (suc n) y = rw (times-insert comes y i (sortFrom comes (suc
     go true e h = let q : i ≡ y = eqb-true i y e in omega (arith, times-before comes (suc i) n y (omega arith))
     go false e h = omega arith
 
--- the running order of n rows has at most n places
+-- however many may remain, the running order of n rows has at most n places
+pub runs-most : (w : List ℕ) (n m : ℕ) → length (runs w (rankedPlaces w n) m 0) ≤ n
+unfolding runs ownerTold rankedPlaces
+runs-most w n m =
+    omega (arith, ordered-most (λ k. rowFate (rowAt w k)) (rankedPlaces w n) (λ y. times-sorted (comesAt true w) 0 n y) m, length-ranked w n)
+
 pub running-most : (w : List ℕ) (n : ℕ) → length (runningPlaces w n) ≤ n
-unfolding runningPlaces rankedPlaces
-running-most w n =
-    omega (arith, ordered-most (λ k. rowFate (rowAt w k)) (rankedPlaces w n) (λ y. times-sorted (comesAt true w) 0 n y) n, length-ranked w n)
+unfolding runningPlaces
+running-most w n = runs-most w n n
 
 -- ── Fewer may remain ────────────────────────────────────────────────────────────────────────────────────────
 
@@ -172,3 +177,8 @@ module _ {A : Type 0} (owns : Option ℕ → A → Bool) (place : A → ℕ) (qs
           let e₁ = length-append (sub m q ++ (q ∷ [])) (flatMap (λ q. sub m q ++ (q ∷ [])) ks) in
           let e₂ = length-append (sub m q) (q ∷ []) in
           rw (fewer q (omega arith), go fewer ks (omega arith))
+
+-- as many as there are rows is enough
+pub runs-all : (w : List ℕ) (n : ℕ) → runs w (rankedPlaces w n) (suc n) 0 ≡ runningPlaces w n
+unfolding runningPlaces runs
+runs-all w n = sym (ordered-fewer (λ o k. owned o (rowFate (rowAt w k))) (λ k. k) (rankedPlaces w n) (suc n) n (ownerTold 0) (runs-most w n (suc n)) (omega arith))

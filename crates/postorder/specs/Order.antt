@@ -11,8 +11,10 @@ use Rattle.definition.specs.Elements.{Table}
 use Rattle.definition.specs.Planning.{Planned, key}
 use Rattle.definition.specs.Running.{owned, ranked, order}
 use Rattle.syntax_editor.specs.ChangeRow.{ChangeRow, rowsOf}
-use Rattle.edit_plan.specs.Lists.{map-numbered, map-keep, map-falling, flatMap-map}
-use Rattle.edit_plan.specs.Rows.{rowAt, rowKey, rowFate, Tells, key-told}
+use Rattle.laws.specs.Sorting.{map-falling}
+use Rattle.edit_plan.specs.Lists.{map-numbered, map-keep}
+use Rattle.syntax_editor.specs.ChangeRowLaws.{rowAt}
+use Rattle.edit_plan.specs.Rows.{rowKey, rowFate}
 use Rattle.edit_plan.specs.Sorting.{rankedPlaces, ranked-places}
 
 -- ── The order of things that have a place and an owner ──────────────────────────────────────────────────────
@@ -22,11 +24,31 @@ unfoldable pub ordered : {A : Type 0} → (Option ℕ → A → Bool) → (A →
 ordered owns place qs zero owner = []
 ordered owns place qs (suc n) owner = flatMap (λ q. ordered owns place qs n (some (place q)) ++ (q ∷ [])) (keep (owns owner) qs)
 
+-- an owner told as one more, 0 if there is none
+unfoldable pub ownerTold : ℕ → Option ℕ
+ownerTold zero = none
+ownerTold (suc k) = some k
+
+-- the row at place k has this owner, told so
+unfoldable pub ownedAt : List ℕ → ℕ → ℕ → Bool
+ownedAt w o k = owned (ownerTold o) (rowFate (rowAt w k))
+
+-- of the places qs, those that have this owner, each after its own dependents; n may remain
+unfoldable pub runs : List ℕ → List ℕ → ℕ → ℕ → List ℕ
+runs w qs n o = ordered (λ o k. owned o (rowFate (rowAt w k))) (λ k. k) qs n (ownerTold o)
+
 -- the places of n rows in the order in which they run
 unfoldable pub runningPlaces : List ℕ → ℕ → List ℕ
-runningPlaces w n = ordered (λ o k. owned o (rowFate (rowAt w k))) (λ k. k) (rankedPlaces w n) n none
+runningPlaces w n = runs w (rankedPlaces w n) n 0
 
 -- ── Each thing changed ──────────────────────────────────────────────────────────────────────────────────────
+
+module _ {X Y Z : Type 0} where
+  -- the same lists joined, where each is another's with each element changed
+  pub map-joined : (f : X → Y) (g : X → List X) (g′ : Y → List Z) (h : X → Z) → ((x : X) → map h (g x) ≡ g′ (f x)) → (l : List X) → map h (flatMap g l) ≡ flatMap g′ (map f l)
+  unfolding flatMap
+  map-joined f g g′ h same [] = refl
+  map-joined f g g′ h same (x ∷ l) = map-append h (g x) (flatMap g l) ∙ rw (same x, map-joined f g g′ h same l)
 
 module _ {X Y : Type 0} (f : X → Y) (owns : Option ℕ → X → Bool) (place : X → ℕ) (owns′ : Option ℕ → Y → Bool) (place′ : Y → ℕ)
     (same-owner : (o : Option ℕ) (x : X) → owns o x ≡ owns′ o (f x)) (same-place : (x : X) → place x ≡ place′ (f x)) where
@@ -34,7 +56,7 @@ module _ {X Y : Type 0} (f : X → Y) (owns : Option ℕ → X → Bool) (place 
   unfolding ordered
   map-ordered qs zero o = refl
   map-ordered qs (suc n) o =
-      flatMap-map f (λ q. ordered owns place qs n (some (place q)) ++ (q ∷ [])) (λ q. ordered owns′ place′ (map f qs) n (some (place′ q)) ++ (q ∷ [])) f
+      map-joined f (λ q. ordered owns place qs n (some (place q)) ++ (q ∷ [])) (λ q. ordered owns′ place′ (map f qs) n (some (place′ q)) ++ (q ∷ [])) f
       (λ q. map-append f (ordered owns place qs n (some (place q))) (q ∷ []) ∙ rw (map-ordered qs n (some (place q)), same-place q)) (keep (owns o) qs)
       ∙ rw (map-keep f (owns o) (owns′ o) (same-owner o) qs)
 
@@ -43,15 +65,15 @@ pub order-ordered : (qs : List (ℕ × Planned)) (n : ℕ) (o : Option ℕ) → 
 unfolding ordered order
 order-ordered qs zero o = refl
 order-ordered qs (suc n) o =
-    flatMap-map (λ q. q) (λ q. ordered (λ o q. owned o (q .1 .fate)) (λ q. q .0) qs n (some (q .0)) ++ (q ∷ [])) (λ q. order qs n (some (q .0)) ++ (q .1 ∷ [])) (λ q. q .1)
+    map-joined (λ q. q) (λ q. ordered (λ o q. owned o (q .1 .fate)) (λ q. q .0) qs n (some (q .0)) ++ (q ∷ [])) (λ q. order qs n (some (q .0)) ++ (q .1 ∷ [])) (λ q. q .1)
     (λ q. map-append (λ (q : ℕ × Planned). q .1) (ordered (λ o q. owned o (q .1 .fate)) (λ q. q .0) qs n (some (q .0))) (q ∷ []) ∙ rw (order-ordered qs n (some (q .0))))
     (keep (λ q. owned o (q .1 .fate)) qs)
     ∙ rw (map-id (keep (λ q. owned o (q .1 .fate)) qs))
 
 -- ── The definition's order ──────────────────────────────────────────────────────────────────────────────────
 
--- things that have a row and a planned change each
-module _ (T : Table) {X : Type 0} (row : X → ChangeRow) (plan : X → Planned) (tells : (x : X) → Tells T (row x) (plan x .change)) (fated : (x : X) → rowFate (row x) ≡ plan x .fate) where
+-- things that have a row and a planned change each, with the same key and fate
+module _ (T : Table) {X : Type 0} (row : X → ChangeRow) (plan : X → Planned) (keys : (x : X) → rowKey (row x) ≡ key T (plan x .change)) (fated : (x : X) → rowFate (row x) ≡ plan x .fate) where
   -- the things with their places, in the order in which they run
   unfoldable pub inOrder : List X → ℕ → List (ℕ × X)
   inOrder xs n = ordered (λ o q. owned o (plan (q .1) .fate)) (λ q. q .0) (falling (λ q. key T (plan (q .1) .change)) (numbered 0 xs)) n none
@@ -83,10 +105,10 @@ module _ (T : Table) {X : Type 0} (row : X → ChangeRow) (plan : X → Planned)
     ranked-told : map rowAtPlace (rankedPlaces w n) ≡ map rowedAt (falling keyed (numbered 0 xs))
     ranked-told =
         ranked-places w n
-        ∙ rw (e, ← map-numbered row 0 xs) (sym (map-falling rowedAt keyed (λ q. rowKey (q .1)) (λ q. sym (key-told (tells (q .1)))) (numbered 0 xs)))
+        ∙ rw (e, ← map-numbered row 0 xs) (sym (map-falling rowedAt keyed (λ q. rowKey (q .1)) (λ q. sym (keys (q .1))) (numbered 0 xs)))
 
     both-told : map rowAtPlace (runningPlaces w n) ≡ map rowedAt (inOrder xs n)
-    unfolding inOrder runningPlaces
+    unfolding inOrder runningPlaces runs ownerTold
     both-told =
         let ownsRow : Option ℕ → ℕ × ChangeRow → Bool = λ o q. owned o (rowFate (q .1)) in
         map-ordered rowAtPlace (λ o k. owned o (rowFate (rowAt w k))) (λ k. k) ownsRow (λ q. q .0) (λ o k. refl) (λ k. refl) (rankedPlaces w n) n none

@@ -16,7 +16,7 @@ use Rattle.definition.specs.Rewriting.{replacement}
 use Rattle.definition.specs.Running.{news}
 use Rattle.words.specs.Bytes.{length-words, getD-words}
 use Rattle.syntax_editor.specs.ChangeRow.{ChangeRow, rowOf}
-use Rattle.edit_plan.specs.Rows.{rowAt}
+use Rattle.syntax_editor.specs.ChangeRowLaws.{rowAt}
 use Rattle.change_row.specs.Stated.{changeBy, newOf, changeOf, Stated, Dependent, target-by}
 use Rattle.rewriting.specs.declared.Ends.{Ends}
 use Rattle.mapping.specs.Mapped.{wordsAt}

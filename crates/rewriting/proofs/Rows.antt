@@ -17,7 +17,8 @@ use Rattle.definition.specs.Planning.{own, dependent, discarded, target}
 use Rattle.definition.specs.Rewriting.{replacement}
 use Rattle.element_table.specs.View.{view}
 use Rattle.syntax_editor.specs.ChangeRow.{ChangeRow, rowOf, rowsOf}
-use Rattle.edit_plan.specs.Rows.{rowAt, rowFate, rows-from}
+use Rattle.syntax_editor.specs.ChangeRowLaws.{rowAt, rows-from}
+use Rattle.edit_plan.specs.Rows.{rowFate}
 use Rattle.mapping.specs.Mapped.{mappedBy}
 use Rattle.change_row.specs.Stated.{newOf, changeOf, Dependent, NewEnds, Fated, Rewritable, fate-dependent}
 use Rattle.rewriting.specs.declared.Ends.{Ends}

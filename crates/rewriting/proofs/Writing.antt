@@ -19,7 +19,7 @@ use Rattle.element_table.specs.View.{view}
 use Rattle.element_table.specs.Wellformed.{Wellformed}
 use Rattle.calls.specs.Fits.{callFits}
 use Rattle.syntax_editor.specs.ChangeRow.{ChangeRow, rowWords, rowOf}
-use Rattle.edit_plan.specs.Rows.{rowAt, row-ext}
+use Rattle.syntax_editor.specs.ChangeRowLaws.{rowAt, row-ext}
 use Rattle.change_row.specs.Stated.{newOf, changeBy, NewEnds, rowAnew, row-anew}
 use Rattle.rewriting.specs.declared.Rewritten.the-variants.{Steps, Refused}
 use Rattle.rewriting.specs.Judged.{wrong-by}

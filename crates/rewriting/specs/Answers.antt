@@ -10,7 +10,8 @@ use Rattle.definition.specs.Planning.{target}
 use Rattle.definition.specs.Rewriting.{replacement, moved}
 use Rattle.element_table.specs.View.{view}
 use Rattle.syntax_editor.specs.ChangeRow.{ChangeRow, rowsOf, changeRow}
-use Rattle.edit_plan.specs.Rows.{rowAt, rowFate, withFate}
+use Rattle.syntax_editor.specs.ChangeRowLaws.{rowAt}
+use Rattle.edit_plan.specs.Rows.{rowFate, withFate}
 use Rattle.mapping.specs.Mapped.{mappedBy}
 use Rattle.change_row.specs.Stated.{newOf, changeOf}
 use Rattle.rewriting.specs.declared.Ends.{Ends}

@@ -18,7 +18,8 @@ use Rattle.definition.specs.Planning.{Fate, own, dependent, discarded, Planned,
 use Rattle.definition.specs.Rewriting.{replacement, moved, retarget, rewriteInto, rewriteOne, rewriting, rewritten}
 use Rattle.definition.specs.Running.{news}
 use Rattle.syntax_editor.specs.ChangeRow.{ChangeRow, rowsOf, operation, endOf, changeRow}
-use Rattle.edit_plan.specs.Rows.{rowAt, rowFate, withFate, fate-stated}
+use Rattle.syntax_editor.specs.ChangeRowLaws.{rowAt}
+use Rattle.edit_plan.specs.Rows.{rowFate, withFate, fate-stated}
 use Rattle.change_row.specs.Stated.{changeBy, newOf, changeOf, planOf, Stated, Rewritable}
 use Rattle.change_row.specs.Exact.{Exact}
 

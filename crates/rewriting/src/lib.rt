@@ -7,7 +7,7 @@ ghost use lib.Dec.{eqb};
 ghost use Rattle.element_table.specs.View.{view};
 ghost use Rattle.element_table.specs.Wellformed.{Wellformed};
 ghost use Rattle.mapping.specs.Mapped.{wordsAt, mappedBy, Mapped};
-ghost use Rattle.edit_plan.specs.Rows.{rowAt};
+ghost use Rattle.syntax_editor.specs.ChangeRowLaws.{rowAt};
 ghost use Rattle.change_row.specs.Stated.{changeOf, Dependent, NewEnds, Fated, Rewritable};
 ghost use Rattle.rewriting.specs.Rewritten.{rewriteUnder, rewriteAt};
 ghost use Rattle.rewriting.specs.Answers.{MovedEnds, OwnedEnds, RowRewritten, judgedRow, RowsRewritten};

@@ -1,0 +1,7 @@
+-- Changed rows and notes in words, and what the functions on them promise.
+--     Notes        notes in words
+--     Places       the rows at which parts come to stand
+--     Promises     the parts of each promise, by name
+pub mod Notes
+pub mod Places
+pub mod Promises

@@ -1,0 +1,3 @@
+-- What the functions promise is told in finish_model, rows and the definition.
+--     Encoding   the arrays written one behind another are the result as bytes
+pub mod Encoding

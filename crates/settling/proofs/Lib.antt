@@ -1,0 +1,2 @@
+-- Settling   the loop of `settle_notes`
+pub mod Settling

@@ -1,0 +1,2 @@
+-- Changing   each answer of the functions on one change
+pub mod Changing

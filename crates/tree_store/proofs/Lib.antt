@@ -1,0 +1,2 @@
+-- Turns   the laws of each answer
+pub mod Turns
