@@ -35,6 +35,7 @@ pub record Placed (n : ℕ) (table : List ℕ) (x e : ℕ) (answer : Below) (num
   pub room : depthOf answer ≤ length numbers
   pub long : length numbers ≡ 64
 
+-- the numbers stand in the array
 pub place-room : {n : ℕ} {table : List ℕ} {x e : ℕ} {answer : Below} {numbers : List ℕ} {k : ℕ} → Placed n table x e answer numbers → answer ≡ Numbers k → k ≤ length numbers
 unfolding depthOf
 place-room P q = rw q at (P .room)
@@ -58,6 +59,7 @@ pub record Climbed (n : ℕ) (table map : List ℕ) (x r : ℕ) (answer : Climb)
   pub room : stepsOf answer ≤ length numbers
   pub long : length numbers ≡ 2049
 
+-- the trail has at most n numbers, and they stand in the array
 pub trail-room : {n : ℕ} {table map : List ℕ} {x r : ℕ} {answer : Climb} {numbers : List ℕ} {k : ℕ} → Climbed n table map x r answer numbers → answer ≡ Trail k → (k ≤ n) × (k ≤ length numbers)
 unfolding stepsOf
 trail-room C q = (rw q at (C .few), rw q at (C .room))

@@ -132,3 +132,8 @@ accepted-bounded T k (m ∷ ms) l h =
     let low = neither (leb (length T) (m .0)) (not (node? T (m .0))) (each .0) .0 in
     let out = neither (leb (length T) (m .1)) (not (node? T (m .1))) (neither _ false (each .1) .0) .0 in
     ((omega (arith, leb-false (length T) (m .0) low), leb-false (length T) (m .1) out), accepted-bounded T k ms l (both .1))
+
+-- a higher bound of outputs
+pub bounded-more : (k n m : ℕ) (ms : List (ℕ × ℕ)) → n ≤ m → Bounded k n ms → Bounded k m ms
+bounded-more k n m [] l h = tt
+bounded-more k n m (p ∷ ms) l h = ((h .0 .0, omega (arith, h .0 .1)), bounded-more k n m ms l (h .1))

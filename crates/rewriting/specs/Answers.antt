@@ -22,6 +22,7 @@ use Rattle.rewriting.specs.Rewritten.{movedEnds, judgedEnds, rewriteRows
 
 -- ── Where the ends of a change go ───────────────────────────────────────────────────────────────────────────
 
+-- the new target, the new end, and the steps
 unfoldable pub endsBy : Ends → Answer (ℕ × ℕ × ℕ)
 endsBy (To x y steps) = gives (x, y, steps)
 endsBy (Refused number) = refused number
@@ -31,6 +32,7 @@ abbrev pub EndsWithin : ℕ → ℕ → Ends → Type 0
 EndsWithin n op (To x y steps) = (x < n) × (y < n) × (steps ≤ 2 * n) × ((op ≡ 5 → ⊥) → y ≡ x)
 EndsWithin n op (Refused number) = Unit
 
+-- where target and end go when x is replaced by r
 pub record MovedEnds (n : ℕ) (table source map : List ℕ) (x r op target end : ℕ) (answer : Ends) : Type 0 where
   pub ends : endsBy answer ≡ movedEnds (moved (view n table source) (mappedBy map) x r) op target end
   pub within : EndsWithin n op answer
@@ -47,6 +49,7 @@ unfoldable pub rewrittenBy : {A : Type 0} → Rewritten → A → Answer (A × �
 rewrittenBy (Steps k) rows = gives (rows, k)
 rewrittenBy (NotRewritten number) rows = refused number
 
+-- the steps of what was rewritten
 unfoldable pub stepsOf : Rewritten → ℕ
 stepsOf (Steps k) = k
 stepsOf (NotRewritten number) = 0

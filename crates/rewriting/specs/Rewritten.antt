@@ -3,7 +3,7 @@
 use mathlib.Core.Bool.{Bool, true, false, cond}
 use mathlib.Core.List.{List, [], _∷_, map}
 use mathlib.Core.Option.{Option}
-use mathlib.Core.Path.{_≡_, refl, sym, ap, _∙_, subst}
+use mathlib.Core.Path.{_≡_, refl, sym, ap}
 use Prim.Native.Nat.{ℕ, zero, suc, _+_, _*_, _≤_, _<_}
 use native.Mathlib.Omega.{arith}
 use lib.ListN.{length, getD, take, drop, List·getD-map}
@@ -21,7 +21,6 @@ use Rattle.syntax_editor.specs.ChangeRow.{ChangeRow, rowsOf, operation, endOf, 
 use Rattle.syntax_editor.specs.ChangeRowLaws.{rowAt}
 use Rattle.edit_plan.specs.Rows.{rowFate, withFate, fate-stated}
 use Rattle.change_row.specs.Stated.{changeBy, newOf, changeOf, planOf, Stated, Rewritable}
-use Rattle.change_row.specs.Exact.{Exact}
 
 -- ── Rewriting on rows ───────────────────────────────────────────────────────────────────────────────────────
 
@@ -131,10 +130,10 @@ take-again (suc k) (x ∷ l) = ap (λ m. x ∷ m) (take-again k l)
 
 module _ (T : Table) (listed : List ℕ) (at k : ℕ) (f : Fate) where
   -- the row of a change, with its fate, whose elements stand at `at`
-  abbrev rowBy : ℕ → ℕ → ℕ → ChangeRow
+  abbrev pub rowBy : ℕ → ℕ → ℕ → ChangeRow
   rowBy op x y = withFate (changeRow T at (changeBy op x y (getD listed at 0) (take k (drop at listed)))) f
 
-  change-back : (op x y : ℕ) → op ≤ 5 → changeOf listed (rowBy op x y) ≡ changeBy op x y (getD listed at 0) (take k (drop at listed))
+  pub change-back : (op x y : ℕ) → op ≤ 5 → changeOf listed (rowBy op x y) ≡ changeBy op x y (getD listed at 0) (take k (drop at listed))
   unfolding changeOf newOf changeBy withFate changeRow operation target endOf news
   change-back zero x y h = ap (insert firstChild x) (take-again k (drop at listed))
   change-back (suc zero) x y h = ap (insert after x) (take-again k (drop at listed))
@@ -159,7 +158,7 @@ unfoldable pub toldRows : List ℕ → Answer (List ChangeRow × ℕ) → Answer
 toldRows listed (refused n) = refused n
 toldRows listed (gives q) = gives (map (planOf listed) (q .0), q .1)
 
-given : {A : Type 0} {x y : A} → _≡_ {A = Answer A} (gives x) (gives y) → x ≡ y
+pub given : {A : Type 0} {x y : A} → _≡_ {A = Answer A} (gives x) (gives y) → x ≡ y
 given e = cc
 
 -- a change with its fate, and the steps
@@ -247,47 +246,3 @@ pub rewritten-told : (n : ℕ) (T : Table) (mapped : ℕ → Option ℕ) (listed
     → rewritten T mapped (map (planOf listed) (rowsOf c v)) ≡ toldRows listed (rewriteRows T mapped listed (rowsOf c v) (rowsOf c v))
 unfolding rewritten
 rewritten-told n T mapped listed v c R = rw (map-both listed (rowsOf c v)) (rewrite-told T mapped listed n (rowsOf c v) (rowsOf c v) (all-rows (Stated n listed) v c (R .stated)))
-
--- ── Exact rows stay exact ───────────────────────────────────────────────────────────────────────────────────
-
-then-gives : {A B : Type 0} (a : Answer A) (f : A → Answer B) (y : B) → _>>=_ {B = B} a f ≡ gives y → (x : A) × (a ≡ gives x) × (f x ≡ gives y)
-unfolding _>>=_
-then-gives (refused n) f y e = absurd (let z : _≡_ {A = ℕ} 0 1 = cc in omega arith)
-then-gives (gives x) f y e = (x, refl, e)
-
-module _ (T : Table) (mapped : ℕ → Option ℕ) (listed : List ℕ) where
-  exact-by : (r : ChangeRow) (x y : ℕ) → r .operation ≤ 5 → Exact T listed (withFate (changeRow T (r .list) (changeBy (r .operation) x y (getD listed (r .list) 0) (newOf listed r))) (rowFate r))
-  unfolding withFate changeRow newOf
-  exact-by r x y h =
-      record {
-        same =
-            rw (change-back T listed (r .list) (r .count) (rowFate r) (r .operation) x y h, fate-stated (changeRow T (r .list) (changeBy (r .operation) x y (getD listed (r .list) 0) (newOf listed r))) (rowFate r));
-      }
-
-  exact-row : (n : ℕ) (rs : List ChangeRow) (r : ChangeRow) (f : Fate) (m : ChangeRow × ℕ) → Stated n listed r → Exact T listed r → rewriteFated T mapped listed rs f r ≡ gives m → Exact T listed (m .0)
-  unfolding rewriteFated rewriteUnder changeOf
-  exact-row n rs r own m S E e = subst (Exact T listed) (ap (λ (q : ChangeRow × ℕ). q .0) (given e)) E
-  exact-row n rs r (dependent k) m S E e =
-      let o : Change = changeOf listed (getD rs k noChange) in
-      let z : ℕ = getD listed (r .list) 0 in
-      let new : List ℕ = newOf listed r in
-      let u = then-gives (rewriteInto T mapped (target o) (replacement o) (changeBy (r .operation) (r .target) (r .end) z new)) (λ p. gives (withFate (changeRow T (r .list) (p .0)) (rowFate r), p .1)) m e in
-      let v =
-      then-gives (movedEnds (moved T mapped (target o) (replacement o)) (r .operation) (r .target) (r .end)) (judgedEnds T (r .operation) z new) (u .0)
-      (sym (rewriteInto-by T mapped (target o) (replacement o) (r .operation) (r .target) (r .end) z new (S .known)) ∙ u .1) in
-      let q : ℕ × ℕ × ℕ = v .0 in
-      let x = then-gives (refuse 9 (wrongCall T (call (changeBy (r .operation) (q .0) (q .1) z new)))) (λ _. withEnds (r .operation) z new q) (u .0) (v .2) in
-      let c : changeBy (r .operation) (q .0) (q .1) z new ≡ u .0 .0 = ap (λ (p : Change × ℕ). p .0) (given (x .2)) in
-      let d : withFate (changeRow T (r .list) (u .0 .0)) (rowFate r) ≡ m .0 = ap (λ (p : ChangeRow × ℕ). p .0) (given (u .2)) in
-      subst (Exact T listed) (ap (λ (p : Change). withFate (changeRow T (r .list) p) (rowFate r)) c ∙ d) (exact-by r (q .0) (q .1) (S .known))
-  exact-row n rs r (discarded k) m S E e = subst (Exact T listed) (ap (λ (q : ChangeRow × ℕ). q .0) (given e)) E
-
-  pub rewritten-exact : (n : ℕ) (rs later : List ChangeRow) (q : List ChangeRow × ℕ) → All (Stated n listed) later → All (Exact T listed) later → rewriteRows T mapped listed rs later ≡ gives q → All (Exact T listed) (q .0)
-  unfolding rewriteRows rewriteRow
-  rewritten-exact n rs [] q S E e = subst (All (Exact T listed)) (ap (λ (p : List ChangeRow × ℕ). p .0) (given e)) tt
-  rewritten-exact n rs (r ∷ later) q S E e =
-      let u = then-gives (rewriteRows T mapped listed rs later) (λ l. _>>=_ {B = List ChangeRow × ℕ} (rewriteRow T mapped listed rs r) (λ m. gives (m .0 ∷ l .0, m .1 + l .1))) q e in
-      let l : List ChangeRow × ℕ = u .0 in
-      let v = then-gives (rewriteRow T mapped listed rs r) (λ m. gives (m .0 ∷ l .0, m .1 + l .1)) q (u .2) in
-      subst (All (Exact T listed)) (ap (λ (p : List ChangeRow × ℕ). p .0) (given (v .2)))
-      (exact-row n rs r (rowFate r) (v .0) (S .0) (E .0) (v .1), rewritten-exact n rs later l (S .1) (E .1) (u .1))

@@ -18,6 +18,7 @@ use Rattle.mapping.specs.Mapped.{mappedBy}
 
 -- ── The way down ────────────────────────────────────────────────────────────────────────────────────────────
 
+-- the element that is found
 unfoldable pub found : Found → Option ℕ
 found (At e) = some e
 found Missing = none
@@ -27,6 +28,7 @@ abbrev pub Within : ℕ → Found → Type 0
 Within n (At e) = e < n
 Within n Missing = Unit
 
+-- an element that is found is one of n
 pub within-at : (n : ℕ) (o : Found) (e : ℕ) → Within n o → o ≡ At e → e < n
 within-at n o e h q = rw q at h
 
@@ -47,6 +49,7 @@ pub record Landed (n : ℕ) (table source : List ℕ) (e r : ℕ) (path : Path) 
 
 -- ── A move ──────────────────────────────────────────────────────────────────────────────────────────────────
 
+-- where the element goes, and the steps
 unfoldable pub movedBy : Moved → Answer (ℕ × ℕ)
 movedBy (To e steps) = gives (e, steps)
 movedBy (RefusedMove x) = refused x
@@ -63,6 +66,7 @@ movedFrom T mapped x r e p = do
   to ← land T mapped e r (q ++ p)
   gives (to, length q)
 
+-- the rest of a move from x to r, for an element below x by a path
 pub record MovedFrom (n : ℕ) (table source map : List ℕ) (x r e : ℕ) (path : Path) (answer : Moved) : Type 0 where
   pub move : movedBy answer ≡ movedFrom (view n table source) (mappedBy map) x r e path
   pub within : MovedWithin n answer

@@ -17,6 +17,7 @@ pub record Nearest (n : ℕ) (table map : List ℕ) (e : ℕ) (answer : Found) :
   pub ancestor : (source : List ℕ) → found answer ≡ nearest (view n table source) (mappedBy map) e
   pub within : Within n answer
 
+-- where the element settles
 unfoldable pub settledBy : Settled → Answer ℕ
 settledBy (At e) = gives e
 settledBy (Refused x) = refused x
@@ -26,6 +27,7 @@ abbrev pub SettledWithin : ℕ → Settled → Type 0
 SettledWithin n (At e) = e < n
 SettledWithin n (Refused x) = Unit
 
+-- an element where it settles is one of n
 pub settled-at : {n : ℕ} {answer : Settled} {e : ℕ} → SettledWithin n answer → answer ≡ At e → e < n
 settled-at h q = rw q at h
 
