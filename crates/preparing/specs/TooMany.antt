@@ -1,0 +1,2 @@
+-- Where more comes in than is prepared, the step is refused.
+-- Assumes nothing.
