@@ -1,12 +1,20 @@
 -- What comes in with some parts, and what is answered.
 -- Assumes nothing.
-use mathlib.Core.Bool.{cond, _||_}
-use mathlib.Core.List.{List, map, flatMap}
-use Prim.Native.Nat.{ℕ, zero, suc, _+_}
-use lib.ListN.{length, getD}
+use mathlib.Core.Path.{_≡_, refl, sym, ap, _∙_}
+use mathlib.Core.Bool.{Bool, true, false, cond, _||_}
+use mathlib.Core.List.{List, [], _∷_, _++_, map, flatMap, append-nil, append-assoc}
+use mathlib.Core.Logic.{_⊎_, inl, inr}
+use Prim.Native.Nat.{ℕ, zero, suc, _+_, _≤_, _<_}
+use native.Mathlib.Omega.{arith}
+use native.Mathlib.Nat.{add-zero}
+use borrow.Author.Tests.{lt-ltb, le-ltb, ltb-true, ltb-false}
+use lib.ListN.{length, getD, length-append}
 use lib.Dec.{ltb}
 use Rattle.orders.specs.Lists.{pick}
-use Rattle.store_model.specs.Store.{HeldNote, withRow, Part, partOf, placedParts}
+use Rattle.orders.specs.ListLaws.{lt-or-le, either-true, map-append}
+use Rattle.laws.specs.Basics.{flatMap-append}
+use Rattle.rows.specs.Row.{Row}
+use Rattle.store_model.specs.Store.{HeldNote, withRow, Part, partOf, newRows, placedParts}
 use Rattle.annotations.specs.Notes.{notesOf}
 use Rattle.annotations.specs.Promises.{noteIn}
 use Rattle.tree_store.specs.Stored.{stored, storedFirst}
@@ -38,3 +46,72 @@ module _ (rows : List ℕ) (n : ℕ) (source marks first : List ℕ) (a : ℕ) (
   -- what element e yields. Text and changed rows are not read
   unfoldable pub partIn : List ℕ → List ℕ → List ℕ → ℕ → Part
   partIn text changed₀ changed e = partOf (storedFirst text (length marks) source (notesOf a first) changed₀) (stored text n rows marks (notesOf k notes) changed) e
+
+-- ── Parts behind others ─────────────────────────────────────────────────────────────────────────────────────
+
+pub newRows-append : (p q : List Part) → newRows (p ++ q) ≡ newRows p ++ newRows q
+unfolding newRows
+newRows-append p q = flatMap-append (λ y. y .rows) p q
+
+pub partSizes-append : (p q : List Part) → partSizes (p ++ q) ≡ partSizes p ++ partSizes q
+unfolding partSizes
+partSizes-append p q = map-append (λ y. length (y .rows)) p q
+
+-- what comes second stands behind the rows of what comes first
+pub newNotes-append : (at : ℕ) (p q : List Part) → newNotes at (p ++ q) ≡ newNotes at p ++ newNotes (at + length (newRows p)) q
+unfolding newNotes newRows placedParts flatMap
+newNotes-append at [] q = rw (add-zero at)
+newNotes-append at (y ∷ p) q =
+    let new : List HeldNote = map (λ n. withRow n (at + n .row)) (y .notes) in
+    let next : ℕ = at + length (y .rows) in
+    let e : at + length (y .rows ++ newRows p) ≡ next + length (newRows p) = omega (arith, length-append (y .rows) (newRows p)) in
+    ap (λ (l : List HeldNote). new ++ l) (newNotes-append next p q)
+    ∙ (sym (append-assoc new (newNotes next p) (newNotes (next + length (newRows p)) q)) ∙ ap (λ (i : ℕ). (new ++ newNotes next p) ++ newNotes i q) (sym e))
+
+-- ── What is answered ────────────────────────────────────────────────────────────────────────────────────────
+
+-- too many: of rows or of notes
+pub over : (m c : ℕ) → TooMany ≡ preparedBy m c → (4096 < m) ⊎ (1024 < c)
+unfolding preparedBy
+over m c = go (ltb 4096 m || ltb 1024 c) refl
+  where
+    go : (b : Bool) → (ltb 4096 m || ltb 1024 c) ≡ b → TooMany ≡ cond b TooMany (Parts m c) → (4096 < m) ⊎ (1024 < c)
+    go true e h = elim (either-true (ltb 4096 m) (ltb 1024 c) e) [ inl x ↦ inl (ltb-true 4096 m x) | inr x ↦ inr (ltb-true 1024 c x) ]
+    go false e h = let z : _≡_ {A = ℕ} 0 1 = cc in absurd (omega arith)
+
+pub rows-over : (m c : ℕ) → 4096 < m → TooMany ≡ preparedBy m c
+unfolding preparedBy
+rows-over m c h = rw (lt-ltb 4096 m h)
+
+pub notes-over : (m c : ℕ) → 1024 < c → TooMany ≡ preparedBy m c
+unfolding preparedBy
+notes-over m c k = go (ltb 4096 m)
+  where
+    go : (b : Bool) → TooMany ≡ cond (b || ltb 1024 c) TooMany (Parts m c)
+    go true = refl
+    go false = rw (lt-ltb 1024 c k)
+
+-- neither
+pub none-over : (m c : ℕ) → m ≤ 4096 → c ≤ 1024 → Parts m c ≡ preparedBy m c
+unfolding preparedBy
+none-over m c h k = rw (le-ltb 4096 m h, le-ltb 1024 c k)
+
+-- what came in is what there is, and not too much
+pub record Few (m c m′ c′ : ℕ) : Type 0 where
+  pub rows : m′ ≡ m
+  pub notes : c′ ≡ c
+  pub fewRows : m ≤ 4096
+  pub fewNotes : c ≤ 1024
+
+pub within : (m c m′ c′ : ℕ) → Parts m′ c′ ≡ preparedBy m c → Few m c m′ c′
+unfolding preparedBy
+within m c m′ c′ = go (ltb 4096 m) (ltb 1024 c) refl refl
+  where
+    go : (x y : Bool) → ltb 4096 m ≡ x → ltb 1024 c ≡ y → Parts m′ c′ ≡ cond (x || y) TooMany (Parts m c) → Few m c m′ c′
+    go true y e f h = let z : _≡_ {A = ℕ} 0 1 = cc in absurd (omega arith)
+    go false true e f h = let z : _≡_ {A = ℕ} 0 1 = cc in absurd (omega arith)
+    go false false e f h = record { rows = (cc); notes = (cc); fewRows = ltb-false 4096 m e; fewNotes = ltb-false 1024 c f }
+
+-- more than too many is too many
+pub over-more : (m c m′ c′ : ℕ) → TooMany ≡ preparedBy m c → m ≤ m′ → c ≤ c′ → TooMany ≡ preparedBy m′ c′
+over-more m c m′ c′ h a b = elim (over m c h) [ inl x ↦ rows-over m′ c′ (omega arith) | inr x ↦ notes-over m′ c′ (omega arith) ]

@@ -78,3 +78,62 @@ fn prepare_element<'a>(
         Taken::Count(y) => Prepared::Parts(end, y),
     }
 }
+
+// What the `count` elements listed at `list` in the batch `b` yield: all are prepared before the step's splice, and prepared row 0 comes to stand at
+// the row `at`.
+pub fn prepare<'a>(
+    rows: &'a [u32],
+    n: usize,
+    source: &'a [u32],
+    marks: &'a [u32],
+    first: &[u32],
+    a: usize,
+    notes: &[u32],
+    k: usize,
+    b: &[u8],
+    list: usize,
+    count: usize,
+    at: usize,
+    prepared: &mut [u32],
+    sizes: &mut [u32],
+    incoming: &mut [u32],
+) -> Prepared
+    requires { ⌜ (3 * n ≤ length (now rows)) × (n ≤ 4097) × All (λ m. m < n) (now marks) ⌝ }
+    requires { ⌜ (length (now marks) ≤ 2048) × (3 * length (now marks) + 3 ≤ length (now source)) ⌝ }
+    requires { ⌜ (3 * a ≤ length (now first)) × (a ≤ 256) × (3 * k ≤ length (now notes)) × (k ≤ 1024) ⌝ }
+    requires { ⌜ (list + 4 * count ≤ length (now b)) × All (λ e. e < length (now marks)) (wordsOf count (drop list (now b))) ⌝ }
+    requires { ⌜ (at ≤ 4097) × (12288 ≤ length (now prepared)) × (count ≤ length (now sizes)) × (3072 ≤ length (now incoming)) ⌝ }
+    ensures { λ r. ⌜ ElementsPrepared (now (rows .entry)) n (now (source .entry)) (now (marks .entry)) (now (first .entry)) a (now (notes .entry)) k (wordsOf count (drop list (now (b .entry)))) at (now (prepared .exit)) (now (sizes .exit)) (now (incoming .exit)) r ⌝ }
+{
+    let mut i: usize = 0;
+    let mut m: usize = 0;
+    let mut c: usize = 0;
+    while i < count {
+        let e = read_word(b, list + 4 * i);
+        match prepare_element(
+            rows,
+            n,
+            source,
+            marks,
+            first,
+            a,
+            notes,
+            k,
+            e,
+            at,
+            prepared,
+            m,
+            incoming,
+            c,
+        ) {
+            Prepared::TooMany => return Prepared::TooMany,
+            Prepared::Parts(end, y) => {
+                sizes[i] = (end - m) as u32;
+                m = end;
+                c = y;
+                i += 1;
+            }
+        }
+    }
+    Prepared::Parts(m, c)
+}
