@@ -1,28 +1,24 @@
 -- Each answer and each turn, from what is known there.
 -- Assumes nothing.
 use mathlib.Core.Path.{_≡_, refl, sym, ap, subst, _∙_}
-use mathlib.Core.Bool.{Bool, true, false, cond, _||_}
-use mathlib.Core.List.{List, [], _∷_, _++_, map, flatMap, append-nil, append-assoc}
-use mathlib.Core.Option.{Option, none, some, Option·map}
+use mathlib.Core.Bool.{Bool, true, false, cond}
+use mathlib.Core.List.{List, [], _∷_, _++_, map, flatMap, append-nil}
+use mathlib.Core.Option.{Option, none, some}
 use Prim.Native.Nat.{ℕ, zero, suc, _+_, _-_, _*_, _/_, _%_, _^_, _≤_, _<_}
 use native.Mathlib.Omega.{arith}
 use native.Mathlib.Numerals.{add-one}
-use native.Mathlib.Nat.{add-zero, add-assoc, zero-add}
-use borrow.Author.Tests.{lt-ltb, le-ltb, ltb-true, ltb-false}
-use lib.ListN.{length, getD, set, take, drop, length-set, length-append, length-map}
-use lib.Seq.{length-take-le, take-suc-set, drop-drop}
+use borrow.Author.Tests.{ltb-true, ltb-false}
+use lib.ListN.{length, getD, set, drop, length-set, length-append, length-map}
+use lib.Seq.{take-suc-set, drop-drop}
 use lib.Dec.{ltb}
 use Rattle.orders.specs.Lists.{All, pick}
 use Rattle.orders.specs.ListLaws.{map-append}
 use Rattle.definition.specs.Words.{word, words}
-use Rattle.laws.specs.Basics.{flatMap-append}
 use Rattle.words.specs.Bytes.{words-append, length-words, getD-words}
-use Rattle.rows.specs.Row.{Row, firstRows, triples, skip}
-use Rattle.rows.specs.RowLaws.{skip-le}
+use Rattle.rows.specs.Row.{Row, firstRows, triples}
 use Rattle.rows.specs.Words.{length-triples}
-use Rattle.rows.specs.Place.{rowsAfter, subtree, inRun}
 use Rattle.element_table.specs.View.{upFrom}
-use Rattle.store_model.specs.Store.{HeldNote, withRow, Store, there, marked, endRow, Part, partAt, partOf, newRows, placedParts}
+use Rattle.store_model.specs.Store.{HeldNote, withRow, Store, there, marked, Part, partAt, partOf, newRows, placedParts}
 use Rattle.syntax_node.specs.Promises.{Appended}
 use Rattle.annotations.specs.Notes.{notesOf}
 use Rattle.annotations.specs.Promises as annotations
@@ -34,7 +30,8 @@ use Rattle.tree_store.specs.Promises as tree
 use Rattle.preparing.specs.declared.Prepared.{Prepared}
 use Rattle.preparing.specs.declared.Prepared.the-variants.{TooMany, Parts}
 use Rattle.preparing.specs.Yields.{newNotes, partSizes, preparedBy, notesFrom, notesWith, partIn, newRows-append, partSizes-append, newNotes-append, rows-over, notes-over, none-over, Few, within, over-more}
-use Rattle.preparing.specs.Promises.{NotesAlong, Behind, Came, AllIn, ElementPrepared, ElementsPrepared}
+use Rattle.preparing.specs.Bounds.{end-row}
+use Rattle.preparing.specs.Promises.{NotesAlong, Behind, Came, ElementPrepared, ElementsPrepared}
 
 -- ── The notes of one element ────────────────────────────────────────────────────────────────────────────────
 
@@ -76,17 +73,14 @@ up-at k (suc n) (suc e) h = up-at (suc k) n e (omega arith) ∙ omega arith
 
 -- the notes at the rows of an element, by their number
 part-notes : (s : Store) (m size : ℕ) → size ≡ length ((partAt s m) .rows) → (partAt s m) .notes ≡ pick (noteIn m (m + size)) (s .notes)
-unfolding partAt endRow rowsAfter subtree
-part-notes s m size h =
-    let n : ℕ = skip 1 (drop m (s .rows)) in
-    let g : n ≡ size = omega (arith, length-take-le n (drop m (s .rows)) (skip-le 1 (drop m (s .rows)))) in
-    ap (λ (i : ℕ). pick (noteIn m (m + i)) (s .notes)) g
+unfolding partAt
+part-notes s m size h = ap (λ (i : ℕ). pick (noteIn m i) (s .notes)) (end-row s m ∙ ap (λ (i : ℕ). m + i) (sym h))
 
 module _ (rows : List ℕ) (n : ℕ) (source marks first : List ℕ) (a : ℕ) (notes : List ℕ) (k e : ℕ) where
   -- the notes that element e yields are those of its rows
   notes-yielded : (text changed₀ changed : List ℕ) (size : ℕ) → e < length marks → size ≡ length ((partIn rows n source marks first a notes k text changed₀ changed e) .rows)
       → (partIn rows n source marks first a notes k text changed₀ changed e) .notes ≡ notesWith marks first a notes k e size
-  unfolding partIn partOf marked stored storedFirst notesWith
+  unfolding partOf marked stored storedFirst notesWith
   notes-yielded text changed₀ changed size b = go (getD marks e 0)
     where
       F : Store
@@ -109,7 +103,6 @@ module _ (rows : List ℕ) (n : ℕ) (source marks first : List ℕ) (a : ℕ) (
     part = partIn rows n source marks first a notes k text changed₀ changed e
 
     rows-told : triples text run ≡ part .rows
-    unfolding partIn
     rows-told = P .told text (notesOf a first) (notesOf k notes) changed₀ changed
 
     rows-sized : length run / 3 ≡ length (part .rows)

@@ -1,7 +1,9 @@
 -- What the listed elements of a step yield, in words.
 --     Yields       the notes that come in, the sizes of the parts, the answer
 --     Promises     what the functions promise
---     TooMany      where more comes in than is prepared, the step is refused
+--     Bounds       the sizes and the notes of what came in, and how large they are
+--     Refusal      where too much comes in, the step is refused
 pub mod Yields
 pub mod Promises
-pub mod TooMany
+pub mod Bounds
+pub mod Refusal

@@ -2,7 +2,7 @@
 -- Assumes nothing.
 use mathlib.Core.Path.{_≡_, refl, sym, ap, _∙_}
 use mathlib.Core.Bool.{Bool, true, false, cond, _||_}
-use mathlib.Core.List.{List, [], _∷_, _++_, map, flatMap, append-nil, append-assoc}
+use mathlib.Core.List.{List, [], _∷_, _++_, map, flatMap, append-assoc}
 use mathlib.Core.Logic.{_⊎_, inl, inr}
 use Prim.Native.Nat.{ℕ, zero, suc, _+_, _≤_, _<_}
 use native.Mathlib.Omega.{arith}
@@ -11,9 +11,8 @@ use borrow.Author.Tests.{lt-ltb, le-ltb, ltb-true, ltb-false}
 use lib.ListN.{length, getD, length-append}
 use lib.Dec.{ltb}
 use Rattle.orders.specs.Lists.{pick}
-use Rattle.orders.specs.ListLaws.{lt-or-le, either-true, map-append}
+use Rattle.orders.specs.ListLaws.{either-true, map-append}
 use Rattle.laws.specs.Basics.{flatMap-append}
-use Rattle.rows.specs.Row.{Row}
 use Rattle.store_model.specs.Store.{HeldNote, withRow, Part, partOf, newRows, placedParts}
 use Rattle.annotations.specs.Notes.{notesOf}
 use Rattle.annotations.specs.Promises.{noteIn}
@@ -44,8 +43,8 @@ notesWith marks first a notes k e size = notesFrom first a notes k e size (getD 
 
 module _ (rows : List ℕ) (n : ℕ) (source marks first : List ℕ) (a : ℕ) (notes : List ℕ) (k : ℕ) where
   -- what element e yields. Text and changed rows are not read
-  unfoldable pub partIn : List ℕ → List ℕ → List ℕ → ℕ → Part
-  partIn text changed₀ changed e = partOf (storedFirst text (length marks) source (notesOf a first) changed₀) (stored text n rows marks (notesOf k notes) changed) e
+  abbrev pub partIn : List ℕ → List ℕ → List ℕ → ℕ → Part
+  partIn text changed₀ changed = partOf (storedFirst text (length marks) source (notesOf a first) changed₀) (stored text n rows marks (notesOf k notes) changed)
 
 -- ── Parts behind others ─────────────────────────────────────────────────────────────────────────────────────
 

@@ -1,5 +1,4 @@
 // What the listed elements of a step yield: their rows one behind another, the number of rows of each, and the notes that come along.
-ghost use mathlib.Core.Path.{_≡_};
 ghost use Prim.Native.Nat.{_+_, _*_, _≤_, _<_};
 ghost use lib.ListN.{length, getD, drop};
 ghost use Rattle.orders.specs.Lists.{All};

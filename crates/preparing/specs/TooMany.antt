@@ -1,2 +1,0 @@
--- Where more comes in than is prepared, the step is refused.
--- Assumes nothing.
