@@ -3,7 +3,7 @@
 use mathlib.Core.Path.{_≡_, refl, sym, ap, _∙_}
 use mathlib.Core.List.{List, [], _∷_, _++_, map, flatMap}
 use mathlib.Core.Option.{Option, none, some, Option·map}
-use Prim.Native.Nat.{ℕ, _+_, _-_, _≤_, _<_}
+use Prim.Native.Nat.{ℕ, _+_, _-_, _^_, _≤_, _<_}
 use native.Mathlib.Omega.{arith}
 use lib.ListN.{length, take, drop, getD, length-append, length-map}
 use lib.Seq.{length-take-le}
@@ -16,21 +16,13 @@ use Rattle.rows.specs.Row.{skip}
 use Rattle.rows.specs.RowLaws.{skip-le}
 use Rattle.rows.specs.Place.{rowsAfter, subtree, inRun}
 use Rattle.store_model.specs.Store.{HeldNote, withRow, Store, marked, endRow, Part, partAt, partOf, newRows, placedParts}
+use Rattle.annotations.specs.Notes.{notesOf}
 use Rattle.annotations.specs.Promises.{noteIn}
 use Rattle.preparing.specs.declared.Prepared.the-variants.{Parts}
 use Rattle.preparing.specs.Yields.{newNotes, partSizes, partIn}
-use Rattle.preparing.specs.Promises.{ElementsPrepared}
+use Rattle.preparing.specs.Promises.{Came, ElementsPrepared}
 
 -- ── Sizes ───────────────────────────────────────────────────────────────────────────────────────────────────
-
--- As many sizes came in as elements are listed.
-pub sizes-told : {rows : List ℕ} {n : ℕ} {source marks first : List ℕ} {a : ℕ} {notes : List ℕ} {k : ℕ} {at : ℕ} {prepared sizes incoming : List ℕ} {m c : ℕ} (count : ℕ) (bytes : List ℕ)
-    → ElementsPrepared rows n source marks first a notes k (words count bytes) at prepared sizes incoming (Parts m c)
-    → (text changed₀ changed : List ℕ) → take count sizes ≡ partSizes (map (partIn rows n source marks first a notes k text changed₀ changed) (words count bytes))
-sizes-told {rows} {n} {source} {marks} {first} {a} {notes} {k} {sizes = sizes} {m = m} {c = c} count bytes P text changed₀ changed =
-    let e : length (map (partIn rows n source marks first a notes k text changed₀ changed) (words count bytes)) ≡ count =
-    length-map (words count bytes) (partIn rows n source marks first a notes k text changed₀ changed) ∙ length-words count bytes in
-    ap (λ (i : ℕ). take i sizes) (sym e) ∙ ((P .parts text changed₀ changed) .came m c refl) .sizes
 
 -- each is at most the number of all rows
 pub sizes-low : (new : List Part) → All (λ n. n ≤ length (newRows new)) (partSizes new)
@@ -93,3 +85,28 @@ new-notes-low at (y ∷ new) h =
     All-append (λ n. n .row < at + length (y .rows ++ newRows new)) (map (λ n. withRow n (at + n .row)) (y .notes)) (newNotes (at + length (y .rows)) new)
     (All-over (λ n. withRow n (at + n .row)) (λ n. n .row < length (y .rows)) (λ n. n .row < at + length (y .rows ++ newRows new)) (λ n b. omega arith) (y .notes) (h .0))
     (All-map (λ n b. omega arith) (newNotes (at + length (y .rows)) new) (new-notes-low (at + length (y .rows)) new (h .1)))
+
+-- ── What is prepared ────────────────────────────────────────────────────────────────────────────────────────
+
+module _ {rows : List ℕ} {n : ℕ} {source marks first : List ℕ} {a : ℕ} {notes : List ℕ} {k : ℕ} {at : ℕ} {prepared sizes incoming : List ℕ} {m c : ℕ} where
+  -- As many sizes as elements are listed.
+  pub sizes-told : (count : ℕ) (bytes : List ℕ) → ElementsPrepared rows n source marks first a notes k (words count bytes) at prepared sizes incoming (Parts m c)
+      → (text changed₀ changed : List ℕ) → take count sizes ≡ partSizes (map (partIn rows n source marks first a notes k text changed₀ changed) (words count bytes))
+  sizes-told count bytes P text changed₀ changed =
+      let e : length (map (partIn rows n source marks first a notes k text changed₀ changed) (words count bytes)) ≡ count =
+      length-map (words count bytes) (partIn rows n source marks first a notes k text changed₀ changed) ∙ length-words count bytes in
+      ap (λ (i : ℕ). take i sizes) (sym e) ∙ ((P .parts text changed₀ changed) .came m c refl) .sizes
+
+  -- each is small
+  pub sizes-small : (count : ℕ) (bytes : List ℕ) → ElementsPrepared rows n source marks first a notes k (words count bytes) at prepared sizes incoming (Parts m c) → All (λ x. x < 2 ^ 16) (take count sizes)
+  sizes-small count bytes P =
+      let new : List Part = map (partIn rows n source marks first a notes k [] [] []) (words count bytes) in
+      let C : Came [] new at prepared sizes incoming m c = (P .parts [] [] []) .came m c refl in
+      rw (sizes-told count bytes P [] [] []) (All-map (λ x h. omega (arith, C .many, C .fewRows)) (partSizes new) (sizes-low new))
+
+  -- The notes that came in are at the rows that came in.
+  pub notes-low : {l : List ℕ} → ElementsPrepared rows n source marks first a notes k l at prepared sizes incoming (Parts m c) → All (λ x. x .row < at + m) (notesOf c incoming)
+  notes-low {l} P =
+      let part : ℕ → Part = partIn rows n source marks first a notes k [] [] [] in
+      let C : Came [] (map part l) at prepared sizes incoming m c = (P .parts [] [] []) .came m c refl in
+      rw (C .notes, C .many) (new-notes-low at (map part l) (All-over part (λ e. Unit {0}) NotesWithin (λ e u. yield-within _ _ e) l (All-all (λ e. tt) l)))
