@@ -1,5 +1,7 @@
 -- Planning on change rows, from an accepted batch to what is to be run.
 --     Recorded   what is known of each recorded change and of the listed elements
 --     Owners     a dependent's owner is a call 2 that stands among the changes
+--     Fated      the sorted rows and their fates: the definition's planned changes, and what rewriting asks of them
 pub mod Recorded
 pub mod Owners
+pub mod Fated
