@@ -1,0 +1,2 @@
+-- Each way out of a function, from what its callees ensure.
+pub mod Sorting

@@ -1,0 +1,76 @@
+// Planning: from an accepted batch to the changes that run, in order, and the notes where they settle; refusals 8, 9 and 10.
+use edit_plan::Replacements;
+use layout::Layout;
+use rewriting::Rewritten;
+use settling::Notes;
+ghost use mathlib.Core.Path.{_≡_};
+ghost use Prim.Native.Nat.{_*_, _≤_};
+ghost use lib.ListN.{length};
+ghost use Rattle.syntax_editor.specs.ChangeRow.{rowsOf};
+ghost use Rattle.plan_model.specs.Ready.{Ready};
+ghost use Rattle.planning.specs.Counted.{discardedOf};
+ghost use Rattle.planning.specs.Stages.{Sorted, Fated, Rewrote};
+ghost use Rattle.planning.specs.Answers.{PlanMade};
+
+// Of a plan: how many change rows, how many of them run, how many are discarded, and the climb steps.
+pub struct Counts {
+    pub changes: usize,
+    pub runs: usize,
+    pub discarded: usize,
+    pub climbs: usize,
+}
+
+// A refusal, by its number, or a plan.
+pub enum Planned {
+    Refused(usize),
+    Made(Counts),
+}
+
+// How many of the `c` changes are discarded.
+fn count_discarded(rows: &[u32], c: usize) -> usize
+    requires { ⌜ c ≤ 256 ⌝ }
+    ensures { λ r. ⌜ (r ≡ discardedOf (rowsOf c (now (rows .entry)))) × (r ≤ c) ⌝ }
+{
+    let mut n: usize = 0;
+    let mut i: usize = 0;
+    while i < c {
+        if 1 < edit_plan::field(rows, i, 11) {
+            n += 1;
+            i += 1;
+        } else {
+            i += 1;
+        }
+    }
+    n
+}
+
+// The calls are recorded, and their rows written to `sorted` in sorted order. How many there are.
+fn record_and_sort(
+    b: &[u8],
+    l: Layout,
+    table: &[u32],
+    source: &[u32],
+    recorded: &mut [u32],
+    order: &mut [u32],
+    sorted: &mut [u32],
+) -> usize
+    requires { ⌜ Ready (now b) l (now table) (now source) ⌝ }
+    requires { ⌜ (3328 ≤ length (now recorded)) × (256 ≤ length (now order)) × (3328 ≤ length (now sorted)) ⌝ }
+    ensures { λ r. ⌜ Sorted (now (b .entry)) l (now (table .entry)) (now (source .entry)) r (now (sorted .exit)) ⌝ }
+{
+    let s = l.sizes;
+    let c = recording::record_calls(
+        b,
+        l.words,
+        l.targets,
+        s.calls,
+        l.list,
+        s.listed,
+        s.elements,
+        table,
+        source,
+        recorded,
+    );
+    edit_plan::sort_rows(recorded, c, order, sorted);
+    c
+}
