@@ -1,2 +1,3 @@
 -- Each way out of a function, from what its callees ensure.
 pub mod Sorting
+pub mod Settling

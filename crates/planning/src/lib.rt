@@ -74,3 +74,48 @@ fn record_and_sort(
     edit_plan::sort_rows(recorded, c, order, sorted);
     c
 }
+
+// The notes settle, and the rewritten changes are put in running order: the plan, or 9 or 10 of a note.
+fn settle_and_order(
+    b: &[u8],
+    l: Layout,
+    table: &[u32],
+    source: &[u32],
+    map: &[u32],
+    changes: &[u32],
+    c: usize,
+    steps: usize,
+    order: &mut [u32],
+    running: &mut [u32],
+    first: &mut [u32],
+) -> Planned
+    requires { ⌜ Ready (now b) l (now table) (now source) ⌝ }
+    requires { ⌜ Rewrote (now b) l (now table) (now source) (now map) c steps (now changes) ⌝ }
+    requires { ⌜ (256 ≤ length (now order)) × (256 ≤ length (now running)) × (768 ≤ length (now first)) ⌝ }
+    ensures { λ r. ⌜ PlanMade (now (b .entry)) l (now (table .entry)) (now (source .entry)) (now (changes .entry)) (now (running .exit)) (now (first .exit)) r ⌝ }
+{
+    let s = l.sizes;
+    match settling::settle_notes(
+        b,
+        l.noted,
+        l.numbers,
+        s.notes,
+        table,
+        source,
+        map,
+        s.elements,
+        first,
+    ) {
+        Notes::Refused(number) => Planned::Refused(number),
+        Notes::Settled => {
+            let runs = postorder::running_order(changes, c, order, running);
+            let discarded = count_discarded(changes, c);
+            Planned::Made(Counts {
+                changes: c,
+                runs,
+                discarded,
+                climbs: steps,
+            })
+        }
+    }
+}
