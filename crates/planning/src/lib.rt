@@ -119,3 +119,55 @@ fn settle_and_order(
         }
     }
 }
+
+// Dependents are rewritten into `changes`, by the fated rows of `sorted`; then the notes and the order: the plan, or 9 or 10.
+fn rewrite_and_settle(
+    b: &[u8],
+    l: Layout,
+    table: &[u32],
+    source: &[u32],
+    sorted: &[u32],
+    c: usize,
+    changes: &mut [u32],
+    order: &mut [u32],
+    running: &mut [u32],
+    map: &mut [u32],
+    first: &mut [u32],
+) -> Planned
+    requires { ⌜ Ready (now b) l (now table) (now source) ⌝ }
+    requires { ⌜ Fated (now b) l (now table) (now source) c (now sorted) ⌝ }
+    requires { ⌜ (3328 ≤ length (now sorted)) × (3328 ≤ length (now changes)) × (256 ≤ length (now order)) × (256 ≤ length (now running)) × (2048 ≤ length (now map)) × (768 ≤ length (now first)) ⌝ }
+    ensures { λ r. ⌜ PlanMade (now (b .entry)) l (now (table .entry)) (now (source .entry)) (now (changes .exit)) (now (running .exit)) (now (first .exit)) r ⌝ }
+{
+    let s = l.sizes;
+    mapping::fill_mapping(b, l.inputs, l.outputs, s.mappings, map);
+    match rewriting::rewrite_dependents(
+        table,
+        source,
+        map,
+        s.elements,
+        b,
+        l.list,
+        s.listed,
+        sorted,
+        c,
+        changes,
+    ) {
+        Rewritten::Refused(number) => Planned::Refused(number),
+        Rewritten::Steps(steps) => {
+            settle_and_order(
+                b,
+                l,
+                table,
+                source,
+                map,
+                changes,
+                c,
+                steps,
+                order,
+                running,
+                first,
+            )
+        }
+    }
+}
