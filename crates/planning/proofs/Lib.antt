@@ -2,3 +2,4 @@
 pub mod Sorting
 pub mod Settling
 pub mod Rewriting
+pub mod Judging

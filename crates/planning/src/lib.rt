@@ -171,3 +171,33 @@ fn rewrite_and_settle(
         }
     }
 }
+
+// Planning of an accepted batch: the change rows as they run, the places in running order and the notes where they settle, or the first refusal out of 8, 9 and 10.
+pub fn plan(
+    b: &[u8],
+    l: Layout,
+    table: &[u32],
+    source: &[u32],
+    recorded: &mut [u32],
+    sorted: &mut [u32],
+    changes: &mut [u32],
+    order: &mut [u32],
+    running: &mut [u32],
+    map: &mut [u32],
+    first: &mut [u32],
+) -> Planned
+    requires { ⌜ Ready (now b) l (now table) (now source) ⌝ }
+    requires { ⌜ (3328 ≤ length (now recorded)) × (3328 ≤ length (now sorted)) × (3328 ≤ length (now changes)) × (256 ≤ length (now order)) × (256 ≤ length (now running)) × (2048 ≤ length (now map)) × (768 ≤ length (now first)) ⌝ }
+    ensures { λ r. ⌜ PlanMade (now (b .entry)) l (now (table .entry)) (now (source .entry)) (now (changes .exit)) (now (running .exit)) (now (first .exit)) r ⌝ }
+{
+    let c = record_and_sort(b, l, table, source, recorded, order, sorted);
+    match edit_plan::replacements_are_disjoint(sorted, c) {
+        Replacements::Overlap(_, _) => Planned::Refused(8),
+        Replacements::Disjoint => {
+            changed_region::plan_fates(sorted, c);
+            rewrite_and_settle(
+                b, l, table, source, sorted, c, changes, order, running, map, first,
+            )
+        }
+    }
+}
