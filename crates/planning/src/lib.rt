@@ -196,7 +196,17 @@ pub fn plan(
         Replacements::Disjoint => {
             changed_region::plan_fates(sorted, c);
             rewrite_and_settle(
-                b, l, table, source, sorted, c, changes, order, running, map, first,
+                b,
+                l,
+                table,
+                source,
+                sorted,
+                c,
+                changes,
+                order,
+                running,
+                map,
+                first,
             )
         }
     }
