@@ -1,6 +1,6 @@
 -- The sorted rows and their fates: the definition's planned changes, and what rewriting asks of them.
 -- Assumes nothing.
-use mathlib.Core.Bool.{Bool, true, false}
+use mathlib.Core.Bool.{true}
 use mathlib.Core.List.{List, [], _∷_, map, zipWith, map-map}
 use mathlib.Core.Path.{_≡_, refl, sym, ap, _∙_, subst}
 use Prim.Native.Nat.{ℕ, zero, suc, _+_, _*_, _≤_, _<_}
@@ -8,12 +8,12 @@ use native.Mathlib.Omega.{arith}
 use lib.ListN.{length, getD, drop, length-map}
 use lib.Seq.{drop-drop}
 use Rattle.orders.specs.Lists.{All}
-use Rattle.orders.specs.ListLaws.{bool-absurd, All-map}
+use Rattle.orders.specs.ListLaws.{bool-absurd}
 use Rattle.definition.specs.Basics.{rising, lower}
 use Rattle.definition.specs.Elements.{Table}
 use Rattle.definition.specs.Refusals.{Call}
 use Rattle.definition.specs.Recording.{firstChild, after, Change, insert, replace, delete, replaceWithMany, replaceAll, call, recorded}
-use Rattle.definition.specs.Planning.{Fate, own, dependent, discarded, Planned, target, key, sorted, overlap, nodeByNode, planned}
+use Rattle.definition.specs.Planning.{Fate, dependent, Planned, target, key, sorted, overlap, nodeByNode, planned}
 use Rattle.laws.specs.Basics.{map-All, getD-map}
 use Rattle.laws.specs.Right.{Right, judged, below-E}
 use Rattle.laws.specs.Sorting.{sort-all}

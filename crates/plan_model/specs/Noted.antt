@@ -1,15 +1,15 @@
 -- The settled notes in words: the definition's first notes, by their rows.
 -- Assumes nothing.
-use mathlib.Core.List.{List, [], _∷_, _++_, map, map-map, zip, zipWith}
+use mathlib.Core.List.{List, [], _∷_, _++_, map, zip, zipWith}
 use mathlib.Core.Option.{Option}
 use mathlib.Core.Path.{_≡_, refl, sym, ap, _∙_}
-use Prim.Native.Nat.{ℕ, zero, suc, _+_, _*_, _≤_, _<_}
+use Prim.Native.Nat.{ℕ, zero, suc, _+_, _*_, _<_}
 use native.Mathlib.Omega.{arith}
-use lib.ListN.{length, take, drop}
+use lib.ListN.{length, drop}
 use lib.Seq.{paste, take-all}
 use Rattle.orders.specs.Lists.{All}
 use Rattle.orders.specs.Tree.{Tree, node, forest}
-use Rattle.definition.specs.Basics.{Answer, refused, gives, _>>=_}
+use Rattle.definition.specs.Basics.{gives}
 use Rattle.definition.specs.Elements.{Table, table, row}
 use Rattle.definition.specs.Rewriting.{settle}
 use Rattle.definition.specs.Words.{words}

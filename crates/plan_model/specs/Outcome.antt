@@ -1,34 +1,32 @@
 -- What planning makes of a batch, and each way out of it on rows.
 -- Assumes nothing.
-use mathlib.Core.Bool.{true, false}
 use mathlib.Core.List.{List, map, map-map}
-use mathlib.Core.Option.{Option, none, some}
-use mathlib.Core.Path.{_≡_, refl, sym, ap, _∙_, subst}
+use mathlib.Core.Option.{none, some}
+use mathlib.Core.Path.{_≡_, sym, ap, _∙_, subst}
 use Prim.Native.Nat.{ℕ, _<_}
 use lib.ListN.{length}
 use Rattle.orders.specs.Lists.{All}
 use Rattle.orders.specs.ListLaws.{All-map}
-use Rattle.orders.specs.Tree.{Tree, node, forest}
+use Rattle.orders.specs.Tree.{node, forest}
 use Rattle.definition.specs.Basics.{Answer, refused, gives, _>>=_, refuse, isSome, keep}
 use Rattle.definition.specs.Elements.{Table, table}
 use Rattle.definition.specs.Refusals.{Accepted, accepted}
 use Rattle.definition.specs.Recording.{recorded}
-use Rattle.definition.specs.Planning.{Planned, isDiscarded, sorted, overlap, planned}
-use Rattle.definition.specs.Rewriting.{Note, mapping, rewritten, settled}
-use Rattle.definition.specs.Running.{World, begin, ranked, order}
+use Rattle.definition.specs.Planning.{Planned, isDiscarded, sorted, planned}
+use Rattle.definition.specs.Rewriting.{Note, mapping, rewritten}
+use Rattle.definition.specs.Running.{begin, ranked, order}
 use Rattle.definition.specs.Answers.{Plan, plan, performed, atFirst}
-use Rattle.element_table.specs.View.{view}
 use Rattle.element_table.specs.Told.{length-view}
 use Rattle.layout.specs.declared.Layout.{Layout}
 use Rattle.syntax_editor.specs.ChangeRow.{ChangeRow}
 use Rattle.edit_plan.specs.Overlap.{rowsOverlap}
 use Rattle.settling.specs.Notes.{noteOf, settledAt, settled-told}
-use Rattle.change_row.specs.Stated.{changeOf, planOf, Stated}
+use Rattle.change_row.specs.Stated.{planOf}
 use Rattle.rewriting.specs.Rewritten.{rewriteRows, toldRows, rewrite-told}
 use Rattle.store_model.specs.Store.{HeldNote, heldNote, store}
 use Rattle.plan_model.specs.Fated.{sortedRows, fatedRows, overlap-sorted, fated-planned, fated-kept}
 use Rattle.plan_model.specs.Noted.{noteHeld, notes-held}
-use Rattle.plan_model.specs.Ready.{listedIn, callsIn, mappingsIn, notesIn, tableIn, acceptedIn, Ready, Facts, ready-facts}
+use Rattle.plan_model.specs.Ready.{listedIn, callsIn, mappingsIn, notesIn, tableIn, acceptedIn, Facts}
 
 -- ── What is made ────────────────────────────────────────────────────────────────────────────────────────────
 

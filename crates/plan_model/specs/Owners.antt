@@ -10,7 +10,7 @@ use Rattle.orders.specs.Lists.{All}
 use Rattle.orders.specs.ListLaws.{both-true}
 use Rattle.definition.specs.Elements.{Table, tree}
 use Rattle.definition.specs.Recording.{Change, delete}
-use Rattle.definition.specs.Planning.{Fate, own, dependent, discarded, isDiscarded, Region, contains, around, fate, Planned, target, from, to, addsRegion, nodeByNode, inner, pushed, fates, planned}
+use Rattle.definition.specs.Planning.{Fate, own, dependent, discarded, isDiscarded, Region, contains, around, fate, target, from, to, addsRegion, nodeByNode, inner, pushed, fates, planned}
 
 -- ── Lists ───────────────────────────────────────────────────────────────────────────────────────────────────
 

@@ -1,10 +1,9 @@
 -- What lines 2 to 7 leave, as planning goes by it: the parts of an accepted batch, read where its layout says.
 -- Assumes nothing.
-use mathlib.Core.Bool.{Bool, false}
+use mathlib.Core.Bool.{false}
 use mathlib.Core.List.{List, zip}
-use mathlib.Core.Option.{some}
-use mathlib.Core.Path.{_≡_, refl, sym, ap, _∙_, subst}
-use Prim.Native.Nat.{ℕ, _+_, _*_, _≤_, _<_}
+use mathlib.Core.Path.{_≡_, sym, ap, _∙_, subst}
+use Prim.Native.Nat.{ℕ, _≤_, _<_}
 use native.Mathlib.Omega.{arith}
 use lib.ListN.{length, drop}
 use borrow.Author.Tests.{leb-false}
@@ -22,7 +21,7 @@ use Rattle.element_table.specs.Told.{length-view}
 use Rattle.element_table.specs.Wellformed.{Wellformed}
 use Rattle.layout.specs.Layout.{Within, laid, arraysAt}
 use Rattle.layout.specs.declared.Layout.{Layout}
-use Rattle.batch.specs.Accepting.{Parts, accepted-parts}
+use Rattle.batch.specs.Accepting.{accepted-parts}
 use Rattle.batch.specs.Leaving.{Leaves}
 use Rattle.recording.specs.Recorded.{recordedAt}
 use Rattle.recording.specs.CallList.{callsOf, Fit, accepted-calls}

@@ -1,14 +1,14 @@
 -- What is known of each recorded change of an accepted batch, and of the listed elements.
 -- Assumes nothing.
 use mathlib.Core.Bool.{Bool, true, false, cond}
-use mathlib.Core.List.{List, [], _∷_, _++_, headD, tail, map}
+use mathlib.Core.List.{List, [], _∷_, headD}
 use mathlib.Core.Option.{none, some, Option·map}
-use mathlib.Core.Path.{_≡_, refl, sym, ap, _∙_, subst}
+use mathlib.Core.Path.{_≡_, refl, subst}
 use Prim.Native.Nat.{ℕ, zero, suc, _+_, _≤_, _<_}
 use native.Mathlib.Omega.{arith}
 use lib.ListN.{length, take, drop, length-drop, take-append-drop}
 use lib.Seq.{length-take-le}
-use lib.Dec.{leb, ltb, eqb}
+use lib.Dec.{leb, eqb}
 use borrow.Author.Tests.{leb-true, ltb-false}
 use Rattle.orders.specs.Lists.{All}
 use Rattle.orders.specs.ListLaws.{bool-absurd, either-false, none-some, some-inj, map-some, All-map, All-map₂, none-passes}

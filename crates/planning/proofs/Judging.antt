@@ -1,13 +1,12 @@
 -- Refusal 8, or the sorted rows get their fates.
 -- Assumes nothing.
-use mathlib.Core.Bool.{Bool}
 use mathlib.Core.List.{List, [], _∷_, _++_}
 use mathlib.Core.Option.{Option, none, some}
 use mathlib.Core.Path.{_≡_, refl, sym, ap, _∙_}
 use Prim.Native.Nat.{ℕ, suc, _*_}
 use native.Mathlib.Omega.{arith}
 use lib.ListN.{length, drop, getD, set, replicate}
-use Rattle.definition.specs.Planning.{Region, around, fate}
+use Rattle.definition.specs.Planning.{Region, around}
 use Rattle.syntax_editor.specs.ChangeRow.{ChangeRow, rowsOf}
 use Rattle.syntax_editor.specs.ChangeRowLaws.{rowsWords, rows-read, length-rowsOf}
 use Rattle.edit_plan.specs.Overlap.{rowsOverlap, replacements}
@@ -15,8 +14,8 @@ use Rattle.edit_plan.specs.declared.Replacements.{Replacements}
 use Rattle.edit_plan.specs.declared.Replacements.the-variants.{Disjoint, Overlap}
 use Rattle.changed_region.specs.Fates.{rowPushed, rowsFates, plannedRows}
 use Rattle.layout.specs.declared.Layout.{Layout}
-use Rattle.plan_model.specs.Fated.{sortedRows, fatedRows}
-use Rattle.plan_model.specs.Ready.{callsIn, tableIn, Ready, ready-facts}
+use Rattle.plan_model.specs.Fated.{fatedRows}
+use Rattle.plan_model.specs.Ready.{Ready, ready-facts}
 use Rattle.plan_model.specs.Outcome.{out-overlap}
 use Rattle.planning.specs.Stages.{Sorted, Fated}
 use Rattle.planning.specs.Answers.{plannedBy, PlanMade}

@@ -1,12 +1,11 @@
 -- Rewriting: what the callees ask, and a dependent is refused or the rows are rewritten.
 -- Assumes nothing.
 use mathlib.Core.List.{List, zip}
-use mathlib.Core.Option.{Option}
-use mathlib.Core.Path.{_≡_, refl, sym, ap, _∙_, subst}
-use Prim.Native.Nat.{ℕ, _+_, _*_, _≤_, _<_}
+use mathlib.Core.Path.{_≡_, sym, ap, _∙_}
+use Prim.Native.Nat.{ℕ, _*_, _≤_}
 use native.Mathlib.Omega.{arith}
 use lib.ListN.{length}
-use Rattle.definition.specs.Basics.{Answer, refused, gives}
+use Rattle.definition.specs.Basics.{Answer}
 use Rattle.definition.specs.Elements.{Table}
 use Rattle.definition.specs.Rewriting.{mapping}
 use Rattle.element_table.specs.Told.{length-view}

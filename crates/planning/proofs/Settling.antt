@@ -3,7 +3,7 @@
 use mathlib.Core.List.{List, _++_, map}
 use mathlib.Core.Option.{Option, none}
 use mathlib.Core.Path.{_≡_, refl, sym, ap, _∙_, subst}
-use Prim.Native.Nat.{ℕ, _+_, _*_, _≤_, _<_}
+use Prim.Native.Nat.{ℕ, _*_, _≤_, _<_}
 use native.Mathlib.Omega.{arith}
 use lib.ListN.{length, take, drop, length-map}
 use lib.Seq.{paste, take-at}
@@ -36,7 +36,7 @@ use Rattle.plan_model.specs.Outcome.{rowsOutcome, out-notes, out-made}
 use Rattle.annotations.specs.Notes.{notesOf}
 use Rattle.planning.specs.Counted.{discardedOf, discarded-told}
 use Rattle.planning.specs.Stages.{Rewrote}
-use Rattle.planning.specs.Answers.{plannedBy, outcomeIn, RowsPlanned, PlanMade}
+use Rattle.planning.specs.Answers.{plannedBy, outcomeIn, PlanMade}
 use Rattle.planning.specs.declared.Counts.{Counts}
 use Rattle.planning.specs.declared.Planned.the-variants.{Refused, Made}
 

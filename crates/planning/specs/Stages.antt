@@ -3,8 +3,7 @@
 use mathlib.Core.List.{List}
 use mathlib.Core.Option.{none}
 use mathlib.Core.Path.{_≡_}
-use Prim.Native.Nat.{ℕ, _*_, _≤_}
-use lib.ListN.{length}
+use Prim.Native.Nat.{ℕ, _≤_}
 use Rattle.definition.specs.Basics.{gives}
 use Rattle.definition.specs.Rewriting.{mapping}
 use Rattle.syntax_editor.specs.ChangeRow.{rowsOf}

@@ -4,7 +4,7 @@ use layout::Layout;
 use rewriting::Rewritten;
 use settling::Notes;
 ghost use mathlib.Core.Path.{_≡_};
-ghost use Prim.Native.Nat.{_*_, _≤_};
+ghost use Prim.Native.Nat.{_≤_};
 ghost use lib.ListN.{length};
 ghost use Rattle.syntax_editor.specs.ChangeRow.{rowsOf};
 ghost use Rattle.plan_model.specs.Ready.{Ready};
