@@ -2,25 +2,23 @@
 -- Assumes nothing.
 use mathlib.Core.List.{List, zip}
 use mathlib.Core.Path.{_≡_, sym, ap, _∙_}
-use Prim.Native.Nat.{ℕ, _*_, _≤_}
+use Prim.Native.Nat.{ℕ, _≤_}
 use native.Mathlib.Omega.{arith}
 use lib.ListN.{length}
-use Rattle.definition.specs.Basics.{Answer}
 use Rattle.definition.specs.Elements.{Table}
 use Rattle.definition.specs.Rewriting.{mapping}
 use Rattle.element_table.specs.Told.{length-view}
-use Rattle.syntax_editor.specs.ChangeRow.{ChangeRow, rowsOf}
+use Rattle.syntax_editor.specs.ChangeRow.{rowsOf}
 use Rattle.mapping.specs.Mapped.{wordsAt, mappedBy, Mapped, mappingWords, Bounded, mapped-words, mapped-elements, bounded-more}
 use Rattle.change_row.specs.Stated.{Rewritable}
-use Rattle.rewriting.specs.Rewritten.{rewriteRows}
 use Rattle.rewriting.specs.Answers.{rewrittenBy, stepsOf, RowsRewritten}
 use Rattle.rewriting.specs.declared.Rewritten.{Rewritten}
 use Rattle.rewriting.specs.declared.Rewritten.the-variants.{Steps, Refused as NotRewritten}
 use Rattle.layout.specs.declared.Layout.{Layout}
-use Rattle.plan_model.specs.Fated.{fatedRows, rewritable}
+use Rattle.plan_model.specs.Fated.{rewritable}
 use Rattle.plan_model.specs.Ready.{listedIn, callsIn, mappingsIn, tableIn, Ready, Facts, ready-facts}
 use Rattle.plan_model.specs.Outcome.{out-dependents}
-use Rattle.planning.specs.Stages.{Fated, Rewrote}
+use Rattle.planning.specs.Stages.{Fated, Rewriting, Rewrote}
 use Rattle.planning.specs.Answers.{plannedBy, PlanMade}
 use Rattle.planning.specs.declared.Planned.the-variants.{Refused}
 
@@ -61,29 +59,25 @@ module _ {b : List ℕ} {l : Layout} {t s : List ℕ} (r : Ready b l t s) where
       unfolding wordsAt
       rows-rewritable long = rewritable n T (listedIn l b) (length-view n t s) (callsIn l b) (facts .recorded) w c (F .rows) (F .few) (omega (arith, F .few)) (facts .elements)
 
-      abbrev rewrites : Answer (List ChangeRow × ℕ)
-      rewrites = rewriteRows T (mapping (mappingsIn l b)) (listedIn l b) (fatedRows T (callsIn l b)) (fatedRows T (callsIn l b))
+      pub rows-rewriting : {out : List ℕ} {q : Rewritten} → RowsRewritten n t s m (wordsAt b (l .list) (l .sizes .listed)) w c out q → Rewriting b l t s m c out q
+      unfolding wordsAt
+      rows-rewriting R = record { mapped = map-mapped; mappings = map-told; rows = R .rows ∙ rw (map-told, F .rows); climbs = omega (arith, R .few, F .few) }
 
-      module _ {out : List ℕ} {q : Rewritten} (R : RowsRewritten n t s m (wordsAt b (l .list) (l .sizes .listed)) w c out q) where
-        rewrites-told : rewrittenBy q (rowsOf c out) ≡ rewrites
-        unfolding wordsAt
-        rewrites-told = R .rows ∙ rw (map-told, F .rows)
+module _ {b : List ℕ} {l : Layout} {t s : List ℕ} {c : ℕ} {w : List ℕ} (F : Fated b l t s c w) {m out : List ℕ} {q : Rewritten} (R : Rewriting b l t s m c out q) where
+  -- 9 or 10 of a dependent
+  pub dependents-refused : Ready b l t s → (k : ℕ) → q ≡ NotRewritten k → (changes running first : List ℕ) → PlanMade b l t s changes running first (Refused k)
+  unfolding plannedBy rewrittenBy
+  dependents-refused r k z changes running first =
+      record { answer = sym (out-dependents (ready-facts r) (F .disjoint) k (sym (R .rows) ∙ ap (λ (p : Rewritten). rewrittenBy p (rowsOf c out)) z)); within = tt }
 
-        -- 9 or 10 of a dependent
-        pub dependents-refused : (k : ℕ) → q ≡ NotRewritten k → (changes running first : List ℕ) → PlanMade b l t s changes running first (Refused k)
-        unfolding plannedBy rewrittenBy
-        dependents-refused k z changes running first =
-            record { answer = sym (out-dependents facts (F .disjoint) k (sym rewrites-told ∙ ap (λ (p : Rewritten). rewrittenBy p (rowsOf c out)) z)); within = tt }
-
-        pub dependents-rewritten : (k : ℕ) → q ≡ Steps k → Rewrote b l t s m c k out
-        unfolding rewrittenBy stepsOf
-        dependents-rewritten k z =
-            let few : k ≤ 4096 * c = rw z at (R .few) in
-            record {
-              few = F .few;
-              disjoint = F .disjoint;
-              mapped = map-mapped;
-              mappings = map-told;
-              rewrote = sym rewrites-told ∙ ap (λ (p : Rewritten). rewrittenBy p (rowsOf c out)) z;
-              climbs = omega (arith, F .few);
-            }
+  pub dependents-rewritten : (k : ℕ) → q ≡ Steps k → Rewrote b l t s m c k out
+  unfolding rewrittenBy stepsOf
+  dependents-rewritten k z =
+      record {
+        few = F .few;
+        disjoint = F .disjoint;
+        mapped = R .mapped;
+        mappings = R .mappings;
+        rewrote = sym (R .rows) ∙ ap (λ (p : Rewritten). rewrittenBy p (rowsOf c out)) z;
+        climbs = rw z at (R .climbs);
+      }

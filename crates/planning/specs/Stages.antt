@@ -10,6 +10,8 @@ use Rattle.syntax_editor.specs.ChangeRow.{rowsOf}
 use Rattle.edit_plan.specs.Overlap.{rowsOverlap}
 use Rattle.mapping.specs.Mapped.{mappedBy, Mapped}
 use Rattle.rewriting.specs.Rewritten.{rewriteRows}
+use Rattle.rewriting.specs.Answers.{rewrittenBy, stepsOf}
+use Rattle.rewriting.specs.declared.Rewritten.{Rewritten}
 use Rattle.layout.specs.declared.Layout.{Layout}
 use Rattle.plan_model.specs.Fated.{sortedRows, fatedRows}
 use Rattle.plan_model.specs.Ready.{listedIn, callsIn, mappingsIn, tableIn}
@@ -25,7 +27,14 @@ pub record Fated (b : List ℕ) (l : Layout) (t s : List ℕ) (c : ℕ) (w : Lis
   pub rows : rowsOf c w ≡ fatedRows (tableIn l t s) (callsIn l b)
   pub disjoint : rowsOverlap (sortedRows (tableIn l t s) (callsIn l b)) ≡ none
 
--- the words w hold the rows with rewritten targets, after so many climb steps; m is the array of mappings
+-- the words w hold the rows with rewritten targets, as far as r does not refuse one; m is the array of mappings
+pub record Rewriting (b : List ℕ) (l : Layout) (t s m : List ℕ) (c : ℕ) (w : List ℕ) (r : Rewritten) : Type 0 where
+  pub mapped : Mapped (l .sizes .elements) m
+  pub mappings : mappedBy m ≡ mapping (mappingsIn l b)
+  pub rows : rewrittenBy r (rowsOf c w) ≡ rewriteRows (tableIn l t s) (mapping (mappingsIn l b)) (listedIn l b) (fatedRows (tableIn l t s) (callsIn l b)) (fatedRows (tableIn l t s) (callsIn l b))
+  pub climbs : stepsOf r ≤ 1048576
+
+-- none is refused, after so many climb steps
 pub record Rewrote (b : List ℕ) (l : Layout) (t s m : List ℕ) (c steps : ℕ) (w : List ℕ) : Type 0 where
   pub few : c ≤ 256
   pub disjoint : rowsOverlap (sortedRows (tableIn l t s) (callsIn l b)) ≡ none

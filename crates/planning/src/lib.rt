@@ -7,9 +7,11 @@ ghost use mathlib.Core.Path.{_≡_};
 ghost use Prim.Native.Nat.{_≤_};
 ghost use lib.ListN.{length};
 ghost use Rattle.syntax_editor.specs.ChangeRow.{rowsOf};
-ghost use Rattle.plan_model.specs.Ready.{Ready};
+ghost use Rattle.mapping.specs.Mapped.{Mapped};
+ghost use Rattle.settling.specs.Answers.{NotesSettled};
+ghost use Rattle.plan_model.specs.Ready.{notesIn, Ready};
 ghost use Rattle.planning.specs.Counted.{discardedOf};
-ghost use Rattle.planning.specs.Stages.{Sorted, Fated, Rewrote};
+ghost use Rattle.planning.specs.Stages.{Sorted, Fated, Rewriting, Rewrote};
 ghost use Rattle.planning.specs.Answers.{PlanMade};
 
 // Of a plan: how many change rows, how many of them run, how many are discarded, and the climb steps.
@@ -75,6 +77,33 @@ fn record_and_sort(
     c
 }
 
+// The notes of a batch with this layout settle, and are written to `first`.
+fn settle(
+    b: &[u8],
+    l: Layout,
+    table: &[u32],
+    source: &[u32],
+    map: &[u32],
+    first: &mut [u32],
+) -> Notes
+    requires { ⌜ Ready (now b) l (now table) (now source) ⌝ }
+    requires { ⌜ Mapped (l .sizes .elements) (now map) × (768 ≤ length (now first)) ⌝ }
+    ensures { λ r. ⌜ NotesSettled (l .sizes .elements) (now (table .entry)) (now (source .entry)) (now (map .entry)) (notesIn l (now (b .entry))) (l .sizes .notes) (now (first .entry)) (now (first .exit)) r ⌝ }
+{
+    let s = l.sizes;
+    settling::settle_notes(
+        b,
+        l.noted,
+        l.numbers,
+        s.notes,
+        table,
+        source,
+        map,
+        s.elements,
+        first,
+    )
+}
+
 // The notes settle, and the rewritten changes are put in running order: the plan, or 9 or 10 of a note.
 fn settle_and_order(
     b: &[u8],
@@ -94,18 +123,7 @@ fn settle_and_order(
     requires { ⌜ (256 ≤ length (now order)) × (256 ≤ length (now running)) × (768 ≤ length (now first)) ⌝ }
     ensures { λ r. ⌜ PlanMade (now (b .entry)) l (now (table .entry)) (now (source .entry)) (now (changes .entry)) (now (running .exit)) (now (first .exit)) r ⌝ }
 {
-    let s = l.sizes;
-    match settling::settle_notes(
-        b,
-        l.noted,
-        l.numbers,
-        s.notes,
-        table,
-        source,
-        map,
-        s.elements,
-        first,
-    ) {
+    match settle(b, l, table, source, map, first) {
         Notes::Refused(number) => Planned::Refused(number),
         Notes::Settled => {
             let runs = postorder::running_order(changes, c, order, running);
@@ -120,7 +138,39 @@ fn settle_and_order(
     }
 }
 
-// Dependents are rewritten into `changes`, by the fated rows of `sorted`; then the notes and the order: the plan, or 9 or 10.
+// Dependents are rewritten into `changes`, by the mappings and the fated rows of `sorted`.
+fn rewrite(
+    b: &[u8],
+    l: Layout,
+    table: &[u32],
+    source: &[u32],
+    sorted: &[u32],
+    c: usize,
+    map: &mut [u32],
+    changes: &mut [u32],
+) -> Rewritten
+    requires { ⌜ Ready (now b) l (now table) (now source) ⌝ }
+    requires { ⌜ Fated (now b) l (now table) (now source) c (now sorted) ⌝ }
+    requires { ⌜ (3328 ≤ length (now sorted)) × (2048 ≤ length (now map)) × (3328 ≤ length (now changes)) ⌝ }
+    ensures { λ r. ⌜ Rewriting (now (b .entry)) l (now (table .entry)) (now (source .entry)) (now (map .exit)) c (now (changes .exit)) r ⌝ }
+{
+    let s = l.sizes;
+    mapping::fill_mapping(b, l.inputs, l.outputs, s.mappings, map);
+    rewriting::rewrite_dependents(
+        table,
+        source,
+        map,
+        s.elements,
+        b,
+        l.list,
+        s.listed,
+        sorted,
+        c,
+        changes,
+    )
+}
+
+// Dependents are rewritten, then the notes settle: the plan, or 9 or 10.
 fn rewrite_and_settle(
     b: &[u8],
     l: Layout,
@@ -139,22 +189,9 @@ fn rewrite_and_settle(
     requires { ⌜ (3328 ≤ length (now sorted)) × (3328 ≤ length (now changes)) × (256 ≤ length (now order)) × (256 ≤ length (now running)) × (2048 ≤ length (now map)) × (768 ≤ length (now first)) ⌝ }
     ensures { λ r. ⌜ PlanMade (now (b .entry)) l (now (table .entry)) (now (source .entry)) (now (changes .exit)) (now (running .exit)) (now (first .exit)) r ⌝ }
 {
-    let s = l.sizes;
-    mapping::fill_mapping(b, l.inputs, l.outputs, s.mappings, map);
-    match rewriting::rewrite_dependents(
-        table,
-        source,
-        map,
-        s.elements,
-        b,
-        l.list,
-        s.listed,
-        sorted,
-        c,
-        changes,
-    ) {
+    match rewrite(b, l, table, source, sorted, c, map, changes) {
         Rewritten::Refused(number) => Planned::Refused(number),
-        Rewritten::Steps(steps) => {
+        Rewritten::Steps(k) => {
             settle_and_order(
                 b,
                 l,
@@ -163,7 +200,7 @@ fn rewrite_and_settle(
                 map,
                 changes,
                 c,
-                steps,
+                k,
                 order,
                 running,
                 first,

@@ -1,32 +1,23 @@
 -- `rewrite_and_settle` meets its contract. One law for a refused dependent, one for what is left to the notes.
 -- Assumes nothing.
-use native.Mathlib.Omega.{arith}
 use borrow.Author.Needs.{needs}
-use Rattle.planning.proofs.Rewriting.{mappings-bounded, map-mapped, rows-rewritable, dependents-refused, dependents-rewritten}
+use Rattle.planning.proofs.Rewriting.{dependents-refused, dependents-rewritten}
 use Rattle.planning.proofs.rewrite_and_settle.Statement.{statement}
 use Rattle.planning.proofs.rewrite_and_settle.Tie as tie
 
-fill-mapping-requires : tie.Need-fill-mapping-requires
-fill-mapping-requires c κs =
-    let p = c .before .before .before .before .before .before .before .before .before .before .before .pre in
-    ((p .0 .within .inputs, p .0 .within .outputs), mappings-bounded (p .0) _ (p .1 .1 .4))
-
-rewrite-dependents-requires : tie.Need-rewrite-dependents-requires
-rewrite-dependents-requires c κs =
-    let p = c .before .before .before .before .before .before .before .before .before .before .before .before .before .before .before .before .pre in
-    let e = c .before .before .before .before .fill-mapping .ensures in
-    (p .0 .formed, (map-mapped (p .0) e (p .1 .1 .4), ((p .0 .within .list, omega (arith, p .1 .0 .few, p .1 .1 .1)), rows-rewritable (p .0) e (p .1 .1 .4) (p .1 .0) (p .1 .1 .0))))
+rewrite-requires : tie.Need-rewrite-requires
+rewrite-requires c κs = search needs
 
 enum-known-number : tie.Need-enum-known-number
 enum-known-number c = search needs
 
-enum-known-steps : tie.Need-enum-known-steps
-enum-known-steps c = search needs
+enum-known-k : tie.Need-enum-known-k
+enum-known-k c = search needs
 
 settle-and-order-requires : tie.Need-settle-and-order-requires
 settle-and-order-requires c κs =
-    let p = c .before .before .before .before .before .before .before .before .before .before .before .before .before .before .before .before .before .before .before .before .before .before .before .before .before .before .before .pre in
-    (p .0, (dependents-rewritten (p .0) (c .before .before .before .before .before .before .before .before .before .before .before .before .before .before .before .fill-mapping .ensures) (p .1 .1 .4) (p .1 .0) (c .before .before .before .before .before .before .before .before .before .before .rewrite-dependents .ensures) _ (c .before .before .before .before .before .before .steps .given .1), (p .1 .1 .2, p .1 .1 .3, p .1 .1 .5)))
+    let p = c .before .before .before .before .before .before .before .before .before .before .before .before .before .before .before .before .before .before .before .before .before .before .before .before .pre in
+    (p .0, (dependents-rewritten (p .1 .0) (c .before .before .before .before .before .before .before .before .before .before .before .before .rewrite .ensures) _ (c .before .before .before .before .before .before .k .given .1), (p .1 .1 .2, p .1 .1 .3, p .1 .1 .5)))
 
 same-length : tie.Need-same-length
 same-length c = search needs
@@ -35,7 +26,7 @@ same-length-2 : tie.Need-same-length-2
 same-length-2 c = search needs
 
 returns : tie.Need-returns
-returns c = let p = c .before .before .before .before .before .before .before .before .before .before .before .before .before .before .before .before .before .before .before .before .before .before .pre in dependents-refused (p .0) (c .before .before .before .before .before .before .before .before .before .before .fill-mapping .ensures) (p .1 .1 .4) (p .1 .0) (c .before .before .before .before .before .rewrite-dependents .ensures) _ (c .before .number .given .1) _ _ _
+returns c = let p = c .before .before .before .before .before .before .before .before .before .before .before .before .before .before .before .before .before .before .before .pre in dependents-refused (p .1 .0) (c .before .before .before .before .before .before .before .rewrite .ensures) (p .0) _ (c .before .number .given .1) _ _ _
 
 same-length-3 : tie.Need-same-length-3
 same-length-3 c = search needs
@@ -59,10 +50,9 @@ pub rewrite-and-settle-spec : {M : Type 1} → statement M
 rewrite-and-settle-spec =
     tie.close
     (tie.spec
-    fill-mapping-requires
-    rewrite-dependents-requires
+    rewrite-requires
     enum-known-number
-    enum-known-steps
+    enum-known-k
     settle-and-order-requires
     same-length
     same-length-2

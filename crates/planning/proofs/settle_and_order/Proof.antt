@@ -1,18 +1,12 @@
 -- `settle_and_order` meets its contract. One law for each answer.
 -- Assumes nothing.
-use native.Mathlib.Omega.{arith}
 use borrow.Author.Needs.{needs}
-use Rattle.plan_model.specs.Ready.{ready-facts}
 use Rattle.planning.proofs.Settling.{notes-refused, plan-made}
 use Rattle.planning.proofs.settle_and_order.Statement.{statement}
 use Rattle.planning.proofs.settle_and_order.Tie as tie
 
-settle-notes-requires : tie.Need-settle-notes-requires
-settle-notes-requires c κs =
-    let r = c .before .before .before .before .before .before .before .before .before .before .pre .0 in
-    let R = c .before .before .before .before .before .before .before .before .before .before .pre .1 .0 in
-    let L = r .within .limits in
-    (r .formed, (R .mapped, ((r .within .noted, r .within .numbers, L .elements, omega (arith, L .notes), omega (arith, L .notes)), (ready-facts r) .notes)))
+settle-requires : tie.Need-settle-requires
+settle-requires c κs = search needs
 
 enum-known-number : tie.Need-enum-known-number
 enum-known-number c = search needs
@@ -30,7 +24,7 @@ same-length : tie.Need-same-length
 same-length c = search needs
 
 returns : tie.Need-returns
-returns c = notes-refused (c .before .before .before .before .before .before .before .before .before .before .before .before .before .before .before .before .pre .0) (c .before .before .before .before .before .before .before .before .before .before .before .before .before .before .before .before .pre .1 .0) (c .before .before .before .before .before .settle-notes .ensures) _ (c .before .number .given .1) _ _
+returns c = notes-refused (c .before .before .before .before .before .before .before .before .before .before .before .before .before .before .before .pre .0) (c .before .before .before .before .before .before .before .before .before .before .before .before .before .before .before .pre .1 .0) (c .before .before .before .before .before .settle .ensures) _ (c .before .number .given .1) _ _
 
 same-length-2 : tie.Need-same-length-2
 same-length-2 c = search needs
@@ -42,13 +36,13 @@ same-length-4 : tie.Need-same-length-4
 same-length-4 c = search needs
 
 returns-2 : tie.Need-returns-2
-returns-2 c = plan-made (c .before .before .before .before .before .before .before .before .before .before .before .before .before .before .before .before .before .before .before .before .before .before .before .pre .0) (c .before .before .before .before .before .before .before .before .before .before .before .before .before .before .before .before .before .before .before .before .before .before .before .pre .1 .0) (c .before .before .before .before .before .before .before .before .before .before .before .before .settle-notes .ensures) (c .before .before .before .before .before .before .before .before .enum-told .given .1) _ (c .before .before .before .before .before .running-order .ensures .0) (c .before .before .before .before .before .running-order .ensures .1 .0) (c .count-discarded .ensures)
+returns-2 c = plan-made (c .before .before .before .before .before .before .before .before .before .before .before .before .before .before .before .before .before .before .before .before .before .before .pre .0) (c .before .before .before .before .before .before .before .before .before .before .before .before .before .before .before .before .before .before .before .before .before .before .pre .1 .0) (c .before .before .before .before .before .before .before .before .before .before .before .before .settle .ensures) (c .before .before .before .before .before .before .before .before .enum-told .given .1) _ (c .before .before .before .before .before .running-order .ensures .0) (c .before .before .before .before .before .running-order .ensures .1 .0) (c .count-discarded .ensures)
 
 pub settle-and-order-spec : {M : Type 1} → statement M
 settle-and-order-spec =
     tie.close
     (tie.spec
-    settle-notes-requires
+    settle-requires
     enum-known-number
     enum-told
     running-order-requires
