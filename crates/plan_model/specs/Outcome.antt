@@ -110,28 +110,28 @@ module _ {b : List ℕ} {l : Layout} {t s : List ℕ} (f : Facts b l t s) where
       ap (rewritten T m) (sym (fated-planned n T listed long (callsIn l b) (f .recorded)))
       ∙ rw (map-map (λ (p : Planned). p .change) (planOf listed) F) (rewrite-told T m listed n F F (All-map (λ r k. k .stated) F kept))
 
-  pub plan-told : plan a ≡ planRows T listed (mapping (mappingsIn l b)) (sortedRows T (callsIn l b)) F (notesIn l b)
+  pub plan-rows : plan a ≡ planRows T listed (mapping (mappingsIn l b)) (sortedRows T (callsIn l b)) F (notesIn l b)
   unfolding plan planRows
-  plan-told =
+  plan-rows =
       rw (← overlap-sorted T (callsIn l b), rewriting-told, settled-told T (mapping (mappingsIn l b)) 0 (notesIn l b))
       (rows-alike T listed (isSome (rowsOverlap (sortedRows T (callsIn l b)))) (rewriteRows T (mapping (mappingsIn l b)) listed F F) (settledAt T (mapping (mappingsIn l b)) 0 (notesIn l b)))
 
   -- 8
   pub out-overlap : (p : ℕ × ℕ) → rowsOverlap (sortedRows T (callsIn l b)) ≡ some p → planning b ≡ refused 8
   unfolding planning planRows _>>=_ refuse isSome
-  out-overlap p e = rw (f .accepted, plan-told, e)
+  out-overlap p e = rw (f .accepted, plan-rows, e)
 
   module _ (disjoint : rowsOverlap (sortedRows T (callsIn l b)) ≡ none) where
     -- 9 or 10 of a dependent
     pub out-dependents : (k : ℕ) → rewriteRows T (mapping (mappingsIn l b)) listed F F ≡ refused k → planning b ≡ refused k
     unfolding planning planRows _>>=_ refuse isSome
-    out-dependents k g = rw (f .accepted, plan-told, disjoint, g)
+    out-dependents k g = rw (f .accepted, plan-rows, disjoint, g)
 
     module _ (rs : List ChangeRow) (steps : ℕ) (rewrote : rewriteRows T (mapping (mappingsIn l b)) listed F F ≡ gives (rs, steps)) where
       -- 9 or 10 of a note
       pub out-notes : (k : ℕ) → settledAt T (mapping (mappingsIn l b)) 0 (notesIn l b) ≡ refused k → planning b ≡ refused k
       unfolding planning planRows _>>=_ refuse isSome
-      out-notes k g = rw (f .accepted, plan-told, disjoint, rewrote, g)
+      out-notes k g = rw (f .accepted, plan-rows, disjoint, rewrote, g)
 
       held : (ns : List (ℕ × ℕ × ℕ)) → All (λ m. m .0 < l .sizes .elements) ns → map (heldNote (node 2147483648 (forest (f .trees)))) (map (noteOf T) ns) ≡ map noteHeld ns
       held ns low =
@@ -142,4 +142,4 @@ module _ {b : List ℕ} {l : Layout} {t s : List ℕ} (f : Facts b l t s) where
       pub out-made : (ns : List (ℕ × ℕ × ℕ)) → settledAt T (mapping (mappingsIn l b)) 0 (notesIn l b) ≡ gives ns → All (λ m. m .0 < l .sizes .elements) ns
           → planning b ≡ gives (rowsOutcome T listed rs steps (map noteHeld ns))
       unfolding planning planRows outcome performed atFirst begin store _>>=_ refuse isSome
-      out-made ns g low = rw (f .accepted, plan-told, disjoint, rewrote, g, held ns low)
+      out-made ns g low = rw (f .accepted, plan-rows, disjoint, rewrote, g, held ns low)
