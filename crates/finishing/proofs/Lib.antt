@@ -1,0 +1,2 @@
+-- The loops, and each way out.
+pub mod Turns
