@@ -24,7 +24,7 @@ use Rattle.finish.specs.TextSizes.{bytes-any, own-few}
 
 -- ── Text starts ─────────────────────────────────────────────────────────────────────────────────────────────
 
-length-starts : (s : ℕ) (rs : List Row) → length (starts s rs) ≡ length rs
+pub length-starts : (s : ℕ) (rs : List Row) → length (starts s rs) ≡ length rs
 unfolding starts
 length-starts s [] = refl
 length-starts s (r ∷ rs) = ap suc (length-starts (s + textLength r) rs)

@@ -32,13 +32,13 @@ resultIn discarded climbs rs changed notes = record {
   climbs = climbs;
 }
 
--- the changed elements of the new tree in order, from the changed rows
-unfoldable pub changedIn : List Row → List ℕ → List ℕ
-changedIn rs changed = rising (startKey (starts 0 rs)) (pick (inRun 1 (suc (length rs))) changed)
+-- the changed elements of a new tree of m elements in order, from where the text of each starts and the changed rows
+unfoldable pub changedBy : List ℕ → ℕ → List ℕ → List ℕ
+changedBy starts m changed = rising (startKey starts) (pick (inRun 1 (suc m)) changed)
 
 -- its notes in order, from the notes that are held
-unfoldable pub notesIn : List Row → List HeldNote → List HeldNote
-notesIn rs notes = rising (noteKey (starts 0 rs)) (pick (noteIn 1 (suc (length rs))) notes)
+unfoldable pub notesBy : List ℕ → ℕ → List HeldNote → List HeldNote
+notesBy starts m notes = rising (noteKey starts) (pick (noteIn 1 (suc m)) notes)
 
 -- ── The end of tree 0 ───────────────────────────────────────────────────────────────────────────────────────
 
@@ -59,16 +59,16 @@ map-via g f h e [] = refl
 map-via {X} {Y} {Z} g f h e (x ∷ l) = rw (e x, map-via g f h e l)
 
 module _ (s : Store) where
-  changed-in : changedNumbers s ≡ changedIn (firstTree s.rows) s.changed
-  unfolding changedNumbers changedIn startOf numberOf
+  changed-in : changedNumbers s ≡ changedBy (starts 0 (firstTree s.rows)) (length (firstTree s.rows)) s.changed
+  unfolding changedNumbers changedBy startOf numberOf
   changed-in = ap (λ n. rising (λ e. startOf s.rows e ∷ []) (pick (inRun 1 n) s.changed)) (tree-end s.rows)
 
   -- a note of the new tree with its element for its row
   renumbered : HeldNote × ℕ → HeldNote
   renumbered m = withRow (m .0) (m .1)
 
-  notes-in : map renumbered (noteNumbers s) ≡ notesIn (firstTree s.rows) s.notes
-  unfolding renumbered noteNumbers notesIn startOf numberOf withRow pick
+  notes-in : map renumbered (noteNumbers s) ≡ notesBy (starts 0 (firstTree s.rows)) (length (firstTree s.rows)) s.notes
+  unfolding renumbered noteNumbers notesBy startOf numberOf withRow pick
   notes-in =
       map-rising renumbered (λ m. m .0 .number ∷ m .0 .place ∷ startOf s.rows (m .1) ∷ []) (noteKey (starts 0 (firstTree s.rows))) (λ m. refl) (pick found s.notes)
       ∙ ap (rising (noteKey (starts 0 (firstTree s.rows)))) (go s.notes ∙ ap (λ n. pick (noteIn 1 n) s.notes) (tree-end s.rows))
@@ -85,7 +85,7 @@ module _ (s : Store) where
       go (n ∷ l) = one n (numberOf s.rows n.row) (pick found l) ∙ ap (more (noteIn 1 (rowsAfter s.rows 1 1) n)) (go l)
 
 -- The result from what is held is the result from the new tree, its changed elements and its notes in order.
-pub result-in : (discarded climbs : ℕ) (s : Store) → resultOf discarded climbs s ≡ resultIn discarded climbs (firstTree s.rows) (changedIn (firstTree s.rows) s.changed) (notesIn (firstTree s.rows) s.notes)
+pub result-in : (discarded climbs : ℕ) (s : Store) → resultOf discarded climbs s ≡ resultIn discarded climbs (firstTree s.rows) (changedBy (starts 0 (firstTree s.rows)) (length (firstTree s.rows)) s.changed) (notesBy (starts 0 (firstTree s.rows)) (length (firstTree s.rows)) s.notes)
 unfolding resultOf resultIn renumbered withRow
 result-in discarded climbs s =
     same (changed-in s)
