@@ -39,7 +39,9 @@ same-length : tie.Need-same-length
 same-length c = search needs
 
 returns : tie.Need-returns
-returns c = search (rest-written, needs)
+returns c =
+    let s = c .before .before .before .before .before .before .before .before .before .before .before .before .before .before .before .before .before .before .before .before .before in
+    rest-written (s .args .at) (s .args .changed .now) (s .args .notes .now) (s .args .tree .now) (s .args .text .now) (s .args .b .now) (c .before .before .before .before .before .before .before .before .before .before .before .before .before .before .write-words .ensures) (c .before .before .before .before .before .before .before .before .before .before .write-column .ensures) (c .before .before .before .before .before .before .write-column2 .ensures) (c .before .before .write-text .ensures)
 
 pub write-rest-spec : {M : Type 1} → statement M
 write-rest-spec =
