@@ -16,11 +16,10 @@ use Rattle.store_model.specs.Store.{HeldNote}
 use Rattle.annotations.specs.Notes.{notesOf, notes-same}
 use Rattle.tree_store.specs.Stored.{stored}
 use Rattle.finish_model.specs.Finished.{firstTree, starts, resultOf}
-use Rattle.finish.specs.TextSizes.{bytes-any, bytes-part}
 use Rattle.finish.proofs.Turns.{length-starts}
 use Rattle.finish_sort.specs.Sorted.{ChangedSorted, NotesSorted}
 use Rattle.finishing.specs.declared.Finished.{Finished}
-use Rattle.finishing.specs.InTree.{resultIn, changedBy, notesBy, tree-few, result-in}
+use Rattle.finishing.specs.InTree.{resultIn, changedBy, notesBy, result-in}
 use Rattle.finishing.specs.Answered.{Answered}
 use Rattle.finishing.specs.Arrays.{toldResult}
 
@@ -47,14 +46,6 @@ module _ (d tree starts text changed notes : List ℕ) (c k discarded climbs : �
 -- ── From what the run leaves ────────────────────────────────────────────────────────────────────────────────
 
 module _ {rows : List ℕ} {n : ℕ} {tree : List ℕ} (p : Part rows n 1 tree) where
-  pub tree-long : 3 * n ≤ length rows → 1 ≤ n → length tree ≤ 3 * (n - 1)
-  unfolding firstTree
-  tree-long h b = omega (arith, p .long [], tree-few (firstRows [] n rows), length-first [] n rows h)
-
-  pub tree-bytes : (text : List ℕ) → bytes (firstRows text n rows) < 2 ^ 32 → bytes (triples [] tree) < 2 ^ 32
-  unfolding subtree
-  tree-bytes text h = omega (arith, bytes-any [] text tree, ap bytes (p .told text), bytes-part 1 (skip 1 (drop 1 (firstRows text n rows))) (firstRows text n rows))
-
   -- the words that list the starts are those of the new tree
   starts-listed : (text : List ℕ) (d l : List ℕ) → length tree ≤ 3 * length d → l ≡ paste d 0 (starts 0 (triples text tree)) (length tree / 3) → take (length tree / 3) l ≡ starts 0 (triples text tree)
   starts-listed text d l h e =

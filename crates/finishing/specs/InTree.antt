@@ -3,20 +3,18 @@
 use mathlib.Core.Path.{_≡_, refl, sym, ap, _∙_}
 use mathlib.Core.List.{List, [], _∷_, map, flatMap}
 use mathlib.Core.Option.{Option, none, some, Option·map}
-use Prim.Native.Nat.{ℕ, suc, _+_, _-_, _≤_}
-use native.Mathlib.Omega.{arith}
-use lib.ListN.{length, take, drop, getD, length-drop}
-use lib.Seq.{length-take-le}
+use Prim.Native.Nat.{ℕ, suc}
+use lib.ListN.{length}
 use Rattle.orders.specs.Lists.{more, pick}
 use Rattle.definition.specs.Basics.{rising}
 use Rattle.definition.specs.Finishing.{Result}
 use Rattle.laws.specs.Sorting.{map-rising}
-use Rattle.rows.specs.Row.{Row, kind, measure, own, skip}
-use Rattle.rows.specs.RowLaws.{skip-le}
-use Rattle.rows.specs.Place.{rowsAfter, subtree, inRun}
+use Rattle.rows.specs.Row.{Row, kind, measure, own}
+use Rattle.rows.specs.Place.{rowsAfter, inRun}
 use Rattle.store_model.specs.Store.{HeldNote, Store, withRow}
 use Rattle.annotations.specs.Promises.{noteIn}
 use Rattle.finish_model.specs.Finished.{firstTree, numberOf, starts, startOf, changedNumbers, noteNumbers, resultOf}
+use Rattle.finish_model.specs.Numbers.{tree-end}
 use Rattle.finish_sort.specs.Keys.{startKey, noteKey}
 
 -- the result, from the number of discarded changes, the climb steps, the rows of the new tree, its changed elements and its notes, whose rows are element numbers
@@ -39,17 +37,6 @@ changedBy starts m changed = rising (startKey starts) (pick (inRun 1 (suc m)) ch
 -- its notes in order, from the notes that are held
 unfoldable pub notesBy : List ℕ → ℕ → List HeldNote → List HeldNote
 notesBy starts m notes = rising (noteKey starts) (pick (noteIn 1 (suc m)) notes)
-
--- ── The end of tree 0 ───────────────────────────────────────────────────────────────────────────────────────
-
-pub tree-end : (rs : List Row) → rowsAfter rs 1 1 ≡ suc (length (firstTree rs))
-unfolding rowsAfter firstTree subtree
-tree-end rs = let e = length-take-le (skip 1 (drop 1 rs)) (drop 1 rs) (skip-le 1 (drop 1 rs)) in omega arith
-
--- tree 0 has no more rows than stand behind the root of all
-pub tree-few : (rs : List Row) → length (firstTree rs) ≤ length rs - 1
-unfolding firstTree subtree
-tree-few rs = omega (arith, length-take-le (skip 1 (drop 1 rs)) (drop 1 rs) (skip-le 1 (drop 1 rs)), skip-le 1 (drop 1 rs), length-drop 1 rs)
 
 -- ── The result ──────────────────────────────────────────────────────────────────────────────────────────────
 

@@ -3,7 +3,8 @@
 use mathlib.Core.Path.{sym}
 use lib.Seq.{length-take-le}
 use native.Mathlib.Omega.{arith}
-use Rattle.finishing.proofs.Stages.{tree-long, tree-bytes, finish-answered}
+use Rattle.finish.specs.NewTree.{tree-long, tree-bytes}
+use Rattle.finishing.proofs.Stages.{finish-answered}
 use borrow.Author.Needs.{needs}
 use Rattle.finishing.proofs.finish.Statement.{statement}
 use Rattle.finishing.proofs.finish.Tie as tie
