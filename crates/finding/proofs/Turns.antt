@@ -1,10 +1,9 @@
 -- Looking for the first node alike: the test, a turn of the loop, and each way out.
 -- Assumes nothing.
 use mathlib.Core.Path.{_≡_, refl, sym, ap, _∙_}
-use mathlib.Core.Bool.{Bool, true, false, cond, _&&_}
-use mathlib.Core.List.{List, []}
-use mathlib.Core.Option.{none, some}
-use Prim.Native.Nat.{ℕ, suc, _+_, _*_, _^_, _≤_, _<_}
+use mathlib.Core.Bool.{Bool, true, false}
+use mathlib.Core.List.{List}
+use Prim.Native.Nat.{ℕ, _+_, _*_, _^_, _≤_, _<_}
 use native.Mathlib.Omega.{arith}
 use native.Mathlib.Numerals.{add-one}
 use lib.Dec.{eqb}
@@ -12,9 +11,7 @@ use lib.ListN.{length, getD, drop}
 use borrow.Author.Tests.{le-leb, lt-leb, eq-eqb, ne-eqb}
 use Rattle.definition.specs.Elements.{isNode}
 use Rattle.rows.specs.Row.{kind, rowIn, triples, firstRows}
-use Rattle.rows.specs.RowLaws.{skip-le}
-use Rattle.rows.specs.Place.{subtree}
-use Rattle.rows.specs.Words.{kind-word, triples-at, triples-end, length-first}
+use Rattle.rows.specs.Words.{kind-word, triples-at, triples-end}
 use Rattle.syntax_node.specs.Promises.{Measured, Part, found}
 use Rattle.syntax_node.specs.declared.Found.{Found}
 use Rattle.syntax_node.specs.declared.Found.the-variants.{At, Nothing}

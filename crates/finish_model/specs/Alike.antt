@@ -2,7 +2,7 @@
 -- Assumes nothing.
 use mathlib.Core.Path.{_≡_, refl, sym, ap, _∙_}
 use mathlib.Core.Bool.{Bool, true, false, cond, _&&_}
-use mathlib.Core.List.{List, [], _∷_, _++_, headD, append-assoc, append-nil}
+use mathlib.Core.List.{List, [], _∷_, _++_, headD, append-assoc}
 use mathlib.Core.Option.{Option, none, some, Option·map}
 use Prim.Native.Nat.{ℕ, suc, _+_}
 use native.Mathlib.Nat.{add-zero}
@@ -11,10 +11,10 @@ use lib.ListN.{length, take, length-append}
 use lib.Dec.{eqb}
 use Rattle.orders.specs.Tree.{Tree, Trees, node, token, nil, cons, list, children, Path, elements, elementsOf, text, textOf}
 use Rattle.definition.specs.Basics.{first}
-use Rattle.definition.specs.Elements.{Table, table, numbers, rows, rowsBelow, isNode, Row as Known}
+use Rattle.definition.specs.Elements.{Table, table, numbers, rows, rowsBelow, isNode, row, node?, tree, Row as Known}
 use Rattle.definition.specs.Running.{World}
 use Rattle.definition.specs.Finishing.{newTree, newTable}
-use Rattle.definition.specs.FindElement.{alike}
+use Rattle.definition.specs.FindElement.{alike, findIn}
 use Rattle.rows.specs.Row.{Row, kind, textLength, rowsOf, rowsIn, rowsAll}
 use Rattle.finish_model.specs.Finished.{firstTree}
 use Rattle.finish_model.specs.Numbers.{first-tree}
@@ -82,3 +82,8 @@ find-row w old = go (list (children w.trees)) ∙ ap (alikeFrom old.kind old.sta
     go : (cs : List (Tree ℕ)) → foundIn old (table 0 0 (take 1 cs)) ≡ alikeFrom old.kind old.start 0 0 (rowsAll (take 1 cs))
     go [] = refl
     go (c ∷ cs) = found-tree old c 0 [] (0 ∷ []) 0 (0 + elements c) (0 + length (text c)) [] [] refl refl refl
+
+-- `find_element` after a run, told by the rows.
+pub find-in : (T : Table) (w : World) (n : ℕ) → findIn T w n ≡ cond (node? T n && eqb (tree T n) 0) (findRow (firstTree (rowsOf w.trees)) ((row T n) .kind) ((row T n) .start)) none
+unfolding findIn
+find-in T w n = ap (λ o. cond (node? T n && eqb (tree T n) 0) o none) (find-row w (row T n))

@@ -1,18 +1,17 @@
 -- From what the run leaves to the new tree in order, and from there to the words that are written.
 -- Assumes nothing.
-use mathlib.Core.Path.{_≡_, refl, sym, ap, _∙_}
-use mathlib.Core.List.{List, []}
-use Prim.Native.Nat.{ℕ, suc, _+_, _-_, _*_, _/_, _^_, _≤_, _<_}
+use mathlib.Core.Path.{_≡_, sym, ap, _∙_}
+use mathlib.Core.List.{List}
+use Prim.Native.Nat.{ℕ, _+_, _-_, _*_, _/_, _≤_}
 use native.Mathlib.Nat.{zero-add}
 use native.Mathlib.Numerals.{add-one}
 use native.Mathlib.Omega.{arith}
-use lib.ListN.{length, getD, take, drop, length-drop}
+use lib.ListN.{length, take, drop, length-drop}
 use lib.Seq.{paste, take-paste, take-all, length-take-le, getD-take}
-use Rattle.rows.specs.Row.{Row, bytes, skip, triples, firstRows}
+use Rattle.rows.specs.Row.{Row, triples, firstRows}
 use Rattle.rows.specs.Place.{subtree}
-use Rattle.rows.specs.Words.{length-triples, length-first}
+use Rattle.rows.specs.Words.{length-triples}
 use Rattle.syntax_node.specs.Promises.{Part}
-use Rattle.store_model.specs.Store.{HeldNote}
 use Rattle.annotations.specs.Notes.{notesOf, notes-same}
 use Rattle.tree_store.specs.Stored.{stored}
 use Rattle.finish_model.specs.Finished.{firstTree, starts, resultOf}

@@ -1,13 +1,20 @@
 -- The answer, 13 or the length of the bytes, and what the lent buffer holds then.
 -- Assumes nothing.
-use mathlib.Core.Path.{_≡_, _∙_}
+use mathlib.Core.Path.{_≡_, refl, _∙_}
 use mathlib.Core.List.{List}
 use Prim.Native.Nat.{ℕ, _≤_, _<_}
 use lib.ListN.{length}
 use lib.Seq.{paste}
 use borrow.Author.Tests.{lt-ltb, le-ltb}
-use Rattle.definition.specs.Basics.{Answer, refused, gives, _>>=_, refuse}
-use Rattle.definition.specs.Finishing.{Result, encoded, fitting}
+use Rattle.definition.specs.Basics.{Answer, refused, gives, _>>=_, refuse, keep}
+use Rattle.definition.specs.Planning.{Planned, isDiscarded}
+use Rattle.definition.specs.Running.{World}
+use Rattle.definition.specs.Finishing.{Result, result, encoded, fitting}
+use Rattle.definition.specs.Answers.{edit, withWork, edited}
+use Rattle.laws.specs.Held.{Holds}
+use Rattle.store_model.specs.Store.{Store, store}
+use Rattle.finish_model.specs.Finished.{resultOf}
+use Rattle.finish_model.specs.Result.{result-rows}
 use Rattle.finishing.specs.declared.Finished.{Finished}
 use Rattle.finishing.specs.declared.Finished.the-variants.{Short, Bytes}
 
@@ -45,3 +52,15 @@ answered-short {d} {r} h = record { answer = rw (short (length d) r h); result =
 pub answered-bytes : {d : List ℕ} {r : Result} {n : ℕ} {out : List ℕ} → n ≡ length (encoded r) → length (encoded r) ≤ length d → out ≡ paste d 0 (encoded r) (length (encoded r)) → Answered d r out (Bytes n)
 unfolding lengthOf overFront _>>=_
 answered-bytes {d} {r} {n} {out} e h w = record { answer = rw (fits (length d) r h, e); result = w ∙ rw (fits (length d) r h) }
+
+-- ── The definition's ────────────────────────────────────────────────────────────────────────────────────────
+
+-- the edit's bytes are what fits
+pub edited-fitted : (work : List (ℕ × ℕ)) (bytes : List ℕ) (room : ℕ) → edited work bytes room ≡ withWork work (edit bytes >>= fitted room)
+unfolding edited fitted
+edited-fitted work bytes room = refl
+
+-- what is answered from what the run leaves is the answer of the definition's result
+pub answered-result : (ps : List Planned) (climbs : ℕ) (w : World) {s : Store} {d out : List ℕ} {a : Finished} → Holds w → store w ≡ s
+    → Answered d (resultOf (length (keep (λ p. isDiscarded p.fate) ps)) climbs s) out a → Answered d (result ps climbs w) out a
+answered-result ps climbs w h e v = rw (← result-rows ps climbs w h, e) v
