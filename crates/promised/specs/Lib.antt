@@ -1,0 +1,7 @@
+-- What the promises of the public calls give a reader: each theorem speaks of every call that keeps its promise (`Edits`, `Finds` of work/specs/Promises.antt).
+--     Demand1    DEMAND 1: what each lent slice holds then
+--     Answered   the answer and the result slice, where no lent slice is too short
+--     Examples   the examples of document 01, as the calls answer them
+pub mod Demand1
+pub mod Answered
+pub mod Examples
