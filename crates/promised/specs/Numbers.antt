@@ -9,15 +9,16 @@ use native.Mathlib.Omega.{arith}
 use lib.Dec.{ltb, eqb}
 use lib.ListN.{length, getD, take, drop, length-append}
 use lib.Seq.{getD-drop}
-use borrow.Author.Tests.{eqb-true}
+use borrow.Author.Tests.{ne-eqb}
 use Rattle.orders.specs.Lists.{All, pick}
-use Rattle.orders.specs.ListLaws.{some-inj, none-some, map-some, get-mem, All-map, All-mem, All-over, All-pick, All-perm}
+use Rattle.orders.specs.ListLaws.{some-inj, none-some, map-some, get-mem, All-map, All-mem, All-over, All-pick, All-perm, All-map₂}
 use Rattle.orders.specs.Tree.{Tree, Trees, node, token, nil, cons, list, forest, label, measure, text, textOf, preorder, preorders, elements, elementsOf, Path, resolve, adjust, modify, splice, children, strip}
 use Rattle.orders.specs.TreeLaws.{list-forest, resolve-child}
-use Rattle.definition.specs.Basics.{Answer, gives, refuse, orRefuse}
+use Rattle.definition.specs.Basics.{Answer, gives, refuse, orRefuse, isSome}
+use Rattle.definition.specs.Recording.{recorded}
 use Rattle.definition.specs.Words.{word, words}
 use Rattle.definition.specs.Batch.{Sizes, Batch, sizes, beyond, whole, arrays, batch}
-use Rattle.definition.specs.Elements.{Table, table, row}
+use Rattle.definition.specs.Elements.{Table, table, row, descend}
 use Rattle.definition.specs.Refusals.{Accepted, accepted}
 use Rattle.definition.specs.Planning.{Planned, sorted, overlap, planned}
 use Rattle.definition.specs.Rewriting.{Note, mapping, rewritten, settle, settled}
@@ -26,11 +27,12 @@ use Rattle.definition.specs.Finishing.{newTree, newTable, numberAt, changedElem
 use Rattle.definition.specs.Answers.{Plan, plan, performed, atFirst, ran, edit}
 use Rattle.laws.specs.Basics.{All-append, append-All, All-take, All-drop, All-modify, All-flatMap, map-All}
 use Rattle.laws.specs.Answers.{gives-inj, given, is-there}
-use Rattle.laws.specs.Measures.{preorders-list, textOf-list}
+use Rattle.laws.specs.Measures.{preorders-list, preorder-list-length}
 use Rattle.laws.specs.Sorting.{rising-perm}
 use Rattle.laws.specs.Accepted.{Known}
-use Rattle.laws.specs.Held.{Leads, number-found}
-use Rattle.laws.specs.Limits.{Within, Ran, ran-known}
+use Rattle.laws.specs.Held.{Leads, Holds, number-found}
+use Rattle.laws.specs.Rows.{table-length}
+use Rattle.laws.specs.Limits.{Small, new-elements, Ran, ran-known}
 use Rattle.promised.specs.Reading.{Word, InWords}
 
 -- ── The batch ───────────────────────────────────────────────────────────────────────────────────────────────
@@ -186,3 +188,127 @@ steps-fit T first h (p ∷ ps) w last k e = given (step T first w p) _ e λ next
         given (orRefuse 11 (place T w p.change)) _ a λ r b a.
         given (refuse 12 (tooLarge (spliced r (map (yield first w) (news p.change)) (records T p) w))) _ a λ u c a.
         rw (← gives-inj a) (spliced-fits w r (map (yield first w) (news p.change)) (records T p) k (yields-fit first w (news p.change) h k))
+
+-- ── Before the first step ───────────────────────────────────────────────────────────────────────────────────
+
+settled-fit : (T : Table) (mapped : ℕ → Option ℕ) (i : ℕ) (ns : List (ℕ × ℕ)) (notes : List Note) → All (λ n. Word (n .1)) ns → settled T mapped i ns ≡ gives notes → Numbers notes
+unfolding settled
+settled-fit T mapped i [] notes h e = rw (← gives-inj e) tt
+settled-fit T mapped i (n ∷ ns) notes h e =
+    given (settle T mapped (length T) (n .0)) _ e λ to x e.
+    given (settled T mapped (suc i) ns) _ e λ rest y e.
+    rw (← gives-inj e) (h .0, settled-fit T mapped (suc i) ns rest (h .1) y)
+
+plan-fits : (a : Accepted) (p : Plan) → All (λ n. Word (n .1)) a.notes → plan a ≡ gives p → Numbers p.notes
+unfolding plan
+plan-fits a p h e =
+    let T = a .table in
+    let cs = sorted T (recorded a.calls) in
+    given (refuse 8 (isSome (overlap T cs))) _ e λ u x e.
+    given (rewritten T (mapping a.mappings) (planned T cs)) _ e λ r y e.
+    given (settled T (mapping a.mappings) 0 a.notes) _ e λ notes z e.
+    rw (← gives-inj e) (settled-fit T (mapping a.mappings) 0 a.notes notes h z)
+
+zip-fits : (l m : List ℕ) → All Word m → All (λ (n : ℕ × ℕ). Word (n .1)) (zip l m)
+unfolding zip
+zip-fits [] m h = tt
+zip-fits (x ∷ l) [] h = tt
+zip-fits (x ∷ l) (y ∷ m) h = (h .0, zip-fits l m (h .1))
+
+first-fits : (b : List ℕ) (a : Accepted) (p : Plan) → Bytes b → Known b a → plan a ≡ gives p → Fits (atFirst a p)
+unfolding atFirst begin
+first-fits b a p h k e =
+    let (kinds, numbers) = batch-fits b (k .arrays) h (k .read) in
+    let each : All (λ x. Word (label x)) (flatMap preorder a.trees) = map-All Word label (flatMap preorder a.trees) (rw (k .spells .kinds) kinds) in
+    record {
+      kinds = kinds-node 2147483648 a.trees (omega arith) (flatMap-All (λ x. Word (label x)) preorder a.trees each);
+      notes = plan-fits a p (rw (k .noted) (zip-fits (k .arrays .noted) (k .arrays .numbers) numbers)) e;
+    }
+
+-- ── The result ──────────────────────────────────────────────────────────────────────────────────────────────
+
+-- no measure exceeds the elements and the text
+mutual
+  unfolding preorder measure elements text list
+
+  pub measures-most : (t : Tree ℕ) (n : ℕ) → elements t + length (text t) ≤ n → All (λ x. measure x ≤ n) (preorder t)
+  measures-most (node w cs) n h = (omega (arith, children-most cs), measures-all cs n (omega arith))
+  measures-most (token w own) n h = (omega arith, tt)
+
+  pub measures-all : (cs : Trees ℕ) (n : ℕ) → elementsOf cs + length (textOf cs) ≤ n → All (λ x. measure x ≤ n) (preorders cs)
+  measures-all nil n h = tt
+  measures-all (cons c cs) n h =
+      let z = length-append (text c) (textOf cs) in
+      All-append (λ x. measure x ≤ n) (preorder c) (preorders cs) (measures-most c n (omega arith)) (measures-all cs n (omega arith))
+
+  children-most : (cs : Trees ℕ) → length (list cs) ≤ elementsOf cs
+  children-most nil = omega arith
+  children-most (cons c cs) = omega (arith, children-most cs, elements-some c)
+
+  elements-some : (t : Tree ℕ) → 1 ≤ elements t
+  elements-some (node w cs) = omega arith
+  elements-some (token w own) = omega arith
+
+module _ (w : World) (h : Fits w) (s : Small w) (held : Holds w) where
+  -- the numbers of elements of the new tree
+  table-few : length (newTable w) ≤ 4096
+  unfolding newTable
+  table-few = omega (arith, table-length (newTree w) 0 0, preorder-list-length (newTree w), new-elements w, s .elements)
+
+  number-fits : (p : Path) (e : ℕ) → numberAt (newTable w) p ≡ some e → Leads w.trees p → Word e
+  unfolding numberAt
+  number-fits [] e q l = none-some q
+  number-fits (zero ∷ p) e q l =
+      let (n, a, b, c) = number-found w p l in
+      let z : n ≡ e = some-inj (sym a ∙ q) in
+      omega (arith, table-few)
+  number-fits (suc t ∷ p) e q l = none-some (ap (λ c. cond c (descend (newTable w) 0 p) none) (sym (ne-eqb (suc t) 0 (λ z. omega arith))) ∙ q)
+
+  changed-fit : All Word (changedElements (newTable w) w)
+  unfolding changedElements
+  changed-fit = All-perm Word (rising-perm _ (pick (numberAt (newTable w)) w.changed)) (All-pick (numberAt (newTable w)) (Leads w.trees) Word number-fits w.changed (held .changed))
+
+  notes-fit : All (λ m. Word (m .0 .number) × Word (m .1)) (noteElements (newTable w) w)
+  unfolding noteElements
+  notes-fit =
+      let at : Note → Option (Note × ℕ) = λ n. Option·map (λ e. (n, e)) (numberAt (newTable w) n.path) in
+      All-perm (λ m. Word (m .0 .number) × Word (m .1)) (rising-perm _ (pick at w.notes))
+      (All-pick at (λ n. Word n.number × Leads w.trees n.path) (λ m. Word (m .0 .number) × Word (m .1)) one w.notes (All-map₂ (λ n x y. (x, y)) w.notes (h .notes) (held .notes)))
+    where
+      one : (n : Note) (m : Note × ℕ) → Option·map (λ e. (n, e)) (numberAt (newTable w) n.path) ≡ some m → Word n.number × Leads w.trees n.path → Word (m .0 .number) × Word (m .1)
+      one n m e k = let (x, a, b) = map-some (λ e. (n, e)) (numberAt (newTable w) n.path) e in rw (← b) (k .0, number-fits n.path x a (k .1))
+
+  -- what holds of each element of the current trees holds of each of the new tree
+  new-all : (P : Tree ℕ → Type 0) → All P (preorders (children w.trees)) → All P (flatMap preorder (newTree w))
+  unfolding newTree
+  new-all P k =
+      let l = list (children w.trees) in
+      All-flatMap (λ t. All P (preorder t)) P preorder (λ t z. z) (take 1 l) (All-take (λ t. All P (preorder t)) 1 l (flatMap-All P preorder l (rw (preorders-list (children w.trees)) at k)))
+
+  pub result-fits : (ps : List Planned) (climbs : ℕ) → InWords (result ps climbs w)
+  unfolding result preorder children
+  result-fits ps climbs =
+      let notes = noteElements (newTable w) w in
+      let els = flatMap preorder (newTree w) in
+      record {
+        kinds = All-over label (λ x. Word (label x)) Word (λ x z. z) els (new-all (λ x. Word (label x)) (below w.trees (h .kinds)));
+        measures = All-over measure (λ x. measure x ≤ 20480) Word (λ x z. omega arith) els (new-all (λ x. measure x ≤ 20480) (measures-all (children w.trees) 20480 (omega (arith, s .elements, s .text))));
+        changed = changed-fit;
+        numbers = All-over (λ m. m .0 .number) (λ m. Word (m .0 .number) × Word (m .1)) Word (λ m z. z .0) notes notes-fit;
+        noted = All-over (λ m. m .1) (λ m. Word (m .0 .number) × Word (m .1)) Word (λ m z. z .1) notes notes-fit;
+      }
+    where
+      below : (t : Tree ℕ) → Kinds t → All (λ x. Word (label x)) (preorders (children t))
+      below (node v cs) k = k .1
+      below (token v own) k = tt
+
+-- Every number of an answer fits a word.
+pub edit-fits : (b : List ℕ) (r : Result) → Bytes b → edit b ≡ gives r → InWords r
+unfolding edit ran
+edit-fits b r h e =
+    given (accepted b) _ e λ a x e.
+    given (plan a) _ e λ p y e.
+    given (ran a p) _ e λ w z e.
+    let k = ran-known b a p w x y z in
+    let first = first-fits b a p h (k .known) y in
+    rw (← gives-inj e) (result-fits w (steps-fit a.table (atFirst a p) first (performed a p) (atFirst a p) w first z) (k .small) (k .holds) p.changes p.climbs)
