@@ -5,47 +5,84 @@ use mathlib.Core.Bool.{false}
 use mathlib.Core.List.{List, [], _∷_, map, head-eq-of-cons-eq, tail-eq-of-cons-eq}
 use mathlib.Core.Option.{Option, none, some}
 use Prim.Native.Nat.{ℕ}
+use Prim.Native.String.{String}
+use lib.ListN.{length, take, drop}
+use lib.Seq.{take-at, drop-at}
 use Rattle.orders.specs.Lists.{All}
 use Rattle.definition.specs.Basics.{Answer, refused, gives, _>>=_}
-use Rattle.definition.specs.Finishing.{Result}
+use Rattle.definition.specs.Finishing.{Result, encoded}
 use Rattle.definition.specs.Answers.{edit, tooShort}
 use Rattle.definition.specs.FindElement.{findElement}
-use Rattle.definition.specs.Examples.{Told, inBytes, Short, short, marked, further, told, answered, withNotes, examples}
+use Rattle.definition.specs.Printed.{ascii, print}
+use Rattle.definition.specs.Examples.{Told, inBytes, Short, short, marked, further, told, answered, printedCase, printedLines, withNotes, withNotesLines, examples}
 use Rattle.laws.specs.Answers.{gives-inj, refused-gives}
 use Rattle.work.specs.Slices.{lengths}
 use Rattle.work.specs.Promises.{Edits, Finds}
-use Rattle.promised.specs.Answered.{Lent, Leaves, edit-answered, find-answered}
+use Rattle.promised.specs.Reading.{resultIn}
+use Rattle.promised.specs.Numbers.{Bytes}
+use Rattle.promised.specs.Answered.{Lent, Leaves, answerIn, edit-answered, find-answered}
+use Rattle.promised.specs.Printing.{printed-run}
 
--- what is told of an answer is left: the refusal, and all that was held; or a result of which this is told, and beyond its bytes what was held
-abbrev pub LeavesTold : List ℕ → Short → List ℕ → Answer ℕ → List ℕ → Type 0
-LeavesTold b (refused k) held r holds = (r ≡ refused k) × (holds ≡ held)
-LeavesTold b (gives s) held r holds = (R : Result) × (edit b ≡ gives R) × (short (gives R) ≡ gives s) × Leaves (gives R) held r holds
+-- ── What a call leaves of what is told ──────────────────────────────────────────────────────────────────────
+
+-- a result of which s is told is read at the front of the slice, in its bytes, and beyond them stands what was held
+pub record ReadAs (s : List ℕ × List ℕ × ℕ) (held : List ℕ) (r : Answer ℕ) (holds : List ℕ) : Type 0 where
+  pub size : ℕ
+  pub answer : r ≡ gives size
+  pub told : short (gives (resultIn holds)) ≡ gives s
+  pub front : take size holds ≡ encoded (resultIn holds)
+  pub beyond : drop size holds ≡ drop size held
+
+-- a refusal that is told is the answer, and the slice holds all that it held
+abbrev pub Tells : Short → List ℕ → Answer ℕ → List ℕ → Type 0
+Tells (refused k) held r holds = (r ≡ refused k) × (holds ≡ held)
+Tells (gives s) held r holds = ReadAs s held r holds
+
+-- every call on the batch b that keeps its promise leaves what is told
+abbrev pub RunsAs : List ℕ → Short → Type 0
+RunsAs b s = (held : List ℕ) (work : List (List ℕ)) (r : Answer ℕ) (holds : List ℕ) (left : List (List ℕ)) → Edits b held work r holds left → Lent b held work → Tells s held r holds
+
+refused-same : {A B : Type 0} {j k : ℕ} → _≡_ {A = Answer A} (refused j) (refused k) → _≡_ {A = Answer B} (refused j) (refused k)
+refused-same {A} {B} {j} {k} e =
+    let z : j ≡ k = cc in
+    ap {B = Answer B} refused z
+
+-- A law over any batch and what is told of its answer.
+pub told-run : (b : List ℕ) (s : Short) → short (edit b) ≡ s → RunsAs b s
+unfolding short answerIn _>>=_
+told-run b s t held work r holds left p l = let z = edit-answered b held work r holds left p l in go (edit b) s t (z .leaves) (z .read)
+  where
+    go : (o : Answer Result) (s : Short) → short o ≡ s → Leaves o held r holds → answerIn r holds ≡ o → Tells s held r holds
+    go (refused k) (refused j) t h q = (h .0 ∙ refused-same t, h .1)
+    go (refused k) (gives s) t h q = refused-gives t
+    go (gives R) (refused j) t h q = refused-gives (sym t)
+    go (gives R) (gives s) t h q =
+        let there : resultIn holds ≡ R = gives-inj (ap (λ x. answerIn x holds) (sym (h .0)) ∙ q) in
+        let n = length (encoded R) in
+        record {
+          size = n;
+          answer = h .0;
+          told = ap (λ x. short (gives x)) there ∙ t;
+          front = ap (take n) (h .1) ∙ (take-at (encoded R) (drop n held) n refl ∙ ap encoded (sym there));
+          beyond = ap (drop n) (h .1) ∙ drop-at (encoded R) (drop n held) n refl;
+        }
+
+-- ── The tables ──────────────────────────────────────────────────────────────────────────────────────────────
 
 -- every call on an example that keeps its promise leaves what is told of it
 abbrev pub Runs : Told × Short → Type 0
-Runs m =
-    (held : List ℕ) (work : List (List ℕ)) (r : Answer ℕ) (holds : List ℕ) (left : List (List ℕ)) → Edits (inBytes (m .0)) held work r holds left → Lent (inBytes (m .0)) held work
-    → LeavesTold (inBytes (m .0)) (m .1) held r holds
+Runs m = RunsAs (inBytes (m .0)) (m .1)
 
-refused-same : {A B : Type 0} {j k : ℕ} → _≡_ {A = Answer A} (refused j) (refused k) → _≡_ {A = Answer B} (refused j) (refused k)
-refused-same {A} {B} {j} {k} e = let z : j ≡ k = cc in ap {B = Answer B} refused z
-
--- a law over any batch and what is told of its answer
-pub told-left : (b : List ℕ) (s : Short) → short (edit b) ≡ s
-    → (held : List ℕ) (work : List (List ℕ)) (r : Answer ℕ) (holds : List ℕ) (left : List (List ℕ)) → Edits b held work r holds left → Lent b held work → LeavesTold b s held r holds
-unfolding short _>>=_
-told-left b s t held work r holds left p l = go (edit b) refl s t (edit-answered b held work r holds left p l)
-  where
-    go : (o : Answer Result) → edit b ≡ o → (s : Short) → short o ≡ s → Leaves o held r holds → LeavesTold b s held r holds
-    go (refused k) e (refused j) t h = (h .0 ∙ refused-same t, h .1)
-    go (refused k) e (gives s) t h = refused-gives t
-    go (gives R) e (refused j) t h = refused-gives (sym t)
-    go (gives R) e (gives s) t h = (R, e, t, h)
-
--- a table of examples that the definition answers
+-- a table that the definition answers
 pub table-run : (es : List (Told × Short)) → answered es ≡ told es → All Runs es
 table-run [] e = tt
-table-run (m ∷ es) e = (told-left (inBytes (m .0)) (m .1) (head-eq-of-cons-eq e), table-run es (tail-eq-of-cons-eq e))
+table-run (m ∷ es) e = (told-run (inBytes (m .0)) (m .1) (head-eq-of-cons-eq e), table-run es (tail-eq-of-cons-eq e))
+
+-- every call on this input that keeps its promise, with a result slice of 65,536 bytes: what it leaves prints these lines
+abbrev pub Prints : Told × String → Type 0
+Prints m =
+    (held : List ℕ) (work : List (List ℕ)) (r : Answer ℕ) (holds : List ℕ) (left : List (List ℕ)) → Edits (take 65536 (inBytes (m .0))) held work r holds left → Bytes (take 65536 (inBytes (m .0)))
+    → tooShort (lengths work) ≡ false → length held ≡ 65536 → print (answerIn r holds) ≡ ascii (m .1)
 
 -- every call of `find_element` on this batch that keeps its promise finds as told
 abbrev pub FindsTold : List ℕ → ℕ × Answer (Option ℕ) → Type 0
@@ -60,6 +97,15 @@ finds-run b (m ∷ ms) e = (λ work r left p h. find-answered b (m .0) work r le
 abbrev pub foundIn : List (ℕ × Answer (Option ℕ))
 foundIn = (1, gives (some 2)) ∷ (2, gives none) ∷ (11, gives none) ∷ []
 
--- THE EXAMPLES of document 01, for the code: each marked and each further example becomes what is told of it, and `find_element` finds what is told.
-pub examples-run : All Runs marked × All Runs further × All (FindsTold (inBytes withNotes)) foundIn
-examples-run = (table-run marked (examples .0), table-run further (examples .3), finds-run (inBytes withNotes) foundIn (examples .7))
+-- THE EXAMPLES of document 01, for the code: each marked and each further example becomes what is told of it, the printed case and `withNotes` print their
+-- lines, and `find_element` finds what is told.
+pub examples-run : All Runs marked × All Runs further × All Prints ((printedCase, printedLines) ∷ (withNotes, withNotesLines) ∷ []) × All (FindsTold (inBytes withNotes)) foundIn
+examples-run = (
+  table-run marked (examples .0),
+  table-run further (examples .3),
+  (
+    λ held work r holds left p b h k. printed-run (inBytes printedCase) held work r holds left p b h k ∙ examples .2,
+    (λ held work r holds left p b h k. printed-run (inBytes withNotes) held work r holds left p b h k ∙ examples .4, tt),
+  ),
+  finds-run (inBytes withNotes) foundIn (examples .7),
+)
