@@ -2,9 +2,9 @@
 -- Assumes nothing.
 use mathlib.Core.Path.{_≡_, refl, sym, ap, _∙_}
 use mathlib.Core.List.{List, [], _∷_, _++_, append-assoc}
-use Prim.Native.Nat.{ℕ, zero, suc, _+_, _*_, _^_, _<_}
+use Prim.Native.Nat.{ℕ, zero, suc, _+_, _-_, _*_, _^_, _<_}
 use native.Mathlib.Omega.{arith}
-use lib.ListN.{length, getD, take, drop}
+use lib.ListN.{length, getD, take, drop, length-append}
 use lib.Seq.{take-at, drop-at}
 use Rattle.orders.specs.Lists.{All}
 use Rattle.definition.specs.Words.{words, written}
@@ -100,8 +100,19 @@ sizes-fit : (r : Result) → Within r → All Word (sixSizes r)
 unfolding sixSizes
 sizes-fit r w = (omega (arith, w .elements), (omega (arith, w .text), (omega (arith, w .changed), (omega (arith, w .notes), (omega (arith, w .discarded), (omega (arith, w .climbs), tt))))))
 
+pub sizes-read : (r : Result) (rest : List ℕ) → Within r → words 6 (encoded r ++ rest) ≡ sixSizes r
+sizes-read r rest w = rw encoded-parts (array-read (sixSizes r) _ 6 (six r) (sizes-fit r w))
+
 -- What was written is read back, whatever stands behind it.
 pub result-read : (r : Result) (rest : List ℕ) → Within r → InWords r → resultIn (encoded r ++ rest) ≡ r
 unfolding resultIn
 result-read r rest w h =
     rw (encoded-parts, array-read (sixSizes r) _ 6 (six r) (sizes-fit r w), array-passed (sixSizes r) _ 6 (six r)) (arrays-read r rest w h)
+
+-- The text stands at the end.
+pub text-read : (r : Result) (rest : List ℕ) → take (length r.text) (drop (length (encoded r) - length r.text) (encoded r ++ rest)) ≡ r .text
+unfolding encoded
+text-read r rest =
+    let arrays = written (sixSizes r ++ r .kinds ++ r .measures ++ r .changed ++ r .numbers ++ r .noted) in
+    ap (λ (l : List ℕ). take (length r.text) (drop (length (arrays ++ r .text) - length r.text) l)) (append-assoc arrays r.text rest)
+    ∙ (ap (take (length r.text)) (drop-at arrays (r .text ++ rest) (length (arrays ++ r .text) - length r.text) (omega (arith, length-append arrays r.text))) ∙ take-at r.text rest (length r.text) refl)
