@@ -1,7 +1,8 @@
 -- DEMAND 1, of every call that keeps its promise. "A batch is only read" needs no statement: the batch is lent as a shared slice, which no call can write.
 -- Assumes nothing.
 use mathlib.Core.Path.{_≡_, refl, sym, ap, _∙_}
-use mathlib.Core.List.{List, [], _∷_, _++_, map, map-map}
+use mathlib.Core.List.{List, [], _∷_, map}
+use mathlib.Core.Option.{Option}
 use Prim.Native.Nat.{ℕ, zero, suc, _≤_}
 use native.Mathlib.Omega.{arith}
 use lib.Dec.{ltb}
@@ -13,8 +14,9 @@ use Rattle.definition.specs.Basics.{Answer, refused, gives, _>>=_, refuse}
 use Rattle.definition.specs.Finishing.{Result, encoded, fitting}
 use Rattle.definition.specs.Answers.{edit, edited, tooShort, withWork}
 use Rattle.laws.specs.Answers.{gives-inj, refused-gives, given, not-wrong}
+use Rattle.demand.specs.Answered.{edited-result}
 use Rattle.work.specs.Slices.{lengths, zeros, zeroed}
-use Rattle.work.specs.Promises.{leftIn, Edits}
+use Rattle.work.specs.Promises.{leftIn, Edits, Finds}
 
 -- ── The result slice ────────────────────────────────────────────────────────────────────────────────────────
 
@@ -27,17 +29,15 @@ pub record Finished (b held : List ℕ) (n : ℕ) (holds : List ℕ) : Type 0 wh
   pub front : take n holds ≡ encoded result
   pub beyond : drop n holds ≡ drop n held
 
--- what is written has room, and is the result's
-edited-fits : (work : List (ℕ × ℕ)) (b : List ℕ) (room : ℕ) (out : List ℕ) → edited work b room ≡ gives out
-    → (R : Result) × (edit b ≡ gives R) × (encoded R ≡ out) × (length out ≤ room)
+-- what is written has room
+edited-fits : (work : List (ℕ × ℕ)) (b : List ℕ) (room : ℕ) (out : List ℕ) → edited work b room ≡ gives out → length out ≤ room
 unfolding edited withWork fitting
 edited-fits work b room out e =
     given (refuse 1 (tooShort work)) _ e λ u x e.
     given (edit b) _ e λ R y e.
     given (fitting room R) _ e λ S z e.
     given (refuse 13 (ltb room (length (encoded R)))) _ z λ v a z.
-    let same : encoded R ≡ out = ap encoded (gives-inj z) ∙ gives-inj e in
-    (R, y, same, omega (arith, ltb-false room (length (encoded R)) (not-wrong 13 _ a), ap length same))
+    omega (arith, ltb-false room (length (encoded R)) (not-wrong 13 _ a), ap (λ x. length (encoded x)) (gives-inj z), ap length (gives-inj e))
 
 -- ── The work slices ─────────────────────────────────────────────────────────────────────────────────────────
 
@@ -87,7 +87,8 @@ demand-1 b held work r holds left p = go (edited (lengths work) b (length held))
       zeros = rw (p .zeros) (zeroed-zeros work);
     }
     go (gives out) e a h =
-        let (R, y, same, fits) = edited-fits (lengths work) b (length held) out e in
+        let (R, y, same) = edited-result (lengths work) b (length held) out e in
+        let fits = edited-fits (lengths work) b (length held) out e in
         record {
           untouched = λ k q. refused-gives (sym q ∙ a);
           finished = λ n q.
@@ -104,3 +105,7 @@ demand-1 b held work r holds left p = go (edited (lengths work) b (length held))
           leftLengths = ap (map length) (p .zeros) ∙ zeroed-lengths work;
           zeros = rw (p .zeros) (zeroed-zeros work);
         }
+
+-- So does every call of `find_element`, which is lent no result slice.
+pub demand-1-finds : (b : List ℕ) (n : ℕ) (work : List (List ℕ)) (r : Answer (Option ℕ)) (left : List (List ℕ)) → Finds b n work r left → (map length left ≡ map length work) × All (All (λ w. w ≡ 0)) left
+demand-1-finds b n work r left p = (ap (map length) (p .zeros) ∙ zeroed-lengths work, rw (p .zeros) (zeroed-zeros work))

@@ -1,12 +1,11 @@
 -- DEMAND 3, its last sentence, of every call that keeps its promise: what stands in the result slice is the old tree rewritten in one go.
 -- Assumes nothing.
 use mathlib.Core.Path.{_≡_, refl, sym, ap, _∙_}
-use mathlib.Core.Bool.{true, false}
+use mathlib.Core.Bool.{true}
 use mathlib.Core.List.{List, [], _∷_, _++_, map}
 use Prim.Native.Nat.{ℕ, _+_, _-_, _*_}
-use native.Mathlib.Omega.{arith}
-use lib.ListN.{length, getD, take, drop, length-append, length-map, take-append-drop}
-use lib.Seq.{take-at, drop-at, drop-drop}
+use lib.ListN.{length, getD, take, drop, length-map, take-append-drop}
+use lib.Seq.{drop-drop}
 use Rattle.orders.specs.Tree.{Tree, label, measure, preorder}
 use Rattle.orders.specs.Tree as Tree
 use Rattle.orders.specs.Splices.{oneGo}
@@ -14,7 +13,7 @@ use Rattle.definition.specs.Basics.{Answer, gives, _>>=_}
 use Rattle.definition.specs.Words.{word, words}
 use Rattle.definition.specs.Refusals.{Accepted, accepted}
 use Rattle.definition.specs.Finishing.{Result, sixSizes, encoded}
-use Rattle.definition.specs.Answers.{Plan, plan, edit}
+use Rattle.definition.specs.Answers.{Plan, plan}
 use Rattle.definition.specs.Performed.{splices, splicesOf}
 use Rattle.laws.specs.Limits.{edit-within}
 use Rattle.demand.specs.Answered.{ApartIn, Shows, apartBatch?, oneGoOf, tested-one-go}
@@ -22,7 +21,7 @@ use Rattle.demand.specs.Demand3.{demand-3}
 use Rattle.work.specs.Promises.{Edits}
 use Rattle.promised.specs.Reading.{resultIn, arraysIn, result-read, sizes-read, text-read}
 use Rattle.promised.specs.Numbers.{Bytes, edit-fits}
-use Rattle.promised.specs.Demand1.{Finished, Demand1, demand-1}
+use Rattle.promised.specs.Demand1.{Finished, demand-1}
 
 -- ── The three arrays ────────────────────────────────────────────────────────────────────────────────────────
 

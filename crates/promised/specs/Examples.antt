@@ -18,6 +18,7 @@ use Rattle.definition.specs.Examples.{Told, inBytes, Short, short, marked, furt
 use Rattle.laws.specs.Answers.{gives-inj, refused-gives}
 use Rattle.work.specs.Slices.{lengths}
 use Rattle.work.specs.Promises.{Edits, Finds}
+use Rattle.promised.specs.Refused.{refused-inj}
 use Rattle.promised.specs.Reading.{resultIn}
 use Rattle.promised.specs.Numbers.{Bytes}
 use Rattle.promised.specs.Answered.{Lent, Leaves, answerIn, edit-answered, find-answered}
@@ -42,18 +43,13 @@ Tells (gives s) held r holds = ReadAs s held r holds
 abbrev pub RunsAs : List ℕ → Short → Type 0
 RunsAs b s = (held : List ℕ) (work : List (List ℕ)) (r : Answer ℕ) (holds : List ℕ) (left : List (List ℕ)) → Edits b held work r holds left → Lent b held work → Tells s held r holds
 
-refused-same : {A B : Type 0} {j k : ℕ} → _≡_ {A = Answer A} (refused j) (refused k) → _≡_ {A = Answer B} (refused j) (refused k)
-refused-same {A} {B} {j} {k} e =
-    let z : j ≡ k = cc in
-    ap {B = Answer B} refused z
-
 -- A law over any batch and what is told of its answer.
 pub told-run : (b : List ℕ) (s : Short) → short (edit b) ≡ s → RunsAs b s
 unfolding short answerIn _>>=_
 told-run b s t held work r holds left p l = let z = edit-answered b held work r holds left p l in go (edit b) s t (z .leaves) (z .read)
   where
     go : (o : Answer Result) (s : Short) → short o ≡ s → Leaves o held r holds → answerIn r holds ≡ o → Tells s held r holds
-    go (refused k) (refused j) t h q = (h .0 ∙ refused-same t, h .1)
+    go (refused k) (refused j) t h q = (h .0 ∙ ap refused (refused-inj t), h .1)
     go (refused k) (gives s) t h q = refused-gives t
     go (gives R) (refused j) t h q = refused-gives (sym t)
     go (gives R) (gives s) t h q =

@@ -1,24 +1,24 @@
 -- Every number of an answer fits a word, if the batch is of bytes: so nothing is lost where the answer is written.
 -- Assumes nothing.
 use mathlib.Core.Path.{_≡_, refl, sym, ap, _∙_}
-use mathlib.Core.Bool.{Bool, true, false, cond, not}
+use mathlib.Core.Bool.{Bool, cond, not}
 use mathlib.Core.List.{List, [], _∷_, _++_, map, flatMap, zip}
 use mathlib.Core.Option.{Option, none, some, Option·map, Option·getD}
-use Prim.Native.Nat.{ℕ, zero, suc, _+_, _*_, _^_, _≤_, _<_}
+use Prim.Native.Nat.{ℕ, zero, suc, _+_, _*_, _≤_, _<_}
 use native.Mathlib.Omega.{arith}
 use lib.Dec.{ltb, eqb}
 use lib.ListN.{length, getD, take, drop, length-append}
 use lib.Seq.{getD-drop}
 use borrow.Author.Tests.{ne-eqb}
 use Rattle.orders.specs.Lists.{All, pick}
-use Rattle.orders.specs.ListLaws.{some-inj, none-some, map-some, get-mem, All-map, All-mem, All-over, All-pick, All-perm, All-map₂}
+use Rattle.orders.specs.ListLaws.{some-inj, none-some, map-some, get-mem, All-mem, All-over, All-pick, All-perm, All-map₂}
 use Rattle.orders.specs.Tree.{Tree, Trees, node, token, nil, cons, list, forest, label, measure, text, textOf, preorder, preorders, elements, elementsOf, Path, resolve, adjust, modify, splice, children, strip}
 use Rattle.orders.specs.TreeLaws.{list-forest, resolve-child}
-use Rattle.definition.specs.Basics.{Answer, gives, refuse, orRefuse, isSome}
+use Rattle.definition.specs.Basics.{gives, refuse, orRefuse, isSome}
 use Rattle.definition.specs.Recording.{recorded}
 use Rattle.definition.specs.Words.{word, words}
 use Rattle.definition.specs.Batch.{Sizes, Batch, sizes, beyond, whole, arrays, batch}
-use Rattle.definition.specs.Elements.{Table, table, row, descend}
+use Rattle.definition.specs.Elements.{Table, table, descend}
 use Rattle.definition.specs.Refusals.{Accepted, accepted}
 use Rattle.definition.specs.Planning.{Planned, sorted, overlap, planned}
 use Rattle.definition.specs.Rewriting.{Note, mapping, rewritten, settle, settled}
@@ -26,13 +26,13 @@ use Rattle.definition.specs.Running.{World, begin, present, withPath, notesAt, 
 use Rattle.definition.specs.Finishing.{newTree, newTable, numberAt, changedElements, noteElements, Result, result}
 use Rattle.definition.specs.Answers.{Plan, plan, performed, atFirst, ran, edit}
 use Rattle.laws.specs.Basics.{All-append, append-All, All-take, All-drop, All-modify, All-flatMap, map-All}
-use Rattle.laws.specs.Answers.{gives-inj, given, is-there}
+use Rattle.laws.specs.Answers.{gives-inj, given}
 use Rattle.laws.specs.Measures.{preorders-list, preorder-list-length}
 use Rattle.laws.specs.Sorting.{rising-perm}
 use Rattle.laws.specs.Accepted.{Known}
 use Rattle.laws.specs.Held.{Leads, Holds, number-found}
 use Rattle.laws.specs.Rows.{table-length}
-use Rattle.laws.specs.Limits.{Small, new-elements, Ran, ran-known}
+use Rattle.laws.specs.Limits.{Small, new-elements, ran-known}
 use Rattle.promised.specs.Reading.{Word, InWords}
 
 -- ── The batch ───────────────────────────────────────────────────────────────────────────────────────────────

@@ -19,11 +19,11 @@ use Rattle.definition.specs.Planning.{Fate, own, dependent, discarded, Planned,
 use Rattle.definition.specs.Rewriting.{mapping, replacement, mappedOr, climb, trail, land, moved, retarget, rewriteInto, rewriteOne, rewriting, rewritten, nearest, isParent, noteFrom, settle, settled}
 use Rattle.definition.specs.Running.{World, place, yield, news, spliced, tooLarge, records, step, steps}
 use Rattle.definition.specs.Finishing.{Result, encoded, fitting}
-use Rattle.definition.specs.Answers.{Plan, plan, performed, atFirst, ran, edit, edited, tooShort}
+use Rattle.definition.specs.Answers.{plan, performed, atFirst, ran, edit, edited, tooShort}
 use Rattle.laws.specs.Answers.{refused-gives}
 use Rattle.laws.specs.Limits.{encoded-within}
 use Rattle.work.specs.Slices.{lengths}
-use Rattle.work.specs.Promises.{Edits, applied, short-edited, long-edited}
+use Rattle.work.specs.Promises.{Edits, Finds, applied, found, short-edited, long-edited, long-found}
 
 -- ── A refusal out of a range ────────────────────────────────────────────────────────────────────────────────
 
@@ -31,6 +31,9 @@ use Rattle.work.specs.Promises.{Edits, applied, short-edited, long-edited}
 abbrev pub By : {A : Type 0} → ℕ → ℕ → Answer A → Type 0
 By lo hi (refused k) = (lo ≤ k) × (k ≤ hi)
 By lo hi (gives a) = Unit
+
+pub refused-inj : {A : Type 0} {j k : ℕ} → _≡_ {A = Answer A} (refused j) (refused k) → j ≡ k
+refused-inj e = cc
 
 pub by-number : {A : Type 0} (lo hi k : ℕ) (o : Answer A) → By lo hi o → o ≡ refused k → (lo ≤ k) × (k ≤ hi)
 by-number lo hi k o h e = rw e at h
@@ -195,6 +198,25 @@ edit-by b =
     by-then 2 12 (plan a) _ (by-more 8 10 2 12 (plan a) (omega arith) (omega arith) (plan-by a)) λ p.
     by-then 2 12 (ran a p) _ (by-more 11 12 2 12 (ran a p) (omega arith) (omega arith) (steps-by a.table (atFirst a p) (atFirst a p) (performed a p))) λ w. tt
 
+-- ── `find_element` ──────────────────────────────────────────────────────────────────────────────────────────
+
+-- both are refused, by one number, or neither
+abbrev pub Alike : {A B : Type 0} → Answer A → Answer B → Type 0
+Alike (refused j) (refused k) = j ≡ k
+Alike (refused j) (gives b) = ⊥
+Alike (gives a) (refused k) = ⊥
+Alike (gives a) (gives b) = Unit
+
+alike-then : {A B C : Type 0} (o : Answer A) (f : A → Answer B) (g : A → Answer C) → ((a : A) → Alike (f a) (g a)) → Alike (o >>= f) (o >>= g)
+unfolding _>>=_
+alike-then (refused k) f g h = refl
+alike-then (gives a) f g h = h a
+
+-- "the batch's refusals come first": `find_element` is refused just where the edit is.
+pub found-alike : (b : List ℕ) (n : ℕ) → Alike (found b n) (edit b)
+unfolding found edit
+found-alike b n = alike-then (accepted b) _ _ λ a. alike-then (plan a) _ _ λ p. alike-then (ran a p) _ _ λ w. tt
+
 -- ── The calls ───────────────────────────────────────────────────────────────────────────────────────────────
 
 -- why a call is refused: for a work slice, for the batch, or for the result slice
@@ -202,9 +224,6 @@ pub data Why (b held : List ℕ) (work : List (List ℕ)) : ℕ → Type 0 where
   workShort : tooShort (lengths work) ≡ true → Why b held work 1
   wrong : {k : ℕ} → 2 ≤ k → k ≤ 12 → edit b ≡ refused k → Why b held work k
   resultShort : (R : Result) → edit b ≡ gives R → length held < length (encoded R) → Why b held work 13
-
-refused-same : {j k : ℕ} → _≡_ {A = Answer ℕ} (refused j) (refused k) → j ≡ k
-refused-same e = cc
 
 -- A call that keeps its promise and refuses has one of these reasons.
 pub refused-why : (b held : List ℕ) (work : List (List ℕ)) (r : Answer ℕ) (holds : List ℕ) (left : List (List ℕ)) → Edits b held work r holds left → (k : ℕ) → r ≡ refused k → Why b held work k
@@ -219,18 +238,18 @@ refused-why b held work r holds left p k e = go (tooShort (lengths work)) refl
     fit R = fitting (length held) R >>= λ S. gives (encoded S)
 
     room : (R : Result) → edit b ≡ gives R → edited (lengths work) b (length held) ≡ fit R → (t : Bool) → ltb (length held) (length (encoded R)) ≡ t → Why b held work k
-    room R x q true t = rw (← refused-same (number (refused 13) (q ∙ rw t refl))) (resultShort R x (ltb-true (length held) (length (encoded R)) t))
+    room R x q true t = rw (← refused-inj (number (refused 13) (q ∙ rw t refl))) (resultShort R x (ltb-true (length held) (length (encoded R)) t))
     room R x q false t = refused-gives (sym (number (gives (encoded R)) (q ∙ rw t refl)))
 
     answer : (o : Answer Result) → edit b ≡ o → edited (lengths work) b (length held) ≡ (o >>= fit) → Why b held work k
     answer (refused j) x q =
-        let z : edit b ≡ refused k = x ∙ ap {B = Answer Result} refused (refused-same (number (refused j) q)) in
+        let z : edit b ≡ refused k = x ∙ ap {B = Answer Result} refused (refused-inj (number (refused j) q)) in
         let (low, high) = by-number 2 12 k (edit b) (edit-by b) z in
         wrong low high z
     answer (gives R) x q = room R x q (ltb (length held) (length (encoded R))) refl
 
     go : (t : Bool) → tooShort (lengths work) ≡ t → Why b held work k
-    go true t = rw (← refused-same (number (refused 1) (short-edited work b (length held) t))) (workShort t)
+    go true t = rw (← refused-inj (number (refused 1) (short-edited work b (length held) t))) (workShort t)
     go false t = answer (edit b) refl (long-edited work b (length held) t)
 
 -- With 61,464 bytes of room 13 never comes.
@@ -241,3 +260,7 @@ never-13 b held work r holds left p h e = go 13 refl (refused-why b held work r 
     go k z (workShort t) = omega arith
     go k z (wrong low high x) = omega arith
     go k z (resultShort R x l) = omega (arith, encoded-within b R x)
+
+-- So every call of `find_element` that keeps its promise, with no work slice too short, is refused just where the edit of the batch is.
+pub find-refused : (b : List ℕ) (n : ℕ) (work : List (List ℕ)) (r : Answer (Option ℕ)) (left : List (List ℕ)) → Finds b n work r left → tooShort (lengths work) ≡ false → Alike r (edit b)
+find-refused b n work r left p h = rw (p .element, long-found work b n h) (found-alike b n)
