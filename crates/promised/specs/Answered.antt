@@ -18,15 +18,14 @@ use Rattle.work.specs.Promises.{leftIn, Edits, Finds, applied, found, long-edit
 use Rattle.promised.specs.Reading.{resultIn, result-read}
 use Rattle.promised.specs.Numbers.{Bytes, edit-fits}
 
--- what is lent suffices: the batch is of bytes, as every slice of `u8` is; each work slice has its length; and the result slice has room for the answer
+-- what is lent suffices: each work slice has its length, and the result slice has room for the answer
 pub record Lent (b held : List ℕ) (work : List (List ℕ)) : Type 0 where
-  pub bytes : Bytes b
   pub works : tooShort (lengths work) ≡ false
   pub room : (R : Result) → edit b ≡ gives R → length (encoded R) ≤ length held
 
 -- 61,464 bytes are room for every answer.
-pub lent-most : (b held : List ℕ) (work : List (List ℕ)) → Bytes b → tooShort (lengths work) ≡ false → 61464 ≤ length held → Lent b held work
-lent-most b held work z h k = record { bytes = z; works = h; room = λ R e. omega (arith, encoded-within b R e) }
+pub lent-most : (b held : List ℕ) (work : List (List ℕ)) → tooShort (lengths work) ≡ false → 61464 ≤ length held → Lent b held work
+lent-most b held work h k = record { works = h; room = λ R e. omega (arith, encoded-within b R e) }
 
 -- what an answer leaves: its refusal, and all that was held; or the number of its bytes, and these with what was held beyond them
 abbrev pub Leaves : Answer Result → List ℕ → Answer ℕ → List ℕ → Type 0
@@ -68,11 +67,12 @@ pub record Answered (b held : List ℕ) (r : Answer ℕ) (holds : List ℕ) : Ty
   pub leaves : Leaves (edit b) held r holds
   pub read : answerIn r holds ≡ edit b
 
--- Every call that keeps its promise leaves what the definition answers, and nothing else; and who reads the result slice reads that answer.
-pub edit-answered : (b held : List ℕ) (work : List (List ℕ)) (r : Answer ℕ) (holds : List ℕ) (left : List (List ℕ)) → Edits b held work r holds left → Lent b held work → Answered b held r holds
-edit-answered b held work r holds left p l =
+-- Every call that keeps its promise leaves what the definition answers, and nothing else; and who reads the result slice reads that answer. (A batch that is lent is
+-- a slice of `u8`, and so of bytes.)
+pub edit-answered : (b held : List ℕ) (work : List (List ℕ)) (r : Answer ℕ) (holds : List ℕ) (left : List (List ℕ)) → Edits b held work r holds left → Bytes b → Lent b held work → Answered b held r holds
+edit-answered b held work r holds left p h l =
     let z = edit-leaves b held work r holds left p l in
-    record { leaves = z; read = leaves-read b held r holds (l .bytes) z }
+    record { leaves = z; read = leaves-read b held r holds h z }
 
 -- Every call of `find_element` that keeps its promise finds what the definition finds.
 pub find-answered : (b : List ℕ) (n : ℕ) (work : List (List ℕ)) (r : Answer (Option ℕ)) (left : List (List ℕ)) → Finds b n work r left → tooShort (lengths work) ≡ false → r ≡ findElement [] b n

@@ -1,26 +1,29 @@
 -- Document 01's examples, of every call that keeps its promise: the definition's table, carried over.
 -- Assumes nothing.
 use mathlib.Core.Path.{_≡_, refl, sym, ap, _∙_}
-use mathlib.Core.Bool.{false}
+use mathlib.Core.Bool.{Bool, false}
 use mathlib.Core.List.{List, [], _∷_, map, head-eq-of-cons-eq, tail-eq-of-cons-eq}
 use mathlib.Core.Option.{Option, none, some}
 use Prim.Native.Nat.{ℕ}
 use Prim.Native.String.{String}
+use lib.Dec.{leb}
 use lib.ListN.{length, take, drop}
 use lib.Seq.{take-at, drop-at}
-use Rattle.orders.specs.Lists.{All}
+use Rattle.orders.specs.Lists.{any, All}
+use Rattle.orders.specs.ListLaws.{none-passes}
 use Rattle.definition.specs.Basics.{Answer, refused, gives, _>>=_}
 use Rattle.definition.specs.Finishing.{Result, encoded}
 use Rattle.definition.specs.Answers.{edit, tooShort}
 use Rattle.definition.specs.FindElement.{findElement}
-use Rattle.definition.specs.Printed.{ascii, print}
+use Rattle.definition.specs.Printed.{ascii, print, printed}
+use Rattle.definition.specs.Computing.{computed}
 use Rattle.definition.specs.Examples.{Told, inBytes, Short, short, marked, further, told, answered, printedCase, printedLines, withNotes, withNotesLines, examples}
 use Rattle.laws.specs.Answers.{gives-inj, refused-gives}
 use Rattle.work.specs.Slices.{lengths}
 use Rattle.work.specs.Promises.{Edits, Finds}
 use Rattle.promised.specs.Refused.{refused-inj}
 use Rattle.promised.specs.Reading.{resultIn}
-use Rattle.promised.specs.Numbers.{Bytes}
+use Rattle.promised.specs.Numbers.{Bytes, take-bytes, tested-bytes}
 use Rattle.promised.specs.Answered.{Lent, Leaves, answerIn, edit-answered, find-answered}
 use Rattle.promised.specs.Printing.{printed-run}
 
@@ -44,9 +47,9 @@ abbrev pub RunsAs : List ℕ → Short → Type 0
 RunsAs b s = (held : List ℕ) (work : List (List ℕ)) (r : Answer ℕ) (holds : List ℕ) (left : List (List ℕ)) → Edits b held work r holds left → Lent b held work → Tells s held r holds
 
 -- A law over any batch and what is told of its answer.
-pub told-run : (b : List ℕ) (s : Short) → short (edit b) ≡ s → RunsAs b s
+pub told-run : (b : List ℕ) (s : Short) → Bytes b → short (edit b) ≡ s → RunsAs b s
 unfolding short answerIn _>>=_
-told-run b s t held work r holds left p l = let z = edit-answered b held work r holds left p l in go (edit b) s t (z .leaves) (z .read)
+told-run b s y t held work r holds left p l = let z = edit-answered b held work r holds left p y l in go (edit b) s t (z .leaves) (z .read)
   where
     go : (o : Answer Result) (s : Short) → short o ≡ s → Leaves o held r holds → answerIn r holds ≡ o → Tells s held r holds
     go (refused k) (refused j) t h q = (h .0 ∙ ap refused (refused-inj t), h .1)
@@ -69,16 +72,29 @@ told-run b s t held work r holds left p l = let z = edit-answered b held work r 
 abbrev pub Runs : Told × Short → Type 0
 Runs m = RunsAs (inBytes (m .0)) (m .1)
 
--- a table that the definition answers
-pub table-run : (es : List (Told × Short)) → answered es ≡ told es → All Runs es
-table-run [] e = tt
-table-run (m ∷ es) e = (told-run (inBytes (m .0)) (m .1) (head-eq-of-cons-eq e), table-run es (tail-eq-of-cons-eq e))
+-- some batch of a table is not of bytes
+abbrev pub beyondBytes : List (Told × Short) → Bool
+beyondBytes es = any (λ m. any (leb 256) (inBytes (m .0))) es
+
+-- A table that the definition answers is answered by every call that keeps its promise.
+pub table-run : (es : List (Told × Short)) → beyondBytes es ≡ false → answered es ≡ told es → All Runs es
+table-run es b e = go es (none-passes (λ m. any (leb 256) (inBytes (m .0))) es b) e
+  where
+    go : (es : List (Told × Short)) → All (λ m. any (leb 256) (inBytes (m .0)) ≡ false) es → answered es ≡ told es → All Runs es
+    go [] h e = tt
+    go (m ∷ es) h e = (told-run (inBytes (m .0)) (m .1) (tested-bytes (inBytes (m .0)) (h .0)) (head-eq-of-cons-eq e), go es (h .1) (tail-eq-of-cons-eq e))
 
 -- every call on this input that keeps its promise, with a result slice of 65,536 bytes: what it leaves prints these lines
 abbrev pub Prints : Told × String → Type 0
 Prints m =
-    (held : List ℕ) (work : List (List ℕ)) (r : Answer ℕ) (holds : List ℕ) (left : List (List ℕ)) → Edits (take 65536 (inBytes (m .0))) held work r holds left → Bytes (take 65536 (inBytes (m .0)))
-    → tooShort (lengths work) ≡ false → length held ≡ 65536 → print (answerIn r holds) ≡ ascii (m .1)
+    (held : List ℕ) (work : List (List ℕ)) (r : Answer ℕ) (holds : List ℕ) (left : List (List ℕ)) → Edits (take 65536 (inBytes (m .0))) held work r holds left → tooShort (lengths work) ≡ false → length held ≡ 65536
+    → print (answerIn r holds) ≡ ascii (m .1)
+
+-- what the definition prints
+pub lines-run : (b : Told) (lines : String) → any (leb 256) (inBytes b) ≡ false → printed (inBytes b) ≡ ascii lines → Prints (b, lines)
+lines-run b lines h e held work r holds left p k l =
+    let input = inBytes b in
+    printed-run input held work r holds left p (take-bytes 65536 input (tested-bytes input h)) k l ∙ e
 
 -- every call of `find_element` on this batch that keeps its promise finds as told
 abbrev pub FindsTold : List ℕ → ℕ × Answer (Option ℕ) → Type 0
@@ -93,15 +109,17 @@ finds-run b (m ∷ ms) e = (λ work r left p h. find-answered b (m .0) work r le
 abbrev pub foundIn : List (ℕ × Answer (Option ℕ))
 foundIn = (1, gives (some 2)) ∷ (2, gives none) ∷ (11, gives none) ∷ []
 
+-- the batches of the tables are of bytes
+in-bytes : (beyondBytes marked ≡ false) × (beyondBytes further ≡ false) × (any (leb 256) (inBytes printedCase) ≡ false) × (any (leb 256) (inBytes withNotes) ≡ false)
+unfolding computed inBytes
+in-bytes = (refl, refl, refl, refl)
+
 -- THE EXAMPLES of document 01, for the code: each marked and each further example becomes what is told of it, the printed case and `withNotes` print their
 -- lines, and `find_element` finds what is told.
 pub examples-run : All Runs marked × All Runs further × All Prints ((printedCase, printedLines) ∷ (withNotes, withNotesLines) ∷ []) × All (FindsTold (inBytes withNotes)) foundIn
 examples-run = (
-  table-run marked (examples .0),
-  table-run further (examples .3),
-  (
-    λ held work r holds left p b h k. printed-run (inBytes printedCase) held work r holds left p b h k ∙ examples .2,
-    (λ held work r holds left p b h k. printed-run (inBytes withNotes) held work r holds left p b h k ∙ examples .4, tt),
-  ),
+  table-run marked (in-bytes .0) (examples .0),
+  table-run further (in-bytes .1) (examples .3),
+  (lines-run printedCase printedLines (in-bytes .2) (examples .2), (lines-run withNotes withNotesLines (in-bytes .3) (examples .4), tt)),
   finds-run (inBytes withNotes) foundIn (examples .7),
 )

@@ -1,17 +1,17 @@
 -- Every number of an answer fits a word, if the batch is of bytes: so nothing is lost where the answer is written.
 -- Assumes nothing.
 use mathlib.Core.Path.{_≡_, refl, sym, ap, _∙_}
-use mathlib.Core.Bool.{Bool, cond, not}
+use mathlib.Core.Bool.{Bool, false, cond, not}
 use mathlib.Core.List.{List, [], _∷_, _++_, map, flatMap, zip}
 use mathlib.Core.Option.{Option, none, some, Option·map, Option·getD}
 use Prim.Native.Nat.{ℕ, zero, suc, _+_, _*_, _≤_, _<_}
 use native.Mathlib.Omega.{arith}
-use lib.Dec.{ltb, eqb}
+use lib.Dec.{leb, ltb, eqb}
 use lib.ListN.{length, getD, take, drop, length-append}
 use lib.Seq.{getD-drop}
-use borrow.Author.Tests.{ne-eqb}
-use Rattle.orders.specs.Lists.{All, pick}
-use Rattle.orders.specs.ListLaws.{some-inj, none-some, map-some, get-mem, All-mem, All-over, All-pick, All-perm, All-map₂}
+use borrow.Author.Tests.{leb-false, ne-eqb}
+use Rattle.orders.specs.Lists.{any, All, pick}
+use Rattle.orders.specs.ListLaws.{none-passes, some-inj, none-some, map-some, get-mem, All-mem, All-over, All-pick, All-perm, All-map₂}
 use Rattle.orders.specs.Tree.{Tree, Trees, node, token, nil, cons, list, forest, label, measure, text, textOf, preorder, preorders, elements, elementsOf, Path, resolve, adjust, modify, splice, children, strip}
 use Rattle.orders.specs.TreeLaws.{list-forest, resolve-child}
 use Rattle.definition.specs.Basics.{gives, refuse, orRefuse, isSome}
@@ -43,6 +43,21 @@ Bytes l = (i : ℕ) → getD l i 0 < 256
 
 drop-bytes : (n : ℕ) (l : List ℕ) → Bytes l → Bytes (drop n l)
 drop-bytes n l h i = rw (getD-drop n l i 0) (h (n + i))
+
+pub take-bytes : (n : ℕ) (l : List ℕ) → Bytes l → Bytes (take n l)
+take-bytes zero l h i = omega arith
+take-bytes (suc n) [] h i = omega arith
+take-bytes (suc n) (x ∷ l) h zero = h 0
+take-bytes (suc n) (x ∷ l) h (suc i) = take-bytes n l (λ j. h (suc j)) i
+
+-- told by a test
+pub tested-bytes : (l : List ℕ) → any (leb 256) l ≡ false → Bytes l
+tested-bytes l e = each l (none-passes (leb 256) l e)
+  where
+    each : (l : List ℕ) → All (λ x. leb 256 x ≡ false) l → Bytes l
+    each [] h i = omega arith
+    each (x ∷ l) h zero = leb-false 256 x (h .0)
+    each (x ∷ l) h (suc i) = each l (h .1) i
 
 words-fit : (n : ℕ) (l : List ℕ) → Bytes l → All Word (words n l)
 unfolding words word

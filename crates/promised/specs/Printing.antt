@@ -20,5 +20,5 @@ pub printed-run : (input held : List ℕ) (work : List (List ℕ)) (r : Answer �
     → tooShort (lengths work) ≡ false → length held ≡ 65536 → print (answerIn r holds) ≡ printed input
 unfolding printed
 printed-run input held work r holds left p b h k =
-    let z = edit-answered (take 65536 input) held work r holds left p (lent-most (take 65536 input) held work b h (omega arith)) in
+    let z = edit-answered (take 65536 input) held work r holds left p b (lent-most (take 65536 input) held work h (omega arith)) in
     ap print (z .read ∙ sym (room-suffices (take 65536 input) 65536 (omega arith)))
