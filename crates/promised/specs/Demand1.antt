@@ -109,3 +109,12 @@ demand-1 b held work r holds left p = go (edited (lengths work) b (length held))
 -- So does every call of `find_element`, which is lent no result slice.
 pub demand-1-finds : (b : List ℕ) (n : ℕ) (work : List (List ℕ)) (r : Answer (Option ℕ)) (left : List (List ℕ)) → Finds b n work r left → (map length left ≡ map length work) × All (All (λ w. w ≡ 0)) left
 demand-1-finds b n work r left p = (ap (map length) (p .zeros) ∙ zeroed-lengths work, rw (p .zeros) (zeroed-zeros work))
+
+-- ── Nothing is left free ────────────────────────────────────────────────────────────────────────────────────
+
+-- What was lent settles the answer and every slice: two calls that keep the promise agree.
+pub edits-settled : (b held : List ℕ) (work : List (List ℕ)) (r s : Answer ℕ) (holds keeps : List ℕ) (left last : List (List ℕ)) → Edits b held work r holds left → Edits b held work s keeps last → (r ≡ s) × (holds ≡ keeps) × (left ≡ last)
+edits-settled b held work r s holds keeps left last p q = (p .answer ∙ sym (q .answer), p .result ∙ sym (q .result), p .zeros ∙ sym (q .zeros))
+
+pub finds-settled : (b : List ℕ) (n : ℕ) (work : List (List ℕ)) (r s : Answer (Option ℕ)) (left last : List (List ℕ)) → Finds b n work r left → Finds b n work s last → (r ≡ s) × (left ≡ last)
+finds-settled b n work r s left last p q = (p .element ∙ sym (q .element), p .zeros ∙ sym (q .zeros))

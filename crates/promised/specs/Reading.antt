@@ -68,10 +68,10 @@ module _ (ws r : List ℕ) (n : ℕ) (e : length ws ≡ n) where
   array-passed = drop-at (written ws) r (4 * n) (length-written ws ∙ ap (λ (k : ℕ). 4 * k) e)
 
 -- the sizes and arrays one behind another
-pub encoded-parts : (r : Result) (rest : List ℕ)
+parted : (r : Result) (rest : List ℕ)
     → encoded r ++ rest ≡ written (sixSizes r) ++ (written r.kinds ++ (written r.measures ++ (written r.changed ++ (written r.numbers ++ (written r.noted ++ (r .text ++ rest))))))
 unfolding encoded
-encoded-parts r rest = simp (written-append, append-assoc)
+parted r rest = simp (written-append, append-assoc)
 
 arrays-read : (r : Result) (rest : List ℕ) → Within r → InWords r
     → arraysIn (sixSizes r) (written r.kinds ++ (written r.measures ++ (written r.changed ++ (written r.numbers ++ (written r.noted ++ (r .text ++ rest)))))) ≡ r
@@ -101,13 +101,13 @@ unfolding sixSizes
 sizes-fit r w = (omega (arith, w .elements), (omega (arith, w .text), (omega (arith, w .changed), (omega (arith, w .notes), (omega (arith, w .discarded), (omega (arith, w .climbs), tt))))))
 
 pub sizes-read : (r : Result) (rest : List ℕ) → Within r → words 6 (encoded r ++ rest) ≡ sixSizes r
-sizes-read r rest w = rw encoded-parts (array-read (sixSizes r) _ 6 (six r) (sizes-fit r w))
+sizes-read r rest w = rw parted (array-read (sixSizes r) _ 6 (six r) (sizes-fit r w))
 
 -- What was written is read back, whatever stands behind it.
 pub result-read : (r : Result) (rest : List ℕ) → Within r → InWords r → resultIn (encoded r ++ rest) ≡ r
 unfolding resultIn
 result-read r rest w h =
-    rw (encoded-parts, array-read (sixSizes r) _ 6 (six r) (sizes-fit r w), array-passed (sixSizes r) _ 6 (six r)) (arrays-read r rest w h)
+    rw (parted, array-read (sixSizes r) _ 6 (six r) (sizes-fit r w), array-passed (sixSizes r) _ 6 (six r)) (arrays-read r rest w h)
 
 -- The text stands at the end.
 pub text-read : (r : Result) (rest : List ℕ) → take (length r.text) (drop (length (encoded r) - length r.text) (encoded r ++ rest)) ≡ r .text
