@@ -6,13 +6,16 @@ use Prim.Native.Nat.{ℕ, zero, suc, _+_, _-_, _*_, _/_, _%_, _≤_, _<_}
 use native.Mathlib.Nat.{mul-le-mul-left, add-zero, mul-zero}
 use native.Mathlib.Numerals.{add-one}
 use native.Mathlib.Omega.{arith}
-use borrow.Author.Tests.{lt-ltb, le-ltb}
+use borrow.Author.Tests.{lt-ltb, le-ltb, le-leb, lt-leb}
 use lib.ListN.{length, getD, set, take, drop, length-append}
-use lib.Seq.{paste, paste-zero, take-suc, take-all, length-paste}
-use Rattle.definition.specs.Printed.{digits, decimal, hex}
+use lib.Seq.{paste, paste-zero, take-suc, take-all, length-paste, drop-drop}
+use Rattle.definition.specs.Printed.{ascii, digits, decimal, hexDigit, hex, line, elementLine, textLine}
+use Rattle.definition.specs.Words.{word, words}
+use Rattle.definition.specs.Elements.{isNode, kindOf}
+use Rattle.words.specs.Bytes.{length-words, getD-words}
 use Rattle.words.specs.Parts.{set-paste}
 use Rattle.laws.specs.Basics.{flatMap-append}
-use Rattle.printing.specs.Lines.{Put, put-more, digits-length, spaced, spaced-length, texts-length, lineOf, lineOf-length}
+use Rattle.printing.specs.Lines.{Put, put-more, digits-length, spaced, spaced-length, texts-length, lineOf, lineOf-length, pairsAt, pairs-length, pair-at, changedLine, changed-length, noteLine}
 
 -- ── A byte and digits ───────────────────────────────────────────────────────────────────────────────────────
 
@@ -106,3 +109,105 @@ module _ (d name ns : List ℕ) {l : List ℕ} (at : ℕ) {l₂ : List ℕ} {to 
       let named : Put d at name l (at + length name) = record { end = refl; is = n } in
       let s = texts-length spaced 11 spaced-length ns in
       put-more (put-more named p (omega arith)) q (omega (arith, p .end))
+
+-- ── Text in hexadecimal ─────────────────────────────────────────────────────────────────────────────────────
+
+pub low-digit : (n : ℕ) → n < 10 → 48 + n ≡ hexDigit n
+unfolding hexDigit
+low-digit n h = rw (lt-ltb n 10 h)
+
+pub high-digit : (n : ℕ) → 10 ≤ n → 87 + n ≡ hexDigit n
+unfolding hexDigit
+high-digit n h = rw (le-ltb n 10 h)
+
+pub hex-put : {d : List ℕ} {at : ℕ} (b : ℕ) {x y : ℕ} {l : List ℕ} {to : ℕ} {l′ : List ℕ} {to′ : ℕ} → at + 2 ≤ length d → x ≡ hexDigit (b / 16) → y ≡ hexDigit (b % 16) → Put d at (x ∷ []) l to
+    → Put l to (y ∷ []) l′ to′ → Put d at (hex b) l′ to′
+unfolding hex
+hex-put b h e f p q = rw (← e, ← f) (put-more p q (omega (arith, p .end)))
+
+hex-length : (b : ℕ) → length (hex b) ≤ 2
+unfolding hex
+hex-length b = omega arith
+
+pub bytes-next : {text d : List ℕ} {at : ℕ} {l : List ℕ} {to i b : ℕ} {l′ : List ℕ} {to′ : ℕ} → Putting hex 2 text d at l to i → i < length text → b ≡ getD text i 0 → length l′ ≡ length l → Put l to (hex b) l′ to′
+    → Putting hex 2 text d at l′ to′ (i + 1)
+bytes-next {text} {i = i} {b = b} v h e m p = putting-next hex 2 text v 0 b h e (hex-length b) m p
+
+pub no-text : {d : List ℕ} {at : ℕ} (text : List ℕ) {l : List ℕ} {to : ℕ} → length text ≡ 0 → Put d at (lineOf (116 ∷ 101 ∷ 120 ∷ 116 ∷ []) []) l to → Put d at (textLine text) l to
+unfolding textLine line lineOf ascii spaced
+no-text [] e p = p
+no-text (b ∷ text) e p = absurd (omega arith)
+
+module _ (d text : List ℕ) {l : List ℕ} (at : ℕ) {l₂ : List ℕ} {to : ℕ} (room : at + 2 * length text + 6 ≤ length d) (n : l ≡ paste d at (116 ∷ 101 ∷ 120 ∷ 116 ∷ 32 ∷ []) 5) (p : Put l (at + 5) (flatMap hex text) l₂ to) where
+  pub text-room : length l₂ ≡ length l → length l ≡ length d → to < length l₂
+  text-room e f = omega (arith, p .end, texts-length hex 2 hex-length text)
+
+  pub text-put : (length text ≡ 0 → ⊥) → {l₃ : List ℕ} {to′ : ℕ} → Put l₂ to (10 ∷ []) l₃ to′ → Put d at (textLine text) l₃ to′
+  unfolding textLine ascii
+  text-put h {l₃} {to′} q = go text h all
+    where
+      all : Put d at ((116 ∷ 101 ∷ 120 ∷ 116 ∷ 32 ∷ []) ++ flatMap hex text ++ (10 ∷ [])) l₃ to′
+      all =
+          let named : Put d at (116 ∷ 101 ∷ 120 ∷ 116 ∷ 32 ∷ []) l (at + 5) = record { end = refl; is = n } in
+          let s = texts-length hex 2 hex-length text in
+          put-more (put-more named p (omega arith)) q (omega (arith, p .end))
+
+      go : (t : List ℕ) → (length t ≡ 0 → ⊥) → Put d at ((116 ∷ 101 ∷ 120 ∷ 116 ∷ 32 ∷ []) ++ flatMap hex t ++ (10 ∷ [])) l₃ to′ → Put d at (textLine t) l₃ to′
+      go [] k a = absurd (k refl)
+      go (b ∷ t) k a = a
+
+-- ── An element ──────────────────────────────────────────────────────────────────────────────────────────────
+
+module _ {d : List ℕ} {at : ℕ} (kind measure : ℕ) {l : List ℕ} {to : ℕ} where
+  pub token-put : kind < 2147483648 → Put d at (lineOf (116 ∷ []) (kind % 65536 ∷ measure ∷ [])) l to → Put d at (elementLine (kind, measure)) l to
+  unfolding elementLine isNode kindOf line lineOf ascii spaced
+  token-put h p = rw (lt-leb 2147483648 kind h) p
+
+  pub node-put : 2147483648 ≤ kind → Put d at (lineOf (110 ∷ []) (kind % 65536 ∷ measure ∷ [])) l to → Put d at (elementLine (kind, measure)) l to
+  unfolding elementLine isNode kindOf line lineOf ascii spaced
+  node-put h p = rw (le-leb 2147483648 kind h) p
+
+-- ── Arrays of the result ────────────────────────────────────────────────────────────────────────────────────
+
+pub changed-put : {d : List ℕ} {at : ℕ} (e : ℕ) {l : List ℕ} {to : ℕ} → Put d at (lineOf (99 ∷ 104 ∷ 97 ∷ 110 ∷ 103 ∷ 101 ∷ 100 ∷ []) (e ∷ [])) l to → Put d at (changedLine e) l to
+unfolding changedLine line lineOf ascii spaced
+changed-put e p = p
+
+pub note-put : {d : List ℕ} {at : ℕ} (m e : ℕ) {l : List ℕ} {to : ℕ} → Put d at (lineOf (110 ∷ 111 ∷ 116 ∷ 101 ∷ []) (m ∷ e ∷ [])) l to → Put d at (noteLine (m, e)) l to
+unfolding noteLine line lineOf ascii spaced
+note-put m e p = p
+
+-- the pairs of two arrays of n words
+module _ (f : ℕ × ℕ → List ℕ) (k : ℕ) (s : (e : ℕ × ℕ) → length (f e) ≤ k) (b : List ℕ) (from n : ℕ) where
+  pub pairs-start : (d : List ℕ) (at : ℕ) → at + k * n ≤ length d → Putting f k (pairsAt b from n) d at d at 0
+  pairs-start d at h = putting-start f k (pairsAt b from n) d at (rw (pairs-length b from n) h)
+
+  module _ {d : List ℕ} {at : ℕ} {l : List ℕ} {to i : ℕ} (v : Putting f k (pairsAt b from n) d at l to i) where
+    pub pairs-room : i < n → to + k ≤ length l
+    pairs-room h = putting-room f k (pairsAt b from n) v (rw (pairs-length b from n) h)
+
+    pub pairs-next : {x y : ℕ} {l′ : List ℕ} {to′ : ℕ} → i < n → x ≡ word (drop (from + 4 * i) b) → y ≡ word (drop (from + 4 * n + 4 * i) b) → length l′ ≡ length l → Put l to (f (x, y)) l′ to′
+        → Putting f k (pairsAt b from n) d at l′ to′ (i + 1)
+    pairs-next {x} {y} h p q m w =
+        putting-next f k (pairsAt b from n) v (0, 0) (x, y) (rw (pairs-length b from n) h) (rw (p, q) (sym (pair-at b from n i h))) (s (x, y)) m w
+
+    pub pairs-done : n ≤ i → Put d at (flatMap f (pairsAt b from n)) l to
+    pairs-done h = putting-done f k (pairsAt b from n) v (rw (pairs-length b from n) h)
+
+-- the n words of one
+module _ (b : List ℕ) (from n : ℕ) where
+  pub words-start : (d : List ℕ) (at : ℕ) → at + 19 * n ≤ length d → Putting changedLine 19 (words n (drop from b)) d at d at 0
+  words-start d at h = putting-start changedLine 19 (words n (drop from b)) d at (rw (length-words n (drop from b)) h)
+
+  module _ {d : List ℕ} {at : ℕ} {l : List ℕ} {to i : ℕ} (v : Putting changedLine 19 (words n (drop from b)) d at l to i) where
+    pub words-room : i < n → to + 19 ≤ length l
+    words-room h = putting-room changedLine 19 (words n (drop from b)) v (rw (length-words n (drop from b)) h)
+
+    pub words-next : {x : ℕ} {l′ : List ℕ} {to′ : ℕ} → i < n → x ≡ word (drop (from + 4 * i) b) → length l′ ≡ length l → Put l to (changedLine x) l′ to′
+        → Putting changedLine 19 (words n (drop from b)) d at l′ to′ (i + 1)
+    words-next {x} h p m w =
+        let e : x ≡ getD (words n (drop from b)) i 0 = p ∙ sym (getD-words n (drop from b) i h ∙ ap word (drop-drop (4 * i) from b)) in
+        putting-next changedLine 19 (words n (drop from b)) v 0 x (rw (length-words n (drop from b)) h) e (changed-length x) m w
+
+    pub words-done : n ≤ i → Put d at (flatMap changedLine (words n (drop from b))) l to
+    words-done h = putting-done changedLine 19 (words n (drop from b)) v (rw (length-words n (drop from b)) h)

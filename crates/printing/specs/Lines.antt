@@ -7,11 +7,11 @@ use Prim.Native.Nat.{ℕ, zero, suc, _+_, _*_, _/_, _%_, _≤_, _<_}
 use native.Mathlib.Omega.{arith}
 use lib.Dec.{ltb}
 use lib.ListN.{length, getD, drop, length-append}
-use lib.Seq.{paste}
-use Rattle.definition.specs.Words.{words}
+use lib.Seq.{paste, drop-drop}
+use Rattle.definition.specs.Words.{word, words}
 use Rattle.definition.specs.Elements.{isNode, kindOf}
 use Rattle.definition.specs.Printed.{ascii, digits, decimal, hexDigit, hex, line, elementLine}
-use Rattle.words.specs.Bytes.{length-words}
+use Rattle.words.specs.Bytes.{length-words, getD-words}
 use Rattle.words.specs.Parts.{paste-paste}
 
 -- ── What is written at a place ──────────────────────────────────────────────────────────────────────────────
@@ -41,6 +41,14 @@ spaced n = 32 ∷ decimal n
 unfoldable pub lineOf : List ℕ → List ℕ → List ℕ
 lineOf name ns = name ++ flatMap spaced ns ++ (10 ∷ [])
 
+-- the line of a changed element
+unfoldable pub changedLine : ℕ → List ℕ
+changedLine e = line "changed" (e ∷ [])
+
+-- the line of a note: its number, its element
+unfoldable pub noteLine : ℕ × ℕ → List ℕ
+noteLine m = line "note" (m .0 ∷ m .1 ∷ [])
+
 -- pairs out of two arrays of n words, one behind the other
 unfoldable pub pairsAt : List ℕ → ℕ → ℕ → List (ℕ × ℕ)
 pairsAt b from n = zip (words n (drop from b)) (words n (drop (from + 4 * n) b))
@@ -68,6 +76,54 @@ pub lineOf-length : (name ns : List ℕ) → length (lineOf name ns) ≤ length 
 unfolding lineOf
 lineOf-length name ns = simp length-append (omega (arith, texts-length spaced 11 spaced-length ns))
 
-pub line-is : (name : _) (ns : List ℕ) → line name ns ≡ lineOf (ascii name) ns
-unfolding line lineOf spaced
-line-is name ns = refl
+-- ── Lengths of lines, and of arrays of pairs ────────────────────────────────────────────────────────────────
+
+-- a line whose word is known
+line-length : (name ns : List ℕ) (k : ℕ) → length name + 11 * length ns + 1 ≤ k → length (lineOf name ns) ≤ k
+line-length name ns k h = omega (arith, lineOf-length name ns)
+
+pub element-length : (e : ℕ × ℕ) → length (elementLine e) ≤ 24
+unfolding elementLine line lineOf spaced ascii
+element-length e = go (isNode (e .0))
+  where
+    go : (b : Bool) → length (line (cond b "n" "t") (kindOf (e .0) ∷ e .1 ∷ [])) ≤ 24
+    go true = line-length (110 ∷ []) (kindOf (e .0) ∷ e .1 ∷ []) 24 (omega arith)
+    go false = line-length (116 ∷ []) (kindOf (e .0) ∷ e .1 ∷ []) 24 (omega arith)
+
+pub changed-length : (e : ℕ) → length (changedLine e) ≤ 19
+unfolding changedLine line lineOf spaced ascii
+changed-length e = line-length (99 ∷ 104 ∷ 97 ∷ 110 ∷ 103 ∷ 101 ∷ 100 ∷ []) (e ∷ []) 19 (omega arith)
+
+pub note-length : (m : ℕ × ℕ) → length (noteLine m) ≤ 27
+unfolding noteLine line lineOf spaced ascii
+note-length m = line-length (110 ∷ 111 ∷ 116 ∷ 101 ∷ []) (m .0 ∷ m .1 ∷ []) 27 (omega arith)
+
+module _ {A B : Type 0} where
+  zip-length : (l : List A) (m : List B) → length l ≡ length m → length (zip l m) ≡ length l
+  unfolding zip
+  zip-length [] m e = refl
+  zip-length (x ∷ l) [] e = absurd (omega arith)
+  zip-length (x ∷ l) (y ∷ m) e = ap suc (zip-length l m (omega arith))
+
+  getD-zip : (l : List A) (m : List B) (x : A) (y : B) (i : ℕ) → i < length l → length l ≡ length m → getD (zip l m) i (x, y) ≡ (getD l i x, getD m i y)
+  unfolding zip
+  getD-zip [] m x y i h e = absurd (omega arith)
+  getD-zip (a ∷ l) [] x y i h e = absurd (omega arith)
+  getD-zip (a ∷ l) (b ∷ m) x y zero h e = refl
+  getD-zip (a ∷ l) (b ∷ m) x y (suc i) h e = getD-zip l m x y i (omega arith) (omega arith)
+
+module _ (b : List ℕ) (from n : ℕ) where
+  pub pairs-length : length (pairsAt b from n) ≡ n
+  unfolding pairsAt
+  pairs-length =
+      let p = length-words n (drop from b) in
+      let q = length-words n (drop (from + 4 * n) b) in
+      zip-length (words n (drop from b)) (words n (drop (from + 4 * n) b)) (omega arith) ∙ p
+
+  pub pair-at : (i : ℕ) → i < n → getD (pairsAt b from n) i (0, 0) ≡ (word (drop (from + 4 * i) b), word (drop (from + 4 * n + 4 * i) b))
+  unfolding pairsAt
+  pair-at i h =
+      let p = length-words n (drop from b) in
+      let q = length-words n (drop (from + 4 * n) b) in
+      getD-zip (words n (drop from b)) (words n (drop (from + 4 * n) b)) 0 0 i (omega arith) (omega arith)
+      ∙ rw (getD-words n (drop from b) i h, getD-words n (drop (from + 4 * n) b) i h, drop-drop (4 * i) from b, drop-drop (4 * i) (from + 4 * n) b)

@@ -3,8 +3,9 @@ ghost use mathlib.Core.Path.{_≡_};
 ghost use mathlib.Core.List.{_∷_, [], flatMap};
 ghost use Prim.Native.Nat.{_+_, _*_, _≤_, _<_, _^_};
 ghost use lib.ListN.{length, getD, take, drop};
-ghost use Rattle.definition.specs.Printed.{digits, decimal, hex, elementLine, textLine};
-ghost use Rattle.printing.specs.Lines.{Put, spaced, lineOf};
+ghost use Rattle.definition.specs.Words.{words};
+ghost use Rattle.definition.specs.Printed.{digits, hexDigit, hex, elementLine, textLine};
+ghost use Rattle.printing.specs.Lines.{Put, spaced, lineOf, pairsAt, changedLine, noteLine};
 
 // One byte is written at `at`.
 fn put(out: &mut [u8], at: usize, byte: u8) -> usize
@@ -61,4 +62,122 @@ fn put_line(out: &mut [u8], at: usize, name: &[u8], ns: &[usize]) -> usize
     words::copy_bytes(out, at, name);
     let end = put_numbers(out, at + name.len(), ns);
     put(out, end, 10)
+}
+
+// A digit in hexadecimal.
+fn hex_digit(n: usize) -> u8
+    requires { ⌜ n < 16 ⌝ }
+    ensures { λ r. ⌜ r ≡ hexDigit n ⌝ }
+{
+    if n < 10 { 48 + n as u8 } else { 87 + n as u8 }
+}
+
+// A byte in hexadecimal is written at `at`.
+fn put_hex(out: &mut [u8], at: usize, byte: usize) -> usize
+    requires { ⌜ (at + 2 ≤ length (now out)) × (byte < 2 ^ 8) ⌝ }
+    ensures { λ r. ⌜ Put (now (out .entry)) at (hex byte) (now (out .exit)) r ⌝ }
+{
+    let to = put(out, at, hex_digit(byte / 16));
+    put(out, to, hex_digit(byte % 16))
+}
+
+// Bytes in hexadecimal are written at `at`.
+fn put_bytes(out: &mut [u8], at: usize, text: &[u8]) -> usize
+    requires { ⌜ at + 2 * length (now text) ≤ length (now out) ⌝ }
+    ensures { λ r. ⌜ Put (now (out .entry)) at (flatMap hex (now (text .entry))) (now (out .exit)) r ⌝ }
+{
+    let mut to = at;
+    let mut i = 0;
+    while i < text.len() {
+        to = put_hex(out, to, words::byte(text, i));
+        i += 1;
+    }
+    to
+}
+
+// The line of the text is written at `at`.
+fn put_text(out: &mut [u8], at: usize, text: &[u8]) -> usize
+    requires { ⌜ at + 2 * length (now text) + 6 ≤ length (now out) ⌝ }
+    ensures { λ r. ⌜ Put (now (out .entry)) at (textLine (now (text .entry))) (now (out .exit)) r ⌝ }
+{
+    if text.len() == 0 {
+        return put_line(out, at, b"text", &[]);
+    }
+    words::copy_bytes(out, at, b"text ");
+    let to = put_bytes(out, at + 5, text);
+    put(out, to, 10)
+}
+
+// The line of an element is written at `at`.
+fn put_element(out: &mut [u8], at: usize, kind: usize, measure: usize) -> usize
+    requires { ⌜ at + 24 ≤ length (now out) ⌝ }
+    ensures { λ r. ⌜ Put (now (out .entry)) at (elementLine (kind, measure)) (now (out .exit)) r ⌝ }
+{
+    if kind < 0x8000_0000 {
+        return put_line(out, at, b"t", &[kind % 65536, measure]);
+    }
+    put_line(out, at, b"n", &[kind % 65536, measure])
+}
+
+// The lines of `n` elements are written at `at`; their kind words stand at `from`, their measures behind those.
+fn put_elements(out: &mut [u8], at: usize, b: &[u8], from: usize, n: usize) -> usize
+    requires { ⌜ (from + 8 * n ≤ length (now b)) × (at + 24 * n ≤ length (now out)) ⌝ }
+    ensures { λ r. ⌜ Put (now (out .entry)) at (flatMap elementLine (pairsAt (now (b .entry)) from n)) (now (out .exit)) r ⌝ }
+{
+    let mut to = at;
+    let mut i = 0;
+    while i < n {
+        let kind = words::read_word(b, from + 4 * i);
+        let measure = words::read_word(b, from + 4 * n + 4 * i);
+        to = put_element(out, to, kind, measure);
+        i += 1;
+    }
+    to
+}
+
+// The line of a changed element is written at `at`.
+fn put_changed(out: &mut [u8], at: usize, element: usize) -> usize
+    requires { ⌜ at + 19 ≤ length (now out) ⌝ }
+    ensures { λ r. ⌜ Put (now (out .entry)) at (changedLine element) (now (out .exit)) r ⌝ }
+{
+    put_line(out, at, b"changed", &[element])
+}
+
+// The line of a note is written at `at`.
+fn put_note(out: &mut [u8], at: usize, number: usize, element: usize) -> usize
+    requires { ⌜ at + 27 ≤ length (now out) ⌝ }
+    ensures { λ r. ⌜ Put (now (out .entry)) at (noteLine (number, element)) (now (out .exit)) r ⌝ }
+{
+    put_line(out, at, b"note", &[number, element])
+}
+
+// The lines of `n` changed elements, whose numbers stand at `from`, are written at `at`.
+fn put_all_changed(out: &mut [u8], at: usize, b: &[u8], from: usize, n: usize) -> usize
+    requires { ⌜ (from + 4 * n ≤ length (now b)) × (at + 19 * n ≤ length (now out)) ⌝ }
+    ensures { λ r. ⌜ Put (now (out .entry)) at (flatMap changedLine (words n (drop from (now (b .entry))))) (now (out .exit)) r ⌝ }
+{
+    let mut to = at;
+    let mut i = 0;
+    while i < n {
+        let element = words::read_word(b, from + 4 * i);
+        to = put_changed(out, to, element);
+        i += 1;
+    }
+    to
+}
+
+// The lines of `n` notes are written at `at`; their numbers stand at `from`, their elements behind those.
+fn put_notes(out: &mut [u8], at: usize, b: &[u8], from: usize, n: usize) -> usize
+    requires { ⌜ (from + 8 * n ≤ length (now b)) × (at + 27 * n ≤ length (now out)) ⌝ }
+    ensures { λ r. ⌜ Put (now (out .entry)) at (flatMap noteLine (pairsAt (now (b .entry)) from n)) (now (out .exit)) r ⌝ }
+{
+    let mut to = at;
+    let mut i = 0;
+    while i < n {
+        let number = words::read_word(b, from + 4 * i);
+        let element = words::read_word(b, from + 4 * n + 4 * i);
+        to = put_note(out, to, number, element);
+        i += 1;
+    }
+    to
 }
