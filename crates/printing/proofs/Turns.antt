@@ -1,21 +1,24 @@
 -- What each way out and each turn of a loop has written.
 -- Assumes nothing.
 use mathlib.Core.Path.{_≡_, refl, sym, ap, _∙_}
-use mathlib.Core.List.{List, [], _∷_, _++_, flatMap, append-nil}
+use mathlib.Core.List.{List, [], _∷_, _++_, flatMap, append-nil, append-assoc}
 use Prim.Native.Nat.{ℕ, zero, suc, _+_, _-_, _*_, _/_, _%_, _≤_, _<_}
 use native.Mathlib.Nat.{mul-le-mul-left, add-zero, mul-zero}
 use native.Mathlib.Numerals.{add-one}
 use native.Mathlib.Omega.{arith}
 use borrow.Author.Tests.{lt-ltb, le-ltb, le-leb, lt-leb}
-use lib.ListN.{length, getD, set, take, drop, length-append}
-use lib.Seq.{paste, paste-zero, take-suc, take-all, length-paste, drop-drop}
-use Rattle.definition.specs.Printed.{ascii, digits, decimal, hexDigit, hex, line, elementLine, textLine}
+use lib.ListN.{length, getD, set, take, drop, length-append, length-take, length-drop}
+use lib.Seq.{paste, paste-zero, take-suc, take-all, length-take-le, length-paste, drop-drop}
+use Rattle.definition.specs.Printed.{ascii, digits, decimal, hexDigit, hex, line, elementLine, textLine, print}
+use Rattle.definition.specs.Basics.{refused, gives}
+use Rattle.definition.specs.Finishing.{sixSizes}
 use Rattle.definition.specs.Words.{word, words}
 use Rattle.definition.specs.Elements.{isNode, kindOf}
 use Rattle.words.specs.Bytes.{length-words, getD-words}
 use Rattle.words.specs.Parts.{set-paste}
 use Rattle.laws.specs.Basics.{flatMap-append}
-use Rattle.printing.specs.Lines.{Put, put-more, digits-length, spaced, spaced-length, texts-length, lineOf, lineOf-length, pairsAt, pairs-length, pair-at, changedLine, changed-length, noteLine}
+use Rattle.printing.specs.Decoded.{told, decoded, Fits}
+use Rattle.printing.specs.Lines.{Put, put-more, digits-length, spaced, spaced-length, texts-length, lineOf, lineOf-length, pairsAt, pairs-length, pair-at, changedLine, changed-length, noteLine, element-length, hex-length, text-length}
 
 -- ── A byte and digits ───────────────────────────────────────────────────────────────────────────────────────
 
@@ -125,10 +128,6 @@ pub hex-put : {d : List ℕ} {at : ℕ} (b : ℕ) {x y : ℕ} {l : List ℕ} {to
 unfolding hex
 hex-put b h e f p q = rw (← e, ← f) (put-more p q (omega (arith, p .end)))
 
-hex-length : (b : ℕ) → length (hex b) ≤ 2
-unfolding hex
-hex-length b = omega arith
-
 pub bytes-next : {text d : List ℕ} {at : ℕ} {l : List ℕ} {to i b : ℕ} {l′ : List ℕ} {to′ : ℕ} → Putting hex 2 text d at l to i → i < length text → b ≡ getD text i 0 → length l′ ≡ length l → Put l to (hex b) l′ to′
     → Putting hex 2 text d at l′ to′ (i + 1)
 bytes-next {text} {i = i} {b = b} v h e m p = putting-next hex 2 text v 0 b h e (hex-length b) m p
@@ -211,3 +210,89 @@ module _ (b : List ℕ) (from n : ℕ) where
 
     pub words-done : n ≤ i → Put d at (flatMap changedLine (words n (drop from b))) l to
     words-done h = putting-done changedLine 19 (words n (drop from b)) v (rw (length-words n (drop from b)) h)
+
+-- ── The parts of a result ───────────────────────────────────────────────────────────────────────────────────
+
+part-length : (t from : ℕ) (b : List ℕ) → length (take t (drop from b)) ≤ t
+part-length t from b = omega (arith, length-take t (drop from b))
+
+module _ {d : List ℕ} {at : ℕ} {l : List ℕ} {to : ℕ} where
+  elements-end : (b : List ℕ) (from n : ℕ) → Put d at (flatMap elementLine (pairsAt b from n)) l to → to ≤ at + 24 * n
+  elements-end b from n p = omega (arith, p .end, texts-length elementLine 24 element-length (pairsAt b from n), ap (λ x. 24 * x) (pairs-length b from n))
+
+  changed-end : (b : List ℕ) (from n : ℕ) → Put d at (flatMap changedLine (words n (drop from b))) l to → to ≤ at + 19 * n
+  changed-end b from n p = omega (arith, p .end, texts-length changedLine 19 changed-length (words n (drop from b)), ap (λ x. 19 * x) (length-words n (drop from b)))
+
+  -- behind the elements there is room for the text, a part of the bytes from `from` on
+  pub tree-room : (b : List ℕ) (n from t : ℕ) → at + 24 * n + (2 * t + 6) ≤ length d → from + t ≤ length b → length l ≡ length d → Put d at (flatMap elementLine (pairsAt b 24 n)) l to
+      → to + 2 * length (take (from + t - from) (drop from b)) + 6 ≤ length l
+  tree-room b n from t h k e p =
+      let f : from + t - from ≡ t = omega arith in
+      rw f (omega (arith, part-length t from b, elements-end b 24 n p))
+
+  pub tree-put : (b : List ℕ) (n from t : ℕ) {l′ : List ℕ} {to′ : ℕ} → at + 24 * n + (2 * t + 6) ≤ length d → Put d at (flatMap elementLine (pairsAt b 24 n)) l to
+      → Put l to (textLine (take (from + t - from) (drop from b))) l′ to′ → Put d at (flatMap elementLine (pairsAt b 24 n) ++ textLine (take t (drop from b))) l′ to′
+  tree-put b n from t h p q =
+      let e : from + t - from ≡ t = omega arith in
+      put-more p (rw e at q) (omega (arith, elements-end b 24 n p))
+
+  pub found-room : (b : List ℕ) (from c m : ℕ) → at + 19 * c + 27 * m ≤ length d → length l ≡ length d → Put d at (flatMap changedLine (words c (drop from b))) l to → to + 27 * m ≤ length l
+  found-room b from c m h e p = omega (arith, changed-end b from c p)
+
+  pub found-put : (b : List ℕ) (from c m : ℕ) {s l′ : List ℕ} {to′ : ℕ} → at + 19 * c + 27 * m ≤ length d → Put d at (flatMap changedLine (words c (drop from b))) l to → Put l to s l′ to′
+      → Put d at (flatMap changedLine (words c (drop from b)) ++ s) l′ to′
+  found-put b from c m h p q = put-more p q (omega (arith, changed-end b from c p))
+
+-- ── The whole of it ─────────────────────────────────────────────────────────────────────────────────────────
+
+pub refusal-put : {d : List ℕ} (k : ℕ) {l : List ℕ} {to : ℕ} → Put d 0 (lineOf (114 ∷ 101 ∷ 102 ∷ 117 ∷ 115 ∷ 101 ∷ 100 ∷ []) (k ∷ [])) l to → Put d 0 (print (refused k)) l to
+unfolding print line lineOf ascii spaced
+refusal-put k p = p
+
+regroup : (a b c d e : List ℕ) → a ++ b ++ c ++ d ++ e ≡ a ++ (b ++ c) ++ (d ++ e)
+regroup a b c d e = simp append-assoc
+
+-- what is printed of a result, in the parts that are written
+told-printed : (b : List ℕ) (n t c m x y : ℕ) → 24 + 8 * n + 4 * c + 8 * m + t ≤ length b
+    → print (gives (told b n t c m x y)) ≡ lineOf (111 ∷ 107 ∷ []) (n ∷ t ∷ c ∷ m ∷ x ∷ y ∷ [])
+    ++ (flatMap elementLine (pairsAt b 24 n) ++ textLine (take t (drop (24 + 8 * n + 4 * c + 8 * m) b)))
+    ++ (flatMap changedLine (words c (drop (24 + 8 * n) b)) ++ flatMap noteLine (pairsAt b (24 + 8 * n + 4 * c) m))
+unfolding print told sixSizes pairsAt changedLine noteLine line lineOf ascii spaced
+told-printed b n t c m x y h =
+    let from = 24 + 8 * n + 4 * c + 8 * m in
+    let k : length (take t (drop from b)) ≡ t = length-take-le t (drop from b) (omega (arith, length-drop from b)) in
+    rw (length-words n (drop 24 b), length-words c (drop (24 + 8 * n) b), length-words m (drop (24 + 8 * n + 4 * c) b), k)
+    (regroup (lineOf (111 ∷ 107 ∷ []) (n ∷ t ∷ c ∷ m ∷ x ∷ y ∷ [])) (flatMap elementLine (pairsAt b 24 n)) (textLine (take t (drop from b))) (flatMap changedLine (words c (drop (24 + 8 * n) b)))
+    (flatMap noteLine (pairsAt b (24 + 8 * n + 4 * c) m)))
+
+module _ (b d : List ℕ) (n t c m x y : ℕ) {l : List ℕ} {to : ℕ} (q : Fits (length b) (length d) n t c m) (p : Put d 0 (lineOf (111 ∷ 107 ∷ []) (n ∷ t ∷ c ∷ m ∷ x ∷ y ∷ [])) l to) where
+  sized-end : to ≤ 69
+  sized-end = omega (arith, p .end, lineOf-length (111 ∷ 107 ∷ []) (n ∷ t ∷ c ∷ m ∷ x ∷ y ∷ []))
+
+  -- behind the sizes there is room for the elements and the text
+  pub sized-room : length l ≡ length d → to + 24 * n + (2 * t + 6) ≤ length l
+  sized-room e = omega (arith, sized-end, q .fits)
+
+  module _ {l₂ : List ℕ} {to₂ : ℕ} (p₂ : Put l to (flatMap elementLine (pairsAt b 24 n) ++ textLine (take t (drop (24 + 8 * n + 4 * c + 8 * m) b))) l₂ to₂) where
+    treed-end : to₂ ≤ 75 + 24 * n + 2 * t
+    treed-end =
+        let text = take t (drop (24 + 8 * n + 4 * c + 8 * m) b) in
+        let k = length-append (flatMap elementLine (pairsAt b 24 n)) (textLine text) in
+        let j = texts-length elementLine 24 element-length (pairsAt b 24 n) in
+        let i = ap (λ x. 24 * x) (pairs-length b 24 n) in
+        omega (arith, sized-end, p₂ .end, text-length text, part-length t (24 + 8 * n + 4 * c + 8 * m) b)
+
+    -- and behind those for the changed elements and the notes
+    pub treed-room : length l₂ ≡ length d → to₂ + 19 * c + 27 * m ≤ length l₂
+    treed-room e = omega (arith, treed-end, q .fits)
+
+    pub result-put : {l₃ : List ℕ} {to₃ : ℕ} → length l ≡ length d
+        → Put l₂ to₂ (flatMap changedLine (words c (drop (24 + 8 * n) b)) ++ flatMap noteLine (pairsAt b (24 + 8 * n + 4 * c) m)) l₃ to₃ → Put d 0 (print (gives (told b n t c m x y))) l₃ to₃
+    result-put e p₃ =
+        rw (told-printed b n t c m x y (q .whole))
+        (put-more (put-more p p₂ (omega (arith, sized-end, q .fits))) p₃ (omega (arith, treed-end, q .fits)))
+
+pub decoded-put : {d : List ℕ} (b : List ℕ) {n t c m x y : ℕ} {l : List ℕ} {to : ℕ} → n ≡ word b → t ≡ word (drop 4 b) → c ≡ word (drop 8 b) → m ≡ word (drop 12 b) → x ≡ word (drop 16 b) → y ≡ word (drop 20 b)
+    → Put d 0 (print (gives (told b n t c m x y))) l to → Put d 0 (print (gives (decoded b))) l to
+unfolding decoded
+decoded-put b e₁ e₂ e₃ e₄ e₅ e₆ p = rw (← e₁, ← e₂, ← e₃, ← e₄, ← e₅, ← e₆) p

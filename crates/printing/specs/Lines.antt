@@ -10,7 +10,7 @@ use lib.ListN.{length, getD, drop, length-append}
 use lib.Seq.{paste, drop-drop}
 use Rattle.definition.specs.Words.{word, words}
 use Rattle.definition.specs.Elements.{isNode, kindOf}
-use Rattle.definition.specs.Printed.{ascii, digits, decimal, hexDigit, hex, line, elementLine}
+use Rattle.definition.specs.Printed.{ascii, digits, decimal, hexDigit, hex, line, elementLine, textLine}
 use Rattle.words.specs.Bytes.{length-words, getD-words}
 use Rattle.words.specs.Parts.{paste-paste}
 
@@ -97,6 +97,20 @@ changed-length e = line-length (99 ∷ 104 ∷ 97 ∷ 110 ∷ 103 ∷ 101 ∷ 10
 pub note-length : (m : ℕ × ℕ) → length (noteLine m) ≤ 27
 unfolding noteLine line lineOf spaced ascii
 note-length m = line-length (110 ∷ 111 ∷ 116 ∷ 101 ∷ []) (m .0 ∷ m .1 ∷ []) 27 (omega arith)
+
+pub hex-length : (b : ℕ) → length (hex b) ≤ 2
+unfolding hex
+hex-length b = omega arith
+
+pub text-length : (text : List ℕ) → length (textLine text) ≤ 2 * length text + 6
+unfolding textLine line lineOf spaced ascii
+text-length [] = line-length (116 ∷ 101 ∷ 120 ∷ 116 ∷ []) [] 6 (omega arith)
+text-length (b ∷ text) =
+    let h = texts-length hex 2 hex-length (b ∷ text) in
+    let m = length-append (flatMap hex (b ∷ text)) (10 ∷ []) in
+    let n = length-append (116 ∷ 101 ∷ 120 ∷ 116 ∷ 32 ∷ []) (flatMap hex (b ∷ text)) in
+    let k = length-append ((116 ∷ 101 ∷ 120 ∷ 116 ∷ 32 ∷ []) ++ flatMap hex (b ∷ text)) (10 ∷ []) in
+    omega arith
 
 module _ {A B : Type 0} where
   zip-length : (l : List A) (m : List B) → length l ≡ length m → length (zip l m) ≡ length l

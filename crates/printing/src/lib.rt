@@ -1,10 +1,12 @@
 // What the edit program prints of an answer, written into a lent slice.
 ghost use mathlib.Core.Path.{_≡_};
-ghost use mathlib.Core.List.{_∷_, [], flatMap};
+ghost use mathlib.Core.List.{_∷_, [], _++_, flatMap};
 ghost use Prim.Native.Nat.{_+_, _*_, _≤_, _<_, _^_};
 ghost use lib.ListN.{length, getD, take, drop};
 ghost use Rattle.definition.specs.Words.{words};
-ghost use Rattle.definition.specs.Printed.{digits, hexDigit, hex, elementLine, textLine};
+ghost use Rattle.definition.specs.Printed.{digits, hexDigit, hex, elementLine, textLine, print};
+ghost use Rattle.definition.specs.Basics.{refused, gives};
+ghost use Rattle.printing.specs.Decoded.{told, decoded, Fits, Printable};
 ghost use Rattle.printing.specs.Lines.{Put, spaced, lineOf, pairsAt, changedLine, noteLine};
 
 // One byte is written at `at`.
@@ -180,4 +182,64 @@ fn put_notes(out: &mut [u8], at: usize, b: &[u8], from: usize, n: usize) -> usiz
         i += 1;
     }
     to
+}
+
+// The elements' lines and the text's are written at `at`; the text stands at `from`.
+fn put_tree(out: &mut [u8], at: usize, b: &[u8], n: usize, from: usize, t: usize) -> usize
+    requires { ⌜ (24 + 8 * n ≤ from) × (from + t ≤ length (now b)) × (at + 24 * n + (2 * t + 6) ≤ length (now out)) ⌝ }
+    ensures { λ r. ⌜ Put (now (out .entry)) at (flatMap elementLine (pairsAt (now (b .entry)) 24 n) ++ textLine (take t (drop from (now (b .entry))))) (now (out .exit)) r ⌝ }
+{
+    let to = put_elements(out, at, b, 24, n);
+    let end = from + t;
+    put_text(out, to, &b[from..end])
+}
+
+// The lines of changed elements and notes are written at `at`; their numbers stand at `from`.
+fn put_found(out: &mut [u8], at: usize, b: &[u8], from: usize, c: usize, m: usize) -> usize
+    requires { ⌜ (from + 4 * c + 8 * m ≤ length (now b)) × (at + 19 * c + 27 * m ≤ length (now out)) ⌝ }
+    ensures { λ r. ⌜ Put (now (out .entry)) at (flatMap changedLine (words c (drop from (now (b .entry)))) ++ flatMap noteLine (pairsAt (now (b .entry)) (from + 4 * c) m)) (now (out .exit)) r ⌝ }
+{
+    let to = put_all_changed(out, at, b, from, c);
+    put_notes(out, to, b, from + 4 * c, m)
+}
+
+// What is printed of the result that the sizes and the arrays in `b` tell is written at the front.
+fn put_result(
+    out: &mut [u8],
+    b: &[u8],
+    n: usize,
+    t: usize,
+    c: usize,
+    m: usize,
+    discarded: usize,
+    climbs: usize,
+) -> usize
+    requires { ⌜ Fits (length (now b)) (length (now out)) n t c m ⌝ }
+    ensures { λ r. ⌜ Put (now (out .entry)) 0 (print (gives (told (now (b .entry)) n t c m discarded climbs))) (now (out .exit)) r ⌝ }
+{
+    let sized = put_line(out, 0, b"ok", &[n, t, c, m, discarded, climbs]);
+    let treed = put_tree(out, sized, b, n, 24 + 8 * n + 4 * c + 8 * m, t);
+    put_found(out, treed, b, 24 + 8 * n, c, m)
+}
+
+// What is printed of the result whose bytes are `b` is written at the front.
+pub fn print_result(out: &mut [u8], b: &[u8]) -> usize
+    requires { ⌜ Printable (now b) (length (now out)) ⌝ }
+    ensures { λ r. ⌜ Put (now (out .entry)) 0 (print (gives (decoded (now (b .entry))))) (now (out .exit)) r ⌝ }
+{
+    let n = words::read_word(b, 0);
+    let t = words::read_word(b, 4);
+    let c = words::read_word(b, 8);
+    let m = words::read_word(b, 12);
+    let discarded = words::read_word(b, 16);
+    let climbs = words::read_word(b, 20);
+    put_result(out, b, n, t, c, m, discarded, climbs)
+}
+
+// What is printed of a refusal is written at the front.
+pub fn print_refusal(out: &mut [u8], number: usize) -> usize
+    requires { ⌜ 19 ≤ length (now out) ⌝ }
+    ensures { λ r. ⌜ Put (now (out .entry)) 0 (print (refused number)) (now (out .exit)) r ⌝ }
+{
+    put_line(out, 0, b"refused", &[number])
 }
