@@ -1,5 +1,7 @@
 -- What the functions write, and that it is what the definition prints.
 --     Decoded   a result read back out of its bytes
+--     Encoded   what is read out of the bytes of a result is the result
 --     Lines     what is written at a place; lines and their lengths
 pub mod Decoded
+pub mod Encoded
 pub mod Lines
