@@ -10,19 +10,8 @@ use Rattle.definition.specs.Words.{word, words, written}
 use Rattle.definition.specs.Finishing.{Result, sixSizes, encoded}
 use Rattle.words.specs.Bytes.{words-written, written-append, length-written, getD-words}
 use Rattle.laws.specs.Limits.{Within, encoded-length}
+use Rattle.result_words.specs.Worded.{Words, Worded}
 use Rattle.printing.specs.Decoded.{textAt, told, decoded, Printable}
-
--- each is a word
-abbrev pub Words : List ℕ → Type 0
-Words ws = (i : ℕ) → getD ws i 0 < 2 ^ 32
-
--- a result of words
-pub record Worded (r : Result) : Type 0 where
-  pub kinds : Words r.kinds
-  pub measures : Words r.measures
-  pub changed : Words r.changed
-  pub numbers : Words r.numbers
-  pub noted : Words r.noted
 
 -- six lists joined, told from each
 module _ (a b c d e f : List ℕ) where

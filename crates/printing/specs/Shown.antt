@@ -14,8 +14,9 @@ use Rattle.definition.specs.Answers.{edit, edited, withWork, tooShort}
 use Rattle.definition.specs.Printed.{print, printed}
 use Rattle.laws.specs.Answers.{given, gives-inj}
 use Rattle.laws.specs.Limits.{edit-within, room-suffices}
+use Rattle.result_words.specs.Worded.{Bytes, edit-worded}
 use Rattle.printing.specs.Decoded.{decoded, Printable}
-use Rattle.printing.specs.Encoded.{Worded, encoded-printable, decoded-encoded}
+use Rattle.printing.specs.Encoded.{encoded-printable, decoded-encoded}
 
 -- what is printed of an answer whose result is told by its bytes
 unfoldable pub shown : Answer (List ℕ) → List ℕ
@@ -43,11 +44,11 @@ shown-printable work b room most {bytes} e h =
     rw (← f) (encoded-printable r (edit-within b r y) most h)
 
 -- THE PROMISE of the edit program: what is printed of the answer is what the definition prints of the batch.
-pub shown-printed : (work : List (ℕ × ℕ)) (b : List ℕ) → tooShort work ≡ false → length b ≤ 65536 → ((r : Result) → edit b ≡ gives r → Worded r) → shown (edited work b 65536) ≡ printed b
+pub shown-printed : (work : List (ℕ × ℕ)) (b : List ℕ) → tooShort work ≡ false → length b ≤ 65536 → Bytes b → shown (edited work b 65536) ≡ printed b
 unfolding shown printed _>>=_
 shown-printed work b h k v =
     rw (edited-is work b 65536 h (omega arith), take-all 65536 b k, room-suffices b 65536 (omega arith)) (go (edit b) refl)
   where
     go : (o : Answer Result) → edit b ≡ o → shown (o >>= λ r. gives (encoded r)) ≡ print o
     go (refused n) e = refl
-    go (gives r) e = ap (λ x. print (gives x)) (decoded-encoded r (edit-within b r e) (v r e))
+    go (gives r) e = ap (λ x. print (gives x)) (decoded-encoded r (edit-within b r e) (edit-worded b r v e))
