@@ -2,13 +2,13 @@
 -- Assumes nothing.
 use mathlib.Core.Path.{_≡_, refl, sym, ap, _∙_}
 use mathlib.Core.List.{List, [], _∷_, _++_, flatMap, append-nil, append-assoc}
-use Prim.Native.Nat.{ℕ, zero, suc, _+_, _-_, _*_, _/_, _%_, _≤_, _<_}
-use native.Mathlib.Nat.{mul-le-mul-left, add-zero, mul-zero}
+use Prim.Native.Nat.{ℕ, suc, _+_, _-_, _*_, _/_, _%_, _≤_, _<_}
+use native.Mathlib.Nat.{mul-le-mul-left}
 use native.Mathlib.Numerals.{add-one}
 use native.Mathlib.Omega.{arith}
 use borrow.Author.Tests.{lt-ltb, le-ltb, le-leb, lt-leb}
 use lib.ListN.{length, getD, set, take, drop, length-append, length-take, length-drop}
-use lib.Seq.{paste, paste-zero, take-suc, take-all, length-take-le, length-paste, drop-drop}
+use lib.Seq.{paste, paste-zero, take-suc, take-all, length-take-le, drop-drop}
 use Rattle.definition.specs.Printed.{ascii, digits, decimal, hexDigit, hex, line, elementLine, textLine, print}
 use Rattle.definition.specs.Basics.{refused, gives}
 use Rattle.definition.specs.Finishing.{sixSizes}

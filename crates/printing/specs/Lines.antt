@@ -1,8 +1,8 @@
 -- What is written at a place of the output; numbers and lines, and how long they are.
 -- Assumes nothing.
-use mathlib.Core.Path.{_≡_, refl, sym, ap, _∙_}
+use mathlib.Core.Path.{_≡_, refl, ap, _∙_}
 use mathlib.Core.Bool.{Bool, true, false, cond}
-use mathlib.Core.List.{List, [], _∷_, _++_, append-assoc, flatMap, zip}
+use mathlib.Core.List.{List, [], _∷_, _++_, flatMap, zip}
 use Prim.Native.Nat.{ℕ, zero, suc, _+_, _*_, _/_, _%_, _≤_, _<_}
 use native.Mathlib.Omega.{arith}
 use lib.Dec.{ltb}
@@ -10,7 +10,7 @@ use lib.ListN.{length, getD, drop, length-append}
 use lib.Seq.{paste, drop-drop}
 use Rattle.definition.specs.Words.{word, words}
 use Rattle.definition.specs.Elements.{isNode, kindOf}
-use Rattle.definition.specs.Printed.{ascii, digits, decimal, hexDigit, hex, line, elementLine, textLine}
+use Rattle.definition.specs.Printed.{ascii, digits, decimal, hex, line, elementLine, textLine}
 use Rattle.words.specs.Bytes.{length-words, getD-words}
 use Rattle.words.specs.Parts.{paste-paste}
 

@@ -1,13 +1,13 @@
 -- Kind words below 2^32 stay so through any splices; measures are below the sizes of a tree.
 -- Assumes nothing.
-use mathlib.Core.Path.{_≡_, refl, sym, ap, _∙_}
-use mathlib.Core.List.{List, [], _∷_, _++_, map, flatMap}
-use mathlib.Core.Option.{Option, none, some}
-use Prim.Native.Nat.{ℕ, suc, _+_, _^_, _≤_, _<_}
+use mathlib.Core.Path.{_≡_}
+use mathlib.Core.List.{List, [], _∷_, _++_}
+use mathlib.Core.Option.{some}
+use Prim.Native.Nat.{ℕ, _+_, _^_, _≤_, _<_}
 use native.Mathlib.Omega.{arith}
 use lib.ListN.{length, take, drop, length-append}
 use Rattle.orders.specs.Lists.{All}
-use Rattle.orders.specs.ListLaws.{some-inj, none-some, All-map, All-mem, get-mem}
+use Rattle.orders.specs.ListLaws.{some-inj, none-some, All-mem, get-mem}
 use Rattle.orders.specs.Tree.{Tree, Trees, node, token, nil, cons, list, forest, label, measure, text, textOf, preorder, preorders, elements, elementsOf, Path, resolve, splice, modify}
 use Rattle.orders.specs.TreeLaws.{list-forest, resolve-child}
 use Rattle.laws.specs.Basics.{All-append, append-All, All-take, All-drop, All-modify}

@@ -3,19 +3,19 @@
 use mathlib.Core.Path.{_≡_, refl, sym, ap, _∙_}
 use mathlib.Core.Bool.{Bool, true, false, cond, not, _||_}
 use mathlib.Core.List.{List, [], _∷_, _++_, map, flatMap, zip}
-use mathlib.Core.Option.{Option, none, some, Option·map, Option·getD, bind}
+use mathlib.Core.Option.{Option, none, some, Option·map, Option·getD}
 use Prim.Native.Nat.{ℕ, zero, suc, _+_, _*_, _^_, _≤_, _<_}
 use native.Mathlib.Omega.{arith}
 use lib.Dec.{ltb, eqb, eqb→eq}
 use lib.ListN.{length, getD, take, drop, length-append, take-append-drop}
 use lib.Seq.{getD-drop}
 use Rattle.orders.specs.Lists.{All, pick}
-use Rattle.orders.specs.ListLaws.{some-inj, none-some, All-map, All-map₂, All-over, All-pick, map-some, bind-some}
-use Rattle.orders.specs.Tree.{Tree, Trees, node, token, list, forest, label, measure, text, preorder, children, elementsOf, Path, resolve, splice, adjust, strip}
-use Rattle.definition.specs.Basics.{Answer, gives, _>>=_, refuse, orRefuse, isSome, any, rising}
+use Rattle.orders.specs.ListLaws.{some-inj, none-some, All-map₂, All-over, All-pick, map-some, bind-some}
+use Rattle.orders.specs.Tree.{Tree, node, token, list, label, measure, text, preorder, children, elementsOf, Path, resolve, adjust, strip}
+use Rattle.definition.specs.Basics.{gives, refuse, orRefuse, isSome, any, rising}
 use Rattle.definition.specs.Words.{word, words}
 use Rattle.definition.specs.Batch.{Batch, sizes, beyond, whole, arrays, batch}
-use Rattle.definition.specs.Elements.{Table, table, row, pieces, grow, unspelled, spelled, descend}
+use Rattle.definition.specs.Elements.{Table, table, pieces, grow, unspelled, spelled, descend}
 use Rattle.definition.specs.Finishing.{newTree, newTable, numberAt, changedElements, noteElements, Result, result}
 use Rattle.definition.specs.Refusals.{Accepted, accepted, calls, wrongCall, wrongMapping, wrongNote}
 use Rattle.definition.specs.Recording.{recorded}
@@ -33,7 +33,7 @@ use Rattle.laws.specs.Rows.{table-length}
 use Rattle.laws.specs.Limits.{Small, ran-known}
 use Rattle.orders.specs.TreeLaws.{forest-list}
 use Rattle.laws.specs.Answers.{gives-inj, given, is-there}
-use Rattle.result_words.specs.Labels.{Labelled, LabelledAll, labelled-list, forest-labelled, labelled-resolve, labelled-splice, labelled-preorder, preorder-labelled, measured-all}
+use Rattle.result_words.specs.Labels.{Labelled, labelled-list, forest-labelled, labelled-resolve, labelled-splice, labelled-preorder, preorder-labelled, measured-all}
 
 -- ── Words of bytes ──────────────────────────────────────────────────────────────────────────────────────────
 

@@ -1,17 +1,16 @@
+-- `put_digits` meets its contract. One digit less is left at each call.
+-- Assumes nothing.
+use Prim.Native.Nat.{ℕ, _<_}
 use borrow.Author.Needs.{needs}
-use Rattle.printing.proofs.Turns.{no-digit, one-digit, digit-room, more-digits}
-use native.Mathlib.Omega.{arith}
-use lib.ListN.{length, getD, set, take, drop, replicate, length-set}
-use mathlib.Core.Path.{_≡_, refl, ap, sym, _∙_}
-use Prim.Native.Nat.{ℕ, suc, zero, _+_, _-_, _*_, _≤_, _<_}
 use borrow.Fn.Kinds.{In}
 use borrow.Fn.PlainCycle.{Measures, is, falls, and}
+use Rattle.printing.proofs.Turns.{no-digit, one-digit, digit-room, more-digits}
+use Rattle.printing.proofs.+put_digits.{statement}
+use Rattle.printing.proofs.+put_digits.Tie.{close}
 use Rattle.printing.proofs.put_digits.Reads as put-digits
 use Rattle.printing.proofs.put_digits.Kinds as put-digits-kinds
 use Rattle.printing.proofs.+put_digits.Lts-put_digits as put-digits-lts
 use Rattle.printing.proofs.put.Reads as put-reads
-use Rattle.printing.proofs.+put_digits.{statement}
-use Rattle.printing.proofs.+put_digits.Tie.{close}
 
 abbrev μ-put-digits : Measures 1 put-digits-kinds.ps ℕ
 μ-put-digits κs a = a .1 .1 .1 .0
@@ -24,7 +23,6 @@ abbrev put-digits-below : ℕ → In 1 put-digits-kinds.ps
 put-digits-below t =
     and 1 put-digits-kinds.ps (falls 1 put-digits-kinds.ps _<_ μ-put-digits t) put-digits.Pre
 
--- src/lib.rt:24:9
 put-digits-returns : (t : ℕ) → put-digits-lts.Need-returns (
   put-reads.Asked,
   put-reads.Learnt,
@@ -33,7 +31,6 @@ put-digits-returns : (t : ℕ) → put-digits-lts.Need-returns (
 ) (put-digits-at t) put-digits.Post
 put-digits-returns t c = search (no-digit, needs)
 
--- src/lib.rt:27:34
 put-digits-cast-put : (t : ℕ) → put-digits-lts.Need-cast-put (
   put-reads.Asked,
   put-reads.Learnt,
@@ -42,7 +39,6 @@ put-digits-cast-put : (t : ℕ) → put-digits-lts.Need-cast-put (
 ) (put-digits-at t) put-digits.Post
 put-digits-cast-put t c = search needs
 
--- src/lib.rt:27:29
 put-digits-add-put : (t : ℕ) → put-digits-lts.Need-add-put (
   put-reads.Asked,
   put-reads.Learnt,
@@ -51,7 +47,6 @@ put-digits-add-put : (t : ℕ) → put-digits-lts.Need-add-put (
 ) (put-digits-at t) put-digits.Post
 put-digits-add-put t c = search needs
 
--- src/lib.rt:27:9
 put-digits-put-requires : (t : ℕ) → put-digits-lts.Need-put-requires (
   put-reads.Asked,
   put-reads.Learnt,
@@ -60,7 +55,6 @@ put-digits-put-requires : (t : ℕ) → put-digits-lts.Need-put-requires (
 ) (put-digits-at t) put-digits.Post
 put-digits-put-requires t c κs = search needs
 
--- src/lib.rt:27:9
 put-digits-same-length : (t : ℕ) → put-digits-lts.Need-same-length (
   put-reads.Asked,
   put-reads.Learnt,
@@ -69,7 +63,6 @@ put-digits-same-length : (t : ℕ) → put-digits-lts.Need-same-length (
 ) (put-digits-at t) put-digits.Post
 put-digits-same-length t c = search needs
 
--- src/lib.rt:27:9
 put-digits-returns-2 : (t : ℕ) → put-digits-lts.Need-returns-2 (
   put-reads.Asked,
   put-reads.Learnt,
@@ -78,7 +71,6 @@ put-digits-returns-2 : (t : ℕ) → put-digits-lts.Need-returns-2 (
 ) (put-digits-at t) put-digits.Post
 put-digits-returns-2 t c = search (one-digit, needs)
 
--- src/lib.rt:29:43
 put-digits-sub-put-digits : (t : ℕ) → put-digits-lts.Need-sub-put-digits (
   put-reads.Asked,
   put-reads.Learnt,
@@ -87,7 +79,6 @@ put-digits-sub-put-digits : (t : ℕ) → put-digits-lts.Need-sub-put-digits (
 ) (put-digits-at t) put-digits.Post
 put-digits-sub-put-digits t c = search needs
 
--- src/lib.rt:29:9
 put-digits-put-digits-requires : (t : ℕ) → put-digits-lts.Need-put-digits-requires (
   put-reads.Asked,
   put-reads.Learnt,
@@ -96,7 +87,6 @@ put-digits-put-digits-requires : (t : ℕ) → put-digits-lts.Need-put-digits-re
 ) (put-digits-at t) put-digits.Post
 put-digits-put-digits-requires t c κs = search needs
 
--- src/lib.rt:30:24
 put-digits-cast-put-2 : (t : ℕ) → put-digits-lts.Need-cast-put-2 (
   put-reads.Asked,
   put-reads.Learnt,
@@ -105,7 +95,6 @@ put-digits-cast-put-2 : (t : ℕ) → put-digits-lts.Need-cast-put-2 (
 ) (put-digits-at t) put-digits.Post
 put-digits-cast-put-2 t c = search needs
 
--- src/lib.rt:30:19
 put-digits-add-put-2 : (t : ℕ) → put-digits-lts.Need-add-put-2 (
   put-reads.Asked,
   put-reads.Learnt,
@@ -114,7 +103,6 @@ put-digits-add-put-2 : (t : ℕ) → put-digits-lts.Need-add-put-2 (
 ) (put-digits-at t) put-digits.Post
 put-digits-add-put-2 t c = search needs
 
--- src/lib.rt:30:5
 put-digits-put-requires-2 : (t : ℕ) → put-digits-lts.Need-put-requires-2 (
   put-reads.Asked,
   put-reads.Learnt,
@@ -123,7 +111,6 @@ put-digits-put-requires-2 : (t : ℕ) → put-digits-lts.Need-put-requires-2 (
 ) (put-digits-at t) put-digits.Post
 put-digits-put-requires-2 t c κs = search (digit-room, needs)
 
--- src/lib.rt:19:1
 put-digits-same-length-2 : (t : ℕ) → put-digits-lts.Need-same-length-2 (
   put-reads.Asked,
   put-reads.Learnt,
@@ -132,7 +119,6 @@ put-digits-same-length-2 : (t : ℕ) → put-digits-lts.Need-same-length-2 (
 ) (put-digits-at t) put-digits.Post
 put-digits-same-length-2 t c = search needs
 
--- src/lib.rt:19:1
 put-digits-returns-3 : (t : ℕ) → put-digits-lts.Need-returns-3 (
   put-reads.Asked,
   put-reads.Learnt,

@@ -1,17 +1,12 @@
+-- `put_elements` meets its contract.
+-- Assumes nothing.
+use Prim.Native.Nat.{_-_}
+use borrow.Author.Needs.{needs}
 use Rattle.definition.specs.Printed.{elementLine}
 use Rattle.printing.proofs.Turns.{Putting, pairs-done, pairs-next, pairs-room, pairs-start}
 use Rattle.printing.specs.Lines.{pairsAt, element-length}
-use borrow.Author.Needs.{needs}
-use native.Mathlib.Omega.{arith}
-use lib.ListN.{length, getD, set, take, drop, replicate, length-set}
-use mathlib.Core.Path.{_≡_, refl, ap, sym, _∙_}
-use Prim.Native.Nat.{ℕ, suc, zero, _+_, _-_, _*_, _≤_, _<_}
 use Rattle.printing.proofs.put_elements.Statement.{statement}
 use Rattle.printing.proofs.put_elements.Tie as tie
-use Rattle.printing.proofs.put_elements.Reads as reads
-use Rattle.printing.proofs.put_elements.Lts as lts
-use Rattle.printing.proofs.put_element.Reads as put-element-reads
-use Rattle.words.proofs.read_word.Reads as read-word-reads
 
 abbrev Inv-loop : tie.InvT-loop
 Inv-loop out₀ at b from n to₀ i₀ out to i = Putting elementLine 24 (pairsAt b from n) out₀ at out to i
@@ -19,63 +14,48 @@ Inv-loop out₀ at b from n to₀ i₀ out to i = Putting elementLine 24 (pairsA
 abbrev μ-loop : tie.MeasureT-loop
 μ-loop out₀ at b from n to₀ i₀ out to i = n - i
 
--- src/lib.rt:129:5
 loop-holds : tie.Need-loop-holds Inv-loop μ-loop
 loop-holds c = search (pairs-start elementLine 24 element-length, needs)
 
--- src/lib.rt:130:47
 mul-read-word : tie.Need-mul-read-word Inv-loop μ-loop
 mul-read-word c = search needs
 
--- src/lib.rt:130:40
 add-read-word : tie.Need-add-read-word Inv-loop μ-loop
 add-read-word c = search needs
 
--- src/lib.rt:130:13
 read-word-requires : tie.Need-read-word-requires Inv-loop μ-loop
 read-word-requires c κs = search needs
 
--- src/lib.rt:131:50
 mul-read-word-2 : tie.Need-mul-read-word-2 Inv-loop μ-loop
 mul-read-word-2 c = search needs
 
--- src/lib.rt:131:43
 add-read-word-2 : tie.Need-add-read-word-2 Inv-loop μ-loop
 add-read-word-2 c = search needs
 
--- src/lib.rt:131:58
 mul-read-word-3 : tie.Need-mul-read-word-3 Inv-loop μ-loop
 mul-read-word-3 c = search needs
 
--- src/lib.rt:131:43
 add-read-word-3 : tie.Need-add-read-word-3 Inv-loop μ-loop
 add-read-word-3 c = search needs
 
--- src/lib.rt:131:13
 read-word-requires-2 : tie.Need-read-word-requires-2 Inv-loop μ-loop
 read-word-requires-2 c κs = search needs
 
--- src/lib.rt:132:9
 put-element-requires : tie.Need-put-element-requires Inv-loop μ-loop
 put-element-requires c κs = search (pairs-room elementLine 24 element-length, needs)
 
--- src/lib.rt:133:9
 add-i : tie.Need-add-i Inv-loop μ-loop
 add-i c = search needs
 
--- src/lib.rt:129:5
 loop-less : tie.Need-loop-less Inv-loop μ-loop
 loop-less c = search needs
 
--- src/lib.rt:129:5
 loop-again : tie.Need-loop-again Inv-loop μ-loop
 loop-again c = search (pairs-next elementLine 24 element-length, needs)
 
--- src/lib.rt:123:1
 same-length : tie.Need-same-length Inv-loop μ-loop
 same-length c = search needs
 
--- src/lib.rt:123:1
 returns : tie.Need-returns Inv-loop μ-loop
 returns c = search (pairs-done elementLine 24 element-length, needs)
 
