@@ -6,11 +6,13 @@ ghost use Rattle.orders.specs.Lists.{All, pick};
 ghost use Rattle.annotations.specs.Notes.{notesOf};
 ghost use Rattle.annotations.specs.Promises.{movedNote};
 ghost use Rattle.splicing.specs.Promises.{SplicedMarks, Left, NotesLeft, NotesSpliced, Recorded, ChangedSpliced};
+ghost use Rattle.splicing.specs.Store.{Room, StoreSpliced};
 use annotations::add_changed;
 use annotations::move_changed;
 use annotations::move_notes;
 use syntax_node::shift_marks;
 use syntax_node::splice_rows;
+use tree_store::Gap;
 use words::copy_in;
 use words::word;
 
@@ -118,4 +120,57 @@ fn splice_changed(
 {
     let r = move_changed(changed, k, p, q, m);
     record_changed(changed, r, p, recorded, sizes)
+}
+
+// ── All that is held ──
+
+// How much is held: rows, their text bytes, notes, changed rows.
+pub struct TreeState {
+    pub rows: usize,
+    pub bytes: usize,
+    pub notes: usize,
+    pub changed: usize,
+}
+
+// The rows of the gap give way to a run of parts of these sizes, with `c` notes that come in; what is held then has `bytes` text bytes.
+fn splice_store(
+    rows: &mut [u32],
+    marks: &mut [u32],
+    notes: &mut [u32],
+    changed: &mut [u32],
+    s: TreeState,
+    g: Gap,
+    recorded: bool,
+    run: &[u32],
+    sizes: &[u32],
+    incoming: &[u32],
+    c: usize,
+    bytes: usize,
+) -> TreeState
+    requires { ⌜ Room s (now rows) (now marks) (now notes) (now changed) g (now run) (now sizes) (now incoming) c ⌝ }
+    requires { ⌜ (3 * (s .rows - (g .to - g .from)) + length (now run) ≤ length (now rows)) × (3 * (length (pick (movedNote (g .from) (g .to) (length (now run) / 3)) (notesOf (s .notes) (now notes))) + c) ≤ length (now notes)) ⌝ }
+    ensures { λ r. ⌜ StoreSpliced s (now (rows .entry)) (now (marks .entry)) (now (notes .entry)) (now (changed .entry)) g recorded (now (run .entry)) (now (sizes .entry)) (now (incoming .entry)) c bytes (now (rows .exit)) (now (marks .exit)) (now (notes .exit)) (now (changed .exit)) r ⌝ }
+{
+    let p = g.from;
+    let q = g.to;
+    let m = run.len() / 3;
+    let r = splice(
+        rows,
+        s.rows,
+        marks,
+        g.parent,
+        p,
+        q,
+        g.lost,
+        run,
+        sizes.len(),
+    );
+    let k = splice_notes(notes, s.notes, p, q, m, incoming, c);
+    let l = splice_changed(changed, s.changed, p, q, m, recorded, sizes);
+    TreeState {
+        rows: r,
+        bytes,
+        notes: k,
+        changed: l,
+    }
 }
