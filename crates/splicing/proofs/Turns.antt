@@ -176,6 +176,7 @@ store-spliced s rows marks notes changed g recorded run sizes incoming c bytes r
       (a .moved ∙ rw m)
       (b .notes ∙ rw (m, i .noted))
       (d .rows ∙ rw (m, z));
+  told = a .told;
   measured = refl;
   most = omega (arith, d .most, cond-most recorded (length sizes));
 }

@@ -6,7 +6,8 @@ use mathlib.Core.List.{List, map, flatMap}
 use Prim.Native.Nat.{ℕ, _+_, _*_, _%_, _^_, _≤_, _<_}
 use lib.ListN.{length, getD, take}
 use Rattle.orders.specs.Lists.{All}
-use Rattle.rows.specs.Row.{triples}
+use Rattle.rows.specs.Row.{triples, firstRows}
+use Rattle.rows.specs.Place.{spliceRows}
 use Rattle.store_model.specs.Store as model
 use Rattle.store_model.specs.Store.{Store, withRow, Part, newRows, placedParts, splicedStore}
 use Rattle.annotations.specs.Notes.{notesOf}
@@ -54,5 +55,6 @@ pub record Room (s : TreeState) (rows marks notes changed : List ℕ) (g : Gap) 
 -- the rows of the gap have given way to what comes in
 pub record StoreSpliced (s : TreeState) (rows marks notes changed : List ℕ) (g : Gap) (recorded : Bool) (run sizes incoming : List ℕ) (c bytes : ℕ) (rows′ marks′ notes′ changed′ : List ℕ) (r : TreeState) : Type 0 where
   pub store : (text : List ℕ) (new : List Part) → Comes text new (g .from) run sizes incoming c → heldIn text r rows′ marks′ notes′ changed′ ≡ splicedStore (gapTold g) new recorded (heldIn text s rows marks notes changed)
+  pub told : (text : List ℕ) → firstRows text (r .rows) rows′ ≡ spliceRows (firstRows text (s .rows) rows) (g .parent) (g .from) (g .to) (g .lost) (triples text run) (length sizes)
   pub measured : r .bytes ≡ bytes
   pub most : r .changed ≤ s .changed + length sizes
