@@ -21,7 +21,7 @@ use Rattle.annotations.specs.Promises.{movedNote}
 use Rattle.tree_store.specs.Stored.{stored}
 use Rattle.tree_store.specs.declared.Gap.{Gap}
 use Rattle.splicing.specs.Promises.{NotesLeft}
-use Rattle.splicing.specs.Store.{heldIn, gapTold, Comes, Room, StoreSpliced}
+use Rattle.splicing.specs.Store.{heldIn, gapTold, Comes, Open, Coming, StoreSpliced}
 use Rattle.splicing.specs.Sizes.{BytesBetween, sizeBy, rowsThen, bytesThen, notesThen, largeThen, StepSize}
 use Rattle.splicing.specs.Applied.{executedIn, judgedStore, Applied}
 use Rattle.splicing.specs.declared.TreeState.{TreeState}
@@ -99,12 +99,12 @@ by-same e f g h = rw (e, f, g, h)
 
 -- ── One step ────────────────────────────────────────────────────────────────────────────────────────────────
 
-module _ {s : TreeState} {rows marks notes changed : List ℕ} {g : Gap} {run sizes incoming : List ℕ} {c : ℕ} (m : Room s rows marks notes changed g run sizes incoming c) where
+module _ {s : TreeState} {rows marks notes changed : List ℕ} {g : Gap} {recorded : Bool} {run sizes incoming : List ℕ} {c : ℕ} (m : Open s rows marks notes changed g recorded (length sizes)) (w : Coming run sizes incoming c) where
   -- what is told before the step is told of what it makes
-  large-same : (above : ℕ) (recorded : Bool) (text : List ℕ) (new : List Part) → Comes text new (g .from) run sizes incoming c
+  large-same : (above : ℕ) (text : List ℕ) (new : List Part) → Comes text new (g .from) run sizes incoming c
       → storeTooLarge above new (splicedStore (gapTold g) new recorded (heldIn text s rows marks notes changed)) ≡ largeThen rows notes s g run c above text
   unfolding largeThen rowsThen bytesThen notesThen splicedStore gapTold stored
-  large-same above recorded text new i =
+  large-same above text new i =
       let z = length-first text (s .rows) rows (m .long) in
       let k : length run / 3 ≡ length (newRows new) = sym (length-triples text run) ∙ ap length (i .told) in
       let kept : List HeldNote = pick (movedNote (g .from) (g .to) (length (newRows new))) (notesOf (s .notes) notes) in
@@ -118,34 +118,42 @@ module _ {s : TreeState} {rows marks notes changed : List ℕ} {g : Gap} {run si
       (ap (λ (l : List Row). above + min 65 (height l)) (sym (i .told)))
 
   module _ {above : ℕ} {r : Size} (v : StepSize rows notes s g run c above r) where
-    -- it fits: there is room for all
-    pub apply-asks : {b : ℕ} → r ≡ Fits b → (12291 ≤ length rows) × (3072 ≤ length notes) × (above ≤ 64)
-        → Room s rows marks notes changed g run sizes incoming c
-        × (3 * (s .rows - (g .to - g .from)) + length run ≤ length rows) × (3 * (length (pick (movedNote (g .from) (g .to) (length run / 3)) (notesOf (s .notes) notes)) + c) ≤ length notes)
-    unfolding largeThen rowsThen notesThen
-    apply-asks {b} e h =
+    -- it fits
+    small-then : {b : ℕ} → r ≡ Fits b → (rowsThen rows notes s g run c above ≤ 4097) × (notesThen rows notes s g run c above ≤ 1024)
+    unfolding largeThen
+    small-then {b} e =
         let (z, _) = size-told (largeThen rows notes s g run c above []) b _ (sym e ∙ v .answer []) in
         let (x, _, y, _) = small-by _ _ _ _ z in
-        (m, omega (arith, m .whole, h .0), omega (arith, h .1))
+        (x, y)
 
-    pub apply-refused : {recorded : Bool} → r ≡ TooLarge → Applied s rows marks notes changed g above recorded run sizes incoming c rows marks notes changed (Refused 12)
+    -- so there is room for all
+    pub apply-asks : {b : ℕ} → r ≡ Fits b → (12291 ≤ length rows) × (3072 ≤ length notes) × (above ≤ 64)
+        → (3 * (s .rows - (g .to - g .from)) + length run ≤ length rows) × (3 * (length (pick (movedNote (g .from) (g .to) (length run / 3)) (notesOf (s .notes) notes)) + c) ≤ length notes)
+    unfolding rowsThen notesThen
+    apply-asks {b} e h =
+        let (x, y) = small-then e in
+        (omega (arith, w .whole, h .0), omega (arith, h .1))
+
+    pub apply-refused : r ≡ TooLarge → Applied s rows marks notes changed g above recorded run sizes incoming c rows marks notes changed (Refused 12)
     unfolding executedIn judgedStore refuse _>>=_
-    apply-refused {recorded} e = record {
-      answer = λ text new i. rw (large-same above recorded text new i, large-told (largeThen rows notes s g run c above text) _ (sym e ∙ v .answer text));
+    apply-refused e = record {
+      answer = λ text new i. rw (large-same above text new i, large-told (largeThen rows notes s g run c above text) _ (sym e ∙ v .answer text));
       measured = λ t q. let z : _≡_ {A = ℕ} 0 1 = cc in absurd (omega arith);
       most = λ t q. let z : _≡_ {A = ℕ} 0 1 = cc in absurd (omega arith);
+      few = λ t q. let z : _≡_ {A = ℕ} 0 1 = cc in absurd (omega arith);
     }
 
-    pub apply-done : {recorded : Bool} {b : ℕ} {rows′ marks′ notes′ changed′ : List ℕ} {t : TreeState} → r ≡ Fits b
+    pub apply-done : {b : ℕ} {rows′ marks′ notes′ changed′ : List ℕ} {t : TreeState} → r ≡ Fits b
         → StoreSpliced s rows marks notes changed g recorded run sizes incoming c b rows′ marks′ notes′ changed′ t
         → Applied s rows marks notes changed g above recorded run sizes incoming c rows′ marks′ notes′ changed′ (Done t)
-    unfolding executedIn judgedStore refuse _>>=_ bytesThen
-    apply-done {recorded} {b} {rows′} {marks′} {notes′} {changed′} {t} e w = record {
-      answer = λ text new i. rw (large-same above recorded text new i, size-told (largeThen rows notes s g run c above text) b _ (sym e ∙ v .answer text) .0) (ap gives (w .store text new i));
+    unfolding executedIn judgedStore refuse _>>=_ bytesThen rowsThen
+    apply-done {b} {rows′} {marks′} {notes′} {changed′} {t} e u = record {
+      answer = λ text new i. rw (large-same above text new i, size-told (largeThen rows notes s g run c above text) b _ (sym e ∙ v .answer text) .0) (ap gives (u .store text new i));
       measured = λ t′ q text.
           let z : t ≡ t′ = cc in
           let n = length-first text (s .rows) rows (m .long) in
           let x = size-told (largeThen rows notes s g run c above text) b _ (sym e ∙ v .answer text) .1 in
-          rw (← z) (omega (arith, w .measured, ap bytes (w .told text), splice-bytes (firstRows text (s .rows) rows) (g .parent) (g .from) (g .to) (g .lost) (triples text run) (length sizes) (m .order) (omega (arith, m .high))));
-      most = λ t′ q. let z : t ≡ t′ = cc in rw (← z) (w .most);
+          rw (← z) (omega (arith, u .measured, ap bytes (u .told text), splice-bytes (firstRows text (s .rows) rows) (g .parent) (g .from) (g .to) (g .lost) (triples text run) (length sizes) (m .order) (omega (arith, m .high))));
+      most = λ t′ q. let z : t ≡ t′ = cc in rw (← z) (u .most);
+      few = λ t′ q. let z : t ≡ t′ = cc in rw (← z) (omega (arith, u .count, small-then e .0));
     }

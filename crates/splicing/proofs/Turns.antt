@@ -25,7 +25,7 @@ use Rattle.annotations.specs.Promises.{RowsMoved, movedNote, NotesMoved, RowsAd
 use Rattle.tree_store.specs.Stored.{stored}
 use Rattle.tree_store.specs.declared.Gap.{Gap}
 use Rattle.splicing.specs.Promises.{SplicedMarks, Left, NotesLeft, NotesSpliced, Recorded, ChangedSpliced}
-use Rattle.splicing.specs.Store.{gapTold, Room, StoreSpliced}
+use Rattle.splicing.specs.Store.{gapTold, Open, Coming, StoreSpliced}
 use Rattle.splicing.specs.declared.TreeState.{TreeState}
 
 -- ── Rows and marks ──────────────────────────────────────────────────────────────────────────────────────────
@@ -126,6 +126,10 @@ notes-spliced l k p q m incoming c moved out r long b h s e =
 
 -- ── Changed rows ────────────────────────────────────────────────────────────────────────────────────────────
 
+-- there is room for what is recorded
+pub room-recorded : (k n m : ℕ) (b : Bool) → k + cond b n 0 ≤ m → b ≡ true → k + n ≤ m
+room-recorded k n m b h e = let z : cond b n 0 ≡ n = rw e in omega arith
+
 pub recorded-all : (l : List ℕ) (k at : ℕ) (b : Bool) (sizes out : List ℕ) (r : ℕ) → b ≡ true → RowsAdded l k at sizes out r → Recorded l k at b sizes out r
 recorded-all l k at b sizes out r e s = rw e (record { rows = s .rows; count = s .count })
 
@@ -137,29 +141,25 @@ changed-spliced s t = record { rows = t .rows ∙ rw (s .rows); most = omega (ar
 
 -- ── All that is held ────────────────────────────────────────────────────────────────────────────────────────
 
-module _ {s : TreeState} {rows marks notes changed : List ℕ} {g : Gap} {run sizes incoming : List ℕ} {c : ℕ} (v : Room s rows marks notes changed g run sizes incoming c) where
+module _ {s : TreeState} {rows marks notes changed : List ℕ} {g : Gap} {recorded : Bool} {run sizes incoming : List ℕ} {c : ℕ} (v : Open s rows marks notes changed g recorded (length sizes)) (w : Coming run sizes incoming c) where
   pub asks-rows : (3 * (s .rows - (g .to - g .from)) + length run ≤ length rows) × (3 * (length (pick (movedNote (g .from) (g .to) (length run / 3)) (notesOf (s .notes) notes)) + c) ≤ length notes)
       → ((3 * s .rows ≤ length rows) × (s .rows < 2 ^ 16) × (g .parent < g .from) × (g .from ≤ g .to) × (g .to ≤ s .rows) × All (λ m. m < s .rows) marks)
       × ((length run % 3 ≡ 0) × (length run < 3 * 2 ^ 16) × (3 * (s .rows - (g .to - g .from)) + length run ≤ length rows))
       × ((2147483648 ≤ getD rows (3 * g .parent) 0) × (g .lost ≤ getD rows (3 * g .parent + 1) 0) × (getD rows (3 * g .parent + 1) 0 + length sizes < 2 ^ 32))
-  asks-rows h = ((v .long, omega (arith, v .few), v .below, v .order, v .high, v .marked), (v .whole, omega (arith, v .short), h .0), (v .node, v .lost, v .gained))
+  asks-rows h = ((v .long, omega (arith, v .few), v .below, v .order, v .high, v .marked), (w .whole, omega (arith, w .short), h .0), (v .node, v .lost, v .gained))
 
   pub asks-notes : (3 * (s .rows - (g .to - g .from)) + length run ≤ length rows) × (3 * (length (pick (movedNote (g .from) (g .to) (length run / 3)) (notesOf (s .notes) notes)) + c) ≤ length notes)
       → ((3 * s .notes ≤ length notes) × (g .from ≤ g .to) × (g .to < 2 ^ 16) × (length run / 3 < 2 ^ 16) × All (λ n. n .row < 2 ^ 16) (notesOf (s .notes) notes))
       × ((3 * c ≤ length incoming) × (3 * (length (pick (movedNote (g .from) (g .to) (length run / 3)) (notesOf (s .notes) notes)) + c) ≤ length notes))
-  asks-notes h = ((v .longNotes, v .order, omega (arith, v .high, v .few), omega (arith, v .short), v .noted), (v .longComing, h .1))
+  asks-notes h = ((v .longNotes, v .order, omega (arith, v .high, v .few), omega (arith, w .short), v .noted), (w .longComing, h .1))
 
   pub asks-changed : ((g .from ≤ g .to) × (g .to < 2 ^ 16) × (length run / 3 < 2 ^ 16) × All (λ x. x < 2 ^ 16) (take (s .changed) changed))
-      × ((s .changed + length sizes ≤ length changed) × (length sizes < 2 ^ 12) × All (λ x. x < 2 ^ 16) sizes)
-  asks-changed = ((v .order, omega (arith, v .high, v .few), omega (arith, v .short), v .recorded), (v .recordable, omega (arith, v .fewParts), v .sized))
+      × ((s .changed + cond recorded (length sizes) 0 ≤ length changed) × (length sizes < 2 ^ 12) × All (λ x. x < 2 ^ 16) sizes)
+  asks-changed = ((v .order, omega (arith, v .high, v .few), omega (arith, w .short), v .held), (v .room, omega (arith, w .fewParts), w .sized))
 
 store-same : {r r′ : List Row} {m m′ : List ℕ} {n n′ : List HeldNote} {c c′ : List ℕ} → r ≡ r′ → m ≡ m′ → n ≡ n′ → c ≡ c′
     → _≡_ {A = Store} (record { rows = r; marks = m; notes = n; changed = c }) (record { rows = r′; marks = m′; notes = n′; changed = c′ })
 store-same a b c d = rw (a, b, c, d)
-
-cond-most : (b : Bool) (n : ℕ) → cond b n 0 ≤ n
-cond-most true n = omega arith
-cond-most false n = omega arith
 
 pub store-spliced : (s : TreeState) (rows marks notes changed : List ℕ) (g : Gap) (recorded : Bool) (run sizes incoming : List ℕ) (c bytes : ℕ) (rows′ marks′ notes′ changed′ : List ℕ) (r k l : ℕ)
     → SplicedMarks rows (s .rows) marks (g .parent) (g .from) (g .to) (g .lost) run (length sizes) rows′ marks′ r → NotesSpliced notes (s .notes) (g .from) (g .to) (length run / 3) incoming c notes′ k
@@ -178,5 +178,6 @@ store-spliced s rows marks notes changed g recorded run sizes incoming c bytes r
       (d .rows ∙ rw (m, z));
   told = a .told;
   measured = refl;
-  most = omega (arith, d .most, cond-most recorded (length sizes));
+  most = d .most;
+  count = a .count;
 }

@@ -1,5 +1,6 @@
 // One splice of what is held: rows, marks, notes and changed rows move together; and whether it makes too much, told before anything is written.
 ghost use mathlib.Core.Path.{_≡_};
+ghost use mathlib.Core.Bool.{cond};
 ghost use mathlib.Core.List.{List};
 ghost use Prim.Native.Nat.{ℕ, _+_, _-_, _*_, _%_, _/_, _^_, _≤_, _<_};
 ghost use lib.ListN.{length, getD, take};
@@ -8,7 +9,7 @@ ghost use Rattle.annotations.specs.Notes.{notesOf};
 ghost use Rattle.annotations.specs.Promises.{movedNote};
 ghost use Rattle.splicing.specs.Promises.{SplicedMarks, Left, NotesLeft, NotesSpliced, Recorded, ChangedSpliced};
 ghost use Rattle.rows.specs.Row.{firstRows, bytes as bytesOf};
-ghost use Rattle.splicing.specs.Store.{Room, StoreSpliced};
+ghost use Rattle.splicing.specs.Store.{Open, Coming, StoreSpliced};
 ghost use Rattle.splicing.specs.Sizes.{BytesBetween, StepSize};
 ghost use Rattle.splicing.specs.Applied.{Applied};
 use annotations::add_changed;
@@ -102,7 +103,7 @@ fn splice_notes(
 
 // The rows at which parts of some sizes come to stand, the first at `at`, go behind the first `k` changed rows if the change records. The new number of changed rows.
 fn record_changed(changed: &mut [u32], k: usize, at: usize, recorded: bool, sizes: &[u32]) -> usize
-    requires { ⌜ (k + length (now sizes) ≤ length (now changed)) × (at < 2 ^ 16) × (length (now sizes) < 2 ^ 12) × All (λ x. x < 2 ^ 16) (now sizes) ⌝ }
+    requires { ⌜ (k + cond recorded (length (now sizes)) 0 ≤ length (now changed)) × (at < 2 ^ 16) × (length (now sizes) < 2 ^ 12) × All (λ x. x < 2 ^ 16) (now sizes) ⌝ }
     ensures { λ r. ⌜ Recorded (now (changed .entry)) k at recorded (now (sizes .entry)) (now (changed .exit)) r ⌝ }
 {
     if recorded {
@@ -122,7 +123,7 @@ fn splice_changed(
     sizes: &[u32],
 ) -> usize
     requires { ⌜ (p ≤ q) × (q < 2 ^ 16) × (m < 2 ^ 16) × All (λ x. x < 2 ^ 16) (take k (now changed)) ⌝ }
-    requires { ⌜ (k + length (now sizes) ≤ length (now changed)) × (length (now sizes) < 2 ^ 12) × All (λ x. x < 2 ^ 16) (now sizes) ⌝ }
+    requires { ⌜ (k + cond recorded (length (now sizes)) 0 ≤ length (now changed)) × (length (now sizes) < 2 ^ 12) × All (λ x. x < 2 ^ 16) (now sizes) ⌝ }
     ensures { λ r. ⌜ ChangedSpliced (now (changed .entry)) k p q m recorded (now (sizes .entry)) (now (changed .exit)) r ⌝ }
 {
     let r = move_changed(changed, k, p, q, m);
@@ -154,7 +155,8 @@ fn splice_store(
     c: usize,
     bytes: usize,
 ) -> TreeState
-    requires { ⌜ Room s (now rows) (now marks) (now notes) (now changed) g (now run) (now sizes) (now incoming) c ⌝ }
+    requires { ⌜ Open s (now rows) (now marks) (now notes) (now changed) g recorded (length (now sizes)) ⌝ }
+    requires { ⌜ Coming (now run) (now sizes) (now incoming) c ⌝ }
     requires { ⌜ (3 * (s .rows - (g .to - g .from)) + length (now run) ≤ length (now rows)) × (3 * (length (pick (movedNote (g .from) (g .to) (length (now run) / 3)) (notesOf (s .notes) (now notes))) + c) ≤ length (now notes)) ⌝ }
     ensures { λ r. ⌜ StoreSpliced s (now (rows .entry)) (now (marks .entry)) (now (notes .entry)) (now (changed .entry)) g recorded (now (run .entry)) (now (sizes .entry)) (now (incoming .entry)) c bytes (now (rows .exit)) (now (marks .exit)) (now (notes .exit)) (now (changed .exit)) r ⌝ }
 {
@@ -250,7 +252,8 @@ pub fn apply(
     incoming: &[u32],
     c: usize,
 ) -> Executed
-    requires { ⌜ Room s (now rows) (now marks) (now notes) (now changed) g (now run) (now sizes) (now incoming) c ⌝ }
+    requires { ⌜ Open s (now rows) (now marks) (now notes) (now changed) g recorded (length (now sizes)) ⌝ }
+    requires { ⌜ Coming (now run) (now sizes) (now incoming) c ⌝ }
     requires { ⌜ (12291 ≤ length (now rows)) × (3072 ≤ length (now notes)) × (above ≤ 64) ⌝ }
     requires { ⌜ (s .bytes ≤ 16384) × ((text : List ℕ) → s .bytes ≡ bytesOf (firstRows text (s .rows) (now rows))) ⌝ }
     ensures { λ r. ⌜ Applied s (now (rows .entry)) (now (marks .entry)) (now (notes .entry)) (now (changed .entry)) g above recorded (now (run .entry)) (now (sizes .entry)) (now (incoming .entry)) c (now (rows .exit)) (now (marks .exit)) (now (notes .exit)) (now (changed .exit)) r ⌝ }

@@ -15,7 +15,7 @@ enum-known-size : tie.Need-enum-known-size
 enum-known-size c = search needs
 
 splice-store-requires : tie.Need-splice-store-requires
-splice-store-requires c κs = let p = c .before .before .before .before .before .before .before .before .before .before .before .before .before .before .before .before .before .pre in let a = apply-asks (p .0) (c .before .before .before .before .before .before .before .step-size .ensures) (c .before .before .before .before .before .size .given .1) (p .1 .0) in search needs
+splice-store-requires c κs = let p = c .before .before .before .before .before .before .before .before .before .before .before .before .before .before .before .before .before .pre in (p .0, (p .1 .0, apply-asks (p .0) (p .1 .0) (c .before .before .before .before .before .before .before .step-size .ensures) (c .before .before .before .before .before .size .given .1) (p .1 .1 .0)))
 
 same-length : tie.Need-same-length
 same-length c = search needs

@@ -6,13 +6,13 @@ use Rattle.splicing.proofs.splice_store.Statement.{statement}
 use Rattle.splicing.proofs.splice_store.Tie as tie
 
 splice-requires : tie.Need-splice-requires
-splice-requires c κs = let p = c .before .before .before .before .before .before .before .before .before .pre in let a = asks-rows (p .0) (p .1) in search needs
+splice-requires c κs = let p = c .before .before .before .before .before .before .before .before .before .pre in let a = asks-rows (p .0) (p .1 .0) (p .1 .1) in search needs
 
 splice-notes-requires : tie.Need-splice-notes-requires
-splice-notes-requires c κs = let p = c .before .before .before .before .before .before .before .before .before .before .before .before .before .before .before .pre in asks-notes (p .0) (p .1)
+splice-notes-requires c κs = let p = c .before .before .before .before .before .before .before .before .before .before .before .before .before .before .before .pre in asks-notes (p .0) (p .1 .0) (p .1 .1)
 
 splice-changed-requires : tie.Need-splice-changed-requires
-splice-changed-requires c κs = let p = c .before .before .before .before .before .before .before .before .before .before .before .before .before .before .before .before .before .before .before .pre in asks-changed (p .0)
+splice-changed-requires c κs = let p = c .before .before .before .before .before .before .before .before .before .before .before .before .before .before .before .before .before .before .before .pre in asks-changed (p .0) (p .1 .0)
 
 same-length : tie.Need-same-length
 same-length c = search needs
