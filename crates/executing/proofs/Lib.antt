@@ -1,4 +1,6 @@
--- Telling    what the row of a change tells
--- Steps      one step, from what was done
+-- Telling      what the row of a change tells
+-- Steps        one step, from what was done
+-- Performing   one performed change
 pub mod Telling
 pub mod Steps
+pub mod Performing

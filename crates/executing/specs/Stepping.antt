@@ -6,8 +6,16 @@ use mathlib.Core.List.{List, [], map}
 use Prim.Native.Nat.{ℕ, _+_, _-_, _*_, _≤_}
 use lib.ListN.{length, getD, take}
 use lib.Dec.{eqb}
+use Rattle.definition.specs.Elements.{Table}
+use Rattle.definition.specs.Running.{news, records}
+use Rattle.laws.specs.Right.{Right}
 use Rattle.rows.specs.Row.{firstRows, bytes}
-use Rattle.store_model.specs.Store.{Part, splicedStore}
+use Rattle.store_model.specs.Store.{Part, splicedStore, storeStep}
+use Rattle.element_table.specs.View.{view}
+use Rattle.annotations.specs.Notes.{notesOf}
+use Rattle.change_row.specs.Stated.{changeOf, planOf}
+use Rattle.rewriting.specs.Kept.{Kept}
+use Rattle.tree_store.specs.Stored.{storedFirst}
 use Rattle.syntax_editor.specs.ChangeRow.{ChangeRow}
 use Rattle.tree_store.specs.declared.Gap.{Gap}
 use Rattle.splicing.specs.Store.{heldIn, gapTold}
@@ -42,3 +50,20 @@ pub record SteppedAt (s : TreeState) (rows marks notes changed source first : Li
       → executedIn text rows′ marks′ notes′ changed′ r
       ≡ judgedStore above (yieldsIn s rows marks notes changed source first a text l) (splicedStore (gapTold g) (yieldsIn s rows marks notes changed source first a text l) recorded (heldIn text s rows marks notes changed))
   pub grown : (t : TreeState) → r ≡ Done t → Grown s (cond recorded (length l) 0) rows′ t
+
+-- ── One performed change ────────────────────────────────────────────────────────────────────────────────────
+
+-- the row of a change that line 6 takes, of a batch with n elements
+pub record Performs (n : ℕ) (T : Table) (listed : List ℕ) (r : ChangeRow) : Type 0 where
+  pub kept : Kept n T listed r
+  pub right : Right T (changeOf listed r)
+
+-- how many changed rows it may add
+unfoldable pub listsIn : Table → List ℕ → ChangeRow → ℕ
+listsIn T listed r = cond (records T (planOf listed r)) (length (news (changeOf listed r))) 0
+
+-- the step of the change that a row states
+pub record Stepped (lines source first : List ℕ) (a : ℕ) (listed : List ℕ) (c : ChangeRow) (s : TreeState) (rows marks notes changed rows′ marks′ notes′ changed′ : List ℕ) (r : Executed) : Type 0 where
+  pub answer : (text : List ℕ)
+      → executedIn text rows′ marks′ notes′ changed′ r ≡ storeStep (view (length marks) lines source) (storedFirst text (length marks) source (notesOf a first) []) (heldIn text s rows marks notes changed) (planOf listed c)
+  pub grown : (t : TreeState) → r ≡ Done t → Grown s (listsIn (view (length marks) lines source) listed c) rows′ t

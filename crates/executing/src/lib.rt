@@ -13,7 +13,11 @@ ghost use Rattle.syntax_editor.specs.ChangeRowLaws.{rowAt};
 ghost use Rattle.tree_store.specs.Promises.{SiteAt};
 ghost use Rattle.splicing.specs.Store.{Open};
 ghost use Rattle.splicing.specs.Applied.{Applied};
-ghost use Rattle.executing.specs.Stepping.{AboveBy, recordsBy, SteppedAt};
+ghost use Rattle.definition.specs.Running.{news, records};
+ghost use Rattle.element_table.specs.View.{view};
+ghost use Rattle.change_row.specs.Stated.{planOf};
+ghost use Rattle.executing.specs.Standing.{Standing};
+ghost use Rattle.executing.specs.Stepping.{AboveBy, recordsBy, SteppedAt, Performs, listsIn, Stepped};
 use calls::entry;
 use edit_plan::field;
 use preparing::Prepared;
@@ -177,5 +181,63 @@ fn step_at(
             incoming,
             c,
         ),
+    }
+}
+
+// One performed change, the one at place `k`: 11, 12, or what is held then.
+fn step(
+    rows: &mut [u32],
+    marks: &mut [u32],
+    notes: &mut [u32],
+    changed: &mut [u32],
+    prepared: &mut [u32],
+    sizes: &mut [u32],
+    incoming: &mut [u32],
+    table: &[u32],
+    source: &[u32],
+    first: &[u32],
+    a: usize,
+    b: &[u8],
+    listed: usize,
+    l: usize,
+    changes: &[u32],
+    k: usize,
+    s: TreeState,
+) -> Executed
+    requires { ⌜ Standing (length (now marks)) (now table) (now source) (now first) a s (now rows) (now marks) (now notes) (now changed) ⌝ }
+    requires { ⌜ (12291 ≤ length (now rows)) × (3072 ≤ length (now notes)) × (12288 ≤ length (now prepared)) × (1024 ≤ length (now sizes)) × (3072 ≤ length (now incoming)) ⌝ }
+    requires { ⌜ (listed + 4 * l ≤ length (now b)) × (l ≤ 1024) × All (λ e. e < length (now marks)) (wordsAt (now b) listed l) × (k < 2 ^ 32) ⌝ }
+    requires { ⌜ Performs (length (now marks)) (view (length (now marks)) (now table) (now source)) (wordsAt (now b) listed l) (rowAt (now changes) k) ⌝ }
+    requires { ⌜ s .changed + listsIn (view (length (now marks)) (now table) (now source)) (wordsAt (now b) listed l) (rowAt (now changes) k) ≤ length (now changed) ⌝ }
+    ensures { λ r. ⌜ Stepped (now (table .entry)) (now (source .entry)) (now (first .entry)) a (wordsAt (now (b .entry)) listed l) (rowAt (now (changes .entry)) k) s (now (rows .entry)) (now (marks .entry)) (now (notes .entry)) (now (changed .entry)) (now (rows .exit)) (now (marks .exit)) (now (notes .exit)) (now (changed .exit)) r ⌝ }
+{
+    let site = change_gap(rows, s.rows, table, marks, changes, k);
+    match site {
+        Site::Gone => Executed::Refused(11),
+        Site::At(g) => {
+            let above = depth_above(table, marks.len(), changes, k);
+            let recorded = is_recorded(changes, k);
+            let list = listed + 4 * field(changes, k, 3);
+            let count = field(changes, k, 4);
+            step_at(
+                rows,
+                marks,
+                notes,
+                changed,
+                prepared,
+                sizes,
+                incoming,
+                source,
+                first,
+                a,
+                b,
+                list,
+                count,
+                s,
+                g,
+                above,
+                recorded,
+            )
+        }
     }
 }
