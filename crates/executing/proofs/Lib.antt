@@ -1,6 +1,8 @@
 -- Telling      what the row of a change tells
 -- Steps        one step, from what was done
 -- Performing   one performed change
+-- Walking      the run's loop
 pub mod Telling
 pub mod Steps
 pub mod Performing
+pub mod Walking

@@ -18,6 +18,7 @@ ghost use Rattle.element_table.specs.View.{view};
 ghost use Rattle.change_row.specs.Stated.{planOf};
 ghost use Rattle.executing.specs.Standing.{Standing};
 ghost use Rattle.executing.specs.Stepping.{AboveBy, recordsBy, SteppedAt, Performs, listsIn, Stepped};
+ghost use Rattle.executing.specs.Running.{plansIn, listsAll, RanSteps};
 use calls::entry;
 use edit_plan::field;
 use preparing::Prepared;
@@ -28,6 +29,7 @@ use splicing::apply;
 use tree_store::Gap;
 use tree_store::Site;
 use tree_store::find_gap;
+use words::word;
 
 // ── What the row of a change tells ──
 
@@ -240,4 +242,67 @@ fn step(
             )
         }
     }
+}
+
+// ── The run ──
+
+// The changes at the places in `running`, step by step: the first refusal, or what is held at the end.
+fn run_steps(
+    rows: &mut [u32],
+    marks: &mut [u32],
+    notes: &mut [u32],
+    changed: &mut [u32],
+    prepared: &mut [u32],
+    sizes: &mut [u32],
+    incoming: &mut [u32],
+    table: &[u32],
+    source: &[u32],
+    first: &[u32],
+    a: usize,
+    b: &[u8],
+    listed: usize,
+    l: usize,
+    changes: &[u32],
+    running: &[u32],
+    start: TreeState,
+) -> Executed
+    requires { ⌜ Standing (length (now marks)) (now table) (now source) (now first) a start (now rows) (now marks) (now notes) (now changed) ⌝ }
+    requires { ⌜ (12291 ≤ length (now rows)) × (3072 ≤ length (now notes)) × (12288 ≤ length (now prepared)) × (1024 ≤ length (now sizes)) × (3072 ≤ length (now incoming)) ⌝ }
+    requires { ⌜ (listed + 4 * l ≤ length (now b)) × (l ≤ 1024) × All (λ e. e < length (now marks)) (wordsAt (now b) listed l) ⌝ }
+    requires { ⌜ All (λ k. Performs (length (now marks)) (view (length (now marks)) (now table) (now source)) (wordsAt (now b) listed l) (rowAt (now changes) k)) (now running) ⌝ }
+    requires { ⌜ start .changed + listsAll (view (length (now marks)) (now table) (now source)) (wordsAt (now b) listed l) (now changes) (now running) ≤ length (now changed) ⌝ }
+    ensures { λ r. ⌜ RanSteps (now (table .entry)) (now (source .entry)) (now (first .entry)) a (wordsAt (now (b .entry)) listed l) (now (changes .entry)) (now (running .entry)) start (now (rows .entry)) (now (marks .entry)) (now (notes .entry)) (now (changed .entry)) (now (rows .exit)) (now (marks .exit)) (now (notes .exit)) (now (changed .exit)) r ⌝ }
+{
+    let mut s = start;
+    let mut i = 0;
+    while i < running.len() {
+        let k = word(running, i);
+        let next = step(
+            rows,
+            marks,
+            notes,
+            changed,
+            prepared,
+            sizes,
+            incoming,
+            table,
+            source,
+            first,
+            a,
+            b,
+            listed,
+            l,
+            changes,
+            k,
+            s,
+        );
+        match next {
+            Executed::Refused(n) => return Executed::Refused(n),
+            Executed::Done(t) => {
+                s = t;
+                i += 1;
+            }
+        }
+    }
+    Executed::Done(s)
 }
