@@ -18,6 +18,7 @@ use Rattle.element_table.specs.Told.{length-view}
 use Rattle.syntax_editor.specs.ChangeRow.{ChangeRow}
 use Rattle.syntax_editor.specs.ChangeRowLaws.{rowAt}
 use Rattle.change_row.specs.Stated.{changeOf, planOf}
+use Rattle.rows.specs.Row.{firstRows, bytes}
 use Rattle.rows.specs.Place.{markOf}
 use Rattle.annotations.specs.Notes.{notesOf}
 use Rattle.tree_store.specs.Stored.{stored, storedFirst}
@@ -50,6 +51,20 @@ pub record RanSteps (lines source first : List ℕ) (a : ℕ) (listed changes ru
       → executedIn text rows′ marks′ notes′ changed′ r
       ≡ storeSteps (view (length marks) lines source) (storedFirst text (length marks) source (notesOf a first) []) (heldIn text s rows marks notes changed) (plansIn listed changes running)
   pub standing : (t : TreeState) → r ≡ Done t → Standing (length marks) lines source first a t rows′ marks′ notes′ changed′
+
+-- before the first step: what the batch's own words tell
+pub record Began (n : ℕ) (source first : List ℕ) (a : ℕ) (rows marks notes : List ℕ) (s : TreeState) : Type 0 where
+  pub told : (text changed : List ℕ) → heldIn text s rows marks notes changed ≡ storedFirst text n source (notesOf a first) []
+  pub count : s .rows ≡ n + 1
+  pub none : s .changed ≡ 0
+  pub measured : (text : List ℕ) → s .bytes ≡ bytes (firstRows text (s .rows) rows)
+
+-- the whole run
+pub record Ran (n : ℕ) (lines source first : List ℕ) (a : ℕ) (listed changes running rows marks notes changed : List ℕ) (r : Executed) : Type 0 where
+  pub answer : (text : List ℕ)
+      → executedIn text rows marks notes changed r
+      ≡ storeSteps (view n lines source) (storedFirst text n source (notesOf a first) []) (storedFirst text n source (notesOf a first) []) (plansIn listed changes running)
+  pub standing : (t : TreeState) → r ≡ Done t → Standing n lines source first a t rows marks notes changed
 
 -- ── One step on ─────────────────────────────────────────────────────────────────────────────────────────────
 
