@@ -1,0 +1,7 @@
+-- Demand 3 in words: a list of splices as words, the state of `orders` as rows and marks, and one step of the list.
+--     Cuts      a splice as its words tell it; what the words hold of a tree, of its old elements' paths, of a list of splices
+--     Places    the paths of a tree's elements, in preorder
+--     Step      where a splice goes now, and what it leaves: the law's step
+pub mod Cuts
+pub mod Places
+pub mod Step
