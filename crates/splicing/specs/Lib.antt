@@ -1,0 +1,2 @@
+-- Promises   what the functions promise
+pub mod Promises
