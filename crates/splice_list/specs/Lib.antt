@@ -1,0 +1,2 @@
+-- What the functions on a list of splices promise.
+pub mod Promises
