@@ -2,19 +2,19 @@
 -- Assumes nothing.
 use mathlib.Core.Path.{_≡_, refl, sym, ap, _∙_}
 use mathlib.Core.Bool.{Bool, true, false, _&&_, _||_}
-use mathlib.Core.List.{List, [], _∷_}
+use mathlib.Core.List.{List, [], _∷_, append-nil}
 use Prim.Native.Nat.{ℕ, zero, suc, _+_, _-_, _*_, _/_, _%_, _^_, _≤_, _<_}
 use native.Mathlib.Omega.{arith}
 use native.Mathlib.Nat.{zero-add}
 use native.Mathlib.Numerals.{add-one}
 use lib.Dec.{leb, ltb, eqb}
-use lib.ListN.{length, getD, take, drop, length-drop}
-use lib.Seq.{length-take-le}
+use lib.ListN.{length, getD, set, take, drop, length-drop, length-set, drop-of-length-le}
+use lib.Seq.{length-take-le, paste, paste-suc, take-all}
 use borrow.Author.Tests.{leb-true, ltb-true, lt-ltb, le-ltb, le-leb, lt-leb, eq-eqb, ne-eqb}
 use Rattle.orders.specs.Lists.{All, total}
 use Rattle.orders.specs.ListLaws.{both-true, bool-absurd}
 use Rattle.orders.specs.Tree.{Tree, node, list, Run}
-use Rattle.orders.specs.Splices.{Splice, State}
+use Rattle.orders.specs.Splices.{Splice, State, begin, AllApart}
 use Rattle.syntax_node.specs.Promises.{TreesIn, After, ChildAt}
 use Rattle.rows.specs.Row.{rowsIn}
 use Rattle.rows.specs.Place.{place}
@@ -22,10 +22,13 @@ use Rattle.rows.specs.RowLaws.{children-few}
 use Rattle.rows.specs.PlaceLaws.{place-bound}
 use Rattle.rows.specs.Words.{node-at, rows-many}
 use Rattle.splicing.specs.Promises.{SplicedMarks}
-use Rattle.splice_model.specs.Cuts.{partAt, gain, loss, leftCut, startCut, cutAt, cutsTo, Holds, Told}
+use Rattle.splice_model.specs.Cuts.{partAt, gain, loss, leftCut, startCut, cutAt, cutsTo, Holds, Told, stateOf}
+use Rattle.splice_model.specs.Bounds.{Bounded, BoundedTo, BoundedAll, rowsTo, rowsTo-more, rowsTo-mono, bounded-to}
+use Rattle.splice_model.specs.Orders.{one-more}
+use Rattle.splice_model.specs.Places.{upFrom}
 use Rattle.splice_model.specs.Step.{Sited, Due, parent-row, lost-trees, step-holds}
 use Rattle.splice_list.specs.declared.Gap.{Gap}
-use Rattle.splice_list.specs.Promises.{Bounded, BoundedTo, leftRun, leftAt, TreesOf, Deletes, Shifted, Started, ParentAt, GapAt, takesBy, Stepped}
+use Rattle.splice_list.specs.Promises.{leftRun, leftAt, TreesOf, Deletes, Shifted, Started, ParentAt, GapAt, takesBy, Stepped, Listed}
 
 -- what `word` tells
 abbrev Read : ℕ → ℕ → Type 0
@@ -251,3 +254,89 @@ module _ (rows : List ℕ) (n : ℕ) (marks s p : List ℕ) (i : ℕ) (g : Gap) 
 
 pub takes-told : (rows : List ℕ) (parent lost gained : ℕ) {b : Bool} → b ≡ takesBy rows parent lost gained → b ≡ true → takesBy rows parent lost gained ≡ true
 takes-told rows parent lost gained e t = sym e ∙ t
+
+-- ── A list ──────────────────────────────────────────────────────────────────────────────────────────────────
+
+-- the first k splices are done
+pub record Going (rows₀ : List ℕ) (n₀ : ℕ) (marks₀ splices prepared : List ℕ) (c : ℕ) (rows : List ℕ) (n : ℕ) (marks : List ℕ) (k : ℕ) : Type 0 where
+  pub inside : k ≤ c
+  pub long : length rows ≡ length rows₀
+  pub many : length marks ≡ length marks₀
+  pub few : n ≤ n₀ + rowsTo splices k
+  pub below : All (λ x. x < n) marks
+  pub law : (text : List ℕ) (old : Tree ℕ) (D : List (Splice ℕ)) → Holds text old (begin old) rows₀ n₀ marks₀ → Told text old splices prepared k D → AllApart old D → Holds text old (stateOf old D) rows n marks
+
+none-told : (text : List ℕ) (old : Tree ℕ) (splices prepared : List ℕ) (D : List (Splice ℕ)) → Told text old splices prepared 0 D → stateOf old D ≡ begin old
+unfolding cutsTo stateOf
+none-told text old splices prepared [] t = refl
+none-told text old splices prepared (s ∷ D) t = let z : _≡_ {A = ℕ} 0 1 = cc (t .cuts) in absurd (omega arith)
+
+pub going-start : (rows : List ℕ) (n : ℕ) (marks splices prepared : List ℕ) (c : ℕ) → All (λ x. x < n) marks → Going rows n marks splices prepared c rows n marks 0
+going-start rows n marks splices prepared c a = record {
+  inside = omega arith;
+  long = refl;
+  many = refl;
+  few = omega arith;
+  below = a;
+  law = λ text old D h t w. rw (none-told text old splices prepared D t) h;
+}
+
+module _ {rows₀ : List ℕ} {n₀ : ℕ} {marks₀ s p : List ℕ} {c : ℕ} {rows : List ℕ} {n : ℕ} {marks : List ℕ} {k : ℕ} (v : Going rows₀ n₀ marks₀ s p c rows n marks k) where
+  pub going-next : {out marked : List ℕ} {r : ℕ} → k < c → length out ≡ length rows → length marked ≡ length marks → Stepped rows n marks s p k out marked r → Going rows₀ n₀ marks₀ s p c out r marked (k + 1)
+  going-next {out} {marked} {r} h e f w = rw (add-one k) (record {
+    inside = omega arith;
+    long = e ∙ v .long;
+    many = f ∙ v .many;
+    few = omega (arith, v .few, w .few, rowsTo-more s k);
+    below = w .below;
+    law = λ text old D b t a. one-more text old s p k rows n marks out r marked (λ D′ t′ a′. v .law text old D′ b t′ a′) (λ now z run d t′ f′. w .step text old now z run d t′ f′) D t a;
+  })
+
+  pub going-done : c ≤ k → Listed rows₀ n₀ marks₀ s p c rows marks n
+  going-done h = let e : k ≡ c = omega (arith, v .inside) in record { done = λ text old D b t a. v .law text old D b (rw (sym e) at t) a }
+
+  module _ (room : 3 * n₀ + 3 * rowsTo s c ≤ length rows₀) (h : k < c) where
+    pub going-room : 3 * n + 3 * getD s (6 * k + 5) 0 ≤ length rows
+    going-room = omega (arith, v .few, v .long, rowsTo-more s k, rowsTo-mono s c (suc k) h)
+
+    pub going-small : n₀ + rowsTo s c < 2 ^ 16 → n < 2 ^ 16
+    going-small l = omega (arith, v .few, rowsTo-mono s c (suc k) h, rowsTo-more s k)
+
+    pub going-bounds : BoundedAll (length marks₀) s p c → BoundedTo (length marks) s p k
+    going-bounds b = rw (v .many) (bounded-to b h)
+
+-- ── Marks at the start ──────────────────────────────────────────────────────────────────────────────────────
+
+upFrom-many : (a n : ℕ) → length (upFrom a n) ≡ n
+upFrom-many a zero = refl
+upFrom-many a (suc n) = ap suc (upFrom-many (suc a) n)
+
+upFrom-get : (a n i : ℕ) → i < n → getD (upFrom a n) i 0 ≡ a + i
+upFrom-get a zero i h = absurd (omega arith)
+upFrom-get a (suc n) zero h = omega arith
+upFrom-get a (suc n) (suc i) h = upFrom-get (suc a) n i (omega arith) ∙ omega arith
+
+-- the first i marks are numbered
+pub record Counting (marks l : List ℕ) (i : ℕ) : Type 0 where
+  pub inside : i ≤ length marks
+  pub long : length l ≡ length marks
+  pub copied : l ≡ paste marks 0 (upFrom 0 (length marks)) i
+
+pub counting-start : (marks : List ℕ) → Counting marks marks 0
+counting-start marks = record { inside = omega arith; long = refl; copied = refl }
+
+module _ {marks l : List ℕ} {i : ℕ} (v : Counting marks l i) where
+  pub counting-next : i < length l → Counting marks (set l i i) (i + 1)
+  counting-next h =
+      let h′ : i < length marks = omega (arith, v .long) in
+      let m : length (upFrom 0 (length marks)) ≡ length marks = upFrom-many 0 (length marks) in
+      let g : getD (upFrom 0 (length marks)) i 0 ≡ i = upFrom-get 0 (length marks) i h′ ∙ zero-add i in
+      record {
+        inside = omega arith;
+        long = simp length-set (v .long);
+        copied = rw (v .copied, add-one i) (ap (λ (x : ℕ). set (paste marks 0 (upFrom 0 (length marks)) i) i x) (sym g) ∙ (ap (λ (k : ℕ). set (paste marks 0 (upFrom 0 (length marks)) i) k (getD (upFrom 0 (length marks)) i 0)) (sym (zero-add i)) ∙ paste-suc marks 0 (upFrom 0 (length marks)) i 0 (omega arith) (omega arith)));
+      }
+
+  pub counting-done : length l ≤ i → l ≡ upFrom 0 (length marks)
+  counting-done k =
+      v .copied ∙ rw (zero-add i, take-all i (upFrom 0 (length marks)) (omega (arith, v .long, upFrom-many 0 (length marks))), drop-of-length-le marks {i = i} (omega (arith, v .long))) (append-nil (upFrom 0 (length marks)))

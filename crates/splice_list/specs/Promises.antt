@@ -8,24 +8,11 @@ use lib.ListN.{length, getD}
 use lib.Dec.{leb, ltb, eqb}
 use Rattle.orders.specs.Lists.{All, total}
 use Rattle.orders.specs.Tree.{Tree, Run}
-use Rattle.orders.specs.Splices.{Splice, State, perform}
+use Rattle.orders.specs.Splices.{Splice, State, begin, perform, AllApart}
 use Rattle.rows.specs.Row.{triples, treesIn}
-use Rattle.splice_model.specs.Cuts.{partAt, gain, loss, leftCut, startCut, cutAt, cutsTo, Holds, Told}
+use Rattle.splice_model.specs.Cuts.{partAt, gain, loss, leftCut, startCut, cutAt, cutsTo, Holds, Told, stateOf}
 use Rattle.splice_model.specs.Step.{Sited, Due}
 use Rattle.splice_list.specs.declared.Gap.{Gap}
-
--- the words of splice j are in bounds, where the old tree has E rows
-pub record Bounded (E : ℕ) (splices prepared : List ℕ) (j : ℕ) : Type 0 where
-  pub inside : 6 * j + 5 < length splices
-  pub parent : getD splices (6 * j + 1) 0 < E
-  pub ordered : getD splices (6 * j + 2) 0 ≤ getD splices (6 * j + 3) 0
-  pub within : getD splices (6 * j + 3) 0 ≤ E
-  pub part : 3 * getD splices (6 * j + 4) 0 + 3 * getD splices (6 * j + 5) 0 ≤ length prepared
-
--- those of the splices up to i
-pub record BoundedTo (E : ℕ) (splices prepared : List ℕ) (i : ℕ) : Type 0 where
-  pub last : Bounded E splices prepared i
-  pub each : (j : ℕ) → j < i → Bounded E splices prepared j
 
 -- of two runs the one is left of the other: by place, and by number where two empty ones tie
 unfoldable pub leftRun : ℕ → ℕ → ℕ → ℕ → ℕ → ℕ → Bool
@@ -83,3 +70,7 @@ pub record Stepped (rows : List ℕ) (n : ℕ) (marks splices prepared : List �
       → Holds text old now rows n marks → Told text old splices prepared (suc i) (s ∷ now .done) → Due now s run → Holds text old (perform s now) out r marked
   pub few : r ≤ n + getD splices (6 * i + 5) 0
   pub below : All (λ x. x < r) marked
+
+-- the first c splices done, from the first to the last: the state that the law leaves, for every list of them that is apart
+pub record Listed (rows : List ℕ) (n : ℕ) (marks splices prepared : List ℕ) (c : ℕ) (out marked : List ℕ) (r : ℕ) : Type 0 where
+  pub done : (text : List ℕ) (old : Tree ℕ) (D : List (Splice ℕ)) → Holds text old (begin old) rows n marks → Told text old splices prepared c D → AllApart old D → Holds text old (stateOf old D) out r marked

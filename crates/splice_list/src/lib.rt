@@ -5,7 +5,9 @@ ghost use mathlib.Core.Bool.{true};
 ghost use Prim.Native.Nat.{_+_, _*_, _^_, _≤_, _<_};
 ghost use lib.ListN.{length, getD};
 ghost use Rattle.orders.specs.Lists.{All};
-ghost use Rattle.splice_list.specs.Promises.{BoundedTo, leftRun, leftAt, TreesOf, Deletes, Shifted, Started, ParentAt, GapAt, takesBy, Stepped};
+ghost use Rattle.splice_list.specs.Promises.{leftRun, leftAt, TreesOf, Deletes, Shifted, Started, ParentAt, GapAt, takesBy, Stepped, Listed};
+ghost use Rattle.splice_model.specs.Bounds.{BoundedTo, BoundedAll, rowsTo};
+ghost use Rattle.splice_model.specs.Places.{upFrom};
 use splicing::splice;
 use syntax_node::child_row;
 use syntax_node::rows_after;
@@ -222,4 +224,40 @@ pub fn splice_once(
         return splice_at(rows, n, marks, splices, prepared, i, g);
     }
     n
+}
+
+// ── A list ──
+
+// The first `c` splices, from the first to the last. The new number of rows.
+fn splice_each(
+    rows: &mut [u32],
+    n: usize,
+    marks: &mut [u32],
+    splices: &[u32],
+    prepared: &[u32],
+    c: usize,
+) -> usize
+    requires { ⌜ (3 * n + 3 * rowsTo (now splices) c ≤ length (now rows)) × (n + rowsTo (now splices) c < 2 ^ 16) × All (λ m. m < n) (now marks) ⌝ }
+    requires { ⌜ (length (now marks) < 2 ^ 16) × (c < 2 ^ 15) × (length (now prepared) < 3 * 2 ^ 16) × BoundedAll (length (now marks)) (now splices) (now prepared) c ⌝ }
+    ensures { λ r. ⌜ Listed (now (rows .entry)) n (now (marks .entry)) (now (splices .entry)) (now (prepared .entry)) c (now (rows .exit)) (now (marks .exit)) r ⌝ }
+{
+    let mut m = n;
+    let mut k = 0;
+    while k < c {
+        m = splice_once(rows, m, marks, splices, prepared, k);
+        k += 1;
+    }
+    m
+}
+
+// Each old element stands at its own row.
+fn number_marks(marks: &mut [u32])
+    requires { ⌜ length (now marks) < 2 ^ 16 ⌝ }
+    ensures { λ _. ⌜ now (marks .exit) ≡ upFrom 0 (length (now (marks .entry))) ⌝ }
+{
+    let mut i = 0;
+    while i < marks.len() {
+        marks[i] = i as u32;
+        i += 1;
+    }
 }

@@ -2,6 +2,10 @@
 --     Cuts      a splice as its words tell it; what the words hold of a tree, of its old elements' paths, of a list of splices
 --     Places    the paths of a tree's elements, in preorder
 --     Step      where a splice goes now, and what it leaves: the law's step
+--     Orders    a list done one after the other: the law's state, for every apart list
+--     Bounds    what keeps every step within the slices
 pub mod Cuts
 pub mod Places
 pub mod Step
+pub mod Orders
+pub mod Bounds
