@@ -4,8 +4,10 @@
 --     Step      where a splice goes now, and what it leaves: the law's step
 --     Orders    a list done one after the other: the law's state, for every apart list
 --     Bounds    what keeps every step within the slices
+--     Verdict   whether a list fits the old tree and is apart, told in rows
 pub mod Cuts
 pub mod Places
 pub mod Step
 pub mod Orders
 pub mod Bounds
+pub mod Verdict

@@ -32,7 +32,7 @@ use Rattle.splice_model.specs.Places.{get-map, paths-at, paths-many, pla
 -- ── The start of a run ──────────────────────────────────────────────────────────────────────────────────────
 
 -- in one tree two paths with the same place are the same path
-same-place : (old : Tree ℕ) (s t : Splice ℕ) → Stands old s → Stands old t → eqb (place (t .parent) old) (place (s .parent) old) ≡ samePath (t .parent) (s .parent)
+pub same-place : (old : Tree ℕ) (s t : Splice ℕ) → Stands old s → Stands old t → eqb (place (t .parent) old) (place (s .parent) old) ≡ samePath (t .parent) (s .parent)
 same-place old s t u v = go (bool? (samePath (t .parent) (s .parent)))
   where
     go : (samePath (t .parent) (s .parent) ≡ true) ⊎ (samePath (t .parent) (s .parent) ≡ false) → eqb (place (t .parent) old) (place (s .parent) old) ≡ samePath (t .parent) (s .parent)
@@ -98,11 +98,11 @@ due-now {now} {s} {r} e =
     record { path = p ∙ ap {B = Option Path} (λ x. some (x .parent)) z; from = sym (ap (λ x. x .from) z); to = sym (ap (λ x. x .to) z) ∙ ap (λ x. x .from + (s .to - s .from)) z }
 
 -- splice i is s, and those before it are D
-record First (text : List ℕ) (old : Tree ℕ) (splices prepared : List ℕ) (i : ℕ) (s : Splice ℕ) (D : List (Splice ℕ)) : Type 0 where
+pub record First (text : List ℕ) (old : Tree ℕ) (splices prepared : List ℕ) (i : ℕ) (s : Splice ℕ) (D : List (Splice ℕ)) : Type 0 where
   pub cut : cutAt text splices prepared i ≡ cutOf old s
   pub before : cutsTo text splices prepared i ≡ map (cutOf old) D
 
-told-first : {text : List ℕ} {old : Tree ℕ} {splices prepared : List ℕ} {i : ℕ} {s : Splice ℕ} {D : List (Splice ℕ)} → Told text old splices prepared (suc i) (s ∷ D) → First text old splices prepared i s D
+pub told-first : {text : List ℕ} {old : Tree ℕ} {splices prepared : List ℕ} {i : ℕ} {s : Splice ℕ} {D : List (Splice ℕ)} → Told text old splices prepared (suc i) (s ∷ D) → First text old splices prepared i s D
 unfolding cutsTo
 told-first h = record { cut = head-eq-of-cons-eq (h .cuts); before = tail-eq-of-cons-eq (h .cuts) }
 
