@@ -23,7 +23,7 @@ use Rattle.rows.specs.PlaceLaws.{place-bound}
 use Rattle.rows.specs.Words.{node-at, rows-many}
 use Rattle.splicing.specs.Promises.{SplicedMarks}
 use Rattle.splice_model.specs.Cuts.{partAt, gain, loss, leftCut, startCut, cutAt, cutsTo, Holds, Told, stateOf}
-use Rattle.splice_model.specs.Bounds.{Bounded, BoundedTo, BoundedAll, rowsTo, rowsTo-more, rowsTo-mono, bounded-to}
+use Rattle.splice_model.specs.Bounds.{Bounded, BoundedTo, BoundedAll, rowsTo, rowsTo-more, rowsTo-mono, bounded-to, part-is, part-long}
 use Rattle.splice_model.specs.Orders.{one-more}
 use Rattle.splice_model.specs.Places.{upFrom}
 use Rattle.splice_model.specs.Step.{Sited, Due, parent-row, lost-trees, step-holds}
@@ -61,19 +61,10 @@ module _ (s : List ℕ) (i j : ℕ) {x y : ℕ} (a : Read x (getD s (6 * j + 1) 
 
 -- ── The prepared rows ───────────────────────────────────────────────────────────────────────────────────────
 
--- the words from one place to another are the splice's part
-pub part-is : (s p : List ℕ) (j : ℕ) {a m : ℕ} → Read a (getD s (6 * j + 4) 0) → Read m (getD s (6 * j + 5) 0) → take (3 * a + 3 * m - 3 * a) (drop (3 * a) p) ≡ partAt s p j
-part-is s p j {a} {m} h k =
-    let e : 3 * a + 3 * m - 3 * a ≡ 3 * m = omega arith in
-    rw (e, h .0, k .0)
-
-pub part-long : (s p : List ℕ) (j : ℕ) → 3 * getD s (6 * j + 4) 0 + 3 * getD s (6 * j + 5) 0 ≤ length p → length (partAt s p j) ≡ 3 * getD s (6 * j + 5) 0
-part-long s p j h = length-take-le (3 * getD s (6 * j + 5) 0) (drop (3 * getD s (6 * j + 4) 0) p) (simp length-drop (omega arith))
-
 pub part-trees : (s p : List ℕ) (j : ℕ) {a m r : ℕ} → 3 * getD s (6 * j + 4) 0 + 3 * getD s (6 * j + 5) 0 ≤ length p → length p < 3 * 2 ^ 16 → Read a (getD s (6 * j + 4) 0) → Read m (getD s (6 * j + 5) 0)
     → TreesIn (take (3 * a + 3 * m - 3 * a) (drop (3 * a) p)) r → TreesOf s p j r
 part-trees s p j w l h k t =
-    let u : TreesIn (partAt s p j) _ = rw (part-is s p j h k) at t in
+    let u : TreesIn (partAt s p j) _ = rw (part-is s p j (h .0) (k .0)) at t in
     record { count = λ text. u .count text; few = omega (arith, u .few, part-long s p j w) }
 
 -- ── A parent that can lose and gain ─────────────────────────────────────────────────────────────────────────
@@ -208,7 +199,7 @@ module _ (rows : List ℕ) (parent lost gained : ℕ) (e : takesBy rows parent l
 
 module _ (s p : List ℕ) (i : ℕ) {a m : ℕ} (bound : 3 * getD s (6 * i + 4) 0 + 3 * getD s (6 * i + 5) 0 ≤ length p) (h : Read a (getD s (6 * i + 4) 0)) (k : Read m (getD s (6 * i + 5) 0)) where
   pub run-long : length (take (3 * a + 3 * m - 3 * a) (drop (3 * a) p)) ≡ 3 * getD s (6 * i + 5) 0
-  run-long = ap length (part-is s p i h k) ∙ part-long s p i bound
+  run-long = ap length (part-is s p i (h .0) (k .0)) ∙ part-long s p i bound
 
   pub run-thirds : length (take (3 * a + 3 * m - 3 * a) (drop (3 * a) p)) % 3 ≡ 0
   run-thirds = omega (arith, run-long)
@@ -223,7 +214,7 @@ module _ (s p : List ℕ) (i : ℕ) {a m : ℕ} (bound : 3 * getD s (6 * i + 4) 
   pub stepped : {rows : List ℕ} {n : ℕ} {marks : List ℕ} {g : Gap} {out marked : List ℕ} {r : ℕ} → GapAt rows n marks s p i g
       → SplicedMarks rows n marks (g .parent) (g .from) (g .to) (g .lost) (take (3 * a + 3 * m - 3 * a) (drop (3 * a) p)) (g .gain) out marked r → Stepped rows n marks s p i out marked r
   stepped {rows} {n} {marks} {g} {out} {marked} {r} w x =
-      let y : SplicedMarks rows n marks (g .parent) (g .from) (g .to) (g .lost) (partAt s p i) (g .gain) out marked r = rw (part-is s p i h k) at x in
+      let y : SplicedMarks rows n marks (g .parent) (g .from) (g .to) (g .lost) (partAt s p i) (g .gain) out marked r = rw (part-is s p i (h .0) (k .0)) at x in
       record {
         step = λ text old now z run d t f. step-holds d (w .sited) z run f t (y .told text) (y .moved);
         few = omega (arith, y .count, part-long s p i bound);

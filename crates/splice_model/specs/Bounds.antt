@@ -3,10 +3,12 @@
 use mathlib.Core.Path.{_≡_, refl}
 use mathlib.Core.List.{List}
 use mathlib.Core.Logic.{inl, inr}
-use Prim.Native.Nat.{ℕ, zero, suc, _+_, _*_, _≤_, _<_}
+use Prim.Native.Nat.{ℕ, zero, suc, _+_, _-_, _*_, _≤_, _<_}
 use native.Mathlib.Omega.{arith}
-use lib.ListN.{length, getD}
+use lib.ListN.{length, take, drop, getD, length-drop}
+use lib.Seq.{length-take-le}
 use Rattle.orders.specs.ListLaws.{lt-or-le}
+use Rattle.splice_model.specs.Cuts.{partAt}
 
 -- the words of splice j are in bounds, where the old tree has E rows
 pub record Bounded (E : ℕ) (splices prepared : List ℕ) (j : ℕ) : Type 0 where
@@ -46,3 +48,14 @@ rowsTo-mono splices (suc c) k h = elim (lt-or-le k (suc c)) [
 
 pub bounded-to : {E : ℕ} {splices prepared : List ℕ} {c k : ℕ} → BoundedAll E splices prepared c → k < c → BoundedTo E splices prepared k
 bounded-to h k = record { last = h .all _ k; each = λ j l. h .all j (omega arith) }
+
+-- ── The prepared rows of a splice ───────────────────────────────────────────────────────────────────────────
+
+-- the words from one place to another are the splice's part
+pub part-is : (s p : List ℕ) (j : ℕ) {a m : ℕ} → a ≡ getD s (6 * j + 4) 0 → m ≡ getD s (6 * j + 5) 0 → take (3 * a + 3 * m - 3 * a) (drop (3 * a) p) ≡ partAt s p j
+part-is s p j {a} {m} h k =
+    let e : 3 * a + 3 * m - 3 * a ≡ 3 * m = omega arith in
+    rw (e, h, k)
+
+pub part-long : (s p : List ℕ) (j : ℕ) → 3 * getD s (6 * j + 4) 0 + 3 * getD s (6 * j + 5) 0 ≤ length p → length (partAt s p j) ≡ 3 * getD s (6 * j + 5) 0
+part-long s p j h = length-take-le (3 * getD s (6 * j + 5) 0) (drop (3 * getD s (6 * j + 4) 0) p) (simp length-drop (omega arith))

@@ -10,7 +10,7 @@ use native.Mathlib.Omega.{arith}
 use native.Mathlib.Nat.{add-zero, add-comm, zero-add, suc-add}
 use lib.ListN.{length, take, drop, getD, getElem?}
 use lib.Dec.{leb, ltb, eqb}
-use borrow.Author.Tests.{leb-true, ltb-true, leb-false, lt-ltb, le-ltb, le-leb, lt-leb, eq-eqb}
+use borrow.Author.Tests.{leb-true, ltb-true, eqb-true, lt-ltb, le-ltb, le-leb, lt-leb, eq-eqb}
 use Rattle.orders.specs.Lists.{All}
 use Rattle.orders.specs.ListLaws.{bool?, bool-absurd, both-true, lt-or-le, Zone, before, inside, after, zone?}
 use Rattle.orders.specs.Tree.{Tree, Trees, node, token, nil, cons, list, Path, resolve, adjust, shift, splice, HasRun}
@@ -81,6 +81,23 @@ apartCut rs s t = not (eqb (s .number) (t .number)) && (not (entersCut rs s (t .
 unfoldable pub roomy : ℕ → ℕ → List ℕ → List ℕ → ℕ → Bool
 roomy long E splices prepared c =
     eqb (length splices) (6 * c) && (ltb c (2 ^ 15) && (ltb (length prepared) (3 * 2 ^ 16) && (leb (3 * E + 3 * rowsTo splices c) long && ltb (E + rowsTo splices c) (2 ^ 16))))
+
+-- what that says
+pub record Room (long E : ℕ) (splices prepared : List ℕ) (c : ℕ) : Type 0 where
+  pub whole : length splices ≡ 6 * c
+  pub few : c < 2 ^ 15
+  pub short : length prepared < 3 * 2 ^ 16
+  pub words : 3 * E + 3 * rowsTo splices c ≤ long
+  pub rows : E + rowsTo splices c < 2 ^ 16
+
+pub room-is : (long E : ℕ) (splices prepared : List ℕ) (c : ℕ) → roomy long E splices prepared c ≡ true → Room long E splices prepared c
+unfolding roomy
+room-is long E splices prepared c t =
+    let x = both-true _ _ t in
+    let y = both-true _ _ (x .1) in
+    let z = both-true _ _ (y .1) in
+    let w = both-true _ _ (z .1) in
+    record { whole = eqb-true _ _ (x .0); few = ltb-true _ _ (y .0); short = ltb-true _ _ (z .0); words = leb-true _ _ (w .0); rows = ltb-true _ _ (w .1) }
 
 -- the list fits the old tree and is apart, and there is room
 unfoldable pub judgedBy : List ℕ → List ℕ → ℕ → List ℕ → List ℕ → ℕ → Bool
