@@ -18,7 +18,7 @@ use Rattle.rows.specs.Place.{childRow}
 use Rattle.rows.specs.Words.{triples-at, triples-end}
 use Rattle.splice_model.specs.Cuts.{Cut, partAt, cutAt, cutsTo}
 use Rattle.splice_model.specs.Bounds.{Bounded, rowsTo, rowsTo-more, part-is}
-use Rattle.splice_model.specs.Verdict.{owed, closed, boundedAt, hasRunAt, fitAt, fitsTo, entersCut, overlapCut, apartCut, roomy, judgedBy}
+use Rattle.splice_model.specs.Verdict.{owed, closed, boundedAt, hasRunAt, fitAt, fitsTo, entersCut, overlapCut, apartCut, roomy, judgedBy, bounded-is, fits-each}
 use Rattle.splice_check.specs.Promises.{Closes, FitsAt, FitsAll, EntersAt, Overlaps, ApartAt, RowsTo, ApartFrom, ApartAll, Judged}
 
 -- what `word` tells
@@ -86,14 +86,6 @@ module _ (e : ℕ) (s p : List ℕ) (j : ℕ) {x : ℕ} (P : Read x (getD s (6 *
     unfolding boundedAt
     part-there k l C D =
         rw (lt-ltb (getD s (6 * j + 1) 0) e (rw (P .0) at h), le-leb (getD s (6 * j + 2) 0) (getD s (6 * j + 3) 0) (omega (arith, A .0, B .0)), le-leb (getD s (6 * j + 3) 0) e (rw (B .0) at l), C .0, D .0)
-
-pub bounded-is : {e : ℕ} {s p : List ℕ} {j : ℕ} → boundedAt e s p j ≡ true → 6 * j + 5 < length s → Bounded e s p j
-unfolding boundedAt
-bounded-is t h =
-    let x = both-true _ _ t in
-    let y = both-true _ _ (x .1) in
-    let z = both-true _ _ (y .1) in
-    record { inside = h; parent = ltb-true _ _ (x .0); ordered = leb-true _ _ (y .0); within = leb-true _ _ (z .0); part = leb-true _ _ (z .1) }
 
 module _ (rows s : List ℕ) (j : ℕ) {x k : ℕ} (P : Read x (getD s (6 * j + 1) 0)) (K : Read k (getD rows (3 * x) 0)) where
   pub no-node : k < 2147483648 → false ≡ hasRunAt rows s j
@@ -317,13 +309,6 @@ module _ (long e : ℕ) (s p : List ℕ) (c : ℕ) where
       some-room h = rw (eq-eqb (length s) (6 * c) l, lt-ltb c (2 ^ 15) k, lt-ltb (length p) (3 * 2 ^ 16) m, ← S .0, le-leb (3 * e + 3 * sum) long h)
 
 -- ── The verdict ─────────────────────────────────────────────────────────────────────────────────────────────
-
-fits-each : (text rows : List ℕ) (e : ℕ) (s p : List ℕ) (c j : ℕ) → j < c → fitsTo text rows e s p c ≡ true → fitAt text rows e s p j ≡ true
-unfolding fitsTo
-fits-each text rows e s p zero j h z = absurd (omega arith)
-fits-each text rows e s p (suc c) j h z =
-    let x = both-true (fitAt text rows e s p c) (fitsTo text rows e s p c) z in
-    elim (lt-or-le j c) [ inl w ↦ fits-each text rows e s p c j w (x .1) | inr w ↦ let q : j ≡ c = omega arith in rw q (x .0) ]
 
 pub fits-rows : {rows : List ℕ} {e : ℕ} {s p : List ℕ} {c : ℕ} {b : Bool} → FitsAll rows e s p c b → b ≡ true → RowsTo e s c
 unfolding fitAt boundedAt

@@ -3,6 +3,7 @@
 use mathlib.Core.Path.{_≡_, refl, sym, ap, _∙_}
 use mathlib.Core.Bool.{Bool, true, false, _&&_, _||_}
 use mathlib.Core.List.{List, [], _∷_, append-nil}
+use mathlib.Core.Logic.{_⊎_, inl, inr}
 use Prim.Native.Nat.{ℕ, zero, suc, _+_, _-_, _*_, _/_, _%_, _^_, _≤_, _<_}
 use native.Mathlib.Omega.{arith}
 use native.Mathlib.Nat.{zero-add}
@@ -12,9 +13,9 @@ use lib.ListN.{length, getD, set, take, drop, length-drop, length-set, drop-of-l
 use lib.Seq.{length-take-le, paste, paste-suc, take-all}
 use borrow.Author.Tests.{leb-true, ltb-true, lt-ltb, le-ltb, le-leb, lt-leb, eq-eqb, ne-eqb}
 use Rattle.orders.specs.Lists.{All, total}
-use Rattle.orders.specs.ListLaws.{both-true, bool-absurd}
+use Rattle.orders.specs.ListLaws.{bool?, both-true, bool-absurd}
 use Rattle.orders.specs.Tree.{Tree, node, list, Run}
-use Rattle.orders.specs.Splices.{Splice, State, begin, AllApart}
+use Rattle.orders.specs.Splices.{Splice, State, begin, oneGo, AllApart}
 use Rattle.syntax_node.specs.Promises.{TreesIn, After, ChildAt}
 use Rattle.rows.specs.Row.{rowsIn}
 use Rattle.rows.specs.Place.{place}
@@ -24,11 +25,14 @@ use Rattle.rows.specs.Words.{node-at, rows-many}
 use Rattle.splicing.specs.Promises.{SplicedMarks}
 use Rattle.splice_model.specs.Cuts.{partAt, gain, loss, leftCut, startCut, cutAt, cutsTo, Holds, Told, stateOf}
 use Rattle.splice_model.specs.Bounds.{Bounded, BoundedTo, BoundedAll, rowsTo, rowsTo-more, rowsTo-mono, bounded-to, part-is, part-long}
-use Rattle.splice_model.specs.Orders.{one-more}
+use Rattle.splice_model.specs.Orders.{one-more, one-go-rows}
+use Rattle.splice_model.specs.Verdict.{judgedBy, judged-bounds, judged-apart}
+use Rattle.splice_check.specs.Promises.{Judged}
 use Rattle.splice_model.specs.Places.{upFrom}
-use Rattle.splice_model.specs.Step.{Sited, Due, parent-row, lost-trees, step-holds}
+use Rattle.splice_model.specs.Step.{Sited, Due, parent-row, lost-trees, step-holds, begin-holds}
 use Rattle.splice_list.specs.declared.Gap.{Gap}
-use Rattle.splice_list.specs.Promises.{leftRun, leftAt, TreesOf, Deletes, Shifted, Started, ParentAt, GapAt, takesBy, Stepped, Listed}
+use Rattle.splice_list.specs.declared.Outcome.the-variants.{Refused, Done}
+use Rattle.splice_list.specs.Promises.{leftRun, leftAt, TreesOf, Deletes, Shifted, Started, ParentAt, GapAt, takesBy, Stepped, Listed, Good, ListedAll, isDone, Spliced}
 
 -- what `word` tells
 abbrev Read : ℕ → ℕ → Type 0
@@ -284,7 +288,7 @@ module _ {rows₀ : List ℕ} {n₀ : ℕ} {marks₀ s p : List ℕ} {c : ℕ} {
   })
 
   pub going-done : c ≤ k → Listed rows₀ n₀ marks₀ s p c rows marks n
-  going-done h = let e : k ≡ c = omega (arith, v .inside) in record { done = λ text old D b t a. v .law text old D b (rw (sym e) at t) a }
+  going-done h = let e : k ≡ c = omega (arith, v .inside) in record { done = λ text old D b t a. v .law text old D b (rw (sym e) at t) a; few = rw e at (v .few) }
 
   module _ (room : 3 * n₀ + 3 * rowsTo s c ≤ length rows₀) (h : k < c) where
     pub going-room : 3 * n + 3 * getD s (6 * k + 5) 0 ≤ length rows
@@ -331,3 +335,67 @@ module _ {marks l : List ℕ} {i : ℕ} (v : Counting marks l i) where
   pub counting-done : length l ≤ i → l ≡ upFrom 0 (length marks)
   counting-done k =
       v .copied ∙ rw (zero-add i, take-all i (upFrom 0 (length marks)) (omega (arith, v .long, upFrom-many 0 (length marks))), drop-of-length-le marks {i = i} (omega (arith, v .long))) (append-nil (upFrom 0 (length marks)))
+
+-- ── The whole list ──────────────────────────────────────────────────────────────────────────────────────────
+
+upFrom-below : (a n m : ℕ) → a + n ≤ m → All (λ x. x < m) (upFrom a n)
+upFrom-below a zero m h = tt
+upFrom-below a (suc n) m h = (omega arith, upFrom-below (suc a) n m (omega arith))
+
+pub numbered-below : (n : ℕ) {l : List ℕ} → l ≡ upFrom 0 n → All (λ x. x < n) l
+numbered-below n e = rw e (upFrom-below 0 n n (omega arith))
+
+pub numbered-few : (n : ℕ) (l : List ℕ) → l ≡ upFrom 0 n → n < 2 ^ 16 → length l < 2 ^ 16
+numbered-few n l e h = omega (arith, ap length e, upFrom-many 0 n)
+
+pub numbered-bounds : (n : ℕ) (l : List ℕ) {s p : List ℕ} {c : ℕ} → l ≡ upFrom 0 n → BoundedAll n s p c → BoundedAll (length l) s p c
+numbered-bounds n l e b = let m : length l ≡ n = ap length e ∙ upFrom-many 0 n in rw m b
+
+pub listed-all : {rows marks s p : List ℕ} {c : ℕ} {numbered out marked : List ℕ} {r : ℕ} → Good rows marks s p c → numbered ≡ upFrom 0 (length marks) → Listed rows (length marks) numbered s p c out marked r
+    → ListedAll rows marks s p c out marked r
+listed-all {rows} {marks} g e w = let l : 3 * length marks ≤ length rows = omega (arith, g .room .words) in record {
+  done = λ text old D f t a. w .done text old D (rw e (begin-holds text old rows (length marks) f (rows-many text (length marks) rows old l f))) t a;
+  few = w .few;
+}
+
+module _ (rows marks s p : List ℕ) where
+  -- too many marks
+  pub spliced-not : 65536 ≤ length marks → Spliced rows marks s p rows marks Refused
+  unfolding isDone
+  spliced-not h = record {
+    verdict = λ text. go text (bool? (judgedBy text rows (length marks) s p (length s / 6)));
+    refused = λ z. (refl, refl);
+    done = λ n z. let w : _≡_ {A = ℕ} 0 1 = cc in absurd (omega arith);
+  }
+    where
+      go : (text : List ℕ) → (judgedBy text rows (length marks) s p (length s / 6) ≡ true) ⊎ (judgedBy text rows (length marks) s p (length s / 6) ≡ false) → false ≡ judgedBy text rows (length marks) s p (length s / 6)
+      go text (inl z) = let w = judged-bounds text rows (length marks) s p (length s / 6) z .0 in absurd (omega (arith, w .rows))
+      go text (inr z) = sym z
+
+  module _ {b : Bool} (J : Judged rows (length marks) s p (length s / 6) b) where
+    pub spliced-refused : b ≡ false → Spliced rows marks s p rows marks Refused
+    unfolding isDone
+    spliced-refused z = record {
+      verdict = λ text. sym z ∙ J .says text;
+      refused = λ y. (refl, refl);
+      done = λ n y. let w : _≡_ {A = ℕ} 0 1 = cc in absurd (omega arith);
+    }
+
+    pub good : b ≡ true → Good rows marks s p (length s / 6)
+    good z = let w = judged-bounds [] rows (length marks) s p (length s / 6) (sym (J .says []) ∙ z) in record { room = w .0; bounds = w .1 }
+
+    pub spliced-done : {out marked : List ℕ} {r : ℕ} → b ≡ true → length out ≡ length rows → ListedAll rows marks s p (length s / 6) out marked r → Spliced rows marks s p out marked (Done r)
+    unfolding isDone
+    spliced-done {out} {marked} {r} z l w =
+        let g = good z in
+        let long : 3 * length marks ≤ length rows = omega (arith, g .room .words) in
+        record {
+          verdict = λ text. sym z ∙ J .says text;
+          refused = λ y. let u : _≡_ {A = ℕ} 0 1 = cc in absurd (omega arith);
+          done = λ n y text old D f t.
+              let e : r ≡ n = cc (y) in
+              let a = judged-apart text old rows (length marks) s p D long f t (sym (J .says text) ∙ z) in
+              let o = one-go-rows text old D out r marked a (w .done text old D f (t .told) a) in
+              let m = rows-many text r out (oneGo D old) (omega (arith, w .few, g .room .words)) (o .0) in
+              rw (← e) (a, sym m, o .0, o .1);
+        }

@@ -5,9 +5,10 @@ ghost use mathlib.Core.Bool.{true};
 ghost use Prim.Native.Nat.{_+_, _*_, _^_, _≤_, _<_};
 ghost use lib.ListN.{length, getD};
 ghost use Rattle.orders.specs.Lists.{All};
-ghost use Rattle.splice_list.specs.Promises.{leftRun, leftAt, TreesOf, Deletes, Shifted, Started, ParentAt, GapAt, takesBy, Stepped, Listed};
+ghost use Rattle.splice_list.specs.Promises.{leftRun, leftAt, TreesOf, Deletes, Shifted, Started, ParentAt, GapAt, takesBy, Stepped, Listed, Good, ListedAll, Spliced};
 ghost use Rattle.splice_model.specs.Bounds.{BoundedTo, BoundedAll, rowsTo};
 ghost use Rattle.splice_model.specs.Places.{upFrom};
+use splice_check::judged;
 use splicing::splice;
 use syntax_node::child_row;
 use syntax_node::rows_after;
@@ -260,4 +261,41 @@ fn number_marks(marks: &mut [u32])
         marks[i] = i as u32;
         i += 1;
     }
+}
+
+// A list that is judged well, from the old tree on. The new number of rows.
+fn splice_list(
+    rows: &mut [u32],
+    marks: &mut [u32],
+    splices: &[u32],
+    prepared: &[u32],
+    c: usize,
+) -> usize
+    requires { ⌜ Good (now rows) (now marks) (now splices) (now prepared) c ⌝ }
+    ensures { λ r. ⌜ ListedAll (now (rows .entry)) (now (marks .entry)) (now (splices .entry)) (now (prepared .entry)) c (now (rows .exit)) (now (marks .exit)) r ⌝ }
+{
+    let e = marks.len();
+    number_marks(marks);
+    splice_each(rows, e, marks, splices, prepared, c)
+}
+
+pub enum Outcome {
+    Refused,
+    Done(usize),
+}
+
+// All splices of the list, in the order given, on the old tree that the first rows tell, one row for each mark: refused with nothing changed if the list does
+// not fit the tree or is not apart, or if there is no room; else the new number of rows.
+pub fn splice_all(rows: &mut [u32], marks: &mut [u32], splices: &[u32], prepared: &[u32]) -> Outcome
+    ensures { λ r. ⌜ Spliced (now (rows .entry)) (now (marks .entry)) (now (splices .entry)) (now (prepared .entry)) (now (rows .exit)) (now (marks .exit)) r ⌝ }
+{
+    let e = marks.len();
+    if 65536 <= e {
+        return Outcome::Refused;
+    }
+    let c = splices.len() / 6;
+    if judged(rows, e, splices, prepared, c) {
+        return Outcome::Done(splice_list(rows, marks, splices, prepared, c));
+    }
+    Outcome::Refused
 }

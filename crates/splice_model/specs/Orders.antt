@@ -6,10 +6,13 @@ use mathlib.Core.Option.{some}
 use Prim.Native.Nat.{ℕ, suc, _+_}
 use native.Mathlib.Omega.{arith}
 use Rattle.orders.specs.Tree.{Tree, Run}
-use Rattle.orders.specs.Splices.{Splice, State, begin, perform, performs, start, deleted, AllApart}
+use Rattle.orders.specs.Splices.{Splice, State, begin, perform, performs, start, deleted, oneGo, AllApart}
+use Rattle.orders.specs.Paths.{oneGoPath}
 use Rattle.orders.specs.Step.{apart-rest}
 use Rattle.orders.specs.Done.{After, Ready, ready, perform-after, begin-after}
-use Rattle.splice_model.specs.Cuts.{cutOf, cutsTo, cutAt, Holds, Told, stateOf}
+use Rattle.rows.specs.Row.{rowsOf, firstRows}
+use Rattle.rows.specs.Place.{markOf}
+use Rattle.splice_model.specs.Cuts.{cutOf, cutsTo, cutAt, paths, Holds, Told, stateOf}
 use Rattle.splice_model.specs.Step.{Due, told-before}
 
 -- the state that a list leaves is what the one go makes of it
@@ -29,6 +32,17 @@ pub performs-state : (old : Tree ℕ) (S D : List (Splice ℕ)) → performs S (
 unfolding performs stateOf
 performs-state old [] D = refl
 performs-state old (s ∷ S) D = performs-state old S (s ∷ D)
+
+map-same : {X Y : Type 0} (f g : X → Y) → ((x : X) → f x ≡ g x) → (l : List X) → map f l ≡ map g l
+map-same f g h [] = refl
+map-same f g h (x ∷ l) = cc (h x, map-same f g h l)
+
+-- rows and marks that hold the state of an apart list hold the one-go tree, and where it writes each old element (0 where it deletes it)
+pub one-go-rows : (text : List ℕ) (old : Tree ℕ) (D : List (Splice ℕ)) (rows : List ℕ) (n : ℕ) (marks : List ℕ) → AllApart old D → Holds text old (stateOf old D) rows n marks
+    → (firstRows text n rows ≡ rowsOf (oneGo D old)) × (marks ≡ map (λ e. markOf (oneGo D old) (oneGoPath D e)) (paths old))
+one-go-rows text old D rows n marks h w =
+    let a = state-after old D h in
+    (w .tree ∙ ap rowsOf (a .tree), w .marked ∙ map-same _ _ (λ e. cc (a .tree, a .path e)) (paths old))
 
 -- one splice more: where each step holds the law's, the list does
 pub one-more : (text : List ℕ) (old : Tree ℕ) (splices prepared : List ℕ) (k : ℕ) (rows : List ℕ) (n : ℕ) (marks out : List ℕ) (r : ℕ) (marked : List ℕ)

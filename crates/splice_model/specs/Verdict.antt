@@ -25,7 +25,7 @@ use Rattle.rows.specs.Moves.{adjust-place}
 use Rattle.rows.specs.Words.{node-at, token-at, rows-many}
 use Rattle.splice_model.specs.Cuts.{Cut, cutOf, cutAt, cutsTo, partAt, Stands, Told}
 use Rattle.splice_model.specs.Step.{First, told-first, told-before, same-place}
-use Rattle.splice_model.specs.Bounds.{rowsTo}
+use Rattle.splice_model.specs.Bounds.{Bounded, BoundedAll, rowsTo}
 
 -- ── Rows that spell trees ───────────────────────────────────────────────────────────────────────────────────
 
@@ -265,3 +265,46 @@ module _ (text : List ℕ) (old : Tree ℕ) (rows : List ℕ) (E : ℕ) (splices
       go : (each (fits? old) D ≡ true) ⊎ (each (fits? old) D ≡ false) → (each (fits? old) D && pairs (apartCut (rowsOf old)) (map (cutOf old) D)) ≡ (each (fits? old) D && pairs apart? D)
       go (inl z) = rw (pairs-cut old D (fits-all old D z))
       go (inr z) = rw z
+
+-- ── What a good verdict says of the words ───────────────────────────────────────────────────────────────────
+
+pub bounded-is : (E : ℕ) (splices prepared : List ℕ) (j : ℕ) → boundedAt E splices prepared j ≡ true → 6 * j + 5 < length splices → Bounded E splices prepared j
+unfolding boundedAt
+bounded-is E splices prepared j t h =
+    let x = both-true _ _ t in
+    let y = both-true _ _ (x .1) in
+    let z = both-true _ _ (y .1) in
+    record { inside = h; parent = ltb-true _ _ (x .0); ordered = leb-true _ _ (y .0); within = leb-true _ _ (z .0); part = leb-true _ _ (z .1) }
+
+pub fits-each : (text rows : List ℕ) (e : ℕ) (s p : List ℕ) (c j : ℕ) → j < c → fitsTo text rows e s p c ≡ true → fitAt text rows e s p j ≡ true
+unfolding fitsTo
+fits-each text rows e s p zero j h z = absurd (omega arith)
+fits-each text rows e s p (suc c) j h z =
+    let x = both-true (fitAt text rows e s p c) (fitsTo text rows e s p c) z in
+    elim (lt-or-le j c) [ inl w ↦ fits-each text rows e s p c j w (x .1) | inr w ↦ let q : j ≡ c = omega arith in rw q (x .0) ]
+
+-- the words tell the list D, the last first, whole: six words for each, and each with its prepared rows in the slice
+pub record Listing (text : List ℕ) (old : Tree ℕ) (splices prepared : List ℕ) (D : List (Splice ℕ)) : Type 0 where
+  pub told : Told text old splices prepared (length splices / 6) D
+  pub placed : Placed splices prepared (length splices / 6)
+
+-- A list that the words tell is judged well just where there is room and it is apart.
+pub judged-told : (text : List ℕ) (old : Tree ℕ) (rows : List ℕ) (E : ℕ) (splices prepared : List ℕ) (D : List (Splice ℕ)) → 3 * E ≤ length rows → firstRows text E rows ≡ rowsOf old → Listing text old splices prepared D
+    → judgedBy text rows E splices prepared (length splices / 6) ≡ (roomy (length rows) E splices prepared (length splices / 6) && allApart? old D)
+unfolding judgedBy
+judged-told text old rows E splices prepared D long e l = rw (verdict-told text old rows E splices prepared long e (length splices / 6) D (l .told) (l .placed))
+
+-- where it is judged well, it is apart
+pub judged-apart : (text : List ℕ) (old : Tree ℕ) (rows : List ℕ) (E : ℕ) (splices prepared : List ℕ) (D : List (Splice ℕ)) → 3 * E ≤ length rows → firstRows text E rows ≡ rowsOf old → Listing text old splices prepared D
+    → judgedBy text rows E splices prepared (length splices / 6) ≡ true → AllApart old D
+judged-apart text old rows E splices prepared D long e l z =
+    says-all-apart old D .0 (both-true (roomy (length rows) E splices prepared (length splices / 6)) (allApart? old D) (sym (judged-told text old rows E splices prepared D long e l) ∙ z) .1)
+
+-- each splice that is judged to fit has its words in bounds
+pub judged-bounds : (text rows : List ℕ) (E : ℕ) (splices prepared : List ℕ) (c : ℕ) → judgedBy text rows E splices prepared c ≡ true → Room (length rows) E splices prepared c × BoundedAll E splices prepared c
+unfolding judgedBy fitAt
+judged-bounds text rows E splices prepared c z =
+    let x = both-true (roomy (length rows) E splices prepared c) _ z in
+    let y = both-true (fitsTo text rows E splices prepared c) _ (x .1) in
+    let w = room-is (length rows) E splices prepared c (x .0) in
+    (w, record { all = λ j h. bounded-is E splices prepared j (both-true (boundedAt E splices prepared j) _ (fits-each text rows E splices prepared c j h (y .0)) .0) (omega (arith, w .whole)) })

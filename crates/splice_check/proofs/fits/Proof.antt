@@ -3,7 +3,8 @@ use lib.ListN.{length, getD, set, take, drop, replicate, length-set}
 use mathlib.Core.Path.{_≡_, refl, ap, sym, _∙_}
 use Prim.Native.Nat.{ℕ, suc, zero, _+_, _-_, _*_, _≤_, _<_}
 use borrow.Author.Needs.{needs}
-use Rattle.splice_check.proofs.Turns.{bounded-is, unbounded, runless, fit}
+use Rattle.splice_model.specs.Verdict.{bounded-is}
+use Rattle.splice_check.proofs.Turns.{unbounded, runless, fit}
 use Rattle.splice_check.proofs.fits.Statement.{statement}
 use Rattle.splice_check.proofs.fits.Tie as tie
 use Rattle.splice_check.proofs.fits.Reads as reads
@@ -18,11 +19,11 @@ bounded-requires c κs = search needs
 
 -- src/lib.rt:84:12
 has-run-requires : tie.Need-has-run-requires
-has-run-requires c κs = let w = bounded-is (sym (c .before .bounded .ensures) ∙ c .if1 .taken) (c .before .before .before .before .before .pre .0) in search needs
+has-run-requires c κs = let w = bounded-is _ _ _ _ (sym (c .before .bounded .ensures) ∙ c .if1 .taken) (c .before .before .before .before .before .pre .0) in search needs
 
 -- src/lib.rt:85:13
 spelt-requires : tie.Need-spelt-requires
-spelt-requires c κs = let w = bounded-is (sym (c .before .before .before .bounded .ensures) ∙ c .before .before .if1 .taken) (c .before .before .before .before .before .before .before .pre .0) in search needs
+spelt-requires c κs = let w = bounded-is _ _ _ _ (sym (c .before .before .before .bounded .ensures) ∙ c .before .before .if1 .taken) (c .before .before .before .before .before .before .before .pre .0) in search needs
 
 -- src/lib.rt:85:13
 returns : tie.Need-returns
