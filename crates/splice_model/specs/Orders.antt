@@ -33,7 +33,7 @@ unfolding performs stateOf
 performs-state old [] D = refl
 performs-state old (s ∷ S) D = performs-state old S (s ∷ D)
 
-map-same : {X Y : Type 0} (f g : X → Y) → ((x : X) → f x ≡ g x) → (l : List X) → map f l ≡ map g l
+pub map-same : {X Y : Type 0} (f g : X → Y) → ((x : X) → f x ≡ g x) → (l : List X) → map f l ≡ map g l
 map-same f g h [] = refl
 map-same f g h (x ∷ l) = cc (h x, map-same f g h l)
 

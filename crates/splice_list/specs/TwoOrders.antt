@@ -1,0 +1,71 @@
+-- What `splice_all` leaves is the law's state, the same in every order.
+-- Assumes nothing.
+use mathlib.Core.Path.{_≡_, refl, sym, ap, _∙_}
+use mathlib.Core.Bool.{true, _&&_}
+use mathlib.Core.List.{List, [], _∷_, map, reverseAux, List·Permᴰ, Permᴰ·refl}
+use mathlib.Core.Option.{Option, none, some}
+use Prim.Native.Nat.{ℕ, _+_, _*_, _/_, _≤_, _<_}
+use native.Mathlib.Omega.{arith}
+use lib.ListN.{length}
+use Rattle.orders.specs.ListLaws.{both-true}
+use Rattle.orders.specs.Tree.{Tree, Path, resolve}
+use Rattle.orders.specs.Splices.{Splice, State, begin, performs, oneGo, AllApart}
+use Rattle.orders.specs.Check.{allApart?, says-all-apart}
+use Rattle.orders.specs.Parts.{neat}
+use Rattle.orders.specs.Paths.{oneGoPath}
+use Rattle.orders.specs.Order.{one-go-same, path-same, apart-perm}
+use Rattle.orders.specs.Demand.{Demanded, demand}
+use Rattle.orders.specs.Done.{reversed}
+use Rattle.rows.specs.Row.{rowsOf, firstRows}
+use Rattle.rows.specs.Place.{place, markOf, Held}
+use Rattle.rows.specs.PlaceLaws.{place-pos}
+use Rattle.rows.specs.Moves.{place-inj}
+use Rattle.splice_model.specs.Cuts.{paths, stateOf}
+use Rattle.splice_model.specs.Orders.{map-same, state-after, performs-state}
+use Rattle.splice_model.specs.Verdict.{Listing, roomy, judged-told}
+use Rattle.splice_list.specs.Promises.{isDone, Spliced}
+use Rattle.splice_list.specs.declared.Outcome.{Outcome}
+use Rattle.splice_list.specs.declared.Outcome.the-variants.{Refused, Done}
+
+-- the rows are those of a state's tree, and the marks the rows where its paths lead
+pub record Leaves (text : List ℕ) (old : Tree ℕ) (now : State ℕ) (out : List ℕ) (n : ℕ) (marked : List ℕ) : Type 0 where
+  pub rows : firstRows text n out ≡ rowsOf (now .tree)
+  pub marks : marked ≡ map (λ e. markOf (now .tree) (now .path e)) (paths old)
+
+module _ (text : List ℕ) (old : Tree ℕ) (rows marks : List ℕ) (tree : firstRows text (length marks) rows ≡ rowsOf old) where
+  -- what is done is what the law does with the list, from its first splice to its last; and that is what demand 3 demands
+  pub spliced-demanded : (S : List (Splice ℕ)) (s p out marked : List ℕ) (n : ℕ) → Listing text old s p (reverseAux S []) → Spliced rows marks s p out marked (Done n)
+      → Leaves text old (performs S (begin old)) out n marked × Demanded old S (performs S (begin old))
+  unfolding stateOf
+  spliced-demanded S s p out marked n l w =
+      let d = w .done n refl text old (reverseAux S []) tree l in
+      let a = state-after old (reverseAux S []) (d .0) in
+      let e : performs S (begin old) ≡ stateOf old (reverseAux S []) = performs-state old S [] in
+      (rw e (record { rows = d .2 ∙ ap rowsOf (sym (a .tree)); marks = d .3 ∙ map-same _ _ (λ q. cc (a .tree, a .path q)) (paths old) }), demand old S S (apart-perm old (reverseAux S []) S (reversed S) (d .0)) (Permᴰ·refl S))
+
+  module _ (D D′ : List (Splice ℕ)) (same : List·Permᴰ D D′) (s p s′ p′ : List ℕ) (l : Listing text old s p D) (l′ : Listing text old s′ p′ D′) where
+    -- two orders of one list leave the same rows and the same marks
+    pub two-orders : {out marked out′ marked′ : List ℕ} {n n′ : ℕ} → Spliced rows marks s p out marked (Done n) → Spliced rows marks s′ p′ out′ marked′ (Done n′)
+        → (n ≡ n′) × (firstRows text n out ≡ firstRows text n′ out′) × (marked ≡ marked′)
+    two-orders {n = n} {n′ = n′} w w′ =
+        let d = w .done n refl text old D tree l in
+        let d′ = w′ .done n′ refl text old D′ tree l′ in
+        let t : oneGo D old ≡ oneGo D′ old = one-go-same D D′ same (neat old D (d .0)) old in
+        (d .1 ∙ cc (t, d′ .1), d .2 ∙ cc (t, d′ .2), d .3 ∙ (map-same _ _ (λ q. cc (t, path-same D D′ same q)) (paths old) ∙ sym (d′ .3)))
+
+    -- and where the one is done, so is the other, if there is room for it
+    pub both-done : {out marked out′ marked′ : List ℕ} {r r′ : Outcome} → 3 * length marks ≤ length rows → Spliced rows marks s p out marked r → Spliced rows marks s′ p′ out′ marked′ r′ → isDone r ≡ true
+        → roomy (length rows) (length marks) s′ p′ (length s′ / 6) ≡ true → isDone r′ ≡ true
+    both-done long w w′ z room =
+        let a : AllApart old D = says-all-apart old D .0 (both-true (roomy (length rows) (length marks) s p (length s / 6)) (allApart? old D) (sym (w .verdict text ∙ judged-told text old rows (length marks) s p D long tree l) ∙ z) .1) in
+        w′ .verdict text ∙ (judged-told text old rows (length marks) s′ p′ D′ long tree l′ ∙ rw (room, says-all-apart old D′ .1 (apart-perm old D D′ same a)))
+
+-- MARKS TELL PATHS: in one tree two paths with the same place are the same path (`place-inj`); so two marks of elements below the root, there or dropped, are the same just where the paths are.
+pub marks-tell : (t : Tree ℕ) (o o′ : Option Path) → Held t o → Held t o′ → ((x : Path) → o ≡ some x → x ≡ [] → ⊥) → ((x : Path) → o′ ≡ some x → x ≡ [] → ⊥) → markOf t o ≡ markOf t o′ → o ≡ o′
+unfolding markOf
+marks-tell t none none h k u v e = refl
+marks-tell t none (some []) h k u v e = absurd (v [] refl refl)
+marks-tell t none (some (i ∷ q)) h k u v e = absurd (omega (arith, place-pos i q t (k .0) (k .1)))
+marks-tell t (some []) o h k u v e = absurd (u [] refl refl)
+marks-tell t (some (i ∷ q)) none h k u v e = absurd (omega (arith, place-pos i q t (h .0) (h .1)))
+marks-tell t (some (i ∷ q)) (some r) h k u v e = ap {B = Option Path} some (place-inj (i ∷ q) r t (h .0) (k .0) (h .1) (k .1) e)
