@@ -5,9 +5,11 @@
 --     Orders    a list done one after the other: the law's state, for every apart list
 --     Bounds    what keeps every step within the slices
 --     Verdict   whether a list fits the old tree and is apart, told in rows
+--     Found     words that are judged well tell a list of splices
 pub mod Cuts
 pub mod Places
 pub mod Step
 pub mod Orders
 pub mod Bounds
 pub mod Verdict
+pub mod Found
