@@ -1,86 +1,61 @@
-use native.Mathlib.Omega.{arith}
-use lib.ListN.{length, getD, set, take, drop, replicate, length-set}
-use mathlib.Core.Path.{_≡_, refl, ap, sym, _∙_}
-use Prim.Native.Nat.{ℕ, suc, zero, _+_, _-_, _*_, _≤_, _<_}
+-- `apart` meets its contract.
+-- Assumes nothing.
 use borrow.Author.Needs.{needs}
 use Rattle.splice_check.proofs.Turns.{one-number, in-the-first, in-the-second, overlapping, are-apart}
 use Rattle.splice_check.proofs.apart.Statement.{statement}
 use Rattle.splice_check.proofs.apart.Tie as tie
-use Rattle.splice_check.proofs.apart.Reads as reads
-use Rattle.splice_check.proofs.apart.Lts as lts
-use Rattle.splice_check.proofs.enters.Reads as enters-reads
-use Rattle.splice_check.proofs.overlap.Reads as overlap-reads
-use Rattle.words.proofs.word.Reads as word-reads
 
--- src/lib.rt:144:22
 mul-word : tie.Need-mul-word
 mul-word c = search needs
 
--- src/lib.rt:144:8
 word-requires : tie.Need-word-requires
 word-requires c κs = search needs
 
--- src/lib.rt:144:46
 mul-word-2 : tie.Need-mul-word-2
 mul-word-2 c = search needs
 
--- src/lib.rt:144:32
 word-requires-2 : tie.Need-word-requires-2
 word-requires-2 c κs = search needs
 
--- src/lib.rt:145:9
 returns : tie.Need-returns
 returns c = search (one-number, needs)
 
--- src/lib.rt:147:50
 mul-word-3 : tie.Need-mul-word-3
 mul-word-3 c = search needs
 
--- src/lib.rt:147:50
 add-word : tie.Need-add-word
 add-word c = search needs
 
--- src/lib.rt:147:36
 word-requires-3 : tie.Need-word-requires-3
 word-requires-3 c κs = search needs
 
--- src/lib.rt:147:8
 enters-requires : tie.Need-enters-requires
 enters-requires c κs = search needs
 
--- src/lib.rt:148:9
 returns-2 : tie.Need-returns-2
 returns-2 c = in-the-first _ _ _ _ _ (c .before .before .before .before .before .word .ensures) (c .before .before .before .before .word2 .ensures) (c .before .before .before .if1 .left) (c .before .before .word3 .ensures) (c .before .enters .ensures) (c .if2 .taken)
 
--- src/lib.rt:150:50
 mul-word-4 : tie.Need-mul-word-4
 mul-word-4 c = search needs
 
--- src/lib.rt:150:50
 add-word-2 : tie.Need-add-word-2
 add-word-2 c = search needs
 
--- src/lib.rt:150:36
 word-requires-4 : tie.Need-word-requires-4
 word-requires-4 c κs = search needs
 
--- src/lib.rt:150:8
 enters-requires-2 : tie.Need-enters-requires-2
 enters-requires-2 c κs = search needs
 
--- src/lib.rt:151:9
 returns-3 : tie.Need-returns-3
 returns-3 c = in-the-second _ _ _ _ _ (c .before .before .before .before .before .before .before .before .word .ensures) (c .before .before .before .before .before .before .before .word2 .ensures) (c .before .before .before .before .before .before .if1 .left) (c .before .before .before .before .before .word3 .ensures) (c .before .before .before .before .enters .ensures) (c .before .before .before .if2 .left) (c .before .before .word4 .ensures) (c .before .enters2 .ensures) (c .if3 .taken)
 
--- src/lib.rt:153:8
 overlap-requires : tie.Need-overlap-requires
 overlap-requires c κs = search needs
 
--- src/lib.rt:154:9
 returns-4 : tie.Need-returns-4
 returns-4 c = overlapping _ _ _ _ _ (c .before .before .before .before .before .before .before .before .before .before .word .ensures) (c .before .before .before .before .before .before .before .before .before .word2 .ensures) (c .before .before .before .before .before .before .before .before .if1 .left) (c .before .before .before .before .before .before .before .word3 .ensures) (c .before .before .before .before .before .before .enters .ensures) (c .before .before .before .before .before .if2 .left) (c .before .before .before .before .word4 .ensures) (c .before .before .before .enters2 .ensures) (c .before .before .if3 .left) (c .before .overlap .ensures) (c .if4 .taken)
 
--- src/lib.rt:139:1
 returns-5 : tie.Need-returns-5
 returns-5 c = are-apart _ _ _ _ _ (c .before .before .before .before .before .before .before .before .before .before .word .ensures) (c .before .before .before .before .before .before .before .before .before .word2 .ensures) (c .before .before .before .before .before .before .before .before .if1 .left) (c .before .before .before .before .before .before .before .word3 .ensures) (c .before .before .before .before .before .before .enters .ensures) (c .before .before .before .before .before .if2 .left) (c .before .before .before .before .word4 .ensures) (c .before .before .before .enters2 .ensures) (c .before .before .if3 .left) (c .before .overlap .ensures) (c .if4 .left)
 

@@ -1,14 +1,11 @@
+-- `apart_from` meets its contract.
+-- Assumes nothing.
 use borrow.Author.Needs.{needs}
 use Rattle.splice_check.proofs.Turns.{Parting, parting-start, parting-next, parting-not, parting-done}
 use native.Mathlib.Omega.{arith}
-use lib.ListN.{length, getD, set, take, drop, replicate, length-set}
-use mathlib.Core.Path.{_≡_, refl, ap, sym, _∙_}
-use Prim.Native.Nat.{ℕ, suc, zero, _+_, _-_, _*_, _≤_, _<_}
+use Prim.Native.Nat.{_-_}
 use Rattle.splice_check.proofs.apart_from.Statement.{statement}
 use Rattle.splice_check.proofs.apart_from.Tie as tie
-use Rattle.splice_check.proofs.apart_from.Reads as reads
-use Rattle.splice_check.proofs.apart_from.Lts as lts
-use Rattle.splice_check.proofs.apart.Reads as apart-reads
 
 abbrev Inv-loop : tie.InvT-loop
 Inv-loop rows e splices i j₀ j = Parting rows e splices i j
@@ -16,31 +13,30 @@ Inv-loop rows e splices i j₀ j = Parting rows e splices i j
 abbrev μ-loop : tie.MeasureT-loop
 μ-loop rows e splices i j₀ j = i - j
 
--- src/lib.rt:165:5
 loop-holds : tie.Need-loop-holds Inv-loop μ-loop
 loop-holds c = search (parting-start, needs)
 
--- src/lib.rt:166:12
 apart-requires : tie.Need-apart-requires Inv-loop μ-loop
-apart-requires c κs = let s = c .before .before .before .before in let r = s .pre .3 in let h = c .loop-test .taken in let x = r .row (s .args .i) (omega arith) in let y = r .row (c .before .loop .j) (omega (arith, h)) in search needs
+apart-requires c κs =
+    let s = c .before .before .before .before in
+    let r = s .pre .3 in
+    let h = c .loop-test .taken in
+    let x = r .row (s .args .i) (omega arith) in
+    let y = r .row (c .before .loop .j) (omega (arith, h)) in
+    search needs
 
--- src/lib.rt:167:13
 add-j : tie.Need-add-j Inv-loop μ-loop
 add-j c = search needs
 
--- src/lib.rt:165:5
 loop-less : tie.Need-loop-less Inv-loop μ-loop
 loop-less c = search needs
 
--- src/lib.rt:165:5
 loop-again : tie.Need-loop-again Inv-loop μ-loop
 loop-again c = search (parting-next, needs)
 
--- src/lib.rt:169:13
 returns : tie.Need-returns Inv-loop μ-loop
 returns c = search (parting-not, needs)
 
--- src/lib.rt:160:1
 returns-2 : tie.Need-returns-2 Inv-loop μ-loop
 returns-2 c = search (parting-done, needs)
 

@@ -1,100 +1,73 @@
-use native.Mathlib.Omega.{arith}
-use lib.ListN.{length, getD, set, take, drop, replicate, length-set}
-use mathlib.Core.Path.{_≡_, refl, ap, sym, _∙_}
-use Prim.Native.Nat.{ℕ, suc, zero, _+_, _-_, _*_, _≤_, _<_}
+-- `bounded` meets its contract.
+-- Assumes nothing.
 use borrow.Author.Needs.{needs}
 use Rattle.splice_check.proofs.Turns.{no-row, reversed, too-far, part-there}
 use Rattle.splice_check.proofs.bounded.Statement.{statement}
 use Rattle.splice_check.proofs.bounded.Tie as tie
-use Rattle.splice_check.proofs.bounded.Reads as reads
-use Rattle.splice_check.proofs.bounded.Lts as lts
-use Rattle.words.proofs.word.Reads as word-reads
 
--- src/lib.rt:42:28
 mul-word : tie.Need-mul-word
 mul-word c = search needs
 
--- src/lib.rt:42:28
 add-word : tie.Need-add-word
 add-word c = search needs
 
--- src/lib.rt:42:9
 word-requires : tie.Need-word-requires
 word-requires c κs = search needs
 
--- src/lib.rt:43:27
 mul-word-2 : tie.Need-mul-word-2
 mul-word-2 c = search needs
 
--- src/lib.rt:43:27
 add-word-2 : tie.Need-add-word-2
 add-word-2 c = search needs
 
--- src/lib.rt:43:13
 word-requires-2 : tie.Need-word-requires-2
 word-requires-2 c κs = search needs
 
--- src/lib.rt:44:9
 returns : tie.Need-returns
 returns c = search (no-row, needs)
 
--- src/lib.rt:46:27
 mul-word-3 : tie.Need-mul-word-3
 mul-word-3 c = search needs
 
--- src/lib.rt:46:27
 add-word-3 : tie.Need-add-word-3
 add-word-3 c = search needs
 
--- src/lib.rt:46:13
 word-requires-3 : tie.Need-word-requires-3
 word-requires-3 c κs = search needs
 
--- src/lib.rt:47:9
 returns-2 : tie.Need-returns-2
 returns-2 c = search (reversed, needs)
 
--- src/lib.rt:50:9
 returns-3 : tie.Need-returns-3
 returns-3 c = search (too-far, needs)
 
--- src/lib.rt:52:23
 mul-word-4 : tie.Need-mul-word-4
 mul-word-4 c = search needs
 
--- src/lib.rt:52:23
 add-word-4 : tie.Need-add-word-4
 add-word-4 c = search needs
 
--- src/lib.rt:52:9
 word-requires-4 : tie.Need-word-requires-4
 word-requires-4 c κs = search needs
 
--- src/lib.rt:52:5
 mul-result : tie.Need-mul-result
 mul-result c = search needs
 
--- src/lib.rt:52:54
 mul-word-5 : tie.Need-mul-word-5
 mul-word-5 c = search needs
 
--- src/lib.rt:52:54
 add-word-5 : tie.Need-add-word-5
 add-word-5 c = search needs
 
--- src/lib.rt:52:40
 word-requires-5 : tie.Need-word-requires-5
 word-requires-5 c κs = search needs
 
--- src/lib.rt:52:36
 mul-result-2 : tie.Need-mul-result-2
 mul-result-2 c = search needs
 
--- src/lib.rt:52:5
 add-result : tie.Need-add-result
 add-result c = search needs
 
--- src/lib.rt:38:1
 returns-4 : tie.Need-returns-4
 returns-4 c = search (part-there, needs)
 

@@ -1,33 +1,30 @@
+-- `splice_list` meets its contract.
+-- Assumes nothing.
 use native.Mathlib.Omega.{arith}
-use lib.ListN.{length, getD, set, take, drop, replicate, length-set}
-use mathlib.Core.Path.{_≡_, refl, ap, sym, _∙_}
-use Prim.Native.Nat.{ℕ, suc, zero, _+_, _-_, _*_, _≤_, _<_}
+use lib.ListN.{length}
+use Prim.Native.Nat.{_<_}
 use borrow.Author.Needs.{needs}
 use Rattle.splice_list.proofs.Turns.{numbered-below, numbered-few, numbered-bounds, listed-all}
 use Rattle.splice_list.proofs.splice_list.Statement.{statement}
 use Rattle.splice_list.proofs.splice_list.Tie as tie
-use Rattle.splice_list.proofs.splice_list.Reads as reads
-use Rattle.splice_list.proofs.splice_list.Lts as lts
-use Rattle.splice_list.proofs.number_marks.Reads as number-marks-reads
-use Rattle.splice_list.proofs.splice_each.Reads as splice-each-reads
 
--- src/lib.rt:278:5
 number-marks-requires : tie.Need-number-marks-requires
 number-marks-requires c κs = search needs
 
--- src/lib.rt:279:5
 splice-each-requires : tie.Need-splice-each-requires
-splice-each-requires c κs = let s = c .before .before .before .before .before .before .before .before .before .before in let e = c .before .before .before .before .number-marks .ensures in let g = s .pre in let h : length (s .args .marks .now) < 65536 = omega (arith, g .room .rows) in ((search needs, search needs, numbered-below (length (s .args .marks .now)) e), (numbered-few (length (s .args .marks .now)) _ e h, g .room .few, g .room .short, numbered-bounds (length (s .args .marks .now)) _ e (g .bounds)))
+splice-each-requires c κs =
+    let s = c .before .before .before .before .before .before .before .before .before .before in
+    let e = c .before .before .before .before .number-marks .ensures in
+    let g = s .pre in
+    let h : length (s .args .marks .now) < 65536 = omega (arith, g .room .rows) in
+    ((search needs, search needs, numbered-below (length (s .args .marks .now)) e), (numbered-few (length (s .args .marks .now)) _ e h, g .room .few, g .room .short, numbered-bounds (length (s .args .marks .now)) _ e (g .bounds)))
 
--- src/lib.rt:267:1
 same-length : tie.Need-same-length
 same-length c = search needs
 
--- src/lib.rt:267:1
 same-length-2 : tie.Need-same-length-2
 same-length-2 c = search needs
 
--- src/lib.rt:267:1
 returns : tie.Need-returns
 returns c = search (listed-all, needs)
 
