@@ -6,20 +6,21 @@ use mathlib.Core.List.{List, [], _∷_}
 use mathlib.Core.Logic.{_⊎_, inl, inr}
 use Prim.Native.Nat.{ℕ, zero, suc, _+_, _-_, _*_, _^_, _≤_, _<_}
 use native.Mathlib.Omega.{arith}
+use native.Mathlib.Nat.{sub-zero}
 use native.Mathlib.Numerals.{add-one}
 use lib.Dec.{leb, ltb, eqb}
 use lib.ListN.{length, getD, take, drop}
 use borrow.Author.Tests.{leb-true, ltb-true, lt-ltb, le-ltb, le-leb, lt-leb, eq-eqb, ne-eqb}
 use Rattle.orders.specs.ListLaws.{both-true, lt-or-le}
 use Rattle.orders.specs.Check.{each, pairs}
-use Rattle.syntax_node.specs.Promises.{Counted, ChildAt}
+use Rattle.syntax_node.specs.Promises.{Counted, ChildAt, TreesIn}
 use Rattle.rows.specs.Row.{Row, owes, rowIn, firstRows, triples}
 use Rattle.rows.specs.Place.{childRow}
 use Rattle.rows.specs.Words.{triples-at, triples-end}
 use Rattle.splice_model.specs.Cuts.{Cut, partAt, cutAt, cutsTo}
 use Rattle.splice_model.specs.Bounds.{Bounded, rowsTo, rowsTo-more, part-is}
-use Rattle.splice_model.specs.Verdict.{owed, closed, boundedAt, hasRunAt, fitAt, fitsTo, entersCut, overlapCut, apartCut, roomy, judgedBy, bounded-is, fits-each}
-use Rattle.splice_check.specs.Promises.{Closes, FitsAt, FitsAll, EntersAt, Overlaps, ApartAt, RowsTo, ApartFrom, ApartAll, Judged}
+use Rattle.splice_model.specs.Verdict.{owed, closed, boundedAt, hasRunAt, fitAt, treeRows, fitsTo, fitsTree, entersCut, overlapCut, apartCut, roomy, judgedBy, bounded-is, fits-each}
+use Rattle.splice_check.specs.Promises.{Closes, FitsAt, FitsAll, OneTree, FitsTree, EntersAt, Overlaps, ApartAt, RowsTo, ApartFrom, ApartAll, Judged}
 
 -- what `word` tells
 abbrev Read : ℕ → ℕ → Type 0
@@ -142,6 +143,29 @@ module _ {rows : List ℕ} {e : ℕ} {s p : List ℕ} {c k : ℕ} (v : Fitting r
 
   pub fitting-done : c ≤ k → FitsAll rows e s p c true
   fitting-done h = let q : k ≡ c = omega (arith, v .inside) in record { says = λ text. sym (rw q at (v .fits text)) }
+
+-- ── One tree ────────────────────────────────────────────────────────────────────────────────────────────────
+
+module _ (run : List ℕ) {b : Bool} (B : Closes run b) where
+  pub not-closed : b ≡ false → OneTree run false
+  unfolding treeRows
+  not-closed z = record { says = λ text. rw (← B .says text, z) }
+
+  pub tree-counted : {n : ℕ} → b ≡ true → TreesIn run n → OneTree run (eqb n 1)
+  unfolding treeRows
+  tree-counted z t = record { says = λ text. rw (← B .says text, z, t .count text) }
+
+pub from-the-first : (rows : List ℕ) (e : ℕ) {r : Bool} → OneTree (take (3 * e - 0) rows) r → OneTree (take (3 * e) rows) r
+from-the-first rows e t = rw (sub-zero (3 * e)) at t
+
+module _ (rows : List ℕ) (e : ℕ) {s p : List ℕ} {c : ℕ} {b : Bool} (B : OneTree (take (3 * e) rows) b) where
+  pub no-tree : b ≡ false → FitsTree rows e s p c false
+  unfolding fitsTree
+  no-tree z = record { says = λ text. rw (← B .says text, z) }
+
+  pub tree-fits : {r : Bool} → b ≡ true → FitsAll rows e s p c r → FitsTree rows e s p c r
+  unfolding fitsTree
+  tree-fits z f = record { says = λ text. f .says text ∙ rw (← B .says text, z) }
 
 -- ── Two splices ─────────────────────────────────────────────────────────────────────────────────────────────
 
@@ -310,16 +334,18 @@ module _ (long e : ℕ) (s p : List ℕ) (c : ℕ) where
 
 -- ── The verdict ─────────────────────────────────────────────────────────────────────────────────────────────
 
-pub fits-rows : {rows : List ℕ} {e : ℕ} {s p : List ℕ} {c : ℕ} {b : Bool} → FitsAll rows e s p c b → b ≡ true → RowsTo e s c
-unfolding fitAt boundedAt
-fits-rows {rows} {e} {s} {p} {c} f z = record { row = λ j h. ltb-true (getD s (6 * j + 1) 0) e (both-true _ _ (both-true _ _ (fits-each [] rows e s p c j h (sym (f .says []) ∙ z)) .0) .0) }
+pub fits-rows : {rows : List ℕ} {e : ℕ} {s p : List ℕ} {c : ℕ} {b : Bool} → FitsTree rows e s p c b → b ≡ true → RowsTo e s c
+unfolding fitsTree fitAt boundedAt
+fits-rows {rows} {e} {s} {p} {c} f z =
+    let x = both-true (treeRows (firstRows [] e rows)) (fitsTo [] rows e s p c) (sym (f .says []) ∙ z) in
+    record { row = λ j h. ltb-true (getD s (6 * j + 1) 0) e (both-true _ _ (both-true _ _ (fits-each [] rows e s p c j h (x .1)) .0) .0) }
 
 module _ {rows : List ℕ} {e : ℕ} {s p : List ℕ} {c : ℕ} {b : Bool} (B : b ≡ roomy (length rows) e s p c) where
   pub roomless : b ≡ false → Judged rows e s p c false
   unfolding judgedBy
   roomless z = record { says = λ text. rw (← B, z) }
 
-  module _ (y : b ≡ true) {f : Bool} (F : FitsAll rows e s p c f) where
+  module _ (y : b ≡ true) {f : Bool} (F : FitsTree rows e s p c f) where
     pub unfit : f ≡ false → Judged rows e s p c false
     unfolding judgedBy
     unfit z = record { says = λ text. rw (← B, y, ← F .says text, z) }

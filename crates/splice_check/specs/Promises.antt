@@ -8,7 +8,7 @@ use lib.ListN.{getD}
 use Rattle.orders.specs.Check.{each, pairs}
 use Rattle.rows.specs.Row.{triples, firstRows}
 use Rattle.splice_model.specs.Cuts.{cutAt, cutsTo}
-use Rattle.splice_model.specs.Verdict.{closed, fitAt, fitsTo, entersCut, overlapCut, apartCut, judgedBy}
+use Rattle.splice_model.specs.Verdict.{closed, treeRows, fitAt, fitsTo, fitsTree, entersCut, overlapCut, apartCut, judgedBy}
 
 -- a run of words spells whole trees
 pub record Closes (run : List ℕ) (r : Bool) : Type 0 where
@@ -21,6 +21,14 @@ pub record FitsAt (rows : List ℕ) (e : ℕ) (splices prepared : List ℕ) (j :
 -- each of the first c does
 pub record FitsAll (rows : List ℕ) (e : ℕ) (splices prepared : List ℕ) (c : ℕ) (r : Bool) : Type 0 where
   pub says : (text : List ℕ) → r ≡ fitsTo text rows e splices prepared c
+
+-- a run of words is one whole tree
+pub record OneTree (run : List ℕ) (r : Bool) : Type 0 where
+  pub says : (text : List ℕ) → r ≡ treeRows (triples text run)
+
+-- the first e rows are, and each of the first c splices fits it
+pub record FitsTree (rows : List ℕ) (e : ℕ) (splices prepared : List ℕ) (c : ℕ) (r : Bool) : Type 0 where
+  pub says : (text : List ℕ) → r ≡ fitsTree text rows e splices prepared c
 
 -- the row x is one of those that splice i deletes
 pub record EntersAt (rows : List ℕ) (e : ℕ) (splices : List ℕ) (i x : ℕ) (r : Bool) : Type 0 where

@@ -3,13 +3,14 @@
 ghost use mathlib.Core.Path.{_≡_};
 ghost use mathlib.Core.Bool.{true};
 ghost use Prim.Native.Nat.{_+_, _*_, _^_, _≤_, _<_};
-ghost use lib.ListN.{length, getD};
+ghost use lib.ListN.{length, getD, take};
 ghost use Rattle.splice_model.specs.Bounds.{rowsTo};
 ghost use Rattle.splice_model.specs.Cuts.{partAt};
 ghost use Rattle.splice_model.specs.Verdict.{boundedAt, hasRunAt, roomy};
-ghost use Rattle.splice_check.specs.Promises.{Closes, FitsAt, FitsAll, EntersAt, Overlaps, ApartAt, RowsTo, ApartFrom, ApartAll, Judged};
+ghost use Rattle.splice_check.specs.Promises.{Closes, FitsAt, FitsAll, OneTree, FitsTree, EntersAt, Overlaps, ApartAt, RowsTo, ApartFrom, ApartAll, Judged};
 use syntax_node::child_count;
 use syntax_node::child_row;
+use syntax_node::trees_in;
 use words::word;
 
 // ── It fits ──
@@ -103,6 +104,37 @@ fn all_fit(rows: &[u32], e: usize, splices: &[u32], prepared: &[u32], c: usize) 
         }
     }
     true
+}
+
+// Whether a run is one whole tree.
+fn one_tree(run: &[u32]) -> bool
+    requires { ⌜ length (now run) < 3 * 2 ^ 16 ⌝ }
+    ensures { λ r. ⌜ OneTree (now (run .entry)) r ⌝ }
+{
+    if closes(run) {
+        return trees_in(run) == 1;
+    }
+    false
+}
+
+// Whether the first `e` rows are those of one tree.
+fn spells_tree(rows: &[u32], e: usize) -> bool
+    requires { ⌜ (3 * e ≤ length (now rows)) × (e < 2 ^ 16) ⌝ }
+    ensures { λ r. ⌜ OneTree (take (3 * e) (now (rows .entry))) r ⌝ }
+{
+    let end = 3 * e;
+    one_tree(&rows[0..end])
+}
+
+// Whether the first `e` rows are those of a tree, and each of the first `c` splices fits it.
+fn fit_tree(rows: &[u32], e: usize, splices: &[u32], prepared: &[u32], c: usize) -> bool
+    requires { ⌜ (6 * c ≤ length (now splices)) × (length (now prepared) < 3 * 2 ^ 16) × (3 * e ≤ length (now rows)) × (e < 2 ^ 16) ⌝ }
+    ensures { λ r. ⌜ FitsTree (now (rows .entry)) e (now (splices .entry)) (now (prepared .entry)) c r ⌝ }
+{
+    if spells_tree(rows, e) {
+        return all_fit(rows, e, splices, prepared, c);
+    }
+    false
 }
 
 // ── It is apart ──
@@ -227,13 +259,13 @@ fn room(long: usize, e: usize, splices: &[u32], prepared: &[u32], c: usize) -> b
 
 // ── The verdict ──
 
-// Whether the first `c` splices fit the old tree, which has `e` rows, and are apart, and there is room for them.
+// Whether the first `e` rows are those of a tree, the first `c` splices fit it and are apart, and there is room for them.
 pub fn judged(rows: &[u32], e: usize, splices: &[u32], prepared: &[u32], c: usize) -> bool
     requires { ⌜ e < 2 ^ 48 ⌝ }
     ensures { λ r. ⌜ Judged (now (rows .entry)) e (now (splices .entry)) (now (prepared .entry)) c r ⌝ }
 {
     if room(rows.len(), e, splices, prepared, c) {
-        if all_fit(rows, e, splices, prepared, c) {
+        if fit_tree(rows, e, splices, prepared, c) {
             return all_apart(rows, e, splices, c);
         }
         return false;

@@ -365,6 +365,7 @@ module _ (rows marks s p : List ℕ) where
   spliced-not h = record {
     verdict = λ text. go text (bool? (judgedBy text rows (length marks) s p (length s / 6)));
     refused = λ z. (refl, refl);
+    within = λ n z. let w : _≡_ {A = ℕ} 0 1 = cc in absurd (omega arith);
     done = λ n z. let w : _≡_ {A = ℕ} 0 1 = cc in absurd (omega arith);
   }
     where
@@ -378,6 +379,7 @@ module _ (rows marks s p : List ℕ) where
     spliced-refused z = record {
       verdict = λ text. sym z ∙ J .says text;
       refused = λ y. (refl, refl);
+      within = λ n y. let w : _≡_ {A = ℕ} 0 1 = cc in absurd (omega arith);
       done = λ n y. let w : _≡_ {A = ℕ} 0 1 = cc in absurd (omega arith);
     }
 
@@ -392,6 +394,7 @@ module _ (rows marks s p : List ℕ) where
         record {
           verdict = λ text. sym z ∙ J .says text;
           refused = λ y. let u : _≡_ {A = ℕ} 0 1 = cc in absurd (omega arith);
+          within = λ n y. let e : r ≡ n = cc (y) in omega (arith, w .few, g .room .words);
           done = λ n y text old D f t.
               let e : r ≡ n = cc (y) in
               let a = judged-apart text old rows (length marks) s p D long f t (sym (J .says text) ∙ z) in

@@ -99,10 +99,12 @@ isDone (Done n) = true
 
 -- All splices of the list, in the order given, on the old tree that the first rows tell, one for each mark:
 pub record Spliced (rows marks splices prepared out marked : List ℕ) (r : Outcome) : Type 0 where
-  -- refused just where the list is not judged to fit, to be apart and to have room
+  -- refused just where the rows are no tree, or the list is not judged to fit it, to be apart and to have room
   pub verdict : (text : List ℕ) → isDone r ≡ judgedBy text rows (length marks) splices prepared (length splices / 6)
   -- with nothing changed
   pub refused : r ≡ Refused → (out ≡ rows) × (marked ≡ marks)
-  -- done: where the words tell a list of splices of a tree, that list is apart, the rows are those of the one-go tree, and the marks the rows of the law's paths
+  -- done: the rows are all there
+  pub within : (n : ℕ) → r ≡ Done n → 3 * n ≤ length out
+  -- and where the words tell a list of splices of a tree, that list is apart, the rows are those of the one-go tree, and the marks the rows of the law's paths
   pub done : (n : ℕ) → r ≡ Done n → (text : List ℕ) (old : Tree ℕ) (D : List (Splice ℕ)) → firstRows text (length marks) rows ≡ rowsOf old → Listing text old splices prepared D
       → AllApart old D × (n ≡ size (oneGo D old)) × (firstRows text n out ≡ rowsOf (oneGo D old)) × (marked ≡ map (λ e. markOf (oneGo D old) (oneGoPath D e)) (paths old))

@@ -6,8 +6,8 @@ use mathlib.Core.List.{List, [], _∷_, map, reverseAux, List·Permᴰ, Permᴰ�
 use mathlib.Core.Option.{Option, none, some}
 use Prim.Native.Nat.{ℕ, _+_, _*_, _/_, _≤_, _<_}
 use native.Mathlib.Omega.{arith}
-use lib.ListN.{length}
-use Rattle.orders.specs.ListLaws.{both-true}
+use lib.ListN.{length, getD, getElem?}
+use Rattle.orders.specs.ListLaws.{both-true, some-inj}
 use Rattle.orders.specs.Tree.{Tree, Path, resolve}
 use Rattle.orders.specs.Splices.{Splice, State, begin, performs, oneGo, AllApart}
 use Rattle.orders.specs.Check.{allApart?, says-all-apart}
@@ -16,10 +16,11 @@ use Rattle.orders.specs.Paths.{oneGoPath}
 use Rattle.orders.specs.Order.{one-go-same, path-same, apart-perm}
 use Rattle.orders.specs.Demand.{Demanded, demand}
 use Rattle.orders.specs.Done.{reversed}
-use Rattle.rows.specs.Row.{rowsOf, firstRows}
+use Rattle.rows.specs.Row.{kind, measure, rowsOf, firstRows, rowIn}
 use Rattle.rows.specs.Place.{place, markOf, Held}
 use Rattle.rows.specs.PlaceLaws.{place-pos}
 use Rattle.rows.specs.Moves.{place-inj}
+use Rattle.rows.specs.Words.{kind-word, measure-word, first-get}
 use Rattle.splice_model.specs.Cuts.{paths, stateOf}
 use Rattle.splice_model.specs.Orders.{map-same, state-after, performs-state}
 use Rattle.splice_model.specs.Verdict.{Listing, roomy, judged-told}
@@ -52,6 +53,16 @@ module _ (text : List ℕ) (old : Tree ℕ) (rows marks : List ℕ) (tree : firs
         let d′ = w′ .done n′ refl text old D′ tree l′ in
         let t : oneGo D old ≡ oneGo D′ old = one-go-same D D′ same (neat old D (d .0)) old in
         (d .1 ∙ cc (t, d′ .1), d .2 ∙ cc (t, d′ .2), d .3 ∙ (map-same _ _ (λ q. cc (t, path-same D D′ same q)) (paths old) ∙ sym (d′ .3)))
+
+    -- word by word: kind words and measures are the same (and so is the text, since the rows are)
+    pub same-words : {out marked out′ marked′ : List ℕ} {n n′ : ℕ} → Spliced rows marks s p out marked (Done n) → Spliced rows marks s′ p′ out′ marked′ (Done n′)
+        → (i : ℕ) → i < n → (getD out (3 * i) 0 ≡ getD out′ (3 * i) 0) × (getD out (3 * i + 1) 0 ≡ getD out′ (3 * i + 1) 0)
+    same-words {out = out} {out′ = out′} {n = n} {n′ = n′} w w′ i h =
+        let t = two-orders w w′ in
+        let e : rowIn text out i ≡ rowIn text out′ i = some-inj (sym (first-get text n out (w .within n refl) i h) ∙ (ap (λ l. getElem? l i) (t .1) ∙ first-get text n′ out′ (w′ .within n′ refl) i (omega (arith, t .0)))) in
+        let k : (l : List ℕ) → kind (rowIn text l i) ≡ getD l (3 * i) 0 = λ l. kind-word text (getD l (3 * i) 0) (getD l (3 * i + 1) 0) (getD l (3 * i + 2) 0) in
+        let m : (l : List ℕ) → measure (rowIn text l i) ≡ getD l (3 * i + 1) 0 = λ l. measure-word text (getD l (3 * i) 0) (getD l (3 * i + 1) 0) (getD l (3 * i + 2) 0) in
+        (sym (k out) ∙ (ap kind e ∙ k out′), sym (m out) ∙ (ap measure e ∙ m out′))
 
     -- and where the one is done, so is the other, if there is room for it
     pub both-done : {out marked out′ marked′ : List ℕ} {r r′ : Outcome} → 3 * length marks ≤ length rows → Spliced rows marks s p out marked r → Spliced rows marks s′ p′ out′ marked′ r′ → isDone r ≡ true

@@ -2,7 +2,7 @@
 -- Assumes nothing.
 use mathlib.Core.Path.{_≡_, refl, sym, ap, _∙_}
 use mathlib.Core.Bool.{true, _&&_}
-use mathlib.Core.List.{List, [], _∷_, _++_, map, append-assoc}
+use mathlib.Core.List.{List, [], _∷_, _++_, map, append-assoc, append-nil}
 use mathlib.Core.Option.{some}
 use Prim.Native.Nat.{ℕ, zero, suc, _+_, _*_, _/_, _≤_, _<_}
 use native.Mathlib.Omega.{arith}
@@ -14,12 +14,12 @@ use Rattle.orders.specs.Lists.{All}
 use Rattle.orders.specs.ListLaws.{both-true, lt-get}
 use Rattle.orders.specs.Tree.{Tree, node, token, forest}
 use Rattle.orders.specs.Splices.{Splice, AllApart}
-use Rattle.rows.specs.Row.{Row, tok, nod, outside, owes, rowsOf, rowsAll, triples, firstRows}
-use Rattle.rows.specs.RowLaws.{rows-node, rows-append}
+use Rattle.rows.specs.Row.{Row, tok, nod, outside, owes, rowsOf, rowsAll, triples, firstRows, treesIn}
+use Rattle.rows.specs.RowLaws.{rows-node, rows-append, trees-count}
 use Rattle.rows.specs.Words.{rows-many}
 use Rattle.splice_model.specs.Cuts.{Cut, cutOf, cutAt, cutsTo, partAt, paths, Stands, Told}
 use Rattle.splice_model.specs.Places.{paths-many, paths-stood}
-use Rattle.splice_model.specs.Verdict.{owed, closed, boundedAt, hasRunAt, fitAt, fitsTo, roomy, Room, judgedBy, judged-bounds, judged-apart, Listing}
+use Rattle.splice_model.specs.Verdict.{owed, closed, boundedAt, hasRunAt, fitAt, fitsTo, treeRows, fitsTree, roomy, Room, judgedBy, judged-bounds, judged-apart, Listing}
 
 -- ── Closed rows are those of trees ──────────────────────────────────────────────────────────────────────────
 
@@ -69,6 +69,19 @@ closed-trees rs e h =
     let g = grown rs 0 (eqb-true (owed 0 rs) 0 e) h in
     (g .first ++ g .rest, g .is ∙ sym (rows-append (g .first) (g .rest)))
 
+-- rows of one tree
+pub tree-found : (rs : List Row) → treeRows rs ≡ true → All Inside rs → (t : Tree ℕ) × (rs ≡ rowsOf t)
+unfolding treeRows
+tree-found rs e h =
+    let x = both-true (closed rs) (eqb (treesIn rs) 1) e in
+    let g = closed-trees rs (x .0) h in
+    go (g .0) (g .1) (sym (trees-count (g .0)) ∙ (ap treesIn (sym (g .1)) ∙ eqb-true (treesIn rs) 1 (x .1)))
+  where
+    go : (ts : List (Tree ℕ)) → rs ≡ rowsAll ts → length ts ≡ 1 → (t : Tree ℕ) × (rs ≡ rowsOf t)
+    go [] f n = absurd (omega arith)
+    go (t ∷ []) f n = (t, f ∙ append-nil (rowsOf t))
+    go (t ∷ u ∷ ts) f n = absurd (omega arith)
+
 -- ── Words in bounds tell splices ────────────────────────────────────────────────────────────────────────────
 
 -- two cuts are the same if their parents and their rows are
@@ -102,11 +115,27 @@ module _ (text : List ℕ) (old : Tree ℕ) (rows : List ℕ) (E : ℕ) (splices
 
   -- WORDS THAT ARE JUDGED WELL TELL A LIST of splices of the old tree, and that list is apart
   pub judged-lists : judgedBy text rows E splices prepared (length splices / 6) ≡ true → TextThere (length splices / 6) → (D : List (Splice ℕ)) × Listing text old splices prepared D × AllApart old D
-  unfolding judgedBy
+  unfolding judgedBy fitsTree
   judged-lists z w =
       let b = judged-bounds text rows E splices prepared (length splices / 6) z in
       let x = both-true (roomy (length rows) E splices prepared (length splices / 6)) _ z in
-      let y = both-true (fitsTo text rows E splices prepared (length splices / 6)) _ (x .1) in
-      let d = cuts-found (length splices / 6) (λ j h. b .1 .all j h .parent) (y .0) w in
+      let t = both-true (fitsTree text rows E splices prepared (length splices / 6)) _ (x .1) in
+      let y = both-true (treeRows (firstRows text E rows)) (fitsTo text rows E splices prepared (length splices / 6)) (t .0) in
+      let d = cuts-found (length splices / 6) (λ j h. b .1 .all j h .parent) (y .1) w in
       let l : Listing text old splices prepared (d .0) = record { told = d .1; placed = λ j h. b .1 .all j h .part } in
       (d .0, l, judged-apart text old rows E splices prepared (d .0) long e l z)
+
+-- NOTHING ELSE IS DONE: where the words are judged well, and the text of every token is there, they tell a tree and an apart list of splices of it
+pub judged-tells : (text rows : List ℕ) (E : ℕ) (splices prepared : List ℕ) → judgedBy text rows E splices prepared (length splices / 6) ≡ true → All Inside (firstRows text E rows)
+    → ((j : ℕ) → j < length splices / 6 → All Inside (triples text (partAt splices prepared j)))
+    → (old : Tree ℕ) × (firstRows text E rows ≡ rowsOf old) × (D : List (Splice ℕ)) × Listing text old splices prepared D × AllApart old D
+unfolding judgedBy fitsTree
+judged-tells text rows E splices prepared z h w =
+    let b = judged-bounds text rows E splices prepared (length splices / 6) z in
+    let long : 3 * E ≤ length rows = omega (arith, b .0 .words) in
+    let x = both-true (roomy (length rows) E splices prepared (length splices / 6)) _ z in
+    let t = both-true (fitsTree text rows E splices prepared (length splices / 6)) _ (x .1) in
+    let y = both-true (treeRows (firstRows text E rows)) (fitsTo text rows E splices prepared (length splices / 6)) (t .0) in
+    let o = tree-found (firstRows text E rows) (y .0) h in
+    let d = judged-lists text (o .0) rows E splices prepared long (o .1) z w in
+    (o .0, o .1, d .0, d .1, d .2)

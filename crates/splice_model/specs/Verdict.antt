@@ -2,7 +2,7 @@
 -- Assumes nothing.
 use mathlib.Core.Path.{_≡_, refl, sym, ap, _∙_}
 use mathlib.Core.Bool.{Bool, true, false, cond, not, _&&_}
-use mathlib.Core.List.{List, [], _∷_, _++_, map, append-assoc}
+use mathlib.Core.List.{List, [], _∷_, _++_, map, append-assoc, append-nil}
 use mathlib.Core.Logic.{_⊎_, inl, inr, _↔_}
 use mathlib.Core.Option.{Option, none, some, Option·map}
 use Prim.Native.Nat.{ℕ, zero, suc, _+_, _-_, _*_, _/_, _%_, _^_, _≤_, _<_}
@@ -17,9 +17,9 @@ use Rattle.orders.specs.Tree.{Tree, Trees, node, token, nil, cons, list, Path, 
 use Rattle.orders.specs.TreeLaws.{adjust-shift, shift-before, shift-inside, shift-after}
 use Rattle.orders.specs.Splices.{Splice, samePath, AllApart, Fits}
 use Rattle.orders.specs.Check.{each, pairs, enters?, run?, fits?, apart?, allApart?, says-all-apart, says-run}
-use Rattle.rows.specs.Row.{Row, owes, rowsOf, rowsIn, rowsAll, triples, firstRows}
+use Rattle.rows.specs.Row.{Row, owes, rowsOf, rowsIn, rowsAll, triples, firstRows, treesIn}
 use Rattle.rows.specs.Place.{size, place, childRow}
-use Rattle.rows.specs.RowLaws.{children-few}
+use Rattle.rows.specs.RowLaws.{children-few, trees-count}
 use Rattle.rows.specs.PlaceLaws.{child-at, place-lt, place-bound}
 use Rattle.rows.specs.Moves.{adjust-place}
 use Rattle.rows.specs.Words.{node-at, token-at, rows-many}
@@ -38,6 +38,10 @@ owed (suc o) (r ∷ rs) = owed (o + owes r) rs
 -- whole trees: nothing is owed behind them
 unfoldable pub closed : List Row → Bool
 closed rs = eqb (owed 0 rs) 0
+
+-- one whole tree
+unfoldable pub treeRows : List Row → Bool
+treeRows rs = closed rs && eqb (treesIn rs) 1
 
 -- ── One splice ──────────────────────────────────────────────────────────────────────────────────────────────
 
@@ -60,6 +64,10 @@ fitAt text rows E splices prepared j = boundedAt E splices prepared j && (hasRun
 unfoldable pub fitsTo : List ℕ → List ℕ → ℕ → List ℕ → List ℕ → ℕ → Bool
 fitsTo text rows E splices prepared zero = true
 fitsTo text rows E splices prepared (suc k) = fitAt text rows E splices prepared k && fitsTo text rows E splices prepared k
+
+-- the first E rows are those of a tree, and the first c splices fit it
+unfoldable pub fitsTree : List ℕ → List ℕ → ℕ → List ℕ → List ℕ → ℕ → Bool
+fitsTree text rows E splices prepared c = treeRows (firstRows text E rows) && fitsTo text rows E splices prepared c
 
 -- ── Two splices ─────────────────────────────────────────────────────────────────────────────────────────────
 
@@ -102,7 +110,7 @@ room-is long E splices prepared c t =
 -- the list fits the old tree and is apart, and there is room
 unfoldable pub judgedBy : List ℕ → List ℕ → ℕ → List ℕ → List ℕ → ℕ → Bool
 judgedBy text rows E splices prepared c =
-    roomy (length rows) E splices prepared c && (fitsTo text rows E splices prepared c && pairs (apartCut (firstRows text E rows)) (cutsTo text splices prepared c))
+    roomy (length rows) E splices prepared c && (fitsTree text rows E splices prepared c && pairs (apartCut (firstRows text E rows)) (cutsTo text splices prepared c))
 
 -- ── Rows of trees are closed ────────────────────────────────────────────────────────────────────────────────
 
@@ -130,6 +138,13 @@ owed-none (t ∷ ts) = owed-one t (rowsAll ts) ∙ owed-none ts
 pub trees-closed : (ts : List (Tree ℕ)) → closed (rowsAll ts) ≡ true
 unfolding closed
 trees-closed ts = eq-eqb (owed 0 (rowsAll ts)) 0 (owed-none ts)
+
+pub tree-closed : (t : Tree ℕ) → treeRows (rowsOf t) ≡ true
+unfolding treeRows
+tree-closed t =
+    let one : rowsOf t ++ [] ≡ rowsOf t = append-nil (rowsOf t) in
+    let c : closed (rowsOf t) ≡ true = rw one at (trees-closed (t ∷ [])) in
+    rw c (eq-eqb (treesIn (rowsOf t)) 1 (rw one at (trees-count (t ∷ []))))
 
 -- ── A path enters a deleted child just where its row is one of those deleted ────────────────────────────────
 
@@ -258,9 +273,9 @@ module _ (text : List ℕ) (old : Tree ℕ) (rows : List ℕ) (E : ℕ) (splices
 
   -- THE VERDICT: a list that the words tell is judged to fit and to be apart just where it is
   pub verdict-told : (c : ℕ) (D : List (Splice ℕ)) → Told text old splices prepared c D → Placed splices prepared c
-      → (fitsTo text rows E splices prepared c && pairs (apartCut (firstRows text E rows)) (cutsTo text splices prepared c)) ≡ allApart? old D
-  unfolding allApart?
-  verdict-told c D t b = rw (fits-told c D t b, t .cuts, e) (go (bool? (each (fits? old) D)))
+      → (fitsTree text rows E splices prepared c && pairs (apartCut (firstRows text E rows)) (cutsTo text splices prepared c)) ≡ allApart? old D
+  unfolding allApart? fitsTree
+  verdict-told c D t b = rw (fits-told c D t b, t .cuts, e, tree-closed old) (go (bool? (each (fits? old) D)))
     where
       go : (each (fits? old) D ≡ true) ⊎ (each (fits? old) D ≡ false) → (each (fits? old) D && pairs (apartCut (rowsOf old)) (map (cutOf old) D)) ≡ (each (fits? old) D && pairs apart? D)
       go (inl z) = rw (pairs-cut old D (fits-all old D z))
@@ -302,9 +317,10 @@ judged-apart text old rows E splices prepared D long e l z =
 
 -- each splice that is judged to fit has its words in bounds
 pub judged-bounds : (text rows : List ℕ) (E : ℕ) (splices prepared : List ℕ) (c : ℕ) → judgedBy text rows E splices prepared c ≡ true → Room (length rows) E splices prepared c × BoundedAll E splices prepared c
-unfolding judgedBy fitAt
+unfolding judgedBy fitsTree fitAt
 judged-bounds text rows E splices prepared c z =
     let x = both-true (roomy (length rows) E splices prepared c) _ z in
-    let y = both-true (fitsTo text rows E splices prepared c) _ (x .1) in
+    let t = both-true (fitsTree text rows E splices prepared c) _ (x .1) in
+    let y = both-true (treeRows (firstRows text E rows)) (fitsTo text rows E splices prepared c) (t .0) in
     let w = room-is (length rows) E splices prepared c (x .0) in
-    (w, record { all = λ j h. bounded-is E splices prepared j (both-true (boundedAt E splices prepared j) _ (fits-each text rows E splices prepared c j h (y .0)) .0) (omega (arith, w .whole)) })
+    (w, record { all = λ j h. bounded-is E splices prepared j (both-true (boundedAt E splices prepared j) _ (fits-each text rows E splices prepared c j h (y .1)) .0) (omega (arith, w .whole)) })

@@ -10,8 +10,8 @@ use Rattle.splice_check.proofs.judged.Tie as tie
 room-requires : tie.Need-room-requires
 room-requires c κs = search needs
 
-all-fit-requires : tie.Need-all-fit-requires
-all-fit-requires c κs = let w = room-is _ _ _ _ _ (sym (c .before .room .ensures) ∙ c .if1 .taken) in search needs
+fit-tree-requires : tie.Need-fit-tree-requires
+fit-tree-requires c κs = let w = room-is _ _ _ _ _ (sym (c .before .room .ensures) ∙ c .if1 .taken) in search needs
 
 all-apart-requires : tie.Need-all-apart-requires
 all-apart-requires c κs =
@@ -30,4 +30,4 @@ returns-3 c = search (roomless, needs)
 pub judged-spec : {M : Type 1} → statement M
 judged-spec =
     tie.close
-    (tie.spec room-requires all-fit-requires all-apart-requires returns returns-2 returns-3)
+    (tie.spec room-requires fit-tree-requires all-apart-requires returns returns-2 returns-3)
