@@ -4,9 +4,9 @@ use native.Mathlib.Omega.{arith}
 use lib.ListN.{length}
 use Prim.Native.Nat.{_*_, _≤_}
 use borrow.Author.Needs.{needs}
-use Rattle.splice_list.proofs.Turns.{run-long, takes-node, takes-lost, takes-gained, stepped}
-use Rattle.splice_list.proofs.splice_at.Statement.{statement}
-use Rattle.splice_list.proofs.splice_at.Tie as tie
+use Rattle.splice_step.proofs.Turns.{run-long, takes-node, takes-lost, takes-gained, stepped}
+use Rattle.splice_step.proofs.splice_at.Statement.{statement}
+use Rattle.splice_step.proofs.splice_at.Tie as tie
 
 mul-word : tie.Need-mul-word
 mul-word c = search needs

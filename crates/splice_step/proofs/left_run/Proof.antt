@@ -1,9 +1,9 @@
 -- `left_run` meets its contract.
 -- Assumes nothing.
 use borrow.Author.Needs.{needs}
-use Rattle.splice_list.proofs.Turns.{left-no, left-yes, left-tie}
-use Rattle.splice_list.proofs.left_run.Statement.{statement}
-use Rattle.splice_list.proofs.left_run.Tie as tie
+use Rattle.splice_step.proofs.Turns.{left-no, left-yes, left-tie}
+use Rattle.splice_step.proofs.left_run.Statement.{statement}
+use Rattle.splice_step.proofs.left_run.Tie as tie
 
 returns : tie.Need-returns
 returns c = search (left-no, needs)

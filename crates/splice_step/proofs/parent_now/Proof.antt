@@ -1,9 +1,9 @@
 -- `parent_now` meets its contract.
 -- Assumes nothing.
 use borrow.Author.Needs.{needs}
-use Rattle.splice_list.proofs.Turns.{parent-told}
-use Rattle.splice_list.proofs.parent_now.Statement.{statement}
-use Rattle.splice_list.proofs.parent_now.Tie as tie
+use Rattle.splice_step.proofs.Turns.{parent-told}
+use Rattle.splice_step.proofs.parent_now.Statement.{statement}
+use Rattle.splice_step.proofs.parent_now.Tie as tie
 
 mul-word : tie.Need-mul-word
 mul-word c = search needs

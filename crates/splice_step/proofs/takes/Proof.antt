@@ -1,9 +1,9 @@
 -- `takes` meets its contract.
 -- Assumes nothing.
 use borrow.Author.Needs.{needs}
-use Rattle.splice_list.proofs.Turns.{no-node, too-few, not-many}
-use Rattle.splice_list.proofs.takes.Statement.{statement}
-use Rattle.splice_list.proofs.takes.Tie as tie
+use Rattle.splice_step.proofs.Turns.{no-node, too-few, not-many}
+use Rattle.splice_step.proofs.takes.Statement.{statement}
+use Rattle.splice_step.proofs.takes.Tie as tie
 
 mul-word : tie.Need-mul-word
 mul-word c = search needs

@@ -1,9 +1,9 @@
 -- `gap_now` meets its contract.
 -- Assumes nothing.
 use borrow.Author.Needs.{needs}
-use Rattle.splice_list.proofs.Turns.{gap-told}
-use Rattle.splice_list.proofs.gap_now.Statement.{statement}
-use Rattle.splice_list.proofs.gap_now.Tie as tie
+use Rattle.splice_step.proofs.Turns.{gap-told}
+use Rattle.splice_step.proofs.gap_now.Statement.{statement}
+use Rattle.splice_step.proofs.gap_now.Tie as tie
 
 parent-now-requires : tie.Need-parent-now-requires
 parent-now-requires c κs = search needs

@@ -2,9 +2,9 @@
 -- Assumes nothing.
 use mathlib.Core.Path.{sym, _∙_}
 use borrow.Author.Needs.{needs}
-use Rattle.splice_list.proofs.Turns.{unstepped}
-use Rattle.splice_list.proofs.splice_once.Statement.{statement}
-use Rattle.splice_list.proofs.splice_once.Tie as tie
+use Rattle.splice_step.proofs.Turns.{unstepped}
+use Rattle.splice_step.proofs.splice_once.Statement.{statement}
+use Rattle.splice_step.proofs.splice_once.Tie as tie
 
 gap-now-requires : tie.Need-gap-now-requires
 gap-now-requires c κs = search needs

@@ -1,9 +1,9 @@
 -- `left_of` meets its contract.
 -- Assumes nothing.
 use borrow.Author.Needs.{needs}
-use Rattle.splice_list.proofs.Turns.{other-parent, same-parent}
-use Rattle.splice_list.proofs.left_of.Statement.{statement}
-use Rattle.splice_list.proofs.left_of.Tie as tie
+use Rattle.splice_step.proofs.Turns.{other-parent, same-parent}
+use Rattle.splice_step.proofs.left_of.Statement.{statement}
+use Rattle.splice_step.proofs.left_of.Tie as tie
 
 mul-word : tie.Need-mul-word
 mul-word c = search needs

@@ -1,9 +1,9 @@
 -- `trees_of` meets its contract.
 -- Assumes nothing.
 use borrow.Author.Needs.{needs}
-use Rattle.splice_list.proofs.Turns.{part-trees}
-use Rattle.splice_list.proofs.trees_of.Statement.{statement}
-use Rattle.splice_list.proofs.trees_of.Tie as tie
+use Rattle.splice_step.proofs.Turns.{part-trees}
+use Rattle.splice_step.proofs.trees_of.Statement.{statement}
+use Rattle.splice_step.proofs.trees_of.Tie as tie
 
 mul-word : tie.Need-mul-word
 mul-word c = search needs

@@ -1,9 +1,9 @@
 -- `start_now` meets its contract.
 -- Assumes nothing.
 use borrow.Author.Needs.{needs}
-use Rattle.splice_list.proofs.Turns.{start-none, start-some}
-use Rattle.splice_list.proofs.start_now.Statement.{statement}
-use Rattle.splice_list.proofs.start_now.Tie as tie
+use Rattle.splice_step.proofs.Turns.{start-none, start-some}
+use Rattle.splice_step.proofs.start_now.Statement.{statement}
+use Rattle.splice_step.proofs.start_now.Tie as tie
 
 moves-left-requires : tie.Need-moves-left-requires
 moves-left-requires c κs = search needs

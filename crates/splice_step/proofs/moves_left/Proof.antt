@@ -1,10 +1,10 @@
 -- `moves_left` meets its contract.
 -- Assumes nothing.
 use borrow.Author.Needs.{needs}
-use Rattle.splice_list.proofs.Turns.{Summing, summing-start, summing-other, summing-left, summing-done, inside-one, ordered-one, part-one}
+use Rattle.splice_step.proofs.Turns.{Summing, summing-start, summing-other, summing-left, summing-done, inside-one, ordered-one, part-one}
 use Prim.Native.Nat.{_-_}
-use Rattle.splice_list.proofs.moves_left.Statement.{statement}
-use Rattle.splice_list.proofs.moves_left.Tie as tie
+use Rattle.splice_step.proofs.moves_left.Statement.{statement}
+use Rattle.splice_step.proofs.moves_left.Tie as tie
 
 abbrev Inv-loop : tie.InvT-loop
 Inv-loop splices prepared e i gained₀ lost₀ j₀ gained lost j = Summing splices prepared i j gained lost
