@@ -2,26 +2,29 @@
 -- Assumes nothing.
 use mathlib.Core.Path.{_≡_, refl, sym, ap, _∙_}
 use mathlib.Core.Bool.{true, _&&_}
-use mathlib.Core.List.{List, [], _∷_, map, reverseAux, List·Permᴰ, Permᴰ·refl}
+use mathlib.Core.List.{List, [], _∷_, map, reverseAux, List·Permᴰ, Permᴰ·refl, cons≢nil}
+use mathlib.Core.Logic.{_↔_}
 use mathlib.Core.Option.{Option, none, some}
 use Prim.Native.Nat.{ℕ, _+_, _*_, _/_, _≤_, _<_}
 use native.Mathlib.Omega.{arith}
 use lib.ListN.{length, getD, getElem?}
-use Rattle.orders.specs.ListLaws.{both-true, some-inj}
+use Rattle.orders.specs.ListLaws.{both-true, some-inj, none-some}
 use Rattle.orders.specs.Tree.{Tree, Path, resolve}
-use Rattle.orders.specs.Splices.{Splice, State, begin, performs, oneGo, AllApart}
+use Rattle.orders.specs.Splices.{Splice, State, begin, performs, oneGo, EntersDeleted, AllApart}
 use Rattle.orders.specs.Check.{allApart?, says-all-apart}
 use Rattle.orders.specs.Parts.{neat}
-use Rattle.orders.specs.Paths.{oneGoPath}
+use Rattle.orders.specs.Paths.{oneGoPath, down}
 use Rattle.orders.specs.Order.{one-go-same, path-same, apart-perm}
 use Rattle.orders.specs.Demand.{Demanded, demand}
-use Rattle.orders.specs.Done.{reversed}
+use Rattle.orders.specs.Done.{performs-one-go, reversed}
 use Rattle.rows.specs.Row.{kind, measure, rowsOf, firstRows, rowIn}
 use Rattle.rows.specs.Place.{place, markOf, Held}
 use Rattle.rows.specs.PlaceLaws.{place-pos}
 use Rattle.rows.specs.Moves.{place-inj}
 use Rattle.rows.specs.Words.{kind-word, measure-word, first-get}
+use Rattle.laws.specs.Kin.{get-getD}
 use Rattle.splice_model.specs.Cuts.{paths, stateOf}
+use Rattle.splice_model.specs.Places.{get-map, paths-at}
 use Rattle.splice_model.specs.Orders.{map-same, state-after, performs-state}
 use Rattle.splice_model.specs.Verdict.{Listing, roomy, judged-told}
 use Rattle.splice_list.specs.Promises.{isDone, Spliced}
@@ -80,3 +83,32 @@ marks-tell t none (some (i ∷ q)) h k u v e = absurd (omega (arith, place-pos i
 marks-tell t (some []) o h k u v e = absurd (u [] refl refl)
 marks-tell t (some (i ∷ q)) none h k u v e = absurd (omega (arith, place-pos i q t (h .0) (h .1)))
 marks-tell t (some (i ∷ q)) (some r) h k u v e = ap {B = Option Path} some (place-inj (i ∷ q) r t (h .0) (k .0) (h .1) (k .1) e)
+
+-- a path below the root stays below it
+stays-below : (old : Tree ℕ) (S : List (Splice ℕ)) → AllApart old S → (i : ℕ) (e q : Path) → (performs S (begin old)) .path (i ∷ e) ≡ some q → q ≡ [] → ⊥
+stays-below old S h i e q z n = cons≢nil (down S i e q (sym (performs-one-go old S S h (Permᴰ·refl S) .1 (i ∷ e)) ∙ z) .is ∙ n)
+
+-- the mark of an old element below the root is 0 just where its path enters a child that some splice deletes
+pub mark-dropped : (text : List ℕ) (old : Tree ℕ) (S : List (Splice ℕ)) (out : List ℕ) (n : ℕ) (marked : List ℕ) → AllApart old S → Leaves text old (performs S (begin old)) out n marked
+    → (i : ℕ) (e : Path) (t : Tree ℕ) → resolve (i ∷ e) old ≡ some t → (getD marked (place (i ∷ e) old) 0 ≡ 0) ↔ EntersDeleted S (i ∷ e)
+unfolding markOf
+mark-dropped text old S out n marked h l i e t f = go (now .path (i ∷ e)) refl
+  where
+    now : State ℕ
+    now = performs S (begin old)
+
+    d : Demanded old S now
+    d = demand old S S h (Permᴰ·refl S)
+
+    at : getD marked (place (i ∷ e) old) 0 ≡ markOf (now .tree) (now .path (i ∷ e))
+    at =
+        let g : getElem? marked (place (i ∷ e) old) ≡ some (markOf (now .tree) (now .path (i ∷ e))) = rw (l .marks) (get-map (λ q. markOf (now .tree) (now .path q)) (paths old) (place (i ∷ e) old) (i ∷ e) (paths-at (i ∷ e) old t f)) in
+        get-getD marked (place (i ∷ e) old) (markOf (now .tree) (now .path (i ∷ e))) 0 g
+
+    go : (o : Option Path) → now .path (i ∷ e) ≡ o → (getD marked (place (i ∷ e) old) 0 ≡ 0) ↔ EntersDeleted S (i ∷ e)
+    go none z = (λ y. d .dropped (i ∷ e) .0 z, λ y. at ∙ ap (λ o. markOf (now .tree) o) z)
+    go (some []) z = absurd (stays-below old S h i e [] z refl)
+    go (some (j ∷ q)) z =
+        let p : 0 < place (j ∷ q) (now .tree) = place-pos j q (now .tree) _ (d .subtree (i ∷ e) (j ∷ q) t f z) in
+        let m : getD marked (place (i ∷ e) old) 0 ≡ place (j ∷ q) (now .tree) = at ∙ ap (λ o. markOf (now .tree) o) z in
+        (λ y. absurd (omega arith), λ y. none-some (sym (d .dropped (i ∷ e) .1 y) ∙ z))
