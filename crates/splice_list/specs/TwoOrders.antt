@@ -26,7 +26,7 @@ use Rattle.laws.specs.Kin.{get-getD}
 use Rattle.splice_model.specs.Cuts.{paths, stateOf}
 use Rattle.splice_model.specs.Places.{get-map, paths-at}
 use Rattle.splice_model.specs.Orders.{map-same, state-after, performs-state}
-use Rattle.splice_model.specs.Verdict.{Listing, roomy, judged-told}
+use Rattle.splice_model.specs.Verdict.{Listing, roomy, judgedBy, judged-bounds, judged-told, room-same}
 use Rattle.splice_list.specs.Promises.{isDone, Spliced}
 use Rattle.splice_list.specs.declared.Outcome.{Outcome}
 use Rattle.splice_list.specs.declared.Outcome.the-variants.{Refused, Done}
@@ -67,12 +67,15 @@ module _ (text : List ℕ) (old : Tree ℕ) (rows marks : List ℕ) (tree : firs
         let m : (l : List ℕ) → measure (rowIn text l i) ≡ getD l (3 * i + 1) 0 = λ l. measure-word text (getD l (3 * i) 0) (getD l (3 * i + 1) 0) (getD l (3 * i + 2) 0) in
         (sym (k out) ∙ (ap kind e ∙ k out′), sym (m out) ∙ (ap measure e ∙ m out′))
 
-    -- and where the one is done, so is the other, if there is room for it
-    pub both-done : {out marked out′ marked′ : List ℕ} {r r′ : Outcome} → 3 * length marks ≤ length rows → Spliced rows marks s p out marked r → Spliced rows marks s′ p′ out′ marked′ r′ → isDone r ≡ true
-        → roomy (length rows) (length marks) s′ p′ (length s′ / 6) ≡ true → isDone r′ ≡ true
-    both-done long w w′ z room =
-        let a : AllApart old D = says-all-apart old D .0 (both-true (roomy (length rows) (length marks) s p (length s / 6)) (allApart? old D) (sym (w .verdict text ∙ judged-told text old rows (length marks) s p D long tree l) ∙ z) .1) in
-        w′ .verdict text ∙ (judged-told text old rows (length marks) s′ p′ D′ long tree l′ ∙ rw (room, says-all-apart old D′ .1 (apart-perm old D D′ same a)))
+  -- and where the one is done, so is every other: six words for each splice, and the same prepared rows
+  pub every-order : (D D′ : List (Splice ℕ)) → List·Permᴰ D D′ → (s s′ p : List ℕ) → Listing text old s p D → Listing text old s′ p D′ → length s′ ≡ 6 * (length s′ / 6)
+      → {out marked out′ marked′ : List ℕ} {r r′ : Outcome} → Spliced rows marks s p out marked r → Spliced rows marks s′ p out′ marked′ r′ → isDone r ≡ true → isDone r′ ≡ true
+  every-order D D′ same s s′ p l l′ whole w w′ z =
+      let j : judgedBy text rows (length marks) s p (length s / 6) ≡ true = sym (w .verdict text) ∙ z in
+      let long : 3 * length marks ≤ length rows = omega (arith, judged-bounds text rows (length marks) s p (length s / 6) j .0 .words) in
+      let x = both-true (roomy (length rows) (length marks) s p (length s / 6)) (allApart? old D) (sym (judged-told text old rows (length marks) s p D long tree l) ∙ j) in
+      let a : AllApart old D′ = apart-perm old D D′ same (says-all-apart old D .0 (x .1)) in
+      w′ .verdict text ∙ (judged-told text old rows (length marks) s′ p D′ long tree l′ ∙ rw (room-same text old (length rows) (length marks) s s′ p D D′ same l l′ whole (x .0), says-all-apart old D′ .1 a))
 
 -- MARKS TELL PATHS: in one tree two paths with the same place are the same path (`place-inj`); so two marks of elements below the root, there or dropped, are the same just where the paths are.
 pub marks-tell : (t : Tree ℕ) (o o′ : Option Path) → Held t o → Held t o′ → ((x : Path) → o ≡ some x → x ≡ [] → ⊥) → ((x : Path) → o′ ≡ some x → x ≡ [] → ⊥) → markOf t o ≡ markOf t o′ → o ≡ o′

@@ -2,7 +2,7 @@
 -- Assumes nothing.
 use mathlib.Core.Path.{_≡_, refl, sym, ap, _∙_}
 use mathlib.Core.Bool.{Bool, true, false, cond, not, _&&_}
-use mathlib.Core.List.{List, [], _∷_, _++_, map, append-assoc, append-nil}
+use mathlib.Core.List.{List, [], _∷_, _++_, map, append-assoc, append-nil, List·Permᴰ}
 use mathlib.Core.Logic.{_⊎_, inl, inr, _↔_}
 use mathlib.Core.Option.{Option, none, some, Option·map}
 use Prim.Native.Nat.{ℕ, zero, suc, _+_, _-_, _*_, _/_, _%_, _^_, _≤_, _<_}
@@ -11,21 +11,21 @@ use native.Mathlib.Nat.{add-zero, add-comm, zero-add, suc-add}
 use lib.ListN.{length, take, drop, getD, getElem?}
 use lib.Dec.{leb, ltb, eqb}
 use borrow.Author.Tests.{leb-true, ltb-true, eqb-true, lt-ltb, le-ltb, le-leb, lt-leb, eq-eqb}
-use Rattle.orders.specs.Lists.{All}
-use Rattle.orders.specs.ListLaws.{bool?, bool-absurd, both-true, lt-or-le, Zone, before, inside, after, zone?}
+use Rattle.orders.specs.Lists.{All, total}
+use Rattle.orders.specs.ListLaws.{bool?, bool-absurd, both-true, lt-or-le, total-perm, Zone, before, inside, after, zone?}
 use Rattle.orders.specs.Tree.{Tree, Trees, node, token, nil, cons, list, Path, resolve, adjust, shift, splice, HasRun}
 use Rattle.orders.specs.TreeLaws.{adjust-shift, shift-before, shift-inside, shift-after}
 use Rattle.orders.specs.Splices.{Splice, samePath, AllApart, Fits}
 use Rattle.orders.specs.Check.{each, pairs, enters?, run?, fits?, apart?, allApart?, says-all-apart, says-run}
 use Rattle.rows.specs.Row.{Row, owes, rowsOf, rowsIn, rowsAll, triples, firstRows, treesIn}
-use Rattle.rows.specs.Place.{size, place, childRow}
+use Rattle.rows.specs.Place.{size, sizeAll, place, childRow}
 use Rattle.rows.specs.RowLaws.{children-few, trees-count}
 use Rattle.rows.specs.PlaceLaws.{child-at, place-lt, place-bound}
 use Rattle.rows.specs.Moves.{adjust-place}
-use Rattle.rows.specs.Words.{node-at, token-at, rows-many}
+use Rattle.rows.specs.Words.{node-at, token-at, rows-many, length-triples}
 use Rattle.splice_model.specs.Cuts.{Cut, cutOf, cutAt, cutsTo, partAt, Stands, Told}
 use Rattle.splice_model.specs.Step.{First, told-first, told-before, same-place}
-use Rattle.splice_model.specs.Bounds.{Bounded, BoundedAll, rowsTo}
+use Rattle.splice_model.specs.Bounds.{Bounded, BoundedAll, rowsTo, part-long}
 
 -- ── Rows that spell trees ───────────────────────────────────────────────────────────────────────────────────
 
@@ -324,3 +324,39 @@ judged-bounds text rows E splices prepared c z =
     let y = both-true (treeRows (firstRows text E rows)) (fitsTo text rows E splices prepared c) (t .0) in
     let w = room-is (length rows) E splices prepared c (x .0) in
     (w, record { all = λ j h. bounded-is E splices prepared j (both-true (boundedAt E splices prepared j) _ (fits-each text rows E splices prepared c j h (y .1)) .0) (omega (arith, w .whole)) })
+
+-- ── Room is the same in every order ─────────────────────────────────────────────────────────────────────────
+
+-- the prepared rows of a list, all together
+rows-sum : (text : List ℕ) (old : Tree ℕ) (splices prepared : List ℕ) (k : ℕ) (D : List (Splice ℕ)) → Told text old splices prepared k D → Placed splices prepared k
+    → rowsTo splices k ≡ total (λ s. true) (λ s. sizeAll (s .prepared)) D
+unfolding rowsTo total cutsTo
+rows-sum text old splices prepared zero [] t b = refl
+rows-sum text old splices prepared zero (s ∷ D) t b = let z : _≡_ {A = ℕ} 0 1 = cc (t .cuts) in absurd (omega arith)
+rows-sum text old splices prepared (suc k) [] t b = let z : _≡_ {A = ℕ} 0 1 = cc (t .cuts) in absurd (omega arith)
+rows-sum text old splices prepared (suc k) (s ∷ D) t b = omega (arith, rows-sum text old splices prepared k D (told-before t) (λ j h. b j (omega arith)), one, length-triples text (partAt splices prepared k), part-long splices prepared k (b k (omega arith)))
+  where
+    one : length (triples text (partAt splices prepared k)) ≡ sizeAll (s .prepared)
+    one = unfold cutAt cutOf in ap (λ c. length (c .rows)) (told-first t .cut)
+
+told-many : (text : List ℕ) (old : Tree ℕ) (splices prepared : List ℕ) (k : ℕ) (D : List (Splice ℕ)) → Told text old splices prepared k D → total (λ s. true) (λ s. 1) D ≡ k
+unfolding total cutsTo
+told-many text old splices prepared zero [] t = refl
+told-many text old splices prepared zero (s ∷ D) t = let z : _≡_ {A = ℕ} 0 1 = cc (t .cuts) in absurd (omega arith)
+told-many text old splices prepared (suc k) [] t = let z : _≡_ {A = ℕ} 0 1 = cc (t .cuts) in absurd (omega arith)
+told-many text old splices prepared (suc k) (s ∷ D) t = omega (arith, told-many text old splices prepared k D (told-before t))
+
+room-says : (long E : ℕ) (splices prepared : List ℕ) (c : ℕ) → Room long E splices prepared c → roomy long E splices prepared c ≡ true
+unfolding roomy
+room-says long E splices prepared c r =
+    rw (eq-eqb (length splices) (6 * c) (r .whole), lt-ltb c (2 ^ 15) (r .few), lt-ltb (length prepared) (3 * 2 ^ 16) (r .short), le-leb (3 * E + 3 * rowsTo splices c) long (r .words)) (lt-ltb (E + rowsTo splices c) (2 ^ 16) (r .rows))
+
+-- two orders of one list, each whole, on the same prepared rows
+pub room-same : (text : List ℕ) (old : Tree ℕ) (long E : ℕ) (splices splices′ prepared : List ℕ) (D D′ : List (Splice ℕ)) → List·Permᴰ D D′ → Listing text old splices prepared D → Listing text old splices′ prepared D′
+    → length splices′ ≡ 6 * (length splices′ / 6) → roomy long E splices prepared (length splices / 6) ≡ true → roomy long E splices′ prepared (length splices′ / 6) ≡ true
+room-same text old long E splices splices′ prepared D D′ same l l′ w z =
+    let r = room-is long E splices prepared (length splices / 6) z in
+    let c : length splices / 6 ≡ length splices′ / 6 = sym (told-many text old splices prepared (length splices / 6) D (l .told)) ∙ (total-perm (λ s. true) (λ s. 1) same ∙ told-many text old splices′ prepared (length splices′ / 6) D′ (l′ .told)) in
+    let m : rowsTo splices (length splices / 6) ≡ rowsTo splices′ (length splices′ / 6) =
+    rows-sum text old splices prepared (length splices / 6) D (l .told) (l .placed) ∙ (total-perm (λ s. true) (λ s. sizeAll (s .prepared)) same ∙ sym (rows-sum text old splices′ prepared (length splices′ / 6) D′ (l′ .told) (l′ .placed))) in
+    room-says long E splices′ prepared (length splices′ / 6) (record { whole = w; few = omega (arith, r .few); short = r .short; words = omega (arith, r .words); rows = omega (arith, r .rows) })
