@@ -343,6 +343,18 @@ fn try_refused(list: &[u32], c: usize) {
     io::write_all(1, b"changed\n");
 }
 
+// Six rows of the old tree are no tree.
+fn try_no_tree() {
+    let mut rows = [0u32; 42];
+    let mut marks = [7u32; 6];
+    let n = run(&[1, 0, 1, 1, 0, 1], &ORDERS4, 0, 1, &mut rows, &mut marks);
+    if n == 0 {
+        io::write_all(1, b"refused\n");
+        return;
+    }
+    io::write_all(1, b"changed\n");
+}
+
 fn accepted() {
     // e for a in X, Z(h) behind d in the root, c out of Y.
     try_list(
@@ -409,4 +421,5 @@ fn refusals() {
 fn main() {
     accepted();
     refusals();
+    try_no_tree();
 }
