@@ -4,12 +4,12 @@ use mathlib.Core.Path.{_≡_, refl, sym, ap, _∙_}
 use mathlib.Core.Bool.{Bool, true, false}
 use mathlib.Core.List.{List, [], _∷_, append-nil}
 use mathlib.Core.Logic.{_⊎_, inl, inr}
-use Prim.Native.Nat.{ℕ, zero, suc, _+_, _*_, _/_, _^_, _≤_, _<_}
+use Prim.Native.Nat.{ℕ, zero, suc, _+_, _*_, _/_, _^_, _≤_, _<_, _-_}
 use native.Mathlib.Omega.{arith}
 use native.Mathlib.Nat.{zero-add}
 use native.Mathlib.Numerals.{add-one}
-use lib.ListN.{length, getD, set, length-set, drop-of-length-le}
-use lib.Seq.{paste, paste-suc, take-all}
+use lib.ListN.{length, getD, set, length-set, drop-of-length-le, drop}
+use lib.Seq.{paste, paste-suc, take-all, drop-drop}
 use Rattle.orders.specs.Lists.{All}
 use Rattle.orders.specs.ListLaws.{bool?}
 use Rattle.orders.specs.Tree.{Tree, list}
@@ -28,12 +28,19 @@ use Rattle.splice_list.specs.Promises.{Listed, Good, ListedAll, isDone, 
 
 -- ── A list ──────────────────────────────────────────────────────────────────────────────────────────────────
 
+-- what is the same from a on is so from further on
+drop-more : (a b : ℕ) (x y : List ℕ) → a ≤ b → drop a x ≡ drop a y → drop b x ≡ drop b y
+drop-more a b x y h e =
+    let q : a + (b - a) ≡ b = omega arith in
+    rw (← q, ← drop-drop (b - a) a x, ← drop-drop (b - a) a y, e)
+
 -- the first k splices are done
 pub record Going (rows₀ : List ℕ) (n₀ : ℕ) (marks₀ splices prepared : List ℕ) (c : ℕ) (rows : List ℕ) (n : ℕ) (marks : List ℕ) (k : ℕ) : Type 0 where
   pub inside : k ≤ c
   pub long : length rows ≡ length rows₀
   pub many : length marks ≡ length marks₀
   pub few : n ≤ n₀ + rowsTo splices k
+  pub beyond : drop (3 * (n₀ + rowsTo splices c)) rows ≡ drop (3 * (n₀ + rowsTo splices c)) rows₀
   pub below : All (λ x. x < n) marks
   pub law : (text : List ℕ) (old : Tree ℕ) (D : List (Splice ℕ)) → Holds text old (begin old) rows₀ n₀ marks₀ → Told text old splices prepared k D → AllApart old D → Holds text old (stateOf old D) rows n marks
 
@@ -48,6 +55,7 @@ going-start rows n marks splices prepared c a = record {
   long = refl;
   many = refl;
   few = omega arith;
+  beyond = refl;
   below = a;
   law = λ text old D h t w. rw (none-told text old splices prepared D t) h;
 }
@@ -59,12 +67,13 @@ module _ {rows₀ : List ℕ} {n₀ : ℕ} {marks₀ s p : List ℕ} {c : ℕ} {
     long = e ∙ v .long;
     many = f ∙ v .many;
     few = omega (arith, v .few, w .few, rowsTo-more s k);
+    beyond = drop-more (3 * r) (3 * (n₀ + rowsTo s c)) out rows (omega (arith, v .few, w .few, rowsTo-more s k, rowsTo-mono s c (suc k) h)) (w .beyond) ∙ v .beyond;
     below = w .below;
     law = λ text old D b t a. one-more text old s p k rows n marks out r marked (λ D′ t′ a′. v .law text old D′ b t′ a′) (λ now z run d t′ f′. w .step text old now z run d t′ f′) D t a;
   })
 
   pub going-done : c ≤ k → Listed rows₀ n₀ marks₀ s p c rows marks n
-  going-done h = let e : k ≡ c = omega (arith, v .inside) in record { done = λ text old D b t a. v .law text old D b (rw (sym e) at t) a; few = rw e at (v .few) }
+  going-done h = let e : k ≡ c = omega (arith, v .inside) in record { done = λ text old D b t a. v .law text old D b (rw (sym e) at t) a; few = rw e at (v .few); beyond = v .beyond }
 
   module _ (room : 3 * n₀ + 3 * rowsTo s c ≤ length rows₀) (h : k < c) where
     pub going-room : 3 * n + 3 * getD s (6 * k + 5) 0 ≤ length rows
@@ -132,6 +141,7 @@ pub listed-all : {rows marks s p : List ℕ} {c : ℕ} {numbered out marked : Li
 listed-all {rows} {marks} g e w = let l : 3 * length marks ≤ length rows = omega (arith, g .room .words) in record {
   done = λ text old D f t a. w .done text old D (rw e (begin-holds text old rows (length marks) f (rows-many text (length marks) rows old l f))) t a;
   few = w .few;
+  beyond = w .beyond;
 }
 
 module _ (rows marks s p : List ℕ) where
@@ -142,6 +152,7 @@ module _ (rows marks s p : List ℕ) where
     verdict = λ text. go text (bool? (judgedBy text rows (length marks) s p (length s / 6)));
     refused = λ z. (refl, refl);
     within = λ n z. let w : _≡_ {A = ℕ} 0 1 = cc in absurd (omega arith);
+    beyond = λ n z. refl;
     done = λ n z. let w : _≡_ {A = ℕ} 0 1 = cc in absurd (omega arith);
   }
     where
@@ -156,6 +167,7 @@ module _ (rows marks s p : List ℕ) where
       verdict = λ text. sym z ∙ J .says text;
       refused = λ y. (refl, refl);
       within = λ n y. let w : _≡_ {A = ℕ} 0 1 = cc in absurd (omega arith);
+      beyond = λ n y. refl;
       done = λ n y. let w : _≡_ {A = ℕ} 0 1 = cc in absurd (omega arith);
     }
 
@@ -171,6 +183,7 @@ module _ (rows marks s p : List ℕ) where
           verdict = λ text. sym z ∙ J .says text;
           refused = λ y. let u : _≡_ {A = ℕ} 0 1 = cc in absurd (omega arith);
           within = λ n y. let e : r ≡ n = cc (y) in omega (arith, w .few, g .room .words);
+          beyond = λ n y. w .beyond;
           done = λ n y text old D f t.
               let e : r ≡ n = cc (y) in
               let a = judged-apart text old rows (length marks) s p D long f t (sym (J .says text) ∙ z) in

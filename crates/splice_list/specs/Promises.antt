@@ -4,7 +4,7 @@ use mathlib.Core.Path.{_≡_}
 use mathlib.Core.Bool.{Bool, true, false}
 use mathlib.Core.List.{List, map}
 use Prim.Native.Nat.{ℕ, _+_, _*_, _/_, _≤_}
-use lib.ListN.{length}
+use lib.ListN.{length, drop}
 use Rattle.orders.specs.Lists.{All}
 use Rattle.orders.specs.Tree.{Tree}
 use Rattle.orders.specs.Splices.{Splice, begin, oneGo, AllApart}
@@ -21,6 +21,7 @@ use Rattle.splice_list.specs.declared.Outcome.the-variants.{Refused, Don
 pub record Listed (rows : List ℕ) (n : ℕ) (marks splices prepared : List ℕ) (c : ℕ) (out marked : List ℕ) (r : ℕ) : Type 0 where
   pub done : (text : List ℕ) (old : Tree ℕ) (D : List (Splice ℕ)) → Holds text old (begin old) rows n marks → Told text old splices prepared c D → AllApart old D → Holds text old (stateOf old D) out r marked
   pub few : r ≤ n + rowsTo splices c
+  pub beyond : drop (3 * (n + rowsTo splices c)) out ≡ drop (3 * (n + rowsTo splices c)) rows
 
 -- the words of the first c splices are in bounds, where the old tree has a row for each mark, and there is room
 pub record Good (rows marks splices prepared : List ℕ) (c : ℕ) : Type 0 where
@@ -31,6 +32,7 @@ pub record Good (rows marks splices prepared : List ℕ) (c : ℕ) : Type 0 wher
 pub record ListedAll (rows marks splices prepared : List ℕ) (c : ℕ) (out marked : List ℕ) (r : ℕ) : Type 0 where
   pub done : (text : List ℕ) (old : Tree ℕ) (D : List (Splice ℕ)) → firstRows text (length marks) rows ≡ rowsOf old → Told text old splices prepared c D → AllApart old D → Holds text old (stateOf old D) out r marked
   pub few : r ≤ length marks + rowsTo splices c
+  pub beyond : drop (3 * (length marks + rowsTo splices c)) out ≡ drop (3 * (length marks + rowsTo splices c)) rows
 
 -- done, and not refused
 unfoldable pub isDone : Outcome → Bool
@@ -45,6 +47,8 @@ pub record Spliced (rows marks splices prepared out marked : List ℕ) (r : Outc
   pub refused : r ≡ Refused → (out ≡ rows) × (marked ≡ marks)
   -- done: the rows are all there
   pub within : (n : ℕ) → r ≡ Done n → 3 * n ≤ length out
+  -- beyond all that come in nothing is written; between these and the rows that are left stand words of earlier steps, and they are left free
+  pub beyond : (n : ℕ) → r ≡ Done n → drop (3 * (length marks + rowsTo splices (length splices / 6))) out ≡ drop (3 * (length marks + rowsTo splices (length splices / 6))) rows
   -- and where the words tell a list of splices of a tree, that list is apart, the rows are those of the one-go tree, and the marks the rows of the law's paths
   pub done : (n : ℕ) → r ≡ Done n → (text : List ℕ) (old : Tree ℕ) (D : List (Splice ℕ)) → firstRows text (length marks) rows ≡ rowsOf old → Listing text old splices prepared D
       → AllApart old D × (n ≡ size (oneGo D old)) × (firstRows text n out ≡ rowsOf (oneGo D old)) × (marked ≡ map (λ e. markOf (oneGo D old) (oneGoPath D e)) (paths old))

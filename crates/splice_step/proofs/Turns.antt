@@ -214,6 +214,7 @@ module _ (s p : List ℕ) (i : ℕ) {a m : ℕ} (bound : 3 * getD s (6 * i + 4) 
       record {
         step = λ text old now z run d t f. step-holds d (w .sited) z run f t (y .told text) (y .moved);
         few = omega (arith, y .count, part-long s p i bound);
+        beyond = y .beyond;
         below = y .below;
       }
 
@@ -236,6 +237,7 @@ module _ (rows : List ℕ) (n : ℕ) (marks s p : List ℕ) (i : ℕ) (g : Gap) 
   unstepped e q a = record {
     step = λ text old now z run d t f. bool-absurd (takes-always text old now z run d t f) (sym e ∙ q);
     few = omega arith;
+    beyond = refl;
     below = a;
   }
 

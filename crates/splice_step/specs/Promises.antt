@@ -4,7 +4,7 @@ use mathlib.Core.Path.{_≡_}
 use mathlib.Core.Bool.{Bool, _&&_, _||_}
 use mathlib.Core.List.{List, _∷_}
 use Prim.Native.Nat.{ℕ, suc, _+_, _-_, _*_, _^_, _≤_, _<_}
-use lib.ListN.{getD}
+use lib.ListN.{getD, drop}
 use lib.Dec.{leb, ltb, eqb}
 use Rattle.orders.specs.Lists.{All, total}
 use Rattle.orders.specs.Tree.{Tree, Run}
@@ -69,4 +69,5 @@ pub record Stepped (rows : List ℕ) (n : ℕ) (marks splices prepared : List �
   pub step : (text : List ℕ) (old : Tree ℕ) (now : State ℕ) (s : Splice ℕ) (run : Run)
       → Holds text old now rows n marks → Told text old splices prepared (suc i) (s ∷ now .done) → Due now s run → Holds text old (perform s now) out r marked
   pub few : r ≤ n + getD splices (6 * i + 5) 0
+  pub beyond : drop (3 * r) out ≡ drop (3 * r) rows
   pub below : All (λ x. x < r) marked
