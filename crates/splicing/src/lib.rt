@@ -1,16 +1,26 @@
 // One splice of what is held: rows, marks, notes and changed rows move together; and whether it makes too much, told before anything is written.
 ghost use mathlib.Core.Path.{_≡_};
-ghost use Prim.Native.Nat.{_+_, _-_, _*_, _%_, _/_, _^_, _≤_, _<_};
+ghost use mathlib.Core.Bool.{cond};
+ghost use mathlib.Core.List.{List};
+ghost use Prim.Native.Nat.{ℕ, _+_, _-_, _*_, _%_, _/_, _^_, _≤_, _<_};
 ghost use lib.ListN.{length, getD, take};
 ghost use Rattle.orders.specs.Lists.{All, pick};
 ghost use Rattle.annotations.specs.Notes.{notesOf};
 ghost use Rattle.annotations.specs.Promises.{movedNote};
 ghost use Rattle.splicing.specs.Promises.{SplicedMarks, Left, NotesLeft, NotesSpliced, Recorded, ChangedSpliced};
+ghost use Rattle.rows.specs.Row.{firstRows, bytes as bytesOf};
+ghost use Rattle.splicing.specs.Store.{Open, Coming, StoreSpliced};
+ghost use Rattle.splicing.specs.Sizes.{BytesBetween, StepSize};
+ghost use Rattle.splicing.specs.Applied.{Applied};
 use annotations::add_changed;
 use annotations::move_changed;
 use annotations::move_notes;
+use syntax_node::height;
 use syntax_node::shift_marks;
 use syntax_node::splice_rows;
+use syntax_node::text_bytes;
+use tree_store::Gap;
+use tree_store::too_large;
 use words::copy_in;
 use words::word;
 
@@ -93,7 +103,7 @@ fn splice_notes(
 
 // The rows at which parts of some sizes come to stand, the first at `at`, go behind the first `k` changed rows if the change records. The new number of changed rows.
 fn record_changed(changed: &mut [u32], k: usize, at: usize, recorded: bool, sizes: &[u32]) -> usize
-    requires { ⌜ (k + length (now sizes) ≤ length (now changed)) × (at < 2 ^ 16) × (length (now sizes) < 2 ^ 12) × All (λ x. x < 2 ^ 16) (now sizes) ⌝ }
+    requires { ⌜ (k + cond recorded (length (now sizes)) 0 ≤ length (now changed)) × (at < 2 ^ 16) × (length (now sizes) < 2 ^ 12) × All (λ x. x < 2 ^ 16) (now sizes) ⌝ }
     ensures { λ r. ⌜ Recorded (now (changed .entry)) k at recorded (now (sizes .entry)) (now (changed .exit)) r ⌝ }
 {
     if recorded {
@@ -113,9 +123,160 @@ fn splice_changed(
     sizes: &[u32],
 ) -> usize
     requires { ⌜ (p ≤ q) × (q < 2 ^ 16) × (m < 2 ^ 16) × All (λ x. x < 2 ^ 16) (take k (now changed)) ⌝ }
-    requires { ⌜ (k + length (now sizes) ≤ length (now changed)) × (length (now sizes) < 2 ^ 12) × All (λ x. x < 2 ^ 16) (now sizes) ⌝ }
+    requires { ⌜ (k + cond recorded (length (now sizes)) 0 ≤ length (now changed)) × (length (now sizes) < 2 ^ 12) × All (λ x. x < 2 ^ 16) (now sizes) ⌝ }
     ensures { λ r. ⌜ ChangedSpliced (now (changed .entry)) k p q m recorded (now (sizes .entry)) (now (changed .exit)) r ⌝ }
 {
     let r = move_changed(changed, k, p, q, m);
     record_changed(changed, r, p, recorded, sizes)
+}
+
+// ── All that is held ──
+
+// How much is held: rows, their text bytes, notes, changed rows.
+pub struct TreeState {
+    pub rows: usize,
+    pub bytes: usize,
+    pub notes: usize,
+    pub changed: usize,
+}
+
+// The rows of the gap give way to a run of parts of these sizes, with `c` notes that come in; what is held then has `bytes` text bytes.
+fn splice_store(
+    rows: &mut [u32],
+    marks: &mut [u32],
+    notes: &mut [u32],
+    changed: &mut [u32],
+    s: TreeState,
+    g: Gap,
+    recorded: bool,
+    run: &[u32],
+    sizes: &[u32],
+    incoming: &[u32],
+    c: usize,
+    bytes: usize,
+) -> TreeState
+    requires { ⌜ Open s (now rows) (now marks) (now notes) (now changed) g recorded (length (now sizes)) ⌝ }
+    requires { ⌜ Coming (now run) (now sizes) (now incoming) c ⌝ }
+    requires { ⌜ (3 * (s .rows - (g .to - g .from)) + length (now run) ≤ length (now rows)) × (3 * (length (pick (movedNote (g .from) (g .to) (length (now run) / 3)) (notesOf (s .notes) (now notes))) + c) ≤ length (now notes)) ⌝ }
+    ensures { λ r. ⌜ StoreSpliced s (now (rows .entry)) (now (marks .entry)) (now (notes .entry)) (now (changed .entry)) g recorded (now (run .entry)) (now (sizes .entry)) (now (incoming .entry)) c bytes (now (rows .exit)) (now (marks .exit)) (now (notes .exit)) (now (changed .exit)) r ⌝ }
+{
+    let p = g.from;
+    let q = g.to;
+    let m = run.len() / 3;
+    let r = splice(
+        rows,
+        s.rows,
+        marks,
+        g.parent,
+        p,
+        q,
+        g.lost,
+        run,
+        sizes.len(),
+    );
+    let k = splice_notes(notes, s.notes, p, q, m, incoming, c);
+    let l = splice_changed(changed, s.changed, p, q, m, recorded, sizes);
+    TreeState {
+        rows: r,
+        bytes,
+        notes: k,
+        changed: l,
+    }
+}
+
+// ── Refusal 12 ──
+
+// The text bytes of the rows `p` up to `q`.
+fn bytes_between(rows: &[u32], n: usize, p: usize, q: usize) -> usize
+    requires { ⌜ (3 * n ≤ length (now rows)) × (n < 2 ^ 16) × (p ≤ q) × (q ≤ n) ⌝ }
+    ensures { λ r. ⌜ BytesBetween (now (rows .entry)) n p q r ⌝ }
+{
+    let from = 3 * p;
+    let to = 3 * q;
+    text_bytes(&rows[from..to])
+}
+
+// What a step makes is too large, or has so many text bytes.
+pub enum Size {
+    TooLarge,
+    Fits(usize),
+}
+
+// How large a step makes what is held, told before it: the gap gives way to the run below a node at depth `above`, and `c` notes come in.
+fn step_size(
+    rows: &[u32],
+    notes: &[u32],
+    s: TreeState,
+    g: Gap,
+    run: &[u32],
+    c: usize,
+    above: usize,
+) -> Size
+    requires { ⌜ (3 * s .rows ≤ length (now rows)) × (s .rows ≤ 4097) × (g .from ≤ g .to) × (g .to ≤ s .rows) ⌝ }
+    requires { ⌜ (3 * s .notes ≤ length (now notes)) × (s .notes ≤ 1024) × (length (now run) ≤ 12288) × (c ≤ 1024) × (above ≤ 64) ⌝ }
+    requires { ⌜ (s .bytes ≤ 16384) × ((text : List ℕ) → s .bytes ≡ bytesOf (firstRows text (s .rows) (now rows))) ⌝ }
+    ensures { λ r. ⌜ StepSize (now (rows .entry)) (now (notes .entry)) s g (now (run .entry)) c above r ⌝ }
+{
+    let p = g.from;
+    let q = g.to;
+    let lost = bytes_between(rows, s.rows, p, q);
+    let left = notes_left(notes, s.notes, p, q);
+    let bytes = s.bytes + text_bytes(run) - lost;
+    let n = s.rows - (q - p) + run.len() / 3;
+    if too_large(n, bytes, left + c, above + height(run)) {
+        return Size::TooLarge;
+    }
+    Size::Fits(bytes)
+}
+
+// ── One step, where its gap and its parts are known ──
+
+// A refusal by its number, or how much is held at the end.
+pub enum Executed {
+    Refused(usize),
+    Done(TreeState),
+}
+
+// The gap below a node at depth `above` gives way to what comes in: 12 before anything is written, or what is held then.
+pub fn apply(
+    rows: &mut [u32],
+    marks: &mut [u32],
+    notes: &mut [u32],
+    changed: &mut [u32],
+    s: TreeState,
+    g: Gap,
+    above: usize,
+    recorded: bool,
+    run: &[u32],
+    sizes: &[u32],
+    incoming: &[u32],
+    c: usize,
+) -> Executed
+    requires { ⌜ Open s (now rows) (now marks) (now notes) (now changed) g recorded (length (now sizes)) ⌝ }
+    requires { ⌜ Coming (now run) (now sizes) (now incoming) c ⌝ }
+    requires { ⌜ (12291 ≤ length (now rows)) × (3072 ≤ length (now notes)) × (above ≤ 64) ⌝ }
+    requires { ⌜ (s .bytes ≤ 16384) × ((text : List ℕ) → s .bytes ≡ bytesOf (firstRows text (s .rows) (now rows))) ⌝ }
+    ensures { λ r. ⌜ Applied s (now (rows .entry)) (now (marks .entry)) (now (notes .entry)) (now (changed .entry)) g above recorded (now (run .entry)) (now (sizes .entry)) (now (incoming .entry)) c (now (rows .exit)) (now (marks .exit)) (now (notes .exit)) (now (changed .exit)) r ⌝ }
+{
+    let size = step_size(rows, notes, s, g, run, c, above);
+    match size {
+        Size::TooLarge => Executed::Refused(12),
+        Size::Fits(bytes) => {
+            let t = splice_store(
+                rows,
+                marks,
+                notes,
+                changed,
+                s,
+                g,
+                recorded,
+                run,
+                sizes,
+                incoming,
+                c,
+                bytes,
+            );
+            Executed::Done(t)
+        }
+    }
 }

@@ -1,12 +1,12 @@
 -- `record_changed` meets its contract.
 -- Assumes nothing.
 use borrow.Author.Needs.{needs}
-use Rattle.splicing.proofs.Turns.{recorded-all, recorded-none}
+use Rattle.splicing.proofs.Turns.{recorded-all, recorded-none, room-recorded}
 use Rattle.splicing.proofs.record_changed.Statement.{statement}
 use Rattle.splicing.proofs.record_changed.Tie as tie
 
 add-changed-requires : tie.Need-add-changed-requires
-add-changed-requires c κs = search needs
+add-changed-requires c κs = search (room-recorded, needs)
 
 same-length : tie.Need-same-length
 same-length c = search needs
