@@ -59,7 +59,7 @@ module _ {A : Type 0} where
 -- ── It is right ─────────────────────────────────────────────────────────────────────────────────────────────
 
 -- b says just whether P
-abbrev Says : Bool → Type 0 → Type 0
+abbrev pub Says : Bool → Type 0 → Type 0
 Says b P = (b ≡ true) ↔ P
 
 says-both : {P Q : Type 0} (a b : Bool) → Says a P → Says b Q → Says (a && b) (P × Q)
@@ -88,7 +88,7 @@ unfolding pairs
 says-pairs p R k [] = (λ e. tt, λ h. refl)
 says-pairs p R k (x ∷ l) = says-both (each (p x) l) (pairs p l) (says-each (p x) (R x) (k x) l) (says-pairs p R k l)
 
-says-same : (p q : Path) → Says (samePath p q) (p ≡ q)
+pub says-same : (p q : Path) → Says (samePath p q) (p ≡ q)
 unfolding samePath
 says-same [] [] = (λ e. refl, λ z. refl)
 says-same [] (j ∷ q) = (λ e. bool-absurd e refl, λ z. absurd (nil≢cons z))
@@ -111,7 +111,7 @@ module _ {A : Type 0} where
         λ h. r .1 (head-eq-of-cons-eq (h .leads), record { child = h .child; rest = h .rest; leads = tail-eq-of-cons-eq (h .leads); low = h .low; high = h .high }),
       )
 
-  says-run : (old : Tree A) (p : Path) (a b : ℕ) → Says (run? a b (resolve p old)) (HasRun old p a b)
+  pub says-run : (old : Tree A) (p : Path) (a b : ℕ) → Says (run? a b (resolve p old)) (HasRun old p a b)
   unfolding run?
   says-run old p a b = go (resolve p old) refl
     where

@@ -1,0 +1,3 @@
+-- What the functions on a list of splices promise, and what follows for two orders.
+pub mod Promises
+pub mod TwoOrders

@@ -1,0 +1,82 @@
+// A list of splices, done in the order given on the rows and marks of one old tree. Six words a splice: number, row of its parent in the old tree, from, to,
+// where its prepared rows start, how many they are. The mark of an old element is the row where it stands now.
+ghost use mathlib.Core.Path.{_≡_};
+ghost use Prim.Native.Nat.{_+_, _*_, _^_, _≤_, _<_};
+ghost use lib.ListN.{length};
+ghost use Rattle.orders.specs.Lists.{All};
+ghost use Rattle.splice_list.specs.Promises.{Listed, Good, ListedAll, Spliced};
+ghost use Rattle.splice_model.specs.Bounds.{BoundedAll, rowsTo};
+ghost use Rattle.splice_model.specs.Places.{upFrom};
+use splice_check::judged;
+use splice_step::splice_once;
+
+// The first `c` splices, from the first to the last. The new number of rows.
+fn splice_each(
+    rows: &mut [u32],
+    n: usize,
+    marks: &mut [u32],
+    splices: &[u32],
+    prepared: &[u32],
+    c: usize,
+) -> usize
+    requires { ⌜ (3 * n + 3 * rowsTo (now splices) c ≤ length (now rows)) × (n + rowsTo (now splices) c < 2 ^ 16) × All (λ m. m < n) (now marks) ⌝ }
+    requires { ⌜ (length (now marks) < 2 ^ 16) × (c < 2 ^ 15) × (length (now prepared) < 3 * 2 ^ 16) × BoundedAll (length (now marks)) (now splices) (now prepared) c ⌝ }
+    ensures { λ r. ⌜ Listed (now (rows .entry)) n (now (marks .entry)) (now (splices .entry)) (now (prepared .entry)) c (now (rows .exit)) (now (marks .exit)) r ⌝ }
+{
+    let mut m = n;
+    let mut k = 0;
+    while k < c {
+        m = splice_once(rows, m, marks, splices, prepared, k);
+        k += 1;
+    }
+    m
+}
+
+// Each old element stands at its own row.
+fn number_marks(marks: &mut [u32])
+    requires { ⌜ length (now marks) < 2 ^ 16 ⌝ }
+    ensures { λ _. ⌜ now (marks .exit) ≡ upFrom 0 (length (now (marks .entry))) ⌝ }
+{
+    let mut i = 0;
+    while i < marks.len() {
+        marks[i] = i as u32;
+        i += 1;
+    }
+}
+
+// A list that is judged well, from the old tree on. The new number of rows.
+fn splice_list(
+    rows: &mut [u32],
+    marks: &mut [u32],
+    splices: &[u32],
+    prepared: &[u32],
+    c: usize,
+) -> usize
+    requires { ⌜ Good (now rows) (now marks) (now splices) (now prepared) c ⌝ }
+    ensures { λ r. ⌜ ListedAll (now (rows .entry)) (now (marks .entry)) (now (splices .entry)) (now (prepared .entry)) c (now (rows .exit)) (now (marks .exit)) r ⌝ }
+{
+    let e = marks.len();
+    number_marks(marks);
+    splice_each(rows, e, marks, splices, prepared, c)
+}
+
+pub enum Outcome {
+    Refused,
+    Done(usize),
+}
+
+// All splices of the list, in the order given, on the old tree that the first rows tell, one row for each mark: refused with nothing changed if the list does
+// not fit the tree or is not apart, or if there is no room; else the new number of rows.
+pub fn splice_all(rows: &mut [u32], marks: &mut [u32], splices: &[u32], prepared: &[u32]) -> Outcome
+    ensures { λ r. ⌜ Spliced (now (rows .entry)) (now (marks .entry)) (now (splices .entry)) (now (prepared .entry)) (now (rows .exit)) (now (marks .exit)) r ⌝ }
+{
+    let e = marks.len();
+    if 65536 <= e {
+        return Outcome::Refused;
+    }
+    let c = splices.len() / 6;
+    if judged(rows, e, splices, prepared, c) {
+        return Outcome::Done(splice_list(rows, marks, splices, prepared, c));
+    }
+    Outcome::Refused
+}

@@ -1,0 +1,362 @@
+-- Whether a list of splices in words fits the old tree and is apart, told in rows; and the law that this is so just where `orders` says so.
+-- Assumes nothing.
+use mathlib.Core.Path.{_≡_, refl, sym, ap, _∙_}
+use mathlib.Core.Bool.{Bool, true, false, cond, not, _&&_}
+use mathlib.Core.List.{List, [], _∷_, _++_, map, append-assoc, append-nil, List·Permᴰ}
+use mathlib.Core.Logic.{_⊎_, inl, inr, _↔_}
+use mathlib.Core.Option.{Option, none, some, Option·map}
+use Prim.Native.Nat.{ℕ, zero, suc, _+_, _-_, _*_, _/_, _%_, _^_, _≤_, _<_}
+use native.Mathlib.Omega.{arith}
+use native.Mathlib.Nat.{add-zero, add-comm, zero-add, suc-add}
+use lib.ListN.{length, take, drop, getD, getElem?}
+use lib.Dec.{leb, ltb, eqb}
+use borrow.Author.Tests.{leb-true, ltb-true, eqb-true, lt-ltb, le-ltb, le-leb, lt-leb, eq-eqb}
+use Rattle.orders.specs.Lists.{All, total}
+use Rattle.orders.specs.ListLaws.{bool?, bool-absurd, both-true, lt-or-le, total-perm, Zone, before, inside, after, zone?}
+use Rattle.orders.specs.Tree.{Tree, Trees, node, token, nil, cons, list, Path, resolve, adjust, shift, splice, HasRun}
+use Rattle.orders.specs.TreeLaws.{adjust-shift, shift-before, shift-inside, shift-after}
+use Rattle.orders.specs.Splices.{Splice, samePath, AllApart, Fits}
+use Rattle.orders.specs.Check.{each, pairs, enters?, run?, fits?, apart?, allApart?, says-all-apart, says-run}
+use Rattle.rows.specs.Row.{Row, owes, rowsOf, rowsIn, rowsAll, triples, firstRows, treesIn}
+use Rattle.rows.specs.Place.{size, sizeAll, place, childRow}
+use Rattle.rows.specs.RowLaws.{children-few, trees-count}
+use Rattle.rows.specs.PlaceLaws.{child-at, place-lt, place-bound}
+use Rattle.rows.specs.Moves.{adjust-place}
+use Rattle.rows.specs.Words.{node-at, token-at, rows-many, length-triples}
+use Rattle.splice_model.specs.Cuts.{Cut, cutOf, cutAt, cutsTo, partAt, Stands, Told}
+use Rattle.splice_model.specs.Step.{First, told-first, told-before, same-place}
+use Rattle.splice_model.specs.Bounds.{Bounded, BoundedAll, rowsTo, part-long}
+
+-- ── Rows that spell trees ───────────────────────────────────────────────────────────────────────────────────
+
+-- the elements still owed behind rows, where so many are owed before them
+unfoldable pub owed : ℕ → List Row → ℕ
+owed o [] = o
+owed zero (r ∷ rs) = owed (owes r) rs
+owed (suc o) (r ∷ rs) = owed (o + owes r) rs
+
+-- whole trees: nothing is owed behind them
+unfoldable pub closed : List Row → Bool
+closed rs = eqb (owed 0 rs) 0
+
+-- one whole tree
+unfoldable pub treeRows : List Row → Bool
+treeRows rs = closed rs && eqb (treesIn rs) 1
+
+-- ── One splice ──────────────────────────────────────────────────────────────────────────────────────────────
+
+-- the words of splice j are in bounds, where the old tree has E rows
+unfoldable pub boundedAt : ℕ → List ℕ → List ℕ → ℕ → Bool
+boundedAt E splices prepared j =
+    ltb (getD splices (6 * j + 1) 0) E
+    && (leb (getD splices (6 * j + 2) 0) (getD splices (6 * j + 3) 0)
+    && (leb (getD splices (6 * j + 3) 0) E && leb (3 * getD splices (6 * j + 4) 0 + 3 * getD splices (6 * j + 5) 0) (length prepared)))
+
+-- its parent is a node with so many children
+unfoldable pub hasRunAt : List ℕ → List ℕ → ℕ → Bool
+hasRunAt rows splices j = leb 2147483648 (getD rows (3 * getD splices (6 * j + 1) 0) 0) && leb (getD splices (6 * j + 3) 0) (getD rows (3 * getD splices (6 * j + 1) 0 + 1) 0)
+
+-- splice j fits the old tree, and its prepared rows spell trees
+unfoldable pub fitAt : List ℕ → List ℕ → ℕ → List ℕ → List ℕ → ℕ → Bool
+fitAt text rows E splices prepared j = boundedAt E splices prepared j && (hasRunAt rows splices j && closed (triples text (partAt splices prepared j)))
+
+-- each of the first k does
+unfoldable pub fitsTo : List ℕ → List ℕ → ℕ → List ℕ → List ℕ → ℕ → Bool
+fitsTo text rows E splices prepared zero = true
+fitsTo text rows E splices prepared (suc k) = fitAt text rows E splices prepared k && fitsTo text rows E splices prepared k
+
+-- the first E rows are those of a tree, and the first c splices fit it
+unfoldable pub fitsTree : List ℕ → List ℕ → ℕ → List ℕ → List ℕ → ℕ → Bool
+fitsTree text rows E splices prepared c = treeRows (firstRows text E rows) && fitsTo text rows E splices prepared c
+
+-- ── Two splices ─────────────────────────────────────────────────────────────────────────────────────────────
+
+-- the row x is one of those that s deletes
+unfoldable pub entersCut : List Row → Cut → ℕ → Bool
+entersCut rs s x = leb (childRow rs (s .parent) (s .from)) x && ltb x (childRow rs (s .parent) (s .to))
+
+-- two runs in one parent overlap
+unfoldable pub overlapCut : Cut → Cut → Bool
+overlapCut s t = eqb (s .parent) (t .parent) && (ltb (s .from) (t .to) && ltb (t .from) (s .to))
+
+-- two splices of the old tree, whose rows are rs, are apart
+unfoldable pub apartCut : List Row → Cut → Cut → Bool
+apartCut rs s t = not (eqb (s .number) (t .number)) && (not (entersCut rs s (t .parent)) && (not (entersCut rs t (s .parent)) && not (overlapCut s t)))
+
+-- ── The list ────────────────────────────────────────────────────────────────────────────────────────────────
+
+-- the slices have room: so many rows at first, so many that come, so many words for them
+unfoldable pub roomy : ℕ → ℕ → List ℕ → List ℕ → ℕ → Bool
+roomy long E splices prepared c =
+    eqb (length splices) (6 * c) && (ltb c (2 ^ 15) && (ltb (length prepared) (3 * 2 ^ 16) && (leb (3 * E + 3 * rowsTo splices c) long && ltb (E + rowsTo splices c) (2 ^ 16))))
+
+-- what that says
+pub record Room (long E : ℕ) (splices prepared : List ℕ) (c : ℕ) : Type 0 where
+  pub whole : length splices ≡ 6 * c
+  pub few : c < 2 ^ 15
+  pub short : length prepared < 3 * 2 ^ 16
+  pub words : 3 * E + 3 * rowsTo splices c ≤ long
+  pub rows : E + rowsTo splices c < 2 ^ 16
+
+pub room-is : (long E : ℕ) (splices prepared : List ℕ) (c : ℕ) → roomy long E splices prepared c ≡ true → Room long E splices prepared c
+unfolding roomy
+room-is long E splices prepared c t =
+    let x = both-true _ _ t in
+    let y = both-true _ _ (x .1) in
+    let z = both-true _ _ (y .1) in
+    let w = both-true _ _ (z .1) in
+    record { whole = eqb-true _ _ (x .0); few = ltb-true _ _ (y .0); short = ltb-true _ _ (z .0); words = leb-true _ _ (w .0); rows = ltb-true _ _ (w .1) }
+
+-- the list fits the old tree and is apart, and there is room
+unfoldable pub judgedBy : List ℕ → List ℕ → ℕ → List ℕ → List ℕ → ℕ → Bool
+judgedBy text rows E splices prepared c =
+    roomy (length rows) E splices prepared c && (fitsTree text rows E splices prepared c && pairs (apartCut (firstRows text E rows)) (cutsTo text splices prepared c))
+
+-- ── Rows of trees are closed ────────────────────────────────────────────────────────────────────────────────
+
+mutual
+  unfolding list owed
+
+  owed-tree : (t : Tree ℕ) (o : ℕ) (r : List Row) → owed (suc o) (rowsOf t ++ r) ≡ owed o r
+  owed-tree (token k x) o r = rw (add-zero o)
+  owed-tree (node k cs) o r = ap (λ n. owed n (rowsIn cs ++ r)) (add-comm o (length (list cs))) ∙ owed-trees cs o r
+
+  owed-trees : (cs : Trees ℕ) (o : ℕ) (r : List Row) → owed (length (list cs) + o) (rowsIn cs ++ r) ≡ owed o r
+  owed-trees nil o r = rw zero-add
+  owed-trees (cons t ts) o r = rw (suc-add (length (list ts)) o, append-assoc) (owed-tree t (length (list ts) + o) (rowsIn ts ++ r) ∙ owed-trees ts o r)
+
+owed-one : (t : Tree ℕ) (r : List Row) → owed 0 (rowsOf t ++ r) ≡ owed 0 r
+unfolding owed
+owed-one (token k x) r = refl
+owed-one (node k cs) r = ap (λ n. owed n (rowsIn cs ++ r)) (sym (add-zero (length (list cs)))) ∙ owed-trees cs 0 r
+
+owed-none : (ts : List (Tree ℕ)) → owed 0 (rowsAll ts) ≡ 0
+unfolding owed
+owed-none [] = refl
+owed-none (t ∷ ts) = owed-one t (rowsAll ts) ∙ owed-none ts
+
+pub trees-closed : (ts : List (Tree ℕ)) → closed (rowsAll ts) ≡ true
+unfolding closed
+trees-closed ts = eq-eqb (owed 0 (rowsAll ts)) 0 (owed-none ts)
+
+pub tree-closed : (t : Tree ℕ) → treeRows (rowsOf t) ≡ true
+unfolding treeRows
+tree-closed t =
+    let one : rowsOf t ++ [] ≡ rowsOf t = append-nil (rowsOf t) in
+    let c : closed (rowsOf t) ≡ true = rw one at (trees-closed (t ∷ [])) in
+    rw c (eq-eqb (treesIn (rowsOf t)) 1 (rw one at (trees-count (t ∷ []))))
+
+-- ── A path enters a deleted child just where its row is one of those deleted ────────────────────────────────
+
+gone : {X : Type 0} → Option X → Bool
+gone none = true
+gone (some x) = false
+
+gone-map : {X Y : Type 0} (f : X → Y) (o : Option X) → gone (Option·map f o) ≡ gone o
+unfolding gone
+gone-map f none = refl
+gone-map f (some x) = refl
+
+gone-shift : (a b n i : ℕ) → gone (shift a b n i) ≡ (leb a i && ltb i b)
+unfolding gone
+gone-shift a b n i = elim (zone? i a b) [
+  | before h ↦ rw (shift-before a b n i h, lt-leb a i h)
+  | inside h k ↦ rw (shift-inside a b n i h k, le-leb a i h, lt-ltb i b k)
+  | after h k ↦ rw (shift-after a b n i h k, le-leb a i h, le-ltb i b k)
+]
+
+gone-adjust : (p : Path) (a b n : ℕ) (e : Path) → gone (adjust p a b n e) ≡ enters? p a b e
+unfolding gone adjust enters?
+gone-adjust [] a b n [] = refl
+gone-adjust [] a b n (i ∷ e) = ap gone (adjust-shift a b n i e) ∙ (gone-map (λ j. j ∷ e) (shift a b n i) ∙ gone-shift a b n i)
+gone-adjust (j ∷ p) a b n [] = refl
+gone-adjust (j ∷ p) a b n (i ∷ e) = go (eqb i j) (gone-adjust p a b n e)
+  where
+    go : (c : Bool) → gone (adjust p a b n e) ≡ enters? p a b e → gone (cond c (Option·map (λ r. i ∷ r) (adjust p a b n e)) (some (i ∷ e))) ≡ (c && enters? p a b e)
+    go true z = gone-map (λ r. i ∷ r) (adjust p a b n e) ∙ z
+    go false z = refl
+
+pub enters-cut : (old : Tree ℕ) (s : Splice ℕ) (e : Path) (v : Tree ℕ) → Fits old s → resolve e old ≡ some v → entersCut (rowsOf old) (cutOf old s) (place e old) ≡ enters? (s .parent) (s .from) (s .to) e
+unfolding entersCut cutOf
+enters-cut old s e v h f =
+    let c = child-at (s .parent) old (h .kind) (h .children) (h .found) in
+    rw (← c (s .from) (omega (arith, h .ordered, h .within)), ← c (s .to) (h .within))
+    (sym (gone-shift (place (s .parent ++ (s .from ∷ [])) old) (place (s .parent ++ (s .to ∷ [])) old) 0 (place e old))
+    ∙ (ap gone (sym (adjust-place (s .parent) old (s .from) (s .to) [] e v h f)) ∙ (gone-map (λ r. place r (splice (s .parent) (s .from) (s .to) [] old)) (adjust (s .parent) (s .from) (s .to) 0 e) ∙ gone-adjust (s .parent) (s .from) (s .to) 0 e)))
+
+-- ── Two splices that fit are apart just where their rows say so ─────────────────────────────────────────────
+
+apart-cut : (old : Tree ℕ) (s t : Splice ℕ) → Fits old s → Fits old t → apartCut (rowsOf old) (cutOf old s) (cutOf old t) ≡ apart? s t
+unfolding apartCut apart? overlapCut cutOf
+apart-cut old s t h k =
+    rw (enters-cut old s (t .parent) (node (k .kind) (k .children)) h (k .found), enters-cut old t (s .parent) (node (h .kind) (h .children)) k (h .found), same-place old t s (node (k .kind) (k .children), k .found) (node (h .kind) (h .children), h .found))
+
+each-cut : (old : Tree ℕ) (s : Splice ℕ) (D : List (Splice ℕ)) → Fits old s → All (Fits old) D → each (apartCut (rowsOf old) (cutOf old s)) (map (cutOf old) D) ≡ each (apart? s) D
+unfolding each
+each-cut old s [] h k = refl
+each-cut old s (t ∷ D) h k = rw (apart-cut old s t h (k .0), each-cut old s D h (k .1))
+
+pairs-cut : (old : Tree ℕ) (D : List (Splice ℕ)) → All (Fits old) D → pairs (apartCut (rowsOf old)) (map (cutOf old) D) ≡ pairs apart? D
+unfolding pairs
+pairs-cut old [] h = refl
+pairs-cut old (s ∷ D) h = rw (each-cut old s D (h .0) (h .1), pairs-cut old D (h .1))
+
+-- ── A splice fits the old tree just where its words say so ──────────────────────────────────────────────────
+
+-- its prepared rows lie within the slice
+abbrev pub Placed : List ℕ → List ℕ → ℕ → Type 0
+Placed splices prepared k = (j : ℕ) → j < k → 3 * getD splices (6 * j + 4) 0 + 3 * getD splices (6 * j + 5) 0 ≤ length prepared
+
+and-true : (x : Bool) → (x && true) ≡ x
+and-true true = refl
+and-true false = refl
+
+and-false : (x : Bool) → (x && false) ≡ false
+and-false true = refl
+and-false false = refl
+
+node-fits : (P E a b x y K M : ℕ) (c : Bool) → P < E → x ≤ y → 2147483648 ≤ K → M ≤ E → c ≡ true → ((ltb P E && (leb a b && (leb b E && leb x y))) && ((leb 2147483648 K && leb b M) && c)) ≡ (leb a b && leb b M)
+node-fits P E a b x y K M c h k l m z = rw (lt-ltb P E h, le-leb x y k, le-leb 2147483648 K l, z) (go (lt-or-le M b))
+  where
+    go : (M < b) ⊎ (b ≤ M) → ((leb a b && (leb b E && true)) && (leb b M && true)) ≡ (leb a b && leb b M)
+    go (inl w) = rw (lt-leb b M w) (and-false (leb a b && (leb b E && true)) ∙ sym (and-false (leb a b)))
+    go (inr w) = rw (le-leb b M w, le-leb b E (omega arith)) (and-true (leb a b && true))
+
+token-fits : (X : Bool) (K : ℕ) (y c : Bool) → K < 2147483648 → (X && ((leb 2147483648 K && y) && c)) ≡ false
+token-fits X K y c h = rw (lt-leb 2147483648 K h) (and-false X)
+
+fits-all : (old : Tree ℕ) (l : List (Splice ℕ)) → each (fits? old) l ≡ true → All (Fits old) l
+unfolding each fits?
+fits-all old [] z = tt
+fits-all old (s ∷ l) z = let r = both-true _ _ z in (says-run old (s .parent) (s .from) (s .to) .0 (r .0), fits-all old l (r .1))
+
+module _ (text : List ℕ) (old : Tree ℕ) (rows : List ℕ) (E : ℕ) (splices prepared : List ℕ) (long : 3 * E ≤ length rows) (e : firstRows text E rows ≡ rowsOf old) where
+  fit-told : (j : ℕ) (s : Splice ℕ) (D : List (Splice ℕ)) → First text old splices prepared j s D → Stands old s → 3 * getD splices (6 * j + 4) 0 + 3 * getD splices (6 * j + 5) 0 ≤ length prepared
+      → fitAt text rows E splices prepared j ≡ fits? old s
+  unfolding fitAt boundedAt hasRunAt fits? run?
+  fit-told j s D f u b = go (u .0) (u .1)
+    where
+      P : ℕ
+      P = place (s .parent) old
+
+      row : getD splices (6 * j + 1) 0 ≡ P
+      row = unfold cutAt cutOf in ap (λ c. c .parent) (f .cut)
+
+      start : getD splices (6 * j + 2) 0 ≡ s .from
+      start = unfold cutAt cutOf in ap (λ c. c .from) (f .cut)
+
+      end : getD splices (6 * j + 3) 0 ≡ s .to
+      end = unfold cutAt cutOf in ap (λ c. c .to) (f .cut)
+
+      told : triples text (partAt splices prepared j) ≡ rowsAll (s .prepared)
+      told = unfold cutAt cutOf in ap (λ c. c .rows) (f .cut)
+
+      spelt : closed (triples text (partAt splices prepared j)) ≡ true
+      spelt = ap closed told ∙ trees-closed (s .prepared)
+
+      go : (v : Tree ℕ) → resolve (s .parent) old ≡ some v → fitAt text rows E splices prepared j ≡ run? (s .from) (s .to) (resolve (s .parent) old)
+      go (token k x) g =
+          let h : getD rows (3 * getD splices (6 * j + 1) 0) 0 < 2147483648 = rw row (token-at text E rows old long e (s .parent) k x g .0) in
+          rw g (token-fits (boundedAt E splices prepared j) (getD rows (3 * getD splices (6 * j + 1) 0) 0) (leb (getD splices (6 * j + 3) 0) (getD rows (3 * getD splices (6 * j + 1) 0 + 1) 0)) (closed (triples text (partAt splices prepared j))) h)
+      go (node k cs) g =
+          let w = node-at text E rows old long e (s .parent) k cs g in
+          let many = rows-many text E rows old long e in
+          rw (g, row, start, end, ← w .2)
+          (node-fits P E (s .from) (s .to) (3 * getD splices (6 * j + 4) 0 + 3 * getD splices (6 * j + 5) 0) (length prepared) (getD rows (3 * P) 0) (getD rows (3 * P + 1) 0) (closed (triples text (partAt splices prepared j))) (omega (arith, place-lt (s .parent) old (node k cs) g)) b (w .0) (omega (arith, w .2, children-few cs, place-bound (s .parent) old (node k cs) g)) spelt)
+
+  fits-told : (k : ℕ) (D : List (Splice ℕ)) → Told text old splices prepared k D → Placed splices prepared k → fitsTo text rows E splices prepared k ≡ each (fits? old) D
+  unfolding fitsTo each cutsTo
+  fits-told zero [] t b = refl
+  fits-told zero (s ∷ D) t b = let z : _≡_ {A = ℕ} 0 1 = cc (t .cuts) in absurd (omega arith)
+  fits-told (suc k) [] t b = let z : _≡_ {A = ℕ} 0 1 = cc (t .cuts) in absurd (omega arith)
+  fits-told (suc k) (s ∷ D) t b = rw (fit-told k s D (told-first t) (t .stand .0) (b k (omega arith)), fits-told k D (told-before t) (λ j h. b j (omega arith)))
+
+  -- THE VERDICT: a list that the words tell is judged to fit and to be apart just where it is
+  pub verdict-told : (c : ℕ) (D : List (Splice ℕ)) → Told text old splices prepared c D → Placed splices prepared c
+      → (fitsTree text rows E splices prepared c && pairs (apartCut (firstRows text E rows)) (cutsTo text splices prepared c)) ≡ allApart? old D
+  unfolding allApart? fitsTree
+  verdict-told c D t b = rw (fits-told c D t b, t .cuts, e, tree-closed old) (go (bool? (each (fits? old) D)))
+    where
+      go : (each (fits? old) D ≡ true) ⊎ (each (fits? old) D ≡ false) → (each (fits? old) D && pairs (apartCut (rowsOf old)) (map (cutOf old) D)) ≡ (each (fits? old) D && pairs apart? D)
+      go (inl z) = rw (pairs-cut old D (fits-all old D z))
+      go (inr z) = rw z
+
+-- ── What a good verdict says of the words ───────────────────────────────────────────────────────────────────
+
+pub bounded-is : (E : ℕ) (splices prepared : List ℕ) (j : ℕ) → boundedAt E splices prepared j ≡ true → 6 * j + 5 < length splices → Bounded E splices prepared j
+unfolding boundedAt
+bounded-is E splices prepared j t h =
+    let x = both-true _ _ t in
+    let y = both-true _ _ (x .1) in
+    let z = both-true _ _ (y .1) in
+    record { inside = h; parent = ltb-true _ _ (x .0); ordered = leb-true _ _ (y .0); within = leb-true _ _ (z .0); part = leb-true _ _ (z .1) }
+
+pub fits-each : (text rows : List ℕ) (e : ℕ) (s p : List ℕ) (c j : ℕ) → j < c → fitsTo text rows e s p c ≡ true → fitAt text rows e s p j ≡ true
+unfolding fitsTo
+fits-each text rows e s p zero j h z = absurd (omega arith)
+fits-each text rows e s p (suc c) j h z =
+    let x = both-true (fitAt text rows e s p c) (fitsTo text rows e s p c) z in
+    elim (lt-or-le j c) [ inl w ↦ fits-each text rows e s p c j w (x .1) | inr w ↦ let q : j ≡ c = omega arith in rw q (x .0) ]
+
+-- the words tell the list D, the last first, whole: six words for each, and each with its prepared rows in the slice
+pub record Listing (text : List ℕ) (old : Tree ℕ) (splices prepared : List ℕ) (D : List (Splice ℕ)) : Type 0 where
+  pub told : Told text old splices prepared (length splices / 6) D
+  pub placed : Placed splices prepared (length splices / 6)
+
+-- A list that the words tell is judged well just where there is room and it is apart.
+pub judged-told : (text : List ℕ) (old : Tree ℕ) (rows : List ℕ) (E : ℕ) (splices prepared : List ℕ) (D : List (Splice ℕ)) → 3 * E ≤ length rows → firstRows text E rows ≡ rowsOf old → Listing text old splices prepared D
+    → judgedBy text rows E splices prepared (length splices / 6) ≡ (roomy (length rows) E splices prepared (length splices / 6) && allApart? old D)
+unfolding judgedBy
+judged-told text old rows E splices prepared D long e l = rw (verdict-told text old rows E splices prepared long e (length splices / 6) D (l .told) (l .placed))
+
+-- where it is judged well, it is apart
+pub judged-apart : (text : List ℕ) (old : Tree ℕ) (rows : List ℕ) (E : ℕ) (splices prepared : List ℕ) (D : List (Splice ℕ)) → 3 * E ≤ length rows → firstRows text E rows ≡ rowsOf old → Listing text old splices prepared D
+    → judgedBy text rows E splices prepared (length splices / 6) ≡ true → AllApart old D
+judged-apart text old rows E splices prepared D long e l z =
+    says-all-apart old D .0 (both-true (roomy (length rows) E splices prepared (length splices / 6)) (allApart? old D) (sym (judged-told text old rows E splices prepared D long e l) ∙ z) .1)
+
+-- each splice that is judged to fit has its words in bounds
+pub judged-bounds : (text rows : List ℕ) (E : ℕ) (splices prepared : List ℕ) (c : ℕ) → judgedBy text rows E splices prepared c ≡ true → Room (length rows) E splices prepared c × BoundedAll E splices prepared c
+unfolding judgedBy fitsTree fitAt
+judged-bounds text rows E splices prepared c z =
+    let x = both-true (roomy (length rows) E splices prepared c) _ z in
+    let t = both-true (fitsTree text rows E splices prepared c) _ (x .1) in
+    let y = both-true (treeRows (firstRows text E rows)) (fitsTo text rows E splices prepared c) (t .0) in
+    let w = room-is (length rows) E splices prepared c (x .0) in
+    (w, record { all = λ j h. bounded-is E splices prepared j (both-true (boundedAt E splices prepared j) _ (fits-each text rows E splices prepared c j h (y .1)) .0) (omega (arith, w .whole)) })
+
+-- ── Room is the same in every order ─────────────────────────────────────────────────────────────────────────
+
+-- the prepared rows of a list, all together
+rows-sum : (text : List ℕ) (old : Tree ℕ) (splices prepared : List ℕ) (k : ℕ) (D : List (Splice ℕ)) → Told text old splices prepared k D → Placed splices prepared k
+    → rowsTo splices k ≡ total (λ s. true) (λ s. sizeAll (s .prepared)) D
+unfolding rowsTo total cutsTo
+rows-sum text old splices prepared zero [] t b = refl
+rows-sum text old splices prepared zero (s ∷ D) t b = let z : _≡_ {A = ℕ} 0 1 = cc (t .cuts) in absurd (omega arith)
+rows-sum text old splices prepared (suc k) [] t b = let z : _≡_ {A = ℕ} 0 1 = cc (t .cuts) in absurd (omega arith)
+rows-sum text old splices prepared (suc k) (s ∷ D) t b = omega (arith, rows-sum text old splices prepared k D (told-before t) (λ j h. b j (omega arith)), one, length-triples text (partAt splices prepared k), part-long splices prepared k (b k (omega arith)))
+  where
+    one : length (triples text (partAt splices prepared k)) ≡ sizeAll (s .prepared)
+    one = unfold cutAt cutOf in ap (λ c. length (c .rows)) (told-first t .cut)
+
+told-many : (text : List ℕ) (old : Tree ℕ) (splices prepared : List ℕ) (k : ℕ) (D : List (Splice ℕ)) → Told text old splices prepared k D → total (λ s. true) (λ s. 1) D ≡ k
+unfolding total cutsTo
+told-many text old splices prepared zero [] t = refl
+told-many text old splices prepared zero (s ∷ D) t = let z : _≡_ {A = ℕ} 0 1 = cc (t .cuts) in absurd (omega arith)
+told-many text old splices prepared (suc k) [] t = let z : _≡_ {A = ℕ} 0 1 = cc (t .cuts) in absurd (omega arith)
+told-many text old splices prepared (suc k) (s ∷ D) t = omega (arith, told-many text old splices prepared k D (told-before t))
+
+room-says : (long E : ℕ) (splices prepared : List ℕ) (c : ℕ) → Room long E splices prepared c → roomy long E splices prepared c ≡ true
+unfolding roomy
+room-says long E splices prepared c r =
+    rw (eq-eqb (length splices) (6 * c) (r .whole), lt-ltb c (2 ^ 15) (r .few), lt-ltb (length prepared) (3 * 2 ^ 16) (r .short), le-leb (3 * E + 3 * rowsTo splices c) long (r .words)) (lt-ltb (E + rowsTo splices c) (2 ^ 16) (r .rows))
+
+-- two orders of one list, each whole, on the same prepared rows
+pub room-same : (text : List ℕ) (old : Tree ℕ) (long E : ℕ) (splices splices′ prepared : List ℕ) (D D′ : List (Splice ℕ)) → List·Permᴰ D D′ → Listing text old splices prepared D → Listing text old splices′ prepared D′
+    → length splices′ ≡ 6 * (length splices′ / 6) → roomy long E splices prepared (length splices / 6) ≡ true → roomy long E splices′ prepared (length splices′ / 6) ≡ true
+room-same text old long E splices splices′ prepared D D′ same l l′ w z =
+    let r = room-is long E splices prepared (length splices / 6) z in
+    let c : length splices / 6 ≡ length splices′ / 6 = sym (told-many text old splices prepared (length splices / 6) D (l .told)) ∙ (total-perm (λ s. true) (λ s. 1) same ∙ told-many text old splices′ prepared (length splices′ / 6) D′ (l′ .told)) in
+    let m : rowsTo splices (length splices / 6) ≡ rowsTo splices′ (length splices′ / 6) =
+    rows-sum text old splices prepared (length splices / 6) D (l .told) (l .placed) ∙ (total-perm (λ s. true) (λ s. sizeAll (s .prepared)) same ∙ sym (rows-sum text old splices′ prepared (length splices′ / 6) D′ (l′ .told) (l′ .placed))) in
+    room-says long E splices′ prepared (length splices′ / 6) (record { whole = w; few = omega (arith, r .few); short = r .short; words = omega (arith, r .words); rows = omega (arith, r .rows) })
