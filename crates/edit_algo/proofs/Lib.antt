@@ -1,0 +1,2 @@
+-- Ways   the ways out of the public calls
+pub mod Ways

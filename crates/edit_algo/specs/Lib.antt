@@ -1,0 +1,3 @@
+-- What the public calls promise.
+--     Promises   the answers as document 01 numbers them, and what the lent slices hold then
+pub mod Promises

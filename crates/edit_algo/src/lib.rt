@@ -1,0 +1,278 @@
+// The public calls: the edit of a batch, and where an element stands then.
+ghost use mathlib.Core.Path.{_≡_};
+ghost use mathlib.Core.Bool.{false};
+ghost use mathlib.Core.List.{_∷_, []};
+ghost use lib.ListN.{length};
+ghost use Rattle.definition.specs.Answers.{edited, tooShort};
+ghost use Rattle.definition.specs.FindElement.{findElement};
+ghost use Rattle.work.specs.Slices.{lengths};
+ghost use Rattle.edit_algo.specs.Promises.{Answers, Edits, Finds, applied, found, elementOf};
+
+// How many bytes the result has, or a refusal's number.
+pub enum Answer {
+    Refused(usize),
+    Edited(usize),
+}
+
+// Where an element of the old tree stands in the new one, or a refusal's number.
+pub enum Element {
+    Refused(usize),
+    Nothing,
+    At(usize),
+}
+
+// The edit, where no work slice is too short.
+fn apply_edits(
+    batch: &[u8],
+    result: &mut [u8],
+    table: &mut [u32],
+    source: &mut [u32],
+    changes: &mut [u32],
+    running: &mut [u32],
+    first: &mut [u32],
+    notes: &mut [u32],
+    incoming: &mut [u32],
+    changed: &mut [u32],
+    marks: &mut [u32],
+    rows: &mut [u32],
+    prepared: &mut [u32],
+    sizes: &mut [u32],
+) -> Answer
+    requires { ⌜ tooShort (lengths (now table ∷ now source ∷ now changes ∷ now running ∷ now first ∷ now notes ∷ now incoming ∷ now changed ∷ now marks ∷ now rows ∷ now prepared ∷ now sizes ∷ [])) ≡ false ⌝ }
+    ensures { λ r. ⌜ Answers (applied (now (batch .entry)) (length (now (result .entry)))) (now (result .entry)) r (now (result .exit)) ⌝ }
+{
+    Answer::Refused(1)
+}
+
+// The edit, or refusal 1.
+fn edit_or_refuse(
+    batch: &[u8],
+    result: &mut [u8],
+    table: &mut [u32],
+    source: &mut [u32],
+    changes: &mut [u32],
+    running: &mut [u32],
+    first: &mut [u32],
+    notes: &mut [u32],
+    incoming: &mut [u32],
+    changed: &mut [u32],
+    marks: &mut [u32],
+    rows: &mut [u32],
+    prepared: &mut [u32],
+    sizes: &mut [u32],
+) -> Answer
+    ensures { λ r. ⌜ Answers (edited (lengths (now (table .entry) ∷ now (source .entry) ∷ now (changes .entry) ∷ now (running .entry) ∷ now (first .entry) ∷ now (notes .entry) ∷ now (incoming .entry) ∷ now (changed .entry) ∷ now (marks .entry) ∷ now (rows .entry) ∷ now (prepared .entry) ∷ now (sizes .entry) ∷ [])) (now (batch .entry)) (length (now (result .entry)))) (now (result .entry)) r (now (result .exit)) ⌝ }
+{
+    if work::too_short(
+        table,
+        source,
+        changes,
+        running,
+        first,
+        notes,
+        incoming,
+        changed,
+        marks,
+        rows,
+        prepared,
+        sizes,
+    ) {
+        return Answer::Refused(1);
+    }
+    apply_edits(
+        batch,
+        result,
+        table,
+        source,
+        changes,
+        running,
+        first,
+        notes,
+        incoming,
+        changed,
+        marks,
+        rows,
+        prepared,
+        sizes,
+    )
+}
+
+// THE EDIT of a batch. The result's bytes are written to the front of `result`; the twelve others are work slices, which end as zeros.
+pub fn edit(
+    batch: &[u8],
+    result: &mut [u8],
+    table: &mut [u32],
+    source: &mut [u32],
+    changes: &mut [u32],
+    running: &mut [u32],
+    first: &mut [u32],
+    notes: &mut [u32],
+    incoming: &mut [u32],
+    changed: &mut [u32],
+    marks: &mut [u32],
+    rows: &mut [u32],
+    prepared: &mut [u32],
+    sizes: &mut [u32],
+) -> Answer
+    ensures { λ r. ⌜ Edits (now (batch .entry)) (now (result .entry)) (now (table .entry) ∷ now (source .entry) ∷ now (changes .entry) ∷ now (running .entry) ∷ now (first .entry) ∷ now (notes .entry) ∷ now (incoming .entry) ∷ now (changed .entry) ∷ now (marks .entry) ∷ now (rows .entry) ∷ now (prepared .entry) ∷ now (sizes .entry) ∷ []) r (now (result .exit)) (now (table .exit) ∷ now (source .exit) ∷ now (changes .exit) ∷ now (running .exit) ∷ now (first .exit) ∷ now (notes .exit) ∷ now (incoming .exit) ∷ now (changed .exit) ∷ now (marks .exit) ∷ now (rows .exit) ∷ now (prepared .exit) ∷ now (sizes .exit) ∷ []) ⌝ }
+{
+    let answer = edit_or_refuse(
+        batch,
+        result,
+        table,
+        source,
+        changes,
+        running,
+        first,
+        notes,
+        incoming,
+        changed,
+        marks,
+        rows,
+        prepared,
+        sizes,
+    );
+    work::clear_all(
+        table,
+        source,
+        changes,
+        running,
+        first,
+        notes,
+        incoming,
+        changed,
+        marks,
+        rows,
+        prepared,
+        sizes,
+    );
+    answer
+}
+
+// Where an element stands in the new tree, where no work slice is too short.
+fn find_in_new(
+    batch: &[u8],
+    number: usize,
+    table: &mut [u32],
+    source: &mut [u32],
+    changes: &mut [u32],
+    running: &mut [u32],
+    first: &mut [u32],
+    notes: &mut [u32],
+    incoming: &mut [u32],
+    changed: &mut [u32],
+    marks: &mut [u32],
+    rows: &mut [u32],
+    prepared: &mut [u32],
+    sizes: &mut [u32],
+) -> Element
+    requires { ⌜ tooShort (lengths (now table ∷ now source ∷ now changes ∷ now running ∷ now first ∷ now notes ∷ now incoming ∷ now changed ∷ now marks ∷ now rows ∷ now prepared ∷ now sizes ∷ [])) ≡ false ⌝ }
+    ensures { λ r. ⌜ elementOf r ≡ found (now (batch .entry)) number ⌝ }
+{
+    Element::Nothing
+}
+
+// The same, or refusal 1.
+fn find_or_refuse(
+    batch: &[u8],
+    number: usize,
+    table: &mut [u32],
+    source: &mut [u32],
+    changes: &mut [u32],
+    running: &mut [u32],
+    first: &mut [u32],
+    notes: &mut [u32],
+    incoming: &mut [u32],
+    changed: &mut [u32],
+    marks: &mut [u32],
+    rows: &mut [u32],
+    prepared: &mut [u32],
+    sizes: &mut [u32],
+) -> Element
+    ensures { λ r. ⌜ elementOf r ≡ findElement (lengths (now (table .entry) ∷ now (source .entry) ∷ now (changes .entry) ∷ now (running .entry) ∷ now (first .entry) ∷ now (notes .entry) ∷ now (incoming .entry) ∷ now (changed .entry) ∷ now (marks .entry) ∷ now (rows .entry) ∷ now (prepared .entry) ∷ now (sizes .entry) ∷ [])) (now (batch .entry)) number ⌝ }
+{
+    if work::too_short(
+        table,
+        source,
+        changes,
+        running,
+        first,
+        notes,
+        incoming,
+        changed,
+        marks,
+        rows,
+        prepared,
+        sizes,
+    ) {
+        return Element::Refused(1);
+    }
+    find_in_new(
+        batch,
+        number,
+        table,
+        source,
+        changes,
+        running,
+        first,
+        notes,
+        incoming,
+        changed,
+        marks,
+        rows,
+        prepared,
+        sizes,
+    )
+}
+
+// The first node of the new tree with the kind and the text start of the old tree's node `number`. The twelve others are work slices, which end as zeros.
+pub fn find_element(
+    batch: &[u8],
+    number: usize,
+    table: &mut [u32],
+    source: &mut [u32],
+    changes: &mut [u32],
+    running: &mut [u32],
+    first: &mut [u32],
+    notes: &mut [u32],
+    incoming: &mut [u32],
+    changed: &mut [u32],
+    marks: &mut [u32],
+    rows: &mut [u32],
+    prepared: &mut [u32],
+    sizes: &mut [u32],
+) -> Element
+    ensures { λ r. ⌜ Finds (now (batch .entry)) number (now (table .entry) ∷ now (source .entry) ∷ now (changes .entry) ∷ now (running .entry) ∷ now (first .entry) ∷ now (notes .entry) ∷ now (incoming .entry) ∷ now (changed .entry) ∷ now (marks .entry) ∷ now (rows .entry) ∷ now (prepared .entry) ∷ now (sizes .entry) ∷ []) r (now (table .exit) ∷ now (source .exit) ∷ now (changes .exit) ∷ now (running .exit) ∷ now (first .exit) ∷ now (notes .exit) ∷ now (incoming .exit) ∷ now (changed .exit) ∷ now (marks .exit) ∷ now (rows .exit) ∷ now (prepared .exit) ∷ now (sizes .exit) ∷ []) ⌝ }
+{
+    let element = find_or_refuse(
+        batch,
+        number,
+        table,
+        source,
+        changes,
+        running,
+        first,
+        notes,
+        incoming,
+        changed,
+        marks,
+        rows,
+        prepared,
+        sizes,
+    );
+    work::clear_all(
+        table,
+        source,
+        changes,
+        running,
+        first,
+        notes,
+        incoming,
+        changed,
+        marks,
+        rows,
+        prepared,
+        sizes,
+    );
+    element
+}
