@@ -13,16 +13,17 @@ use Rattle.edit_algo.specs.declared.Answer.the-variants.{Refused}
 use Rattle.definition.specs.FindElement.{findElement}
 use Rattle.edit_algo.specs.declared.Element.{Element}
 use Rattle.edit_algo.specs.declared.Element.the-variants.{Refused as NoElement}
-use Rattle.edit_algo.specs.Promises.{answerOf, elementOf, leftIn, Answers, Edits, Finds, applied, found, short-edited, long-edited, short-found, long-found}
+use Rattle.work.specs.Promises.{leftIn, Answers, Edits, Finds, applied, found, short-edited, long-edited, short-found, long-found}
+use Rattle.edit_algo.specs.Numbers.{answerOf, elementOf}
 
 -- ── Refusal 1, or the edit ──────────────────────────────────────────────────────────────────────────────────
 
 module _ (work : List (List ℕ)) (b held : List ℕ) (t : Bool) (e : t ≡ tooShort (lengths work)) where
-  pub refused-short : t ≡ true → Answers (edited (lengths work) b (length held)) held (Refused 1) held
+  pub refused-short : t ≡ true → Answers (edited (lengths work) b (length held)) held (answerOf (Refused 1)) held
   unfolding answerOf leftIn _>>=_
   refused-short h = rw (short-edited work b (length held) (sym e ∙ h)) (record { answer = refl; result = refl })
 
-  pub edits-long : t ≡ false → (r : Answer) (holds : List ℕ) → Answers (applied b (length held)) held r holds → Answers (edited (lengths work) b (length held)) held r holds
+  pub edits-long : t ≡ false → (r : Answer) (holds : List ℕ) → Answers (applied b (length held)) held (answerOf r) holds → Answers (edited (lengths work) b (length held)) held (answerOf r) holds
   edits-long h r holds a = rw (long-edited work b (length held) (sym e ∙ h)) a
 
 module _ (work : List (List ℕ)) (b : List ℕ) (n : ℕ) (t : Bool) (e : t ≡ tooShort (lengths work)) where
@@ -45,8 +46,8 @@ module _ (a b c d e f g h i j k l a′ b′ c′ d′ e′ f′ g′ h′ i′ j
   unfolding zeroed zeros
   zeroed-same p₁ p₂ p₃ p₄ p₅ p₆ p₇ p₈ p₉ q₁ q₂ q₃ = rw (p₁, p₂, p₃, p₄, p₅, p₆, p₇, p₈, p₉, q₁, q₂, q₃) refl
 
-pub edits-cleared : (batch held holds : List ℕ) (work mid left : List (List ℕ)) (r : Answer) → Answers (edited (lengths work) batch (length held)) held r holds → left ≡ zeroed mid → zeroed mid ≡ zeroed work → Edits batch held work r holds left
+pub edits-cleared : (batch held holds : List ℕ) (work mid left : List (List ℕ)) (r : Answer) → Answers (edited (lengths work) batch (length held)) held (answerOf r) holds → left ≡ zeroed mid → zeroed mid ≡ zeroed work → Edits batch held work (answerOf r) holds left
 edits-cleared batch held holds work mid left r a z s = record { answer = a .answer; result = a .result; zeros = z ∙ s }
 
-pub finds-cleared : (batch : List ℕ) (n : ℕ) (work mid left : List (List ℕ)) (r : Element) → elementOf r ≡ findElement (lengths work) batch n → left ≡ zeroed mid → zeroed mid ≡ zeroed work → Finds batch n work r left
+pub finds-cleared : (batch : List ℕ) (n : ℕ) (work mid left : List (List ℕ)) (r : Element) → elementOf r ≡ findElement (lengths work) batch n → left ≡ zeroed mid → zeroed mid ≡ zeroed work → Finds batch n work (elementOf r) left
 finds-cleared batch n work mid left r f z s = record { element = f; zeros = z ∙ s }

@@ -1,3 +1,3 @@
--- What the public calls promise.
---     Promises   the answers as document 01 numbers them, and what the lent slices hold then
-pub mod Promises
+-- What the answers of the public calls mean; what is promised is told in `Promises` of work.
+--     Numbers   the answers as document 01 numbers them
+pub mod Numbers

@@ -6,7 +6,8 @@ ghost use lib.ListN.{length};
 ghost use Rattle.definition.specs.Answers.{edited, tooShort};
 ghost use Rattle.definition.specs.FindElement.{findElement};
 ghost use Rattle.work.specs.Slices.{lengths};
-ghost use Rattle.edit_algo.specs.Promises.{Answers, Edits, Finds, applied, found, elementOf};
+ghost use Rattle.work.specs.Promises.{Answers, Edits, Finds, applied, found};
+ghost use Rattle.edit_algo.specs.Numbers.{answerOf, elementOf};
 
 // How many bytes the result has, or a refusal's number.
 pub enum Answer {
@@ -39,7 +40,7 @@ fn apply_edits(
     sizes: &mut [u32],
 ) -> Answer
     requires { ⌜ tooShort (lengths (now table ∷ now source ∷ now changes ∷ now running ∷ now first ∷ now notes ∷ now incoming ∷ now changed ∷ now marks ∷ now rows ∷ now prepared ∷ now sizes ∷ [])) ≡ false ⌝ }
-    ensures { λ r. ⌜ Answers (applied (now (batch .entry)) (length (now (result .entry)))) (now (result .entry)) r (now (result .exit)) ⌝ }
+    ensures { λ r. ⌜ Answers (applied (now (batch .entry)) (length (now (result .entry)))) (now (result .entry)) (answerOf r) (now (result .exit)) ⌝ }
 {
     Answer::Refused(1)
 }
@@ -61,7 +62,7 @@ fn edit_or_refuse(
     prepared: &mut [u32],
     sizes: &mut [u32],
 ) -> Answer
-    ensures { λ r. ⌜ Answers (edited (lengths (now (table .entry) ∷ now (source .entry) ∷ now (changes .entry) ∷ now (running .entry) ∷ now (first .entry) ∷ now (notes .entry) ∷ now (incoming .entry) ∷ now (changed .entry) ∷ now (marks .entry) ∷ now (rows .entry) ∷ now (prepared .entry) ∷ now (sizes .entry) ∷ [])) (now (batch .entry)) (length (now (result .entry)))) (now (result .entry)) r (now (result .exit)) ⌝ }
+    ensures { λ r. ⌜ Answers (edited (lengths (now (table .entry) ∷ now (source .entry) ∷ now (changes .entry) ∷ now (running .entry) ∷ now (first .entry) ∷ now (notes .entry) ∷ now (incoming .entry) ∷ now (changed .entry) ∷ now (marks .entry) ∷ now (rows .entry) ∷ now (prepared .entry) ∷ now (sizes .entry) ∷ [])) (now (batch .entry)) (length (now (result .entry)))) (now (result .entry)) (answerOf r) (now (result .exit)) ⌝ }
 {
     if work::too_short(
         table,
@@ -114,7 +115,7 @@ pub fn edit(
     prepared: &mut [u32],
     sizes: &mut [u32],
 ) -> Answer
-    ensures { λ r. ⌜ Edits (now (batch .entry)) (now (result .entry)) (now (table .entry) ∷ now (source .entry) ∷ now (changes .entry) ∷ now (running .entry) ∷ now (first .entry) ∷ now (notes .entry) ∷ now (incoming .entry) ∷ now (changed .entry) ∷ now (marks .entry) ∷ now (rows .entry) ∷ now (prepared .entry) ∷ now (sizes .entry) ∷ []) r (now (result .exit)) (now (table .exit) ∷ now (source .exit) ∷ now (changes .exit) ∷ now (running .exit) ∷ now (first .exit) ∷ now (notes .exit) ∷ now (incoming .exit) ∷ now (changed .exit) ∷ now (marks .exit) ∷ now (rows .exit) ∷ now (prepared .exit) ∷ now (sizes .exit) ∷ []) ⌝ }
+    ensures { λ r. ⌜ Edits (now (batch .entry)) (now (result .entry)) (now (table .entry) ∷ now (source .entry) ∷ now (changes .entry) ∷ now (running .entry) ∷ now (first .entry) ∷ now (notes .entry) ∷ now (incoming .entry) ∷ now (changed .entry) ∷ now (marks .entry) ∷ now (rows .entry) ∷ now (prepared .entry) ∷ now (sizes .entry) ∷ []) (answerOf r) (now (result .exit)) (now (table .exit) ∷ now (source .exit) ∷ now (changes .exit) ∷ now (running .exit) ∷ now (first .exit) ∷ now (notes .exit) ∷ now (incoming .exit) ∷ now (changed .exit) ∷ now (marks .exit) ∷ now (rows .exit) ∷ now (prepared .exit) ∷ now (sizes .exit) ∷ []) ⌝ }
 {
     let answer = edit_or_refuse(
         batch,
@@ -242,7 +243,7 @@ pub fn find_element(
     prepared: &mut [u32],
     sizes: &mut [u32],
 ) -> Element
-    ensures { λ r. ⌜ Finds (now (batch .entry)) number (now (table .entry) ∷ now (source .entry) ∷ now (changes .entry) ∷ now (running .entry) ∷ now (first .entry) ∷ now (notes .entry) ∷ now (incoming .entry) ∷ now (changed .entry) ∷ now (marks .entry) ∷ now (rows .entry) ∷ now (prepared .entry) ∷ now (sizes .entry) ∷ []) r (now (table .exit) ∷ now (source .exit) ∷ now (changes .exit) ∷ now (running .exit) ∷ now (first .exit) ∷ now (notes .exit) ∷ now (incoming .exit) ∷ now (changed .exit) ∷ now (marks .exit) ∷ now (rows .exit) ∷ now (prepared .exit) ∷ now (sizes .exit) ∷ []) ⌝ }
+    ensures { λ r. ⌜ Finds (now (batch .entry)) number (now (table .entry) ∷ now (source .entry) ∷ now (changes .entry) ∷ now (running .entry) ∷ now (first .entry) ∷ now (notes .entry) ∷ now (incoming .entry) ∷ now (changed .entry) ∷ now (marks .entry) ∷ now (rows .entry) ∷ now (prepared .entry) ∷ now (sizes .entry) ∷ []) (elementOf r) (now (table .exit) ∷ now (source .exit) ∷ now (changes .exit) ∷ now (running .exit) ∷ now (first .exit) ∷ now (notes .exit) ∷ now (incoming .exit) ∷ now (changed .exit) ∷ now (marks .exit) ∷ now (rows .exit) ∷ now (prepared .exit) ∷ now (sizes .exit) ∷ []) ⌝ }
 {
     let element = find_or_refuse(
         batch,

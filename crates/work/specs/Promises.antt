@@ -1,66 +1,48 @@
--- What the public calls promise: the answer as document 01 numbers it, and what each lent slice holds then.
+-- What the public calls promise: the answer, and what each lent slice holds then, from what was lent.
 -- Assumes nothing.
-use mathlib.Core.Path.{_≡_, refl, sym, ap, _∙_}
-use mathlib.Core.Bool.{Bool, true, false}
+use mathlib.Core.Path.{_≡_, refl}
+use mathlib.Core.Bool.{true, false}
 use mathlib.Core.List.{List, _++_}
-use mathlib.Core.Option.{Option, none, some}
+use mathlib.Core.Option.{Option}
 use Prim.Native.Nat.{ℕ}
 use lib.ListN.{length, drop}
-use Rattle.definition.specs.Basics as basics
-use Rattle.definition.specs.Basics.{gives, refused, _>>=_, refuse}
+use Rattle.definition.specs.Basics.{Answer, gives, refused, _>>=_, refuse}
 use Rattle.definition.specs.Refusals.{accepted}
 use Rattle.definition.specs.Answers.{plan, ran, edit, edited, withWork, tooShort}
 use Rattle.definition.specs.FindElement.{findIn, findElement}
 use Rattle.definition.specs.Finishing.{fitting, encoded}
 use Rattle.work.specs.Slices.{lengths, zeroed}
-use Rattle.edit_algo.specs.declared.Answer.{Answer}
-use Rattle.edit_algo.specs.declared.Answer.the-variants.{Refused, Edited}
-use Rattle.edit_algo.specs.declared.Element.{Element}
-use Rattle.edit_algo.specs.declared.Element.the-variants.{Refused as NoElement, Nothing, At}
-
--- ── The answers ─────────────────────────────────────────────────────────────────────────────────────────────
-
--- the refusal's number, or how many bytes the result has
-unfoldable pub answerOf : Answer → basics.Answer ℕ
-answerOf (Refused n) = refused n
-answerOf (Edited k) = gives k
-
--- the refusal's number, or the element that is found, or none
-unfoldable pub elementOf : Element → basics.Answer (Option ℕ)
-elementOf (NoElement n) = refused n
-elementOf Nothing = gives none
-elementOf (At e) = gives (some e)
 
 -- ── The edit ────────────────────────────────────────────────────────────────────────────────────────────────
 
 -- "The result slice holds the finished answer and beyond it what it held, or on refusal all that it held."
-unfoldable pub leftIn : List ℕ → basics.Answer (List ℕ) → List ℕ
+unfoldable pub leftIn : List ℕ → Answer (List ℕ) → List ℕ
 leftIn held (refused n) = held
 leftIn held (gives bytes) = bytes ++ drop (length bytes) held
 
 -- the answer and the result slice, which held `held` and holds `holds`, where the bytes of the result are wanted
-pub record Answers (want : basics.Answer (List ℕ)) (held : List ℕ) (r : Answer) (holds : List ℕ) : Type 0 where
-  pub answer : answerOf r ≡ (want >>= λ bytes. gives (length bytes))
+pub record Answers (want : Answer (List ℕ)) (held : List ℕ) (r : Answer ℕ) (holds : List ℕ) : Type 0 where
+  pub answer : r ≡ (want >>= λ bytes. gives (length bytes))
   pub result : holds ≡ leftIn held want
 
 -- THE PROMISE of `edit`, from the batch b, the result slice and the work slices as they were lent
-pub record Edits (b held : List ℕ) (work : List (List ℕ)) (r : Answer) (holds : List ℕ) (left : List (List ℕ)) : Type 0 where
+pub record Edits (b held : List ℕ) (work : List (List ℕ)) (r : Answer ℕ) (holds : List ℕ) (left : List (List ℕ)) : Type 0 where
   -- the answer is the definition's
-  pub answer : answerOf r ≡ (edited (lengths work) b (length held) >>= λ bytes. gives (length bytes))
+  pub answer : r ≡ (edited (lengths work) b (length held) >>= λ bytes. gives (length bytes))
   -- "The result slice holds the finished answer and beyond it what it held, or on refusal all that it held."
   pub result : holds ≡ leftIn held (edited (lengths work) b (length held))
   -- "Work slices end as zeros."
   pub zeros : left ≡ zeroed work
 
 -- THE PROMISE of `find_element`, from the batch b, the number n and the work slices as they were lent
-pub record Finds (b : List ℕ) (n : ℕ) (work : List (List ℕ)) (r : Element) (left : List (List ℕ)) : Type 0 where
-  pub element : elementOf r ≡ findElement (lengths work) b n
+pub record Finds (b : List ℕ) (n : ℕ) (work : List (List ℕ)) (r : Answer (Option ℕ)) (left : List (List ℕ)) : Type 0 where
+  pub element : r ≡ findElement (lengths work) b n
   pub zeros : left ≡ zeroed work
 
 -- ── Refusal 1 ───────────────────────────────────────────────────────────────────────────────────────────────
 
 -- the bytes of the result, in a slice of `room` bytes, where no work slice is too short
-unfoldable pub applied : List ℕ → ℕ → basics.Answer (List ℕ)
+unfoldable pub applied : List ℕ → ℕ → Answer (List ℕ)
 applied b room = do
   r ← edit b
   r ← fitting room r
@@ -75,7 +57,7 @@ unfolding edited withWork applied _>>=_ refuse
 long-edited work b room h = rw h refl
 
 -- the element that is found, where no work slice is too short
-unfoldable pub found : List ℕ → ℕ → basics.Answer (Option ℕ)
+unfoldable pub found : List ℕ → ℕ → Answer (Option ℕ)
 found b n = do
   a ← accepted b
   p ← plan a
