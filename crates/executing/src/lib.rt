@@ -1,0 +1,1 @@
+// One step of the run over all that is held, and the run.
