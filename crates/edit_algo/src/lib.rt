@@ -1,13 +1,21 @@
 // The public calls: the edit of a batch, and where an element stands then.
+use finishing::Finished;
+use performing::Ended;
+use syntax_node::Found;
 ghost use mathlib.Core.Path.{_≡_};
 ghost use mathlib.Core.Bool.{false};
 ghost use mathlib.Core.List.{_∷_, []};
+ghost use Prim.Native.Nat.{_≤_, _<_};
 ghost use lib.ListN.{length};
 ghost use Rattle.definition.specs.Answers.{edited, tooShort};
 ghost use Rattle.definition.specs.FindElement.{findElement};
+ghost use Rattle.element_table.specs.View.{view};
+ghost use Rattle.element_table.specs.Wellformed.{Wellformed};
+ghost use Rattle.performing.specs.AtEnd.{AtEnd, Told};
 ghost use Rattle.work.specs.Slices.{lengths};
 ghost use Rattle.work.specs.Promises.{Answers, Edits, Finds, applied, found};
 ghost use Rattle.edit_algo.specs.Numbers.{answerOf, elementOf};
+ghost use Rattle.edit_algo.specs.AtEnd.{RowsAtEnd, oldNode};
 
 // How many bytes the result has, or a refusal's number.
 pub enum Answer {
@@ -21,6 +29,77 @@ pub enum Element {
     Nothing,
     At(usize),
 }
+
+// ── From what a run leaves ──
+
+// The result's bytes from what the run of the batch leaves, or 13. `starts` is for where each element's text starts.
+fn write_answer(
+    batch: &[u8],
+    d: Ended,
+    rows: &[u32],
+    notes: &mut [u32],
+    changed: &mut [u32],
+    starts: &mut [u32],
+    result: &mut [u8],
+) -> Answer
+    requires { ⌜ AtEnd (now batch) (now rows) (now notes) (now changed) d ⌝ }
+    requires { ⌜ 4096 ≤ length (now starts) ⌝ }
+    ensures { λ r. ⌜ Answers (applied (now (batch .entry)) (length (now (result .entry)))) (now (result .entry)) (answerOf r) (now (result .exit)) ⌝ }
+{
+    let from = d.text;
+    let text = &batch[from..];
+    let end = finishing::finish(
+        rows,
+        d.rows,
+        notes,
+        d.notes,
+        changed,
+        d.changed,
+        starts,
+        text,
+        d.discarded,
+        d.climbs,
+        result,
+    );
+    match end {
+        Finished::Short => Answer::Refused(13),
+        Finished::Bytes(n) => Answer::Edited(n),
+    }
+}
+
+// Whether element `k` of `n` is a node of tree 0.
+fn is_old_node(table: &[u32], source: &[u32], n: usize, k: usize) -> bool
+    requires { ⌜ Wellformed n (now table) (now source) × (k < n) ⌝ }
+    ensures { λ r. ⌜ r ≡ oldNode (view n (now (table .entry)) (now (source .entry))) k ⌝ }
+{
+    if !calls::is_node(source, k) {
+        return false;
+    }
+    calls::entry(table, k, 7) == 0
+}
+
+// Where element `k` stands in the new tree, from the rows that the run of the batch leaves.
+fn find_from(batch: &[u8], d: Ended, table: &[u32], source: &[u32], rows: &[u32], k: usize) -> Element
+    requires { ⌜ RowsAtEnd (now batch) (now rows) d ⌝ }
+    requires { ⌜ Told (now batch) (now table) (now source) (d .elements) ⌝ }
+    ensures { λ r. ⌜ elementOf r ≡ found (now (batch .entry)) k ⌝ }
+{
+    let n = d.elements;
+    if n <= k {
+        return Element::Nothing;
+    }
+    if !is_old_node(table, source, n, k) {
+        return Element::Nothing;
+    }
+    let kind = calls::row_word(source, k, 0);
+    let start = calls::entry(table, k, 4);
+    match finding::find_in_tree(rows, d.rows, kind, start) {
+        Found::Nothing => Element::Nothing,
+        Found::At(e) => Element::At(e),
+    }
+}
+
+// ── The public calls ──
 
 // The edit, where no work slice is too short.
 fn apply_edits(
