@@ -1,8 +1,9 @@
 -- What planning makes of a batch, and each way out of it on rows.
 -- Assumes nothing.
+use mathlib.Core.Bool.{Bool, true, false}
 use mathlib.Core.List.{List, map, map-map}
-use mathlib.Core.Option.{none, some}
-use mathlib.Core.Path.{_≡_, sym, ap, _∙_, subst}
+use mathlib.Core.Option.{Option, none, some}
+use mathlib.Core.Path.{_≡_, refl, sym, ap, _∙_, subst}
 use Prim.Native.Nat.{ℕ, _<_}
 use lib.ListN.{length}
 use Rattle.orders.specs.Lists.{All}
@@ -67,9 +68,23 @@ rowsOutcome T listed rs steps notes = record {
   climbs = steps;
 }
 
--- the plan of rewritten rows
-abbrev rowsPlan : List ℕ → List ChangeRow × ℕ → List Note → Plan
-rowsPlan listed q notes = record { changes = map (planOf listed) (q .0); climbs = q .1; notes = notes }
+-- THE PLAN on rows: 8; then 9 and 10, "dependents from the last to the first, ... then notes in order"
+unfoldable pub planRows : Table → List ℕ → (ℕ → Option ℕ) → List ChangeRow → List ChangeRow → List (ℕ × ℕ) → Answer Plan
+planRows T listed mapped sorted fated noted = do
+  _ ← refuse 8 (isSome (rowsOverlap sorted))
+  q ← rewriteRows T mapped listed fated fated
+  ns ← settledAt T mapped 0 noted
+  gives (record { changes = map (planOf listed) (q .0); climbs = q .1; notes = map (noteOf T) ns })
+
+-- told change by change, or row by row
+rows-alike : (T : Table) (listed : List ℕ) (o : Bool) (R : Answer (List ChangeRow × ℕ)) (N : Answer (List (ℕ × ℕ × ℕ)))
+    → _≡_ {A = Answer Plan} (_>>=_ {B = Plan} (refuse 8 o) (λ _. _>>=_ {B = Plan} (toldRows listed R) (λ ps. _>>=_ {B = Plan} (_>>=_ {B = List Note} N (λ ns. gives (map (noteOf T) ns))) (λ notes. gives (record { changes = ps .0; climbs = ps .1; notes = notes })))))
+    (_>>=_ {B = Plan} (refuse 8 o) (λ _. _>>=_ {B = Plan} R (λ q. _>>=_ {B = Plan} N (λ ns. gives (record { changes = map (planOf listed) (q .0); climbs = q .1; notes = map (noteOf T) ns })))))
+unfolding _>>=_ refuse toldRows
+rows-alike T listed true R N = refl
+rows-alike T listed false (refused k) N = refl
+rows-alike T listed false (gives q) (refused k) = refl
+rows-alike T listed false (gives q) (gives ns) = refl
 
 -- what an accepted batch's rows become
 module _ {b : List ℕ} {l : Layout} {t s : List ℕ} (f : Facts b l t s) where
@@ -95,27 +110,28 @@ module _ {b : List ℕ} {l : Layout} {t s : List ℕ} (f : Facts b l t s) where
       ap (rewritten T m) (sym (fated-planned n T listed long (callsIn l b) (f .recorded)))
       ∙ rw (map-map (λ (p : Planned). p .change) (planOf listed) F) (rewrite-told T m listed n F F (All-map (λ r k. k .stated) F kept))
 
-  plan-told : plan a ≡ (refuse 8 (isSome (rowsOverlap (sortedRows T (callsIn l b)))) >>= λ _. toldRows listed (rewriteRows T (mapping (mappingsIn l b)) listed F F) >>= λ ps.
-      (settledAt T (mapping (mappingsIn l b)) 0 (notesIn l b) >>= λ ns. gives (map (noteOf T) ns)) >>= λ notes. gives (record { changes = ps .0; climbs = ps .1; notes = notes }))
-  unfolding plan
-  plan-told = rw (overlap-sorted T (callsIn l b), rewriting-told, settled-told T (mapping (mappingsIn l b)) 0 (notesIn l b))
+  pub plan-rows : plan a ≡ planRows T listed (mapping (mappingsIn l b)) (sortedRows T (callsIn l b)) F (notesIn l b)
+  unfolding plan planRows
+  plan-rows =
+      rw (← overlap-sorted T (callsIn l b), rewriting-told, settled-told T (mapping (mappingsIn l b)) 0 (notesIn l b))
+      (rows-alike T listed (isSome (rowsOverlap (sortedRows T (callsIn l b)))) (rewriteRows T (mapping (mappingsIn l b)) listed F F) (settledAt T (mapping (mappingsIn l b)) 0 (notesIn l b)))
 
   -- 8
   pub out-overlap : (p : ℕ × ℕ) → rowsOverlap (sortedRows T (callsIn l b)) ≡ some p → planning b ≡ refused 8
-  unfolding planning _>>=_ refuse isSome
-  out-overlap p e = rw (f .accepted, plan-told, e)
+  unfolding planning planRows _>>=_ refuse isSome
+  out-overlap p e = rw (f .accepted, plan-rows, e)
 
   module _ (disjoint : rowsOverlap (sortedRows T (callsIn l b)) ≡ none) where
     -- 9 or 10 of a dependent
     pub out-dependents : (k : ℕ) → rewriteRows T (mapping (mappingsIn l b)) listed F F ≡ refused k → planning b ≡ refused k
-    unfolding planning _>>=_ refuse isSome toldRows
-    out-dependents k g = rw (f .accepted, plan-told, disjoint, g)
+    unfolding planning planRows _>>=_ refuse isSome
+    out-dependents k g = rw (f .accepted, plan-rows, disjoint, g)
 
     module _ (rs : List ChangeRow) (steps : ℕ) (rewrote : rewriteRows T (mapping (mappingsIn l b)) listed F F ≡ gives (rs, steps)) where
       -- 9 or 10 of a note
       pub out-notes : (k : ℕ) → settledAt T (mapping (mappingsIn l b)) 0 (notesIn l b) ≡ refused k → planning b ≡ refused k
-      unfolding planning _>>=_ refuse isSome toldRows
-      out-notes k g = rw (f .accepted, plan-told, disjoint, rewrote, g)
+      unfolding planning planRows _>>=_ refuse isSome
+      out-notes k g = rw (f .accepted, plan-rows, disjoint, rewrote, g)
 
       held : (ns : List (ℕ × ℕ × ℕ)) → All (λ m. m .0 < l .sizes .elements) ns → map (heldNote (node 2147483648 (forest (f .trees)))) (map (noteOf T) ns) ≡ map noteHeld ns
       held ns low =
@@ -125,5 +141,5 @@ module _ {b : List ℕ} {l : Layout} {t s : List ℕ} (f : Facts b l t s) where
       -- nothing is refused
       pub out-made : (ns : List (ℕ × ℕ × ℕ)) → settledAt T (mapping (mappingsIn l b)) 0 (notesIn l b) ≡ gives ns → All (λ m. m .0 < l .sizes .elements) ns
           → planning b ≡ gives (rowsOutcome T listed rs steps (map noteHeld ns))
-      unfolding planning outcome performed atFirst begin store _>>=_ refuse isSome toldRows
-      out-made ns g low = rw (f .accepted, plan-told, disjoint, rewrote, g, held ns low)
+      unfolding planning planRows outcome performed atFirst begin store _>>=_ refuse isSome
+      out-made ns g low = rw (f .accepted, plan-rows, disjoint, rewrote, g, held ns low)

@@ -41,11 +41,11 @@ pub record RowsPlanned (b : List ℕ) (l : Layout) (t s changes running : List �
   pub kept : All (Kept (l .sizes .elements) (tableIn l t s) (listedIn l b)) (rowsOf (c .changes) changes)
   pub low : All (λ k. k < c .changes) (take (c .runs) running)
 
-abbrev pub Within : List ℕ → Layout → List ℕ → List ℕ → List ℕ → List ℕ → Planned → Type 0
-Within b l t s changes running (Refused k) = Unit {0}
-Within b l t s changes running (Made c) = RowsPlanned b l t s changes running c
+abbrev pub PlanWithin : List ℕ → Layout → List ℕ → List ℕ → List ℕ → List ℕ → Planned → Type 0
+PlanWithin b l t s changes running (Refused k) = Unit {0}
+PlanWithin b l t s changes running (Made c) = RowsPlanned b l t s changes running c
 
 -- THE PROMISE of planning, of the batch b with the layout l, the words t and s telling of its elements
 pub record PlanMade (b : List ℕ) (l : Layout) (t s changes running first : List ℕ) (r : Planned) : Type 0 where
   pub answer : plannedBy l b changes running first r ≡ planning b
-  pub within : Within b l t s changes running r
+  pub within : PlanWithin b l t s changes running r

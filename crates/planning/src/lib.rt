@@ -178,7 +178,7 @@ fn rewrite_and_settle(
     source: &[u32],
     sorted: &[u32],
     c: usize,
-    changes: &mut [u32],
+    rewritten: &mut [u32],
     order: &mut [u32],
     running: &mut [u32],
     map: &mut [u32],
@@ -186,10 +186,10 @@ fn rewrite_and_settle(
 ) -> Planned
     requires { ⌜ Ready (now b) l (now table) (now source) ⌝ }
     requires { ⌜ Fated (now b) l (now table) (now source) c (now sorted) ⌝ }
-    requires { ⌜ (3328 ≤ length (now sorted)) × (3328 ≤ length (now changes)) × (256 ≤ length (now order)) × (256 ≤ length (now running)) × (2048 ≤ length (now map)) × (768 ≤ length (now first)) ⌝ }
-    ensures { λ r. ⌜ PlanMade (now (b .entry)) l (now (table .entry)) (now (source .entry)) (now (changes .exit)) (now (running .exit)) (now (first .exit)) r ⌝ }
+    requires { ⌜ (3328 ≤ length (now sorted)) × (3328 ≤ length (now rewritten)) × (256 ≤ length (now order)) × (256 ≤ length (now running)) × (2048 ≤ length (now map)) × (768 ≤ length (now first)) ⌝ }
+    ensures { λ r. ⌜ PlanMade (now (b .entry)) l (now (table .entry)) (now (source .entry)) (now (rewritten .exit)) (now (running .exit)) (now (first .exit)) r ⌝ }
 {
-    match rewrite(b, l, table, source, sorted, c, map, changes) {
+    match rewrite(b, l, table, source, sorted, c, map, rewritten) {
         Rewritten::Refused(number) => Planned::Refused(number),
         Rewritten::Steps(k) => {
             settle_and_order(
@@ -198,7 +198,7 @@ fn rewrite_and_settle(
                 table,
                 source,
                 map,
-                changes,
+                rewritten,
                 c,
                 k,
                 order,
