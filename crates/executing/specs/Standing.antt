@@ -59,13 +59,13 @@ pub record Begun (n : ℕ) (lines source first : List ℕ) (a : ℕ) : Type 0 wh
   pub fewNotes : a ≤ 256
   pub longNotes : 3 * a ≤ length first
 
-up-at : (k n e : ℕ) → e < n → getD (upFrom k n) e 0 ≡ k + e
+pub up-at : (k n e : ℕ) → e < n → getD (upFrom k n) e 0 ≡ k + e
 unfolding upFrom
 up-at k zero e h = absurd (omega arith)
 up-at k (suc n) zero h = omega arith
 up-at k (suc n) (suc e) h = up-at (suc k) n e (omega arith) ∙ omega arith
 
-up-long : (k n : ℕ) → length (upFrom k n) ≡ n
+pub up-long : (k n : ℕ) → length (upFrom k n) ≡ n
 unfolding upFrom
 up-long k zero = refl
 up-long k (suc n) = ap suc (up-long (suc k) n)
