@@ -263,7 +263,7 @@ module _ (bytes : List ℕ) (a : Accepted) (p : Plan) where
       less true n = omega arith
       less false n = omega arith
 
-  ran-changed : (w : World) → Known bytes a → Planning a p → ran a p ≡ gives w → length w.changed ≤ 1024
+  pub ran-changed : (w : World) → Known bytes a → Planning a p → ran a p ≡ gives w → length w.changed ≤ 1024
   unfolding ran atFirst begin
   ran-changed w k q e =
       let first = atFirst a p in
