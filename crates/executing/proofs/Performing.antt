@@ -2,7 +2,7 @@
 -- Assumes nothing.
 use mathlib.Core.Path.{_≡_, refl, sym, ap, _∙_, subst}
 use mathlib.Core.Bool.{Bool, true, false, cond, _&&_}
-use mathlib.Core.List.{List, [], _∷_, map}
+use mathlib.Core.List.{List, [], map}
 use mathlib.Core.Option.{Option, none, some}
 use Prim.Native.Nat.{ℕ, zero, suc, _+_, _-_, _*_, _^_, _≤_, _<_}
 use native.Mathlib.Omega.{arith}
@@ -10,7 +10,7 @@ use lib.ListN.{length, getD, take, drop}
 use lib.Dec.{eqb}
 use borrow.Author.Tests.{ne-eqb}
 use Rattle.orders.specs.Lists.{All}
-use Rattle.definition.specs.Basics.{refused, gives, refuse, orRefuse, _>>=_}
+use Rattle.definition.specs.Basics.{refused, orRefuse, _>>=_}
 use Rattle.definition.specs.Elements.{Table, tree, depth}
 use Rattle.definition.specs.Planning.{own, dependent, discarded, Planned, target}
 use Rattle.definition.specs.Recording.{Change}
@@ -18,9 +18,8 @@ use Rattle.definition.specs.Running.{news, owned, records}
 use Rattle.definition.specs.Words.{words}
 use Rattle.laws.specs.Right.{right-sits}
 use Rattle.words.specs.Bytes.{length-words}
-use Rattle.rows.specs.Row.{firstRows, bytes}
 use Rattle.store_model.specs.Store as model
-use Rattle.store_model.specs.Store.{Store, Part, partOf, gap, depthAbove, splicedStore, storeStep}
+use Rattle.store_model.specs.Store.{Store, partOf, gap, depthAbove, splicedStore, storeStep}
 use Rattle.element_table.specs.View.{view}
 use Rattle.element_table.specs.Wellformed.{Lines}
 use Rattle.element_table.specs.Told.{depth-told}
@@ -42,10 +41,10 @@ use Rattle.splicing.specs.Store.{heldIn, gapTold, Open}
 use Rattle.splicing.specs.Applied.{executedIn, judgedStore}
 use Rattle.splicing.specs.declared.TreeState.{TreeState}
 use Rattle.splicing.specs.declared.Executed.{Executed}
-use Rattle.splicing.specs.declared.Executed.the-variants.{Refused, Done}
+use Rattle.splicing.specs.declared.Executed.the-variants.{Refused}
 use Rattle.preparing.specs.Listed.{part-listed, news-listed}
 use Rattle.executing.specs.Standing.{Standing}
-use Rattle.executing.specs.Opening.{rows-some, rows-few, bytes-few, marks-below, gap-room}
+use Rattle.executing.specs.Opening.{rows-some, rows-few, marks-below, gap-room}
 use Rattle.executing.specs.Stepping.{AboveBy, recordsBy, Grown, yieldsIn, SteppedAt, Performs, listsIn, Stepped}
 
 -- ── The row ─────────────────────────────────────────────────────────────────────────────────────────────────

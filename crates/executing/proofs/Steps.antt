@@ -1,9 +1,9 @@
 -- One step, from what was done.
 -- Assumes nothing.
 use mathlib.Core.Path.{_≡_, refl, sym, ap, _∙_, subst}
-use mathlib.Core.Bool.{Bool, true, cond}
+use mathlib.Core.Bool.{Bool, cond}
 use mathlib.Core.List.{List, []}
-use Prim.Native.Nat.{ℕ, _+_, _-_, _*_, _%_, _^_, _≤_, _<_}
+use Prim.Native.Nat.{ℕ, _+_, _-_, _*_, _^_, _≤_, _<_}
 use native.Mathlib.Omega.{arith}
 use lib.ListN.{length, take, drop}
 use lib.Seq.{length-take-le}
@@ -11,23 +11,23 @@ use Rattle.orders.specs.Lists.{All}
 use Rattle.definition.specs.Basics.{_>>=_, refuse}
 use Rattle.definition.specs.Words.{words}
 use Rattle.words.specs.Bytes.{length-words}
-use Rattle.rows.specs.Row.{firstRows, bytes}
+use Rattle.rows.specs.Row.{firstRows}
 use Rattle.rows.specs.Words.{length-first}
 use Rattle.store_model.specs.Sums.{Within}
 use Rattle.tree_store.specs.Stored.{stored}
 use Rattle.tree_store.specs.declared.Gap.{Gap}
-use Rattle.splicing.specs.Store.{gapTold, Comes, Open, Coming}
+use Rattle.splicing.specs.Store.{gapTold, Open, Coming}
 use Rattle.splicing.specs.Applied.{executedIn, judgedStore, Applied}
 use Rattle.splicing.specs.declared.TreeState.{TreeState}
 use Rattle.splicing.specs.declared.Executed.{Executed}
-use Rattle.splicing.specs.declared.Executed.the-variants.{Refused, Done}
+use Rattle.splicing.specs.declared.Executed.the-variants.{Refused}
 use Rattle.preparing.specs.Yields.{newNotes, partSizes}
-use Rattle.preparing.specs.Promises.{Came, ElementsPrepared}
+use Rattle.preparing.specs.Promises.{ElementsPrepared}
 use Rattle.preparing.specs.Bounds.{sizes-told, sizes-small}
 use Rattle.preparing.specs.Refusal.{prepared-refused}
 use Rattle.preparing.specs.declared.Prepared.{Prepared}
 use Rattle.preparing.specs.declared.Prepared.the-variants.{TooMany, Parts}
-use Rattle.executing.specs.Stepping.{Grown, yieldsIn, SteppedAt}
+use Rattle.executing.specs.Stepping.{yieldsIn, SteppedAt}
 
 -- ── Parts of what is prepared ───────────────────────────────────────────────────────────────────────────────
 

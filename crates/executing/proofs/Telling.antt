@@ -1,14 +1,13 @@
 -- What the row of a change tells: each answer from the words read.
 -- Assumes nothing.
-use mathlib.Core.Path.{_≡_, refl, sym, ap, _∙_}
-use mathlib.Core.Bool.{Bool, true, false, cond, not, _&&_}
+use mathlib.Core.Path.{_≡_}
+use mathlib.Core.Bool.{false}
 use mathlib.Core.List.{List}
-use Prim.Native.Nat.{ℕ, suc, _+_, _-_, _*_, _^_, _≤_, _<_}
+use Prim.Native.Nat.{ℕ, _+_, _-_, _*_, _^_, _≤_, _<_}
 use native.Mathlib.Omega.{arith}
 use lib.ListN.{length, getD, drop}
 use lib.Dec.{eqb}
-use borrow.Author.Tests.{eq-eqb, ne-eqb}
-use Rattle.orders.specs.Lists.{All}
+use borrow.Author.Tests.{ne-eqb}
 use Rattle.element_table.specs.Wellformed.{Lines}
 use Rattle.element_table.specs.Told.{deep}
 use Rattle.syntax_editor.specs.ChangeRow.{rowOf}

@@ -8,14 +8,11 @@ use native.Mathlib.Omega.{arith}
 use lib.ListN.{length, getD, drop, drop-of-length-le}
 use lib.Seq.{drop-cons}
 use Rattle.orders.specs.Lists.{All}
-use Rattle.definition.specs.Basics.{Answer, refused, gives, _>>=_}
+use Rattle.definition.specs.Basics.{Answer, refused, _>>=_}
 use Rattle.definition.specs.Elements.{Table}
-use Rattle.definition.specs.Planning.{Planned}
-use Rattle.laws.specs.Basics.{All-drop}
 use Rattle.store_model.specs.Store.{Store, storeStep, storeSteps}
 use Rattle.element_table.specs.View.{view}
 use Rattle.mapping.specs.Mapped.{wordsAt}
-use Rattle.syntax_editor.specs.ChangeRow.{ChangeRow}
 use Rattle.syntax_editor.specs.ChangeRowLaws.{rowAt}
 use Rattle.change_row.specs.Stated.{planOf}
 use Rattle.annotations.specs.Notes.{notesOf}

@@ -2,19 +2,17 @@
 -- Assumes nothing.
 use mathlib.Core.Path.{_≡_, refl, sym, ap, _∙_, subst}
 use mathlib.Core.Bool.{Bool, cond}
-use mathlib.Core.List.{List, [], _∷_, map}
-use mathlib.Core.Option.{Option, none, some, Option·map}
+use mathlib.Core.List.{List, map}
+use mathlib.Core.Option.{Option, none, some}
 use Prim.Native.Nat.{ℕ, _+_, _*_, _^_, _≤_, _<_}
 use native.Mathlib.Omega.{arith}
 use lib.ListN.{length, getD, take, length-map}
-use lib.Seq.{length-take-le}
 use Rattle.orders.specs.Lists.{All}
-use Rattle.orders.specs.ListLaws.{map-some, All-map, All-over}
+use Rattle.orders.specs.ListLaws.{map-some, All-over}
 use Rattle.orders.specs.Tree.{Tree, node, token, list, Path, HasRun, text, children, textOf}
 use Rattle.definition.specs.Elements.{Table, table}
 use Rattle.definition.specs.Recording.{Change}
 use Rattle.definition.specs.Running.{World, Run, place as runAt}
-use Rattle.definition.specs.Rewriting.{Note}
 use Rattle.laws.specs.Held.{Leads}
 use Rattle.laws.specs.Right.{Sits}
 use Rattle.laws.specs.Running.{place-fits}
@@ -24,7 +22,7 @@ use Rattle.rows.specs.Place.{size, place, markOf, Held}
 use Rattle.rows.specs.PlaceLaws.{place-lt, place-bound}
 use Rattle.rows.specs.Words.{rows-many, node-at}
 use Rattle.store_model.specs.Store as model
-use Rattle.store_model.specs.Store.{HeldNote, heldNote, store, gap}
+use Rattle.store_model.specs.Store.{heldNote, store, gap}
 use Rattle.store_model.specs.Gaps.{gapAt, gap-place}
 use Rattle.store_model.specs.Sums.{Within, gap-within}
 use Rattle.store_model.specs.Step.{paths-held}
@@ -34,7 +32,7 @@ use Rattle.tree_store.specs.Stored.{stored}
 use Rattle.tree_store.specs.Gaps.{held}
 use Rattle.splicing.specs.Store.{heldIn, Open}
 use Rattle.splicing.specs.declared.TreeState.{TreeState}
-use Rattle.executing.specs.Standing.{Begun, Now, Standing}
+use Rattle.executing.specs.Standing.{Standing}
 
 -- the root of all has no text of its own
 text-below : (t : Tree ℕ) → 0 < length (list (children t)) → length (text t) ≡ length (textOf (children t))

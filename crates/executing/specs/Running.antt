@@ -1,23 +1,20 @@
 -- The run: what it promises, and one step on.
 -- Assumes nothing.
-use mathlib.Core.Path.{_≡_, refl, sym, ap, _∙_, subst}
-use mathlib.Core.Bool.{true}
+use mathlib.Core.Path.{_≡_, refl, sym, ap, _∙_}
 use mathlib.Core.List.{List, [], _∷_, map}
-use Prim.Native.Nat.{ℕ, _+_, _*_, _≤_, _<_}
+use Prim.Native.Nat.{ℕ, _+_, _≤_}
 use native.Mathlib.Omega.{arith}
 use lib.ListN.{length, length-map}
 use Rattle.orders.specs.Lists.{total}
-use Rattle.definition.specs.Basics.{Answer, refused, gives, _>>=_}
 use Rattle.definition.specs.Elements.{Table, table}
 use Rattle.definition.specs.Planning.{Planned}
 use Rattle.definition.specs.Running.{news, records}
-use Rattle.laws.specs.Right.{Right}
-use Rattle.store_model.specs.Store.{Store, store, storeStep, storeSteps}
+use Rattle.store_model.specs.Store.{Store, store, storeSteps}
 use Rattle.element_table.specs.View.{view}
 use Rattle.element_table.specs.Told.{length-view}
 use Rattle.syntax_editor.specs.ChangeRow.{ChangeRow}
 use Rattle.syntax_editor.specs.ChangeRowLaws.{rowAt}
-use Rattle.change_row.specs.Stated.{changeOf, planOf}
+use Rattle.change_row.specs.Stated.{planOf}
 use Rattle.rows.specs.Row.{firstRows, bytes}
 use Rattle.rows.specs.Place.{markOf}
 use Rattle.annotations.specs.Notes.{notesOf}
@@ -26,9 +23,9 @@ use Rattle.splicing.specs.Store.{heldIn}
 use Rattle.splicing.specs.Applied.{executedIn}
 use Rattle.splicing.specs.declared.TreeState.{TreeState}
 use Rattle.splicing.specs.declared.Executed.{Executed}
-use Rattle.splicing.specs.declared.Executed.the-variants.{Refused, Done}
-use Rattle.executing.specs.Standing.{Begun, Now, now-next, Standing}
-use Rattle.executing.specs.Stepping.{Grown, Performs, listsIn, Stepped}
+use Rattle.splicing.specs.declared.Executed.the-variants.{Done}
+use Rattle.executing.specs.Standing.{now-next, Standing}
+use Rattle.executing.specs.Stepping.{Performs, listsIn, Stepped}
 
 -- the planned changes at some places
 unfoldable pub plansIn : List ℕ → List ℕ → List ℕ → List Planned

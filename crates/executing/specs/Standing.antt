@@ -2,14 +2,14 @@
 -- Assumes nothing.
 use mathlib.Core.Path.{_≡_, refl, sym, ap, _∙_}
 use mathlib.Core.List.{List, [], _∷_, map, flatMap}
-use mathlib.Core.Option.{Option, none, some}
+use mathlib.Core.Option.{none, some}
 use Prim.Native.Nat.{ℕ, zero, suc, _+_, _*_, _≤_, _<_}
 use native.Mathlib.Numerals.{add-one}
 use native.Mathlib.Omega.{arith}
 use lib.ListN.{length, getD, length-map}
 use lib.Seq.{ext-getD}
 use Rattle.orders.specs.Lists.{All}
-use Rattle.orders.specs.Tree.{Tree, node, forest, text as textIn, textOf, deepest, elementsOf, children, Path}
+use Rattle.orders.specs.Tree.{Tree, node, forest, text as textIn, deepest, children, Path}
 use Rattle.orders.specs.TreeLaws.{list-forest}
 use Rattle.definition.specs.Basics.{Answer, gives, _>>=_}
 use Rattle.definition.specs.Elements.{Table, table, row, noRow}
@@ -29,8 +29,8 @@ use Rattle.rows.specs.RowLaws.{size-below}
 use Rattle.rows.specs.Place.{markOf}
 use Rattle.rows.specs.Words.{rows-many}
 use Rattle.rows.specs.Numbers.{element-row}
-use Rattle.store_model.specs.Store.{HeldNote, heldNote, Store, store, storeStep}
-use Rattle.store_model.specs.Step.{Kept, inRows, step-store, step-kept}
+use Rattle.store_model.specs.Store.{heldNote, Store, store, storeStep}
+use Rattle.store_model.specs.Step.{Kept, step-store, step-kept}
 use Rattle.element_table.specs.View.{upFrom, view}
 use Rattle.element_table.specs.Told.{length-view}
 use Rattle.element_table.specs.Wellformed.{Lines}

@@ -19,7 +19,7 @@ use Rattle.syntax_node.specs.Promises.{Spliced, Shifted}
 use Rattle.rows.specs.Row.{Row}
 use Rattle.rows.specs.Words.{length-triples}
 use Rattle.store_model.specs.Store.{HeldNote, Store, withRow, newRows, placedParts, splicedStore}
-use Rattle.annotations.specs.Notes.{noteOf, notesOf, noteAt, length-notesOf, note-row, notes-to, notes-same}
+use Rattle.annotations.specs.Notes.{noteOf, notesOf, noteAt, note-row, notes-to, notes-same}
 use Rattle.annotations.specs.Places.{partRows, part-rows}
 use Rattle.annotations.specs.Promises.{RowsMoved, movedNote, NotesMoved, RowsAdded}
 use Rattle.tree_store.specs.Stored.{stored}

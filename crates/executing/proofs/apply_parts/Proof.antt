@@ -27,7 +27,7 @@ part-apply-end-2 : tie.Need-part-apply-end-2
 part-apply-end-2 c = search needs
 
 apply-requires : tie.Need-apply-requires
-apply-requires c κs = let p = c .before .before .before .before .before .before .before .before .before .before .before .before .before .pre in (part-open (p .0) (c .before .before .before .before .before .before .before .before .before .before .before .before .before .args .prepared .now) (c .before .before .before .before .before .before .before .before .before .before .before .before .before .args .sizes .now) (c .before .before .before .before .before .before .before .before .before .before .before .before .before .args .incoming .now) (p .1 .1 .1), (part-coming (p .0) (c .before .before .before .before .before .before .before .before .before .before .before .before .before .args .prepared .now) (c .before .before .before .before .before .before .before .before .before .before .before .before .before .args .sizes .now) (c .before .before .before .before .before .before .before .before .before .before .before .before .before .args .incoming .now) (p .1 .1 .1), (p .1 .0, p .1 .1 .0)))
+apply-requires c κs = let o = c .before .before .before .before .before .before .before .before .before .before .before .before .before in let p = o .pre in (part-open (p .0) (o .args .prepared .now) (o .args .sizes .now) (o .args .incoming .now) (p .1 .1 .1), (part-coming (p .0) (o .args .prepared .now) (o .args .sizes .now) (o .args .incoming .now) (p .1 .1 .1), (p .1 .0, p .1 .1 .0)))
 
 same-length : tie.Need-same-length
 same-length c = search needs
@@ -42,7 +42,7 @@ same-length-4 : tie.Need-same-length-4
 same-length-4 c = search needs
 
 returns : tie.Need-returns
-returns c = part-applied (c .before .before .before .before .before .before .before .before .before .before .before .before .before .before .before .before .before .before .before .before .before .before .args .prepared .now) (c .before .before .before .before .before .before .before .before .before .before .before .before .before .before .before .before .before .before .before .before .before .before .args .m) (c .before .before .before .before .before .before .before .before .before .before .before .before .before .before .before .before .before .before .before .before .before .before .args .sizes .now) (c .before .before .before .before .before .before .before .before .before .before .before .before .before .before .before .before .before .before .before .before .before .before .args .count) (c .before .before .before .before .before .before .before .before .apply .ensures)
+returns c = let o = c .before .before .before .before .before .before .before .before .before .before .before .before .before .before .before .before .before .before .before .before .before .before in part-applied (o .args .prepared .now) (o .args .m) (o .args .sizes .now) (o .args .count) (c .before .before .before .before .before .before .before .before .apply .ensures)
 
 pub apply-parts-spec : {M : Type 1} → statement M
 apply-parts-spec =

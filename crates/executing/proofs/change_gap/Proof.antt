@@ -15,7 +15,7 @@ field-requires-3 : tie.Need-field-requires-3
 field-requires-3 c κs = search needs
 
 find-gap-requires : tie.Need-find-gap-requires
-find-gap-requires c κs = let p = c .before .before .before .before .before .before .before .pre in let q = ends-low (c .before .before .before .before .before .before .before .args .changes .now) (c .before .before .before .before .before .before .before .args .k) (c .before .before .field .ensures) (c .before .field2 .ensures) (c .field3 .ensures) (c .before .before .before .before .before .before .before .args .marks .now) (p .1 .1) in search needs
+find-gap-requires c κs = let o = c .before .before .before .before .before .before .before in let q = ends-low (o .args .changes .now) (o .args .k) (c .before .before .field .ensures) (c .before .field2 .ensures) (c .field3 .ensures) (o .args .marks .now) (o .pre .1 .1) in search needs
 
 returns : tie.Need-returns
 returns c = search (site-told, needs)

@@ -1,4 +1,4 @@
--- `number_marks` meets its contract.
+-- `number_marks` meets its contract. The marks passed are numbered.
 -- Assumes nothing.
 use borrow.Author.Needs.{needs}
 use lib.ListN.{length}

@@ -1,4 +1,4 @@
--- `run_steps` meets its contract.
+-- `run_steps` meets its contract. The run is that of the changes left, from what is held now.
 -- Assumes nothing.
 use Rattle.mapping.specs.Mapped.{wordsAt}
 use native.Mathlib.Omega.{arith}
@@ -26,7 +26,7 @@ word-requires : tie.Need-word-requires Inv-loop μ-loop
 word-requires c κs = search needs
 
 step-requires : tie.Need-step-requires Inv-loop μ-loop
-step-requires c κs = let p = c .before .before .before .before .before .before .before .before .before .before .before .before .before .before .before .before .before .before .before .before .before .before .before .pre in let v = c .before .before .before .before .before .before .before .before .before .loop .inv in let r = walking-room (c .before .before .before .before .before .before .before .before .before .loop .inv .0) (c .before .before .before .before .before .before .before .before .loop-test .taken) (c .before .before .before .before .before .before .before .word .ensures) (c .before .before .before .before .before .before .before .before .before .before .before .before .before .before .before .before .before .before .before .before .before .before .before .pre .1 .1 .1 .0) in (walking-standing (v .0), ((omega arith, omega arith, omega arith, omega arith, omega arith), (walking-listed (v .0) (c .before .before .before .before .before .before .before .before .before .before .before .before .before .before .before .before .before .before .before .before .before .before .before .args .b .now) (c .before .before .before .before .before .before .before .before .before .before .before .before .before .before .before .before .before .before .before .before .before .before .before .args .listed) (c .before .before .before .before .before .before .before .before .before .before .before .before .before .before .before .before .before .before .before .before .before .before .before .args .l) (c .before .before .before .before .before .before .before .word .result) (p .1 .1 .0) (c .before .before .before .before .before .before .before .word .ensures .1), (walking-performs (c .before .before .before .before .before .before .before .before .before .loop .inv .0) (c .before .before .before .before .before .before .before .before .loop-test .taken) (c .before .before .before .before .before .before .before .word .ensures) (c .before .before .before .before .before .before .before .before .before .before .before .before .before .before .before .before .before .before .before .before .before .before .before .pre .1 .1 .1 .0), omega arith))))
+step-requires c κs = let o = c .before .before .before .before .before .before .before .before .before .before .before .before .before .before .before .before .before .before .before .before .before .before .before in let n = c .before .before .before .before .before .before .before .before .before in let n′ = c .before .before .before .before .before .before .before .before in let w = c .before .before .before .before .before .before .before in let p = o .pre in let v = n .loop .inv in let r = walking-room (n .loop .inv .0) (n′ .loop-test .taken) (w .word .ensures) (o .pre .1 .1 .1 .0) in (walking-standing (v .0), ((omega arith, omega arith, omega arith, omega arith, omega arith), (walking-listed (v .0) (o .args .b .now) (o .args .listed) (o .args .l) (w .word .result) (p .1 .1 .0) (w .word .ensures .1), (walking-performs (n .loop .inv .0) (n′ .loop-test .taken) (w .word .ensures) (o .pre .1 .1 .1 .0), omega arith))))
 
 enum-known-next : tie.Need-enum-known-next Inv-loop μ-loop
 enum-known-next c = search needs
@@ -53,7 +53,7 @@ same-length-7 : tie.Need-same-length-7 Inv-loop μ-loop
 same-length-7 c = search needs
 
 returns : tie.Need-returns Inv-loop μ-loop
-returns c = run-refused (c .before .before .before .before .before .before .before .before .before .before .before .before .before .before .before .before .before .before .before .before .before .before .before .before .before .before .before .loop .inv .0) (c .before .before .before .before .before .before .before .before .before .before .before .before .before .before .before .before .before .before .before .before .before .before .before .before .before .before .loop-test .taken) (c .before .before .before .before .before .before .before .before .before .before .before .before .before .before .before .before .before .before .before .before .before .before .before .before .before .word .ensures) (c .before .before .before .before .before .before .before .before .before .before .before .before .before .before .before .before .before .before .before .before .before .before .before .before .before .before .before .before .before .before .before .before .before .before .before .before .before .before .before .before .before .pre .1 .1 .1 .0) (c .before .before .before .before .before .before .before .before .before .before .before .before .before .before .before .before .before .step .ensures) (c .before .next .given .1)
+returns c = let o = c .before .before .before .before .before .before .before .before .before .before .before .before .before .before .before .before .before .before .before .before .before .before .before .before .before .before .before .before .before .before .before .before .before .before .before .before .before .before .before .before .before in let n = c .before .before .before .before .before .before .before .before .before .before .before .before .before .before .before .before .before .before .before .before .before .before .before .before .before .before .before in let n′ = c .before .before .before .before .before .before .before .before .before .before .before .before .before .before .before .before .before .before .before .before .before .before .before .before .before .before in let w = c .before .before .before .before .before .before .before .before .before .before .before .before .before .before .before .before .before .before .before .before .before .before .before .before .before in run-refused (n .loop .inv .0) (n′ .loop-test .taken) (w .word .ensures) (o .pre .1 .1 .1 .0) (c .before .before .before .before .before .before .before .before .before .before .before .before .before .before .before .before .before .step .ensures) (c .before .next .given .1)
 
 enum-known-next-2 : tie.Need-enum-known-next-2 Inv-loop μ-loop
 enum-known-next-2 c = search needs
@@ -65,7 +65,7 @@ loop-less : tie.Need-loop-less Inv-loop μ-loop
 loop-less c = search needs
 
 loop-again : tie.Need-loop-again Inv-loop μ-loop
-loop-again c = let p = c .before .before .before .before .before .before .before .before .before .before .before .before .before .before .before .before .before .before .before .before .before .before .before .before .before .before .before .before .before .before .before .before .before .before .before .before .before .before .before .before .before .pre in let v = c .before .before .before .before .before .before .before .before .before .before .before .before .before .before .before .before .before .before .before .before .before .before .before .before .before .before .before .loop .inv in (walking-next (c .before .before .before .before .before .before .before .before .before .before .before .before .before .before .before .before .before .before .before .before .before .before .before .before .before .before .before .loop .inv .0) (c .before .before .before .before .before .before .before .before .before .before .before .before .before .before .before .before .before .before .before .before .before .before .before .before .before .before .loop-test .taken) (c .before .before .before .before .before .before .before .before .before .before .before .before .before .before .before .before .before .before .before .before .before .before .before .before .before .word .ensures) (c .before .before .before .before .before .before .before .before .before .before .before .before .before .before .before .before .before .before .before .before .before .before .before .before .before .before .before .before .before .before .before .before .before .before .before .before .before .before .before .before .before .pre .1 .1 .1 .0) (c .before .before .before .before .before .before .before .before .before .before .before .before .before .before .before .before .before .step .ensures) (c .before .next2 .given .1) (omega (arith, c .before .before .before .before .before .before .before .before .before .before .before .before .before .before .before .before .rows .given)) (omega (arith, c .before .before .before .before .before .before .before .before .before .before .changed .given)), omega (arith, c .before .before .before .before .before .before .before .before .before .before .before .before .before .before .before .before .rows .given), omega (arith, c .before .before .before .before .before .before .before .before .before .before .before .before .before .before .marks .given), omega (arith, c .before .before .before .before .before .before .before .before .before .before .before .before .notes .given), omega (arith, c .before .before .before .before .before .before .before .before .before .before .changed .given), omega (arith, c .before .before .before .before .before .before .before .before .prepared .given), omega (arith, c .before .before .before .before .before .before .sizes .given), omega (arith, c .before .before .before .before .incoming .given))
+loop-again c = let o = c .before .before .before .before .before .before .before .before .before .before .before .before .before .before .before .before .before .before .before .before .before .before .before .before .before .before .before .before .before .before .before .before .before .before .before .before .before .before .before .before .before in let n = c .before .before .before .before .before .before .before .before .before .before .before .before .before .before .before .before .before .before .before .before .before .before .before .before .before .before .before in let n′ = c .before .before .before .before .before .before .before .before .before .before .before .before .before .before .before .before .before .before .before .before .before .before .before .before .before .before in let w = c .before .before .before .before .before .before .before .before .before .before .before .before .before .before .before .before .before .before .before .before .before .before .before .before .before in let p = o .pre in let v = n .loop .inv in (walking-next (n .loop .inv .0) (n′ .loop-test .taken) (w .word .ensures) (o .pre .1 .1 .1 .0) (c .before .before .before .before .before .before .before .before .before .before .before .before .before .before .before .before .before .step .ensures) (c .before .next2 .given .1) (omega (arith, c .before .before .before .before .before .before .before .before .before .before .before .before .before .before .before .before .rows .given)) (omega (arith, c .before .before .before .before .before .before .before .before .before .before .changed .given)), omega (arith, c .before .before .before .before .before .before .before .before .before .before .before .before .before .before .before .before .rows .given), omega (arith, c .before .before .before .before .before .before .before .before .before .before .before .before .before .before .marks .given), omega (arith, c .before .before .before .before .before .before .before .before .before .before .before .before .notes .given), omega (arith, c .before .before .before .before .before .before .before .before .before .before .changed .given), omega (arith, c .before .before .before .before .before .before .before .before .prepared .given), omega (arith, c .before .before .before .before .before .before .sizes .given), omega (arith, c .before .before .before .before .incoming .given))
 
 same-length-8 : tie.Need-same-length-8 Inv-loop μ-loop
 same-length-8 c = search needs

@@ -8,7 +8,7 @@ use Rattle.executing.proofs.step_at.Statement.{statement}
 use Rattle.executing.proofs.step_at.Tie as tie
 
 prepare-requires : tie.Need-prepare-requires
-prepare-requires c κs = let p = c .before .before .before .before .before .before .before .before .before .before .before .before .before .before .before .before .pre in let q = asks-prepare (p .0) (c .before .before .before .before .before .before .before .before .before .before .before .before .before .before .before .before .args .source .now) (c .before .before .before .before .before .before .before .before .before .before .before .before .before .before .before .before .args .first .now) (c .before .before .before .before .before .before .before .before .before .before .before .before .before .before .before .before .args .a) (c .before .before .before .before .before .before .before .before .before .before .before .before .before .before .before .before .args .b .now) (c .before .before .before .before .before .before .before .before .before .before .before .before .before .before .before .before .args .list) (c .before .before .before .before .before .before .before .before .before .before .before .before .before .before .before .before .args .prepared .now) (c .before .before .before .before .before .before .before .before .before .before .before .before .before .before .before .before .args .sizes .now) (c .before .before .before .before .before .before .before .before .before .before .before .before .before .before .before .before .args .incoming .now) (p .1 .1 .1 .0) (p .1 .1 .1 .1 .0) (p .1 .1 .1 .1 .1) in (q .0, (q .1, (q .2, (q .3, q .4))))
+prepare-requires c κs = let o = c .before .before .before .before .before .before .before .before .before .before .before .before .before .before .before .before in let p = o .pre in let q = asks-prepare (p .0) (o .args .source .now) (o .args .first .now) (o .args .a) (o .args .b .now) (o .args .list) (o .args .prepared .now) (o .args .sizes .now) (o .args .incoming .now) (p .1 .1 .1 .0) (p .1 .1 .1 .1 .0) (p .1 .1 .1 .1 .1) in (q .0, (q .1, (q .2, (q .3, q .4))))
 
 enum-told : tie.Need-enum-told
 enum-told c = search needs
@@ -17,7 +17,7 @@ enum-known-made : tie.Need-enum-known-made
 enum-known-made c = search needs
 
 apply-parts-requires : tie.Need-apply-parts-requires
-apply-parts-requires c κs = let p = c .before .before .before .before .before .before .before .before .before .before .before .before .before .before .before .before .before .before .before .before .before .before .before .before .before .before .before .before .before .before .before .before .before .pre in let a = made-small (p .0) (drop (c .before .before .before .before .before .before .before .before .before .before .before .before .before .before .before .before .before .before .before .before .before .before .before .before .before .before .before .before .before .before .before .before .before .args .list) (c .before .before .before .before .before .before .before .before .before .before .before .before .before .before .before .before .before .before .before .before .before .before .before .before .before .before .before .before .before .before .before .before .before .args .b .now)) (c .before .before .before .before .before .before .before .before .before .before .before .before .before .before .before .before .prepare .ensures) (c .before .before .before .before .before .before .before .before .made .given .1) in let y = p .1 .1 .1 .1 in (p .0, (p .1 .0, (p .1 .1 .0, (a .0, omega (arith, c .before .before .before .before .before .before .before .before .before .before .before .before .before .before .before .prepared .given), y .0 .1, omega (arith, c .before .before .before .before .before .before .before .before .before .before .before .before .before .sizes .given), a .1, a .2, omega (arith, c .before .before .before .before .before .before .before .before .before .before .before .incoming .given)))))
+apply-parts-requires c κs = let o = c .before .before .before .before .before .before .before .before .before .before .before .before .before .before .before .before .before .before .before .before .before .before .before .before .before .before .before .before .before .before .before .before .before in let p = o .pre in let a = made-small (p .0) (drop (o .args .list) (o .args .b .now)) (c .before .before .before .before .before .before .before .before .before .before .before .before .before .before .before .before .prepare .ensures) (c .before .before .before .before .before .before .before .before .made .given .1) in let y = p .1 .1 .1 .1 in (p .0, (p .1 .0, (p .1 .1 .0, (a .0, omega (arith, c .before .before .before .before .before .before .before .before .before .before .before .before .before .before .before .prepared .given), y .0 .1, omega (arith, c .before .before .before .before .before .before .before .before .before .before .before .before .before .sizes .given), a .1, a .2, omega (arith, c .before .before .before .before .before .before .before .before .before .before .before .incoming .given)))))
 
 same-length : tie.Need-same-length
 same-length c = search needs
@@ -38,7 +38,7 @@ same-length-6 : tie.Need-same-length-6
 same-length-6 c = search needs
 
 returns : tie.Need-returns
-returns c = step-refused (c .before .before .before .before .before .before .before .before .before .before .before .before .before .before .before .before .before .before .before .before .before .before .before .before .before .pre .0) (drop (c .before .before .before .before .before .before .before .before .before .before .before .before .before .before .before .before .before .before .before .before .before .before .before .before .before .args .list) (c .before .before .before .before .before .before .before .before .before .before .before .before .before .before .before .before .before .before .before .before .before .before .before .before .before .args .b .now)) (c .before .before .before .before .before .before .before .before .prepare .ensures) (c .enum-told .given .1)
+returns c = let o = c .before .before .before .before .before .before .before .before .before .before .before .before .before .before .before .before .before .before .before .before .before .before .before .before .before in step-refused (o .pre .0) (drop (o .args .list) (o .args .b .now)) (c .before .before .before .before .before .before .before .before .prepare .ensures) (c .enum-told .given .1)
 
 same-length-7 : tie.Need-same-length-7
 same-length-7 c = search needs
@@ -62,7 +62,7 @@ same-length-13 : tie.Need-same-length-13
 same-length-13 c = search needs
 
 returns-2 : tie.Need-returns-2
-returns-2 c = let y = c .before .before .before .before .before .before .before .before .before .before .before .before .before .before .before .before .before .before .before .before .before .before .before .before .before .before .before .before .before .before .before .before .before .before .before .before .before .before .before .before .before .before .pre .1 .1 .1 .1 in step-done (c .before .before .before .before .before .before .before .before .before .before .before .before .before .before .before .before .before .before .before .before .before .before .before .before .before .before .before .before .before .before .before .before .before .before .before .before .before .before .before .before .before .before .pre .0) (drop (c .before .before .before .before .before .before .before .before .before .before .before .before .before .before .before .before .before .before .before .before .before .before .before .before .before .before .before .before .before .before .before .before .before .before .before .before .before .before .before .before .before .before .args .list) (c .before .before .before .before .before .before .before .before .before .before .before .before .before .before .before .before .before .before .before .before .before .before .before .before .before .before .before .before .before .before .before .before .before .before .before .before .before .before .before .before .before .before .args .b .now)) (c .before .before .before .before .before .before .before .before .before .before .before .before .before .before .before .before .before .before .before .before .before .before .before .before .before .prepare .ensures) (c .before .before .before .before .before .before .before .before .before .before .before .before .before .before .before .before .before .made .given .1) (omega (arith, c .before .before .before .before .before .before .before .before .before .before .before .before .before .before .before .before .before .before .before .before .before .before .sizes .given)) (c .before .before .before .before .before .before .before .before .apply-parts .ensures)
+returns-2 c = let o = c .before .before .before .before .before .before .before .before .before .before .before .before .before .before .before .before .before .before .before .before .before .before .before .before .before .before .before .before .before .before .before .before .before .before .before .before .before .before .before .before .before .before in let y = o .pre .1 .1 .1 .1 in step-done (o .pre .0) (drop (o .args .list) (o .args .b .now)) (c .before .before .before .before .before .before .before .before .before .before .before .before .before .before .before .before .before .before .before .before .before .before .before .before .before .prepare .ensures) (c .before .before .before .before .before .before .before .before .before .before .before .before .before .before .before .before .before .made .given .1) (omega (arith, c .before .before .before .before .before .before .before .before .before .before .before .before .before .before .before .before .before .before .before .before .before .before .sizes .given)) (c .before .before .before .before .before .before .before .before .apply-parts .ensures)
 
 pub step-at-spec : {M : Type 1} → statement M
 step-at-spec =

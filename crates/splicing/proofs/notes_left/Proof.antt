@@ -1,4 +1,4 @@
--- `notes_left` meets its contract.
+-- `notes_left` meets its contract. Of the notes passed, those that stay are counted.
 -- Assumes nothing.
 use borrow.Author.Needs.{needs}
 use Prim.Native.Nat.{_-_}
