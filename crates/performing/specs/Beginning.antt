@@ -30,7 +30,7 @@ module _ {b : List ℕ} {l : Layout} {t₀ s₀ t s : List ℕ} (v : Leaves b l 
   parts = accepted-parts b l (v .what) (v .laid) (v .accepted)
 
   -- the words tell of the batch's trees
-  tells : 8 * l .sizes .elements ≤ length t₀ → 3 * (l .sizes .elements + 1) ≤ length s₀ → Tells (arraysAt l b) (v .what .trees) (l .sizes .elements) t s
+  pub tells : 8 * l .sizes .elements ≤ length t₀ → 3 * (l .sizes .elements + 1) ≤ length s₀ → Tells (arraysAt l b) (v .what .trees) (l .sizes .elements) t s
   unfolding arraysAt
   tells lt ls = filled-tells (arraysAt l b) b (l .kinds) (l .measures) (l .sizes .elements) refl refl (parts .trees) (v .filled) (v .within .limits .elements) lt ls
 
@@ -38,12 +38,12 @@ module _ {b : List ℕ} {l : Layout} {t₀ s₀ t s : List ℕ} (v : Leaves b l 
     pub planned : Planning (v .what) p
     planned = plan-known (v .what) (checked b (v .what) known) p e
 
-    first-notes : (store (atFirst (v .what) p)) .notes ≡ map (heldNote (node 2147483648 (forest (v .what .trees)))) (p .notes)
+    pub first-notes : (store (atFirst (v .what) p)) .notes ≡ map (heldNote (node 2147483648 (forest (v .what .trees)))) (p .notes)
     unfolding atFirst begin store
     first-notes = refl
 
     -- and `first` holds the plan's notes: there the run begins
-    pub begun : (first : List ℕ) → notesOf (l .sizes .notes) first ≡ (store (atFirst (v .what) p)) .notes → 16384 ≤ length t₀ → 6147 ≤ length s₀ → 6147 ≤ length s → 768 ≤ length first
+    unfoldable pub begun : (first : List ℕ) → notesOf (l .sizes .notes) first ≡ (store (atFirst (v .what) p)) .notes → 16384 ≤ length t₀ → 6147 ≤ length s₀ → 6147 ≤ length s → 768 ≤ length first
         → Begun (l .sizes .elements) t s first (l .sizes .notes)
     unfolding arraysAt
     begun first n lt ls ls′ lf =

@@ -15,12 +15,12 @@ use Rattle.definition.specs.Running.{World, begin, news, records}
 use Rattle.orders.specs.Lists.{total}
 use Rattle.definition.specs.Answers.{Plan, plan, atFirst, performed, ran}
 use Rattle.definition.specs.Refusals.{Accepted, accepted}
-use Rattle.laws.specs.Answers.{gives-inj}
+use Rattle.laws.specs.Answers.{gives-inj, refused-gives}
 use Rattle.laws.specs.Basics.{map-All}
 use Rattle.laws.specs.Plans.{performed-right}
 use Rattle.laws.specs.Right.{Right}
 use Rattle.laws.specs.Limits.{performed-records, ran-changed, ran-known}
-use Rattle.rows.specs.Row.{firstRows, bytes}
+use Rattle.rows.specs.Place.{place}
 use Rattle.element_table.specs.View.{view}
 use Rattle.mapping.specs.Mapped.{wordsAt}
 use Rattle.syntax_editor.specs.ChangeRow.{ChangeRow, rowsOf}
@@ -110,3 +110,76 @@ module _ {b : List ℕ} {l : Layout} {t₀ s₀ t s : List ℕ} (v : Leaves b l 
   pub all-elements : All (λ e. e < E) listed
   unfolding wordsAt
   all-elements = (ready-facts (leaves-ready v)) .elements
+
+  -- ── What it answers ──
+
+  module _ (lt : 16384 ≤ length t₀) (ls : 6147 ≤ length s₀) (ls′ : 6147 ≤ length s) (lf : 768 ≤ length first) {rows marks notes changed : List ℕ} {x : Executed}
+      (R : Ran E t s first (l .sizes .notes) listed changes ks rows marks notes changed x) where
+    text : List ℕ
+    text = drop (l .text) b
+
+    -- before the first step
+    first-world : storedFirst text E s (notesOf (l .sizes .notes) first) [] ≡ store (atFirst a p)
+    unfolding text atFirst begins begun
+    first-world = first-told (begins lt ls ls′ lf) ∙ ap (λ (T : Table). store (begin (a .trees) T (p .notes))) (sym ((known v) .table))
+
+    -- the run is the definition's
+    ran-told : executedIn text rows marks notes changed x ≡ inRows (ran a p)
+    ran-told =
+        R .answer text
+        ∙ (ap (λ (T : Table). storeSteps T (storedFirst text E s (notesOf (l .sizes .notes) first) []) (storedFirst text E s (notesOf (l .sizes .notes) first) []) (plansIn listed changes ks)) (v .told)
+        ∙ (ap (λ (f : Store). storeSteps (a .table) f f (plansIn listed changes ks)) first-world
+        ∙ (ap (storeSteps (a .table) (store (atFirst a p)) (store (atFirst a p))) runs-told ∙ ran-store b a p (known v) (planned v p (m .plan)))))
+
+    ended-by : (o : Answer World) → ran a p ≡ o → ending b ≡ (o >>= λ w. gives (record { batch = a; planned = p; world = w }))
+    unfolding ending _>>=_
+    ended-by o e = rw (v .accepted, m .plan, e) refl
+
+    -- refused at the same step
+    pub run-refused : (k : ℕ) → x ≡ Refused k → ending b ≡ refused k
+    unfolding executedIn _>>=_
+    run-refused k e = go (ran a p) refl (sym (ap (executedIn text rows marks notes changed) e) ∙ ran-told)
+      where
+        go : (o : Answer World) → ran a p ≡ o → refused k ≡ inRows o → ending b ≡ refused k
+        go (refused n) i j = let same : n ≡ k = cc in ended-by (refused n) i ∙ ap refused same
+        go (gives w) i j = refused-gives j
+
+    -- or what is held at the end is the definition's
+    pub run-ended : (r : TreeState) → x ≡ Done r → 3072 ≤ length notes
+        → AtEnd b rows notes changed (record { text = l .text; elements = E; rows = r .rows; notes = r .notes; changed = r .changed; discarded = c .discarded; climbs = c .climbs })
+    unfolding executedIn _>>=_ text store stored
+    run-ended r e ln = go (ran a p) refl (sym (ap (executedIn text rows marks notes changed) e) ∙ ran-told)
+      where
+        S : Standing E t s first (l .sizes .notes) r rows marks notes changed
+        S = R .standing r e
+
+        go : (o : Answer World) → ran a p ≡ o → gives (heldIn text r rows marks notes changed) ≡ inRows o
+            → AtEnd b rows notes changed (record { text = l .text; elements = E; rows = r .rows; notes = r .notes; changed = r .changed; discarded = c .discarded; climbs = c .climbs })
+        go (refused n) i j = refused-gives (sym j)
+        go (gives w) i j =
+            let K = ran-known b a p w (v .accepted) (m .plan) i in
+            let same : heldIn text r rows marks notes changed ≡ store w = gives-inj j in
+            record {
+              end = record { batch = a; planned = p; world = w };
+              ends = ended-by (gives w) i;
+              holds = K .holds;
+              marks = marks;
+              held = sym same;
+              discarded = m .discarded;
+              climbs = m .climbs;
+              textWithin = omega (arith, v .within .text);
+              rowsWithin = S .long;
+              someRows = omega (arith, rows-some S);
+              fewRows = rows-few S;
+              fewBytes = λ x. omega (arith, S .measured x, bytes-few S);
+              notesWithin = omega (arith, notes-few S);
+              fewNotes = omega (arith, notes-few S);
+              changedWithin = S .held;
+              fewChanged = omega (arith, changed-few w same i);
+              fewDiscarded = omega (arith, P .within .fewer, P .within .few);
+              fewClimbs = omega (arith, P .within .climbs);
+            }
+          where
+            changed-few : (w : World) → heldIn text r rows marks notes changed ≡ store w → ran a p ≡ gives w → r .changed ≤ 1024
+            changed-few w same i =
+                omega (arith, length-take-le (r .changed) changed (S .held), ap (λ (y : Store). length (y .changed)) same, length-map (w .changed) (λ q. place q (w .trees)), ran-changed b a p w (known v) (planned v p (m .plan)) i)
