@@ -79,7 +79,14 @@ fn is_old_node(table: &[u32], source: &[u32], n: usize, k: usize) -> bool
 }
 
 // Where element `k` stands in the new tree, from the rows that the run of the batch leaves.
-fn find_from(batch: &[u8], d: Ended, table: &[u32], source: &[u32], rows: &[u32], k: usize) -> Element
+fn find_from(
+    batch: &[u8],
+    d: Ended,
+    table: &[u32],
+    source: &[u32],
+    rows: &[u32],
+    k: usize,
+) -> Element
     requires { ⌜ RowsAtEnd (now batch) (now rows) d ⌝ }
     requires { ⌜ Told (now batch) (now table) (now source) (d .elements) ⌝ }
     ensures { λ r. ⌜ elementOf r ≡ found (now (batch .entry)) k ⌝ }

@@ -16,6 +16,8 @@ use Rattle.store_model.specs.Store.{store}
 use Rattle.tree_store.specs.Stored.{stored}
 use Rattle.performing.specs.Ending.{End, ending}
 use Rattle.performing.specs.declared.Ended.{Ended}
+use Rattle.performing.specs.declared.Performed.{Performed}
+use Rattle.performing.specs.declared.Performed.the-variants.{Refused, Done}
 
 -- the run of the batch b has ended, and the slices hold what it left, with these counts
 pub record AtEnd (b rows notes changed : List ℕ) (d : Ended) : Type 0 where
@@ -46,3 +48,9 @@ pub record Told (b t s : List ℕ) (n : ℕ) : Type 0 where
   pub accepts : accepted b ≡ gives batch
   pub table : view n t s ≡ batch .table
   pub formed : Wellformed n t s
+
+-- THE PROMISE of performing: refused by the definition's number, or at the end of the run
+pub record Performs (b t s rows notes changed : List ℕ) (r : Performed) : Type 0 where
+  pub refuses : (k : ℕ) → r ≡ Refused k → ending b ≡ refused k
+  pub ends : (d : Ended) → r ≡ Done d → AtEnd b rows notes changed d
+  pub tells : (d : Ended) → r ≡ Done d → Told b t s (d .elements)

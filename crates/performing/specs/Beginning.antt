@@ -22,6 +22,14 @@ use Rattle.annotations.specs.Notes.{notesOf}
 use Rattle.store_model.specs.Store.{heldNote, store}
 use Rattle.executing.specs.Standing.{Begun}
 
+-- lines 2 to 7 accept the batch b: its layout is l, and the words t and s tell of its elements
+pub record LaidOut (b : List ℕ) (l : Layout) (t s : List ℕ) : Type 0 where
+  pub before : List ℕ
+  pub beforeRows : List ℕ
+  pub leaves : Leaves b l before beforeRows t s
+  pub long : 16384 ≤ length before
+  pub longRows : 6147 ≤ length beforeRows
+
 module _ {b : List ℕ} {l : Layout} {t₀ s₀ t s : List ℕ} (v : Leaves b l t₀ s₀ t s) where
   pub known : Known b (v .what)
   known = accepts b (v .what) (v .accepted)
