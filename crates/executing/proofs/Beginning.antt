@@ -20,8 +20,8 @@ use Rattle.tree_store.specs.Stored.{stored, storedFirst}
 use Rattle.splicing.specs.Store.{heldIn}
 use Rattle.splicing.specs.declared.TreeState.{TreeState}
 use Rattle.splicing.specs.declared.Executed.{Executed}
-use Rattle.executing.specs.Standing.{Begun, up-at, up-long, Now, now-first, Standing}
-use Rattle.executing.specs.Stepping.{Performs}
+use Rattle.stepping.specs.Standing.{Begun, up-at, up-long, Now, now-first, Standing}
+use Rattle.stepping.specs.Stepping.{Performs}
 use Rattle.executing.specs.Running.{plansIn, listsAll, RanSteps, Began, Ran, marks-many}
 
 -- ── Marks ───────────────────────────────────────────────────────────────────────────────────────────────────

@@ -22,8 +22,8 @@ use Rattle.splicing.specs.Applied.{executedIn}
 use Rattle.splicing.specs.declared.TreeState.{TreeState}
 use Rattle.splicing.specs.declared.Executed.{Executed}
 use Rattle.splicing.specs.declared.Executed.the-variants.{Refused, Done}
-use Rattle.executing.specs.Standing.{Standing}
-use Rattle.executing.specs.Stepping.{Performs, listsIn, Stepped}
+use Rattle.stepping.specs.Standing.{Standing}
+use Rattle.stepping.specs.Stepping.{Performs, listsIn, Stepped}
 use Rattle.executing.specs.Running.{plansIn, listsAll, RanSteps, marks-many, standing-next}
 
 -- the changes at the first i places are performed, from what was held at first (n elements, m changed rows at most)

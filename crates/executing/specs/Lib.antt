@@ -1,9 +1,7 @@
 -- The run in words.
---     Standing    the batch and what is held now, as the words tell them
---     Opening     where a change goes there is a gap, and room
---     Stepping    what the functions of one step promise
 --     Running     what the run promises, and one step on
+--     Standing    the batch and what is held now; with Opening and Stepping passed on from `stepping`
+pub mod Running
 pub mod Standing
 pub mod Opening
 pub mod Stepping
-pub mod Running

@@ -24,8 +24,8 @@ use Rattle.splicing.specs.Applied.{executedIn}
 use Rattle.splicing.specs.declared.TreeState.{TreeState}
 use Rattle.splicing.specs.declared.Executed.{Executed}
 use Rattle.splicing.specs.declared.Executed.the-variants.{Done}
-use Rattle.executing.specs.Standing.{now-next, Standing}
-use Rattle.executing.specs.Stepping.{Performs, listsIn, Stepped}
+use Rattle.stepping.specs.Standing.{now-next, Standing}
+use Rattle.stepping.specs.Stepping.{Performs, listsIn, Stepped}
 
 -- the planned changes at some places
 unfoldable pub plansIn : List ℕ → List ℕ → List ℕ → List Planned

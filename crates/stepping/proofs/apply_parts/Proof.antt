@@ -1,9 +1,9 @@
 -- `apply_parts` meets its contract.
 -- Assumes nothing.
 use borrow.Author.Needs.{needs}
-use Rattle.executing.proofs.Steps.{part-applied, part-coming, part-open}
-use Rattle.executing.proofs.apply_parts.Statement.{statement}
-use Rattle.executing.proofs.apply_parts.Tie as tie
+use Rattle.stepping.proofs.Steps.{part-applied, part-coming, part-open}
+use Rattle.stepping.proofs.apply_parts.Statement.{statement}
+use Rattle.stepping.proofs.apply_parts.Tie as tie
 
 mul-end : tie.Need-mul-end
 mul-end c = search needs

@@ -2,9 +2,9 @@
 -- Assumes nothing.
 use native.Mathlib.Omega.{arith}
 use borrow.Author.Needs.{needs}
-use Rattle.executing.proofs.Telling.{above-first, above-other, some-depth, target-line}
-use Rattle.executing.proofs.depth_above.Statement.{statement}
-use Rattle.executing.proofs.depth_above.Tie as tie
+use Rattle.stepping.proofs.Telling.{above-first, above-other, some-depth, target-line}
+use Rattle.stepping.proofs.depth_above.Statement.{statement}
+use Rattle.stepping.proofs.depth_above.Tie as tie
 
 field-requires : tie.Need-field-requires
 field-requires c κs = search needs

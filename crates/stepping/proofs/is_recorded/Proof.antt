@@ -1,9 +1,9 @@
 -- `is_recorded` meets its contract.
 -- Assumes nothing.
 use borrow.Author.Needs.{needs}
-use Rattle.executing.proofs.Telling.{not-recorded, recorded-by}
-use Rattle.executing.proofs.is_recorded.Statement.{statement}
-use Rattle.executing.proofs.is_recorded.Tie as tie
+use Rattle.stepping.proofs.Telling.{not-recorded, recorded-by}
+use Rattle.stepping.proofs.is_recorded.Statement.{statement}
+use Rattle.stepping.proofs.is_recorded.Tie as tie
 
 field-requires : tie.Need-field-requires
 field-requires c κs = search needs

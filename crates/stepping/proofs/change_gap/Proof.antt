@@ -1,9 +1,9 @@
 -- `change_gap` meets its contract.
 -- Assumes nothing.
 use borrow.Author.Needs.{needs}
-use Rattle.executing.proofs.Telling.{ends-low, site-told}
-use Rattle.executing.proofs.change_gap.Statement.{statement}
-use Rattle.executing.proofs.change_gap.Tie as tie
+use Rattle.stepping.proofs.Telling.{ends-low, site-told}
+use Rattle.stepping.proofs.change_gap.Statement.{statement}
+use Rattle.stepping.proofs.change_gap.Tie as tie
 
 field-requires : tie.Need-field-requires
 field-requires c κs = search needs

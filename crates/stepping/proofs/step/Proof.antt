@@ -1,11 +1,11 @@
 -- `step` meets its contract.
 -- Assumes nothing.
 use native.Mathlib.Omega.{arith}
-use Rattle.executing.specs.Opening.{bytes-few}
+use Rattle.stepping.specs.Opening.{bytes-few}
 use borrow.Author.Needs.{needs}
-use Rattle.executing.proofs.Performing.{asks-depth, asks-gap, list-within, listed-low, opens, performed, performed-gone}
-use Rattle.executing.proofs.step.Statement.{statement}
-use Rattle.executing.proofs.step.Tie as tie
+use Rattle.stepping.proofs.Performing.{asks-depth, asks-gap, list-within, listed-low, opens, performed, performed-gone}
+use Rattle.stepping.proofs.step.Statement.{statement}
+use Rattle.stepping.proofs.step.Tie as tie
 
 change-gap-requires : tie.Need-change-gap-requires
 change-gap-requires c κs = let o = c .before .before .before .before .before .before .before .before .before .before .before .before .before .before in let q = asks-gap (o .pre .0) (o .args .b .now) (o .args .listed) (o .args .l) (o .args .changes .now) (o .args .k) (o .pre .1 .1 .0) (o .pre .1 .1 .1 .0) in (q .0, (q .1 .0, q .1 .1))

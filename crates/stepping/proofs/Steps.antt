@@ -27,7 +27,7 @@ use Rattle.preparing.specs.Bounds.{sizes-told, sizes-small}
 use Rattle.preparing.specs.Refusal.{prepared-refused}
 use Rattle.preparing.specs.declared.Prepared.{Prepared}
 use Rattle.preparing.specs.declared.Prepared.the-variants.{TooMany, Parts}
-use Rattle.executing.specs.Stepping.{yieldsIn, SteppedAt}
+use Rattle.stepping.specs.Stepping.{yieldsIn, SteppedAt}
 
 -- ── Parts of what is prepared ───────────────────────────────────────────────────────────────────────────────
 

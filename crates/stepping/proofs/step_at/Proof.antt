@@ -3,9 +3,9 @@
 use lib.ListN.{drop}
 use native.Mathlib.Omega.{arith}
 use borrow.Author.Needs.{needs}
-use Rattle.executing.proofs.Steps.{made-small, step-done, step-refused, asks-prepare}
-use Rattle.executing.proofs.step_at.Statement.{statement}
-use Rattle.executing.proofs.step_at.Tie as tie
+use Rattle.stepping.proofs.Steps.{made-small, step-done, step-refused, asks-prepare}
+use Rattle.stepping.proofs.step_at.Statement.{statement}
+use Rattle.stepping.proofs.step_at.Tie as tie
 
 prepare-requires : tie.Need-prepare-requires
 prepare-requires c κs = let o = c .before .before .before .before .before .before .before .before .before .before .before .before .before .before .before .before in let p = o .pre in let q = asks-prepare (p .0) (o .args .source .now) (o .args .first .now) (o .args .a) (o .args .b .now) (o .args .list) (o .args .prepared .now) (o .args .sizes .now) (o .args .incoming .now) (p .1 .1 .1 .0) (p .1 .1 .1 .1 .0) (p .1 .1 .1 .1 .1) in (q .0, (q .1, (q .2, (q .3, q .4))))

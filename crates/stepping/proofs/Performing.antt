@@ -43,9 +43,9 @@ use Rattle.splicing.specs.declared.TreeState.{TreeState}
 use Rattle.splicing.specs.declared.Executed.{Executed}
 use Rattle.splicing.specs.declared.Executed.the-variants.{Refused}
 use Rattle.preparing.specs.Listed.{part-listed, news-listed}
-use Rattle.executing.specs.Standing.{Standing}
-use Rattle.executing.specs.Opening.{rows-some, rows-few, marks-below, gap-room}
-use Rattle.executing.specs.Stepping.{AboveBy, recordsBy, Grown, yieldsIn, SteppedAt, Performs, listsIn, Stepped}
+use Rattle.stepping.specs.Standing.{Standing}
+use Rattle.stepping.specs.Opening.{rows-some, rows-few, marks-below, gap-room}
+use Rattle.stepping.specs.Stepping.{AboveBy, recordsBy, Grown, yieldsIn, SteppedAt, Performs, listsIn, Stepped}
 
 -- ── The row ─────────────────────────────────────────────────────────────────────────────────────────────────
 

@@ -14,7 +14,7 @@ use Rattle.syntax_editor.specs.ChangeRow.{rowOf}
 use Rattle.syntax_editor.specs.ChangeRowLaws.{rowAt}
 use Rattle.tree_store.specs.Promises.{SiteAt}
 use Rattle.tree_store.specs.declared.Site.{Site}
-use Rattle.executing.specs.Stepping.{AboveBy, recordsBy}
+use Rattle.stepping.specs.Stepping.{AboveBy, recordsBy}
 
 module _ (changes : List ℕ) (k : ℕ) {op x y : ℕ}
     (eo : (op ≡ getD (drop (13 * k) changes) 0 0) × (op < 2 ^ 32))
