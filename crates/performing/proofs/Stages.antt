@@ -2,9 +2,10 @@
 -- Assumes nothing.
 use mathlib.Core.Path.{_≡_, refl, sym, ap, subst, _∙_}
 use mathlib.Core.List.{List}
-use Prim.Native.Nat.{ℕ, _+_, _*_, _≤_, _<_}
+use Prim.Native.Nat.{ℕ, _+_, _-_, _*_, _≤_, _<_}
 use native.Mathlib.Omega.{arith}
-use lib.ListN.{length, take, drop}
+use lib.ListN.{length, take}
+use lib.Seq.{length-take-le}
 use Rattle.orders.specs.Lists.{All}
 use Rattle.definition.specs.Basics.{refused, gives, _>>=_}
 use Rattle.element_table.specs.View.{view}
@@ -19,6 +20,7 @@ use Rattle.batch.specs.Leaving.{Judged}
 use Rattle.planning.specs.Answers.{PlanMade}
 use Rattle.planning.specs.Left.{plan-refused}
 use Rattle.planning.specs.declared.Counts.{Counts}
+use Rattle.planning.specs.declared.Planned.{Planned}
 use Rattle.planning.specs.declared.Planned.the-variants.{Refused as Unplanned, Made}
 use Rattle.splicing.specs.declared.TreeState.{TreeState}
 use Rattle.splicing.specs.declared.Executed.{Executed}
@@ -41,6 +43,10 @@ performs-refused {b} k e = record {
   ends = λ d i. absurd (let z : _≡_ {A = ℕ} 0 1 = cc in omega arith);
   tells = λ d i. absurd (let z : _≡_ {A = ℕ} 0 1 = cc in omega arith);
 }
+
+-- a part of n words from the front
+pub part-long : (n : ℕ) (l : List ℕ) → n ≤ length l → length (take (n - 0) l) ≡ n
+part-long n l h = length-take-le (n - 0) l (omega arith) ∙ omega arith
 
 -- ── The steps ───────────────────────────────────────────────────────────────────────────────────────────────
 
@@ -88,9 +94,15 @@ module _ {b : List ℕ} {l : Layout} {t s changes running first : List ℕ} {c :
 
 -- ── Refused before them ─────────────────────────────────────────────────────────────────────────────────────
 
-pub plan-stops : {b : List ℕ} {l : Layout} {t s changes running first rows notes changed : List ℕ} → LaidOut b l t s → (k : ℕ) → PlanMade b l t s changes running first (Unplanned k) → Performs b t s rows notes changed (Refused k)
-unfolding ending _>>=_
-plan-stops L k P = performs-refused k (rw (L .leaves .accepted, plan-refused (L .leaves .what) (L .leaves .accepted) P) refl)
+module _ {b : List ℕ} {l : Layout} {t s changes running first : List ℕ} {r : Planned} (P : PlanMade b l t s changes running first r) where
+  pub plan-stops : {rows notes changed : List ℕ} → LaidOut b l t s → (k : ℕ) → r ≡ Unplanned k → Performs b t s rows notes changed (Refused k)
+  unfolding ending _>>=_
+  plan-stops L k e =
+      let Q : PlanMade b l t s changes running first (Unplanned k) = subst (PlanMade b l t s changes running first) e P in
+      performs-refused k (rw (L .leaves .accepted, plan-refused (L .leaves .what) (L .leaves .accepted) Q) refl)
+
+  pub plan-made : (c : Counts) → r ≡ Made c → PlanMade b l t s changes running first (Made c)
+  plan-made c e = subst (PlanMade b l t s changes running first) e P
 
 module _ {b t₀ s₀ t s : List ℕ} {r : Laid} (J : Judged b t₀ s₀ t s r) where
   pub judged-stops : {rows notes changed : List ℕ} (k : ℕ) → r ≡ Unlaid k → Performs b t s rows notes changed (Refused k)

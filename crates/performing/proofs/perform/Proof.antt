@@ -1,92 +1,67 @@
+use mathlib.Core.Path.{_∙_}
 use native.Mathlib.Omega.{arith}
-use lib.ListN.{length, getD, set, take, drop, replicate, length-set}
-use mathlib.Core.Path.{_≡_, refl, ap, sym, _∙_}
-use Prim.Native.Nat.{ℕ, suc, zero, _+_, _-_, _*_, _≤_, _<_}
 use borrow.Author.Needs.{needs}
+use Rattle.performing.proofs.Stages.{judged-stops, judged-laid}
 use Rattle.performing.proofs.perform.Statement.{statement}
 use Rattle.performing.proofs.perform.Tie as tie
-use Rattle.performing.proofs.perform.Reads as reads
-use Rattle.performing.proofs.perform.Lts as lts
-use Rattle.batch.proofs.accept.Reads as accept-reads
-use Rattle.performing.proofs.plan_and_run.Reads as plan-and-run-reads
 
--- src/lib.rt:215:9
 accept-requires : tie.Need-accept-requires
 accept-requires c κs = search needs
 
--- src/lib.rt:217:23
 enum-known-laid : tie.Need-enum-known-laid
 enum-known-laid c = search needs
 
--- src/lib.rt:218:18
 enum-known-laid-2 : tie.Need-enum-known-laid-2
 enum-known-laid-2 c = search needs
 
--- src/lib.rt:218:24
 plan-and-run-requires : tie.Need-plan-and-run-requires
-plan-and-run-requires c κs = search needs
+plan-and-run-requires c κs = let v = c .before .before .before .before .before .before .before .before .before .before .before .before .before .before .before .before .before .before .before .before .before .before .before .before .before .before .before .before .before .before .before .before .before .before .before .pre in let r = v .0 in let w = v .1 in (judged-laid (c .before .before .before .before .before .before .before .before .before .before .before .before .before .before .before .before .before .before .before .accept .ensures) _ (c .before .before .before .before .before .before .before .before .before .before .before .before .before .laid2 .given .1) (r .0) (r .1), ((omega (arith, c .before .before .before .before .before .before .before .before .before .before .before .before .before .before .before .before .source .given, r .1), r .2, r .3, r .4), w))
 
--- src/lib.rt:196:1
 same-length : tie.Need-same-length
-same-length c = search needs
+same-length c = c .before .before .before .before .before .before .table .given
 
--- src/lib.rt:196:1
 same-length-2 : tie.Need-same-length-2
-same-length-2 c = search needs
+same-length-2 c = c .before .before .before .before .source .given
 
--- src/lib.rt:196:1
 returns : tie.Need-returns
-returns c = search needs
+returns c = judged-stops (c .before .before .before .before .before .before .before .accept .ensures) _ (c .before .laid .given .1)
 
--- src/lib.rt:196:1
 same-length-3 : tie.Need-same-length-3
-same-length-3 c = search needs
+same-length-3 c = c .before .before .before .before .before .before .before .before .before .before .before .before .before .before .before .before .before .before .before .before .before .before .before .before .before .before .before .before .before .before .before .before .before .before .before .before .before .before .before .table .given
 
--- src/lib.rt:196:1
 same-length-4 : tie.Need-same-length-4
-same-length-4 c = search needs
+same-length-4 c = c .before .before .before .before .before .before .before .before .before .before .before .before .before .before .before .before .before .before .before .before .before .before .before .before .before .before .before .before .before .before .before .before .before .before .before .before .before .source .given
 
--- src/lib.rt:196:1
 same-length-5 : tie.Need-same-length-5
-same-length-5 c = search needs
+same-length-5 c = c .before .before .before .before .before .before .before .before .before .before .before .before .before .before .before .before .before .before .before .changes .given
 
--- src/lib.rt:196:1
 same-length-6 : tie.Need-same-length-6
-same-length-6 c = search needs
+same-length-6 c = c .before .before .before .before .before .before .before .before .before .before .before .before .before .before .before .before .before .running .given
 
--- src/lib.rt:196:1
 same-length-7 : tie.Need-same-length-7
-same-length-7 c = search needs
+same-length-7 c = c .before .before .before .before .before .before .before .before .before .before .before .before .before .before .before .first .given
 
--- src/lib.rt:196:1
 same-length-8 : tie.Need-same-length-8
-same-length-8 c = search needs
+same-length-8 c = c .before .before .before .before .before .before .before .before .before .before .before .before .before .notes .given
 
--- src/lib.rt:196:1
 same-length-9 : tie.Need-same-length-9
-same-length-9 c = search needs
+same-length-9 c = c .before .before .before .before .before .before .before .before .before .before .before .incoming .given
 
--- src/lib.rt:196:1
 same-length-10 : tie.Need-same-length-10
-same-length-10 c = search needs
+same-length-10 c = c .before .before .before .before .before .before .before .before .before .changed .given
 
--- src/lib.rt:196:1
 same-length-11 : tie.Need-same-length-11
-same-length-11 c = search needs
+same-length-11 c = c .before .before .before .before .before .before .before .marks .given
 
--- src/lib.rt:196:1
 same-length-12 : tie.Need-same-length-12
-same-length-12 c = search needs
+same-length-12 c = c .before .before .before .before .before .rows .given
 
--- src/lib.rt:196:1
 same-length-13 : tie.Need-same-length-13
-same-length-13 c = search needs
+same-length-13 c = c .before .before .before .prepared .given
 
--- src/lib.rt:196:1
 same-length-14 : tie.Need-same-length-14
-same-length-14 c = search needs
+same-length-14 c = c .before .sizes .given
 
--- src/lib.rt:196:1
 returns-2 : tie.Need-returns-2
 returns-2 c = search needs
 

@@ -1,104 +1,77 @@
+use mathlib.Core.Path.{_∙_}
 use native.Mathlib.Omega.{arith}
-use lib.ListN.{length, getD, set, take, drop, replicate, length-set}
-use mathlib.Core.Path.{_≡_, refl, ap, sym, _∙_}
-use Prim.Native.Nat.{ℕ, suc, zero, _+_, _-_, _*_, _≤_, _<_}
 use borrow.Author.Needs.{needs}
+use Rattle.plan_model.specs.Ready.{leaves-ready}
+use Rattle.performing.proofs.Stages.{plan-stops, plan-made}
 use Rattle.performing.proofs.plan_and_run.Statement.{statement}
 use Rattle.performing.proofs.plan_and_run.Tie as tie
-use Rattle.performing.proofs.plan_and_run.Reads as reads
-use Rattle.performing.proofs.plan_and_run.Lts as lts
-use Rattle.performing.proofs.run_plan.Reads as run-plan-reads
-use Rattle.planning.proofs.plan.Reads as plan-reads
 
--- src/lib.rt:160:9
 plan-requires : tie.Need-plan-requires
-plan-requires c κs = search needs
+plan-requires c κs = let v = c .before .before .before .before .before .before .before .before .before .before .before .before .before .before .before .before .before .before .before .before .pre in let r = v .1 .0 in let w = v .1 .1 in (leaves-ready (v .0 .leaves), (omega (arith, w .4), omega (arith, w .5), r .1, omega (arith, w .3), r .2, w .0, r .3))
 
--- src/lib.rt:174:26
 enum-known-planned : tie.Need-enum-known-planned
 enum-known-planned c = search needs
 
--- src/lib.rt:175:23
 enum-known-planned-2 : tie.Need-enum-known-planned-2
 enum-known-planned-2 c = search needs
 
--- src/lib.rt:175:29
 run-plan-requires : tie.Need-run-plan-requires
-run-plan-requires c κs = search needs
+run-plan-requires c κs = let v = c .before .before .before .before .before .before .before .before .before .before .before .before .before .before .before .before .before .before .before .before .before .before .before .before .before .before .before .before .before .before .before .before .before .before .before .before .before .before .before .before .before .before .before .before .before .before .before .before .pre in let r = v .1 .0 in let w = v .1 .1 in (v .0, (plan-made (c .before .before .before .before .before .before .before .before .before .before .before .before .before .before .before .before .before .before .before .before .before .before .before .before .before .before .before .plan .ensures) _ (c .before .before .before .before .before .before .before .before .before .before .before .planned2 .given .1), ((r .0, omega (arith, c .before .before .before .before .before .before .before .before .before .before .before .before .before .before .before .before .before .before .running .given, r .2), omega (arith, c .before .before .before .before .before .before .before .before .before .before .before .before .before .before .first .given, r .3)), (omega (arith, c .before .before .before .before .before .before .before .before .before .before .before .before .before .before .before .before .marks .given, w .0), w .1, w .2, omega (arith, c .before .before .before .before .before .before .before .before .before .before .before .before .before .before .before .before .before .before .before .before .changed .given, w .3), omega (arith, c .before .before .before .before .before .before .before .before .before .before .before .before .before .before .before .before .before .before .before .before .before .before .before .before .before .before .rows .given, w .4), omega (arith, c .before .before .before .before .before .before .before .before .before .before .before .before .before .before .before .before .before .before .before .before .before .before .before .before .prepared .given, w .5), w .6))))
 
--- src/lib.rt:139:1
 same-length : tie.Need-same-length
-same-length c = search needs
+same-length c = c .before .before .before .before .before .before .before .before .before .before .before .before .changes .given
 
--- src/lib.rt:139:1
 same-length-2 : tie.Need-same-length-2
-same-length-2 c = search needs
+same-length-2 c = c .before .before .before .before .before .before .before .before .running .given
 
--- src/lib.rt:139:1
 same-length-3 : tie.Need-same-length-3
-same-length-3 c = search needs
+same-length-3 c = c .before .before .before .before .first .given
 
--- src/lib.rt:139:1
 same-length-4 : tie.Need-same-length-4
-same-length-4 c = search needs
+same-length-4 c = c .before .before .before .before .before .before .before .before .before .before .changed .given
 
--- src/lib.rt:139:1
 same-length-5 : tie.Need-same-length-5
-same-length-5 c = search needs
+same-length-5 c = c .before .before .before .before .before .before .marks .given
 
--- src/lib.rt:139:1
 same-length-6 : tie.Need-same-length-6
-same-length-6 c = search needs
+same-length-6 c = c .before .before .before .before .before .before .before .before .before .before .before .before .before .before .before .before .rows .given
 
--- src/lib.rt:139:1
 same-length-7 : tie.Need-same-length-7
-same-length-7 c = search needs
+same-length-7 c = c .before .before .before .before .before .before .before .before .before .before .before .before .before .before .prepared .given
 
--- src/lib.rt:139:1
 returns : tie.Need-returns
-returns c = search needs
+returns c = plan-stops (c .before .before .before .before .before .before .before .before .before .before .before .before .before .before .before .before .before .plan .ensures) (c .before .before .before .before .before .before .before .before .before .before .before .before .before .before .before .before .before .before .before .before .before .before .before .before .before .before .before .before .before .before .before .before .before .before .before .before .before .before .pre .0) _ (c .before .planned .given .1)
 
--- src/lib.rt:139:1
 same-length-8 : tie.Need-same-length-8
-same-length-8 c = search needs
+same-length-8 c = c .before .before .before .before .before .before .before .before .before .before .before .before .before .before .before .before .before .before .before .before .before .before .before .before .before .before .before .before .before .before .before .before .before .before .before .before .before .changes .given
 
--- src/lib.rt:139:1
 same-length-9 : tie.Need-same-length-9
-same-length-9 c = search needs
+same-length-9 c = c .before .before .before .before .before .before .before .before .before .before .before .before .before .before .before .before .before .before .before .before .before .before .before .before .before .before .before .before .before .before .before .before .before .running .given
 
--- src/lib.rt:139:1
 same-length-10 : tie.Need-same-length-10
-same-length-10 c = search needs
+same-length-10 c = c .before .before .before .before .before .before .before .before .before .before .before .before .before .before .before .before .before .before .before .before .before .before .before .before .before .before .before .before .before .first .given
 
--- src/lib.rt:139:1
 same-length-11 : tie.Need-same-length-11
-same-length-11 c = search needs
+same-length-11 c = c .before .before .before .before .before .before .before .before .before .before .before .before .before .notes .given
 
--- src/lib.rt:139:1
 same-length-12 : tie.Need-same-length-12
-same-length-12 c = search needs
+same-length-12 c = c .before .before .before .before .before .before .before .before .before .before .before .incoming .given
 
--- src/lib.rt:139:1
 same-length-13 : tie.Need-same-length-13
-same-length-13 c = search needs
+same-length-13 c = c .before .before .before .before .before .before .before .before .before .changed2 .given ∙ c .before .before .before .before .before .before .before .before .before .before .before .before .before .before .before .before .before .before .before .before .before .before .before .before .before .before .before .before .before .before .before .before .before .before .before .changed .given
 
--- src/lib.rt:139:1
 same-length-14 : tie.Need-same-length-14
-same-length-14 c = search needs
+same-length-14 c = c .before .before .before .before .before .before .before .marks2 .given ∙ c .before .before .before .before .before .before .before .before .before .before .before .before .before .before .before .before .before .before .before .before .before .before .before .before .before .before .before .before .before .before .before .marks .given
 
--- src/lib.rt:139:1
 same-length-15 : tie.Need-same-length-15
-same-length-15 c = search needs
+same-length-15 c = c .before .before .before .before .before .rows2 .given ∙ c .before .before .before .before .before .before .before .before .before .before .before .before .before .before .before .before .before .before .before .before .before .before .before .before .before .before .before .before .before .before .before .before .before .before .before .before .before .before .before .before .before .rows .given
 
--- src/lib.rt:139:1
 same-length-16 : tie.Need-same-length-16
-same-length-16 c = search needs
+same-length-16 c = c .before .before .before .prepared2 .given ∙ c .before .before .before .before .before .before .before .before .before .before .before .before .before .before .before .before .before .before .before .before .before .before .before .before .before .before .before .before .before .before .before .before .before .before .before .before .before .before .before .prepared .given
 
--- src/lib.rt:139:1
 same-length-17 : tie.Need-same-length-17
-same-length-17 c = search needs
+same-length-17 c = c .before .sizes .given
 
--- src/lib.rt:139:1
 returns-2 : tie.Need-returns-2
 returns-2 c = search needs
 

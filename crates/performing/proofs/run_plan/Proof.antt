@@ -1,59 +1,43 @@
+use mathlib.Core.Path.{refl, _∙_}
 use native.Mathlib.Omega.{arith}
-use lib.ListN.{length, getD, set, take, drop, replicate, length-set}
-use mathlib.Core.Path.{_≡_, refl, ap, sym, _∙_}
-use Prim.Native.Nat.{ℕ, suc, zero, _+_, _-_, _*_, _≤_, _<_}
 use borrow.Author.Needs.{needs}
+use Rattle.performing.proofs.Stages.{part-long}
 use Rattle.performing.proofs.run_plan.Statement.{statement}
 use Rattle.performing.proofs.run_plan.Tie as tie
-use Rattle.performing.proofs.run_plan.Reads as reads
-use Rattle.performing.proofs.run_plan.Lts as lts
-use Rattle.performing.proofs.run_steps.Reads as run-steps-reads
 
--- src/lib.rt:131:9
 sub-run-steps : tie.Need-sub-run-steps
 sub-run-steps c = search needs
 
--- src/lib.rt:131:9
 part-run-steps-start : tie.Need-part-run-steps-start
 part-run-steps-start c = search needs
 
--- src/lib.rt:131:9
 part-run-steps-end : tie.Need-part-run-steps-end
 part-run-steps-end c = search needs
 
--- src/lib.rt:119:5
 run-steps-requires : tie.Need-run-steps-requires
-run-steps-requires c κs = search needs
+run-steps-requires c κs = let v = c .before .before .before .before .before .before .before .before .before .before .before .before .before .before .before .before .before .before .before .before .before .pre in let w = v .1 .1 .1 in (v .0, (v .1 .0, (v .1 .1 .0, (part-long (c .before .before .before .before .before .before .before .before .before .before .before .before .before .before .before .before .before .before .before .before .before .args .l .sizes .elements) (c .before .before .before .before .before .before .before .before .before .before .before .before .before .before .before .before .before .before .before .before .before .args .marks .now) (omega (arith, v .0 .leaves .within .limits .elements, w .0)), w .1, w .2, w .3, w .4, w .5, w .6))))
 
--- src/lib.rt:94:1
 same-length : tie.Need-same-length
 same-length c = search needs
 
--- src/lib.rt:94:1
 same-length-2 : tie.Need-same-length-2
 same-length-2 c = search needs
 
--- src/lib.rt:94:1
 same-length-3 : tie.Need-same-length-3
 same-length-3 c = search needs
 
--- src/lib.rt:94:1
 same-length-4 : tie.Need-same-length-4
 same-length-4 c = search needs
 
--- src/lib.rt:94:1
 same-length-5 : tie.Need-same-length-5
 same-length-5 c = search needs
 
--- src/lib.rt:94:1
 same-length-6 : tie.Need-same-length-6
 same-length-6 c = search needs
 
--- src/lib.rt:94:1
 same-length-7 : tie.Need-same-length-7
 same-length-7 c = search needs
 
--- src/lib.rt:94:1
 returns : tie.Need-returns
 returns c = search needs
 
