@@ -1,6 +1,8 @@
 // The public calls: the edit of a batch, and where an element stands then.
 use finishing::Finished;
 use performing::Ended;
+use performing::Performed;
+use performing::perform;
 use syntax_node::Found;
 ghost use mathlib.Core.Path.{_≡_};
 ghost use mathlib.Core.Bool.{false};
@@ -128,7 +130,25 @@ fn apply_edits(
     requires { ⌜ tooShort (lengths (now table ∷ now source ∷ now changes ∷ now running ∷ now first ∷ now notes ∷ now incoming ∷ now changed ∷ now marks ∷ now rows ∷ now prepared ∷ now sizes ∷ [])) ≡ false ⌝ }
     ensures { λ r. ⌜ Answers (applied (now (batch .entry)) (length (now (result .entry)))) (now (result .entry)) (answerOf r) (now (result .exit)) ⌝ }
 {
-    Answer::Refused(1)
+    let done = perform(
+        batch,
+        table,
+        source,
+        changes,
+        running,
+        first,
+        notes,
+        incoming,
+        changed,
+        marks,
+        rows,
+        prepared,
+        sizes,
+    );
+    match done {
+        Performed::Refused(n) => Answer::Refused(n),
+        Performed::Done(d) => write_answer(batch, d, rows, notes, changed, prepared, result),
+    }
 }
 
 // The edit, or refusal 1.
@@ -256,7 +276,25 @@ fn find_in_new(
     requires { ⌜ tooShort (lengths (now table ∷ now source ∷ now changes ∷ now running ∷ now first ∷ now notes ∷ now incoming ∷ now changed ∷ now marks ∷ now rows ∷ now prepared ∷ now sizes ∷ [])) ≡ false ⌝ }
     ensures { λ r. ⌜ elementOf r ≡ found (now (batch .entry)) number ⌝ }
 {
-    Element::Nothing
+    let done = perform(
+        batch,
+        table,
+        source,
+        changes,
+        running,
+        first,
+        notes,
+        incoming,
+        changed,
+        marks,
+        rows,
+        prepared,
+        sizes,
+    );
+    match done {
+        Performed::Refused(n) => Element::Refused(n),
+        Performed::Done(d) => find_from(batch, d, table, source, rows, number),
+    }
 }
 
 // The same, or refusal 1.
