@@ -1,23 +1,25 @@
 -- What is printed of an answer and the slice that holds its result, and that it is what is printed of the edit.
 -- Assumes nothing.
 use mathlib.Core.Path.{_≡_, refl, sym, ap, _∙_}
-use mathlib.Core.List.{List, _++_}
+use mathlib.Core.Bool.{false}
+use mathlib.Core.List.{List, [], _∷_, _++_, zip}
 use Prim.Native.Nat.{ℕ, _≤_}
 use native.Mathlib.Omega.{arith}
 use lib.ListN.{length, take, drop, length-append}
 use lib.Seq.{take-at}
 use Rattle.definition.specs.Basics as basics
-use Rattle.definition.specs.Basics.{gives, refused, _>>=_}
-use Rattle.definition.specs.Answers.{edited}
-use Rattle.definition.specs.Printed.{print}
+use Rattle.definition.specs.Basics.{gives, refused, _>>=_, any}
+use Rattle.definition.specs.Answers.{edited, tooShort}
+use Rattle.definition.specs.Printed.{print, printed}
 use Rattle.laws.specs.Answers.{gives-inj, refused-gives}
-use Rattle.work.specs.Slices.{lengths}
+use Rattle.work.specs.Slices.{needed, lengths}
 use Rattle.edit_algo.specs.declared.Answer.{Answer}
 use Rattle.edit_algo.specs.declared.Answer.the-variants.{Refused, Edited}
 use Rattle.edit_algo.specs.Promises.{answerOf, leftIn, Edits}
+use Rattle.result_words.specs.Worded.{Bytes}
 use Rattle.printing.specs.Decoded.{decoded, Printable}
 use Rattle.printing.specs.Lines.{Put}
-use Rattle.printing.specs.Shown.{shown, shown-printable}
+use Rattle.printing.specs.Shown.{shown, shown-printable, shown-printed}
 
 -- the bytes of a result that is n bytes long are in the slice, and can be printed
 pub record Holds (n : ℕ) (result : List ℕ) (room : ℕ) : Type 0 where
@@ -91,3 +93,15 @@ module _ {r : Answer} (result : List ℕ) where
 module _ (b held : List ℕ) (work : List (List ℕ)) (holds : List ℕ) (left : List (List ℕ)) {r : Answer} {d l : List ℕ} {to : ℕ} where
   pub edit-shown : Edits b held work r holds left → Put d 0 (told r holds) l to → Put d 0 (shown (edited (lengths work) b (length held))) l to
   edit-shown p q = rw (← edit-told b held work holds left r p) q
+
+-- where the slices are long enough, what is shown of the answer is what the definition prints of the batch
+pub edit-printed : (b held : List ℕ) (work : List (List ℕ)) (holds : List ℕ) (left : List (List ℕ)) {r : Answer} {d l : List ℕ} {to : ℕ} → Edits b held work r holds left → Put d 0 (told r holds) l to
+    → 65536 ≡ length held → tooShort (lengths work) ≡ false → length b ≤ 65536 → Bytes b → Put d 0 (printed b) l to
+edit-printed b held work holds left p q e s n v =
+    rw (← shown-printed (lengths work) b s n v, e) (edit-shown b held work holds left p q)
+
+-- slices of the lengths of docs/WORK.md are long enough
+pub long-enough : (a b c d e f g h i j k l : List ℕ) → 16384 ≡ length a → 6147 ≡ length b → 3328 ≡ length c → 256 ≡ length d → 768 ≡ length e → 3072 ≡ length f → 3072 ≡ length g → 1024 ≡ length h → 2048 ≡ length i
+    → 12291 ≡ length j → 12288 ≡ length k → 1024 ≡ length l → tooShort (lengths (a ∷ b ∷ c ∷ d ∷ e ∷ f ∷ g ∷ h ∷ i ∷ j ∷ k ∷ l ∷ [])) ≡ false
+unfolding tooShort lengths needed zip any
+long-enough a b c d e f g h i j k l p₁ p₂ p₃ p₄ p₅ p₆ p₇ p₈ p₉ q₁ q₂ q₃ = rw (← p₁, ← p₂, ← p₃, ← p₄, ← p₅, ← p₆, ← p₇, ← p₈, ← p₉, ← q₁, ← q₂, ← q₃)

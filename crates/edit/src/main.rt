@@ -5,10 +5,10 @@ ghost use mathlib.Core.Bool.{false};
 ghost use mathlib.Core.List.{_∷_, []};
 ghost use Prim.Native.Nat.{_≤_};
 ghost use lib.ListN.{length};
-ghost use Rattle.definition.specs.Answers.{edited, tooShort};
+ghost use Rattle.definition.specs.Answers.{tooShort};
+ghost use Rattle.definition.specs.Printed.{printed};
 ghost use Rattle.work.specs.Slices.{lengths};
 ghost use Rattle.printing.specs.Lines.{Put};
-ghost use Rattle.printing.specs.Shown.{shown};
 ghost use Rattle.edit.specs.Told.{Showable, told};
 
 // What is printed of an answer is written at the front of `out`.
@@ -40,8 +40,8 @@ fn respond(
     prepared: &mut [u32],
     sizes: &mut [u32],
 ) -> usize
-    requires { ⌜ 180000 ≤ length (now out) ⌝ }
-    ensures { λ r. ⌜ Put (now (out .entry)) 0 (shown (edited (lengths (now (table .entry) ∷ now (source .entry) ∷ now (changes .entry) ∷ now (running .entry) ∷ now (first .entry) ∷ now (notes .entry) ∷ now (incoming .entry) ∷ now (changed .entry) ∷ now (marks .entry) ∷ now (rows .entry) ∷ now (prepared .entry) ∷ now (sizes .entry) ∷ [])) (now (batch .entry)) (length (now (result .entry))))) (now (out .exit)) r ⌝ }
+    requires { ⌜ (180000 ≤ length (now out)) × (length (now batch) ≤ 65536) × (65536 ≡ length (now result)) × (tooShort (lengths (now table ∷ now source ∷ now changes ∷ now running ∷ now first ∷ now notes ∷ now incoming ∷ now changed ∷ now marks ∷ now rows ∷ now prepared ∷ now sizes ∷ [])) ≡ false) ⌝ }
+    ensures { λ r. ⌜ Put (now (out .entry)) 0 (printed (now (batch .entry))) (now (out .exit)) r ⌝ }
 {
     let answer = edit_algo::edit(
         batch,
@@ -71,7 +71,8 @@ fn write_front(out: &[u8], n: usize) {
 
 // What is printed of the batch's answer is written at the front of `out`.
 fn answer(batch: &[u8], out: &mut [u8]) -> usize
-    requires { ⌜ 180000 ≤ length (now out) ⌝ }
+    requires { ⌜ (180000 ≤ length (now out)) × (length (now batch) ≤ 65536) ⌝ }
+    ensures { λ r. ⌜ Put (now (out .entry)) 0 (printed (now (batch .entry))) (now (out .exit)) r ⌝ }
 {
     let mut result = io::large_buffer();
     let mut table = [0u32; 16384];
