@@ -9,7 +9,8 @@ from pathlib import Path
 from struct import pack, unpack_from
 
 FOLDER = Path(__file__).resolve().parent / "cases"
-CASES, INDEX = FOLDER / "cases.bin", FOLDER / "index.txt"
+# The bytes stand where the program `replay` reads them.
+CASES, INDEX = FOLDER.parent.parent / "crates" / "replay" / "stdin", FOLDER / "index.txt"
 NONE = 2**32 - 1
 NODE = 1 << 31
 

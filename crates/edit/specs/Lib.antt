@@ -1,0 +1,2 @@
+-- What the program prints of an answer.
+pub mod Told

@@ -1,0 +1,70 @@
+use borrow.Author.Needs.{needs}
+use native.Mathlib.Omega.{arith}
+use lib.ListN.{length, getD, set, take, drop, replicate, length-set}
+use mathlib.Core.Path.{_≡_, refl, ap, sym, _∙_}
+use Prim.Native.Nat.{ℕ, suc, zero, _+_, _-_, _*_, _≤_, _<_}
+use Rattle.replay.proofs.replay.Statement.{statement}
+use Rattle.replay.proofs.replay.Tie as tie
+use Rattle.replay.proofs.replay.Reads as reads
+use Rattle.replay.proofs.replay.Lts as lts
+use Rattle.replay.proofs.miss.Reads as miss-reads
+use Rattle.replay.proofs.name.Reads as name-reads
+use Rattle.replay.proofs.next_case.Reads as next-case-reads
+
+abbrev Inv-loop : tie.InvT-loop
+Inv-loop cases missed₀ i₀ missed i = (i ≤ cases) × (missed ≤ i)
+
+abbrev μ-loop : tie.MeasureT-loop
+μ-loop cases missed₀ i₀ missed i = cases - i
+
+-- src/main.rt:271:5
+loop-holds : tie.Need-loop-holds Inv-loop μ-loop
+loop-holds c = search needs
+
+-- src/main.rt:272:22
+next-case-requires : tie.Need-next-case-requires Inv-loop μ-loop
+next-case-requires c κs = search needs
+
+-- src/main.rt:272:13
+miss-requires : tie.Need-miss-requires Inv-loop μ-loop
+miss-requires c κs = search needs
+
+-- src/main.rt:273:9
+name-requires : tie.Need-name-requires Inv-loop μ-loop
+name-requires c κs = search needs
+
+-- src/main.rt:274:9
+add-missed : tie.Need-add-missed Inv-loop μ-loop
+add-missed c = search needs
+
+-- src/main.rt:275:9
+add-i : tie.Need-add-i Inv-loop μ-loop
+add-i c = search needs
+
+-- src/main.rt:271:5
+loop-less : tie.Need-loop-less Inv-loop μ-loop
+loop-less c = search needs
+
+-- src/main.rt:271:5
+loop-again : tie.Need-loop-again Inv-loop μ-loop
+loop-again c = search needs
+
+-- src/main.rt:266:1
+returns : tie.Need-returns Inv-loop μ-loop
+returns c = search needs
+
+pub replay-spec : {M : Type 1} → statement M
+replay-spec =
+    tie.close
+    (tie.spec
+    Inv-loop
+    μ-loop
+    loop-holds
+    next-case-requires
+    miss-requires
+    name-requires
+    add-missed
+    add-i
+    loop-less
+    loop-again
+    returns)

@@ -1,0 +1,301 @@
+// Replays the recorded cases on standard input: every byte of the result, every work slice, and the elements found.
+use edit_algo::Answer;
+use edit_algo::Element;
+ghost use Prim.Native.Nat.{_^_, _<_, _≤_};
+
+// What the lent slices hold before a call.
+const BYTE: u8 = 0x5a;
+
+const WORD: u32 = 0xa5a5_5a5a;
+
+// The found element of a recorded call that finds none.
+const NONE: usize = 0xffff_ffff;
+
+// A number that is read, or the input's end.
+enum Read {
+    Word(usize),
+    End,
+}
+
+// A byte as a number.
+fn wide(x: u8) -> usize
+    ensures { λ r. ⌜ r < 2 ^ 8 ⌝ }
+{
+    x as usize
+}
+
+// The next word of the input.
+fn read_word() -> Read {
+    let mut four = [0u8; 4];
+    let n = io::read_full(0, &mut four);
+    if n < 4 {
+        return Read::End;
+    }
+    Read::Word(
+        wide(four[0]) + 256 * wide(four[1]) + 65536 * wide(four[2]) + 16777216 * wide(four[3]),
+    )
+}
+
+// The next word, and as many bytes behind it as it says, into the front of `part`.
+fn read_part(part: &mut [u8]) -> Read {
+    let Read::Word(n) = read_word() else {
+        return Read::End;
+    };
+    if part.len() < n {
+        return Read::End;
+    }
+    let got = io::read_full(0, &mut part[..n]);
+    if got == n { Read::Word(n) } else { Read::End }
+}
+
+// Whether every word is 0.
+fn is_zero(s: &[u32]) -> bool {
+    let mut i = 0;
+    while i < s.len() {
+        if s[i] != 0 {
+            return false;
+        }
+        i += 1;
+    }
+    true
+}
+
+// Whether every word of six slices is 0.
+fn are_zero(a: &[u32], b: &[u32], c: &[u32], d: &[u32], e: &[u32], f: &[u32]) -> bool {
+    if !is_zero(a) {
+        return false;
+    }
+    if !is_zero(b) {
+        return false;
+    }
+    if !is_zero(c) {
+        return false;
+    }
+    if !is_zero(d) {
+        return false;
+    }
+    if !is_zero(e) {
+        return false;
+    }
+    is_zero(f)
+}
+
+// What a result slice is to hold at `i`: the recorded result, and beyond it what it held.
+fn wanted(expected: &[u8], i: usize) -> u8 {
+    if i < expected.len() {
+        expected[i]
+    } else {
+        BYTE
+    }
+}
+
+// Whether a result slice holds what it is to hold.
+fn holds(result: &[u8], expected: &[u8]) -> bool {
+    let mut i = 0;
+    while i < result.len() {
+        if result[i] != wanted(expected, i) {
+            return false;
+        }
+        i += 1;
+    }
+    true
+}
+
+// Whether an answer is the recorded one: a refusal, or 0 and the result's length.
+fn is_answer(answer: Answer, refusal: usize, length: usize) -> bool {
+    match answer {
+        Answer::Refused(number) => number == refusal,
+        Answer::Edited(n) => { if refusal == 0 { n == length } else { false } }
+    }
+}
+
+// Whether an element is the recorded one; a refused batch finds none.
+fn is_element(element: Element, refusal: usize, found: usize) -> bool {
+    match element {
+        Element::Refused(number) => number == refusal,
+        Element::Nothing => found == NONE,
+        Element::At(at) => at == found,
+    }
+}
+
+// Whether the edit of a batch, its result slice and its work slices are as recorded.
+fn edit_agrees(batch: &[u8], refusal: usize, expected: &[u8]) -> bool {
+    let mut result = [BYTE; 65536];
+    let mut table = [WORD; 16384];
+    let mut source = [WORD; 6147];
+    let mut changes = [WORD; 3328];
+    let mut running = [WORD; 256];
+    let mut first = [WORD; 768];
+    let mut notes = [WORD; 3072];
+    let mut incoming = [WORD; 3072];
+    let mut changed = [WORD; 1024];
+    let mut marks = [WORD; 2048];
+    let mut rows = [WORD; 12291];
+    let mut prepared = [WORD; 12288];
+    let mut sizes = [WORD; 1024];
+    let answer = edit_algo::edit(
+        batch,
+        &mut result,
+        &mut table,
+        &mut source,
+        &mut changes,
+        &mut running,
+        &mut first,
+        &mut notes,
+        &mut incoming,
+        &mut changed,
+        &mut marks,
+        &mut rows,
+        &mut prepared,
+        &mut sizes,
+    );
+    if !is_answer(answer, refusal, expected.len()) {
+        return false;
+    }
+    if !holds(&result, expected) {
+        return false;
+    }
+    if !are_zero(&table, &source, &changes, &running, &first, &notes) {
+        return false;
+    }
+    are_zero(&incoming, &changed, &marks, &rows, &prepared, &sizes)
+}
+
+// Whether an element is found where it was recorded.
+fn find_agrees(batch: &[u8], number: usize, refusal: usize, found: usize) -> bool {
+    let mut table = [WORD; 16384];
+    let mut source = [WORD; 6147];
+    let mut changes = [WORD; 3328];
+    let mut running = [WORD; 256];
+    let mut first = [WORD; 768];
+    let mut notes = [WORD; 3072];
+    let mut incoming = [WORD; 3072];
+    let mut changed = [WORD; 1024];
+    let mut marks = [WORD; 2048];
+    let mut rows = [WORD; 12291];
+    let mut prepared = [WORD; 12288];
+    let mut sizes = [WORD; 1024];
+    let element = edit_algo::find_element(
+        batch,
+        number,
+        &mut table,
+        &mut source,
+        &mut changes,
+        &mut running,
+        &mut first,
+        &mut notes,
+        &mut incoming,
+        &mut changed,
+        &mut marks,
+        &mut rows,
+        &mut prepared,
+        &mut sizes,
+    );
+    if !is_element(element, refusal, found) {
+        return false;
+    }
+    if !are_zero(&table, &source, &changes, &running, &first, &notes) {
+        return false;
+    }
+    are_zero(&incoming, &changed, &marks, &rows, &prepared, &sizes)
+}
+
+// The next element to find and where it was found: whether it is.
+fn next_found(batch: &[u8], refusal: usize) -> bool {
+    let Read::Word(number) = read_word() else {
+        return false;
+    };
+    let Read::Word(found) = read_word() else {
+        return false;
+    };
+    find_agrees(batch, number, refusal, found)
+}
+
+// The elements to find, all of which are read: whether all are found where they were.
+fn all_found(batch: &[u8], refusal: usize) -> bool {
+    let Read::Word(n) = read_word() else {
+        return false;
+    };
+    if 4 < n {
+        return false;
+    }
+    let mut missed = 0;
+    let mut i = 0;
+    while i < n {
+        missed += miss(next_found(batch, refusal));
+        i += 1;
+    }
+    missed == 0
+}
+
+// 1 for what does not agree.
+fn miss(agrees: bool) -> usize
+    ensures { λ r. ⌜ r ≤ 1 ⌝ }
+{
+    if agrees { 0 } else { 1 }
+}
+
+// The next case of the input: whether it agrees.
+fn next_case() -> bool {
+    let mut batch = io::large_buffer();
+    let Read::Word(n) = read_part(&mut batch) else {
+        return false;
+    };
+    let Read::Word(refusal) = read_word() else {
+        return false;
+    };
+    let mut expected = io::large_buffer();
+    let Read::Word(m) = read_part(&mut expected) else {
+        return false;
+    };
+    if 65536 < n {
+        return false;
+    }
+    if 65536 < m {
+        return false;
+    }
+    let found = all_found(&batch[..n], refusal);
+    if found {
+        edit_agrees(&batch[..n], refusal, &expected[..m])
+    } else {
+        false
+    }
+}
+
+// How many of the cases do not agree; each is named.
+fn replay(cases: usize) -> usize
+    ensures { λ r. ⌜ r ≤ cases ⌝ }
+{
+    let mut missed = 0;
+    let mut i = 0;
+    while i < cases {
+        let m = miss(next_case());
+        name(m, i);
+        missed += m;
+        i += 1;
+    }
+    missed
+}
+
+// A case that does not agree is named.
+fn name(missed: usize, case: usize) {
+    if 0 < missed {
+        io::write_all(1, b"differs: ");
+        io::print_decimal(1, case as u64);
+        io::write_all(1, b"\n");
+    }
+}
+
+fn main() {
+    let Read::Word(cases) = read_word() else {
+        return;
+    };
+    if 65536 < cases {
+        return;
+    }
+    let missed = replay(cases);
+    io::print_decimal(1, (cases - missed) as u64);
+    io::write_all(1, b" of ");
+    io::print_decimal(1, cases as u64);
+    io::write_all(1, b" cases agree\n");
+}
