@@ -15,7 +15,8 @@ use Rattle.laws.specs.Answers.{gives-inj, refused-gives}
 use Rattle.work.specs.Slices.{needed, lengths}
 use Rattle.edit_algo.specs.declared.Answer.{Answer}
 use Rattle.edit_algo.specs.declared.Answer.the-variants.{Refused, Edited}
-use Rattle.edit_algo.specs.Promises.{answerOf, leftIn, Edits}
+use Rattle.work.specs.Promises.{leftIn, Edits}
+use Rattle.edit_algo.specs.Numbers.{answerOf}
 use Rattle.result_words.specs.Worded.{Bytes}
 use Rattle.printing.specs.Decoded.{decoded, Printable}
 use Rattle.printing.specs.Lines.{Put}
@@ -39,7 +40,7 @@ told (Edited n) result = print (gives (decoded (take n result)))
 
 module _ (b held : List ℕ) (work : List (List ℕ)) (holds : List ℕ) (left : List (List ℕ)) where
   -- the bytes of the result are at the front
-  front : (n : ℕ) (want : basics.Answer (List ℕ)) → edited (lengths work) b (length held) ≡ want → Edits b held work (Edited n) holds left
+  front : (n : ℕ) (want : basics.Answer (List ℕ)) → edited (lengths work) b (length held) ≡ want → Edits b held work (answerOf (Edited n)) holds left
       → (s : List ℕ) × (edited (lengths work) b (length held) ≡ gives s) × (n ≡ length s) × (take n holds ≡ s) × (n ≤ length holds)
   unfolding answerOf leftIn _>>=_
   front n (refused k) e p =
@@ -51,13 +52,13 @@ module _ (b held : List ℕ) (work : List (List ℕ)) (holds : List ℕ) (left :
       let g : holds ≡ s ++ drop (length s) held = p .result ∙ rw e in
       (s, e, f, rw g (take-at s (drop (length s) held) n (sym f)), rw g (omega (arith, length-append s (drop (length s) held))))
 
-  pub edit-showable : (r : Answer) (room : ℕ) → 180000 ≤ room → Edits b held work r holds left → Showable r holds room
+  pub edit-showable : (r : Answer) (room : ℕ) → 180000 ≤ room → Edits b held work (answerOf r) holds left → Showable r holds room
   edit-showable (Refused k) room h p = omega arith
   edit-showable (Edited n) room h p =
       let (s, e, f, g, i) = front n (edited (lengths work) b (length held)) refl p in
       record { inside = i; counted = rw g f; printable = rw g (shown-printable (lengths work) b (length held) room e h) }
 
-  pub edit-told : (r : Answer) → Edits b held work r holds left → told r holds ≡ shown (edited (lengths work) b (length held))
+  pub edit-told : (r : Answer) → Edits b held work (answerOf r) holds left → told r holds ≡ shown (edited (lengths work) b (length held))
   unfolding shown answerOf _>>=_
   edit-told (Refused k) p = go (edited (lengths work) b (length held)) (p .answer)
     where
@@ -90,15 +91,15 @@ module _ {r : Answer} (result : List ℕ) where
   edited-told e p = rw e p
 
 -- what is shown of the answer is what is printed of the edit
-module _ (b held : List ℕ) (work : List (List ℕ)) (holds : List ℕ) (left : List (List ℕ)) {r : Answer} {d l : List ℕ} {to : ℕ} where
-  pub edit-shown : Edits b held work r holds left → Put d 0 (told r holds) l to → Put d 0 (shown (edited (lengths work) b (length held))) l to
+module _ (b held : List ℕ) (work : List (List ℕ)) (holds : List ℕ) (left : List (List ℕ)) (r : Answer) {d l : List ℕ} {to : ℕ} where
+  pub edit-shown : Edits b held work (answerOf r) holds left → Put d 0 (told r holds) l to → Put d 0 (shown (edited (lengths work) b (length held))) l to
   edit-shown p q = rw (← edit-told b held work holds left r p) q
 
 -- where the slices are long enough, what is shown of the answer is what the definition prints of the batch
-pub edit-printed : (b held : List ℕ) (work : List (List ℕ)) (holds : List ℕ) (left : List (List ℕ)) {r : Answer} {d l : List ℕ} {to : ℕ} → Edits b held work r holds left → Put d 0 (told r holds) l to
+pub edit-printed : (b held : List ℕ) (work : List (List ℕ)) (holds : List ℕ) (left : List (List ℕ)) (r : Answer) {d l : List ℕ} {to : ℕ} → Edits b held work (answerOf r) holds left → Put d 0 (told r holds) l to
     → 65536 ≡ length held → tooShort (lengths work) ≡ false → length b ≤ 65536 → Bytes b → Put d 0 (printed b) l to
-edit-printed b held work holds left p q e s n v =
-    rw (← shown-printed (lengths work) b s n v, e) (edit-shown b held work holds left p q)
+edit-printed b held work holds left r p q e s n v =
+    rw (← shown-printed (lengths work) b s n v, e) (edit-shown b held work holds left r p q)
 
 -- slices of the lengths of docs/WORK.md are long enough
 pub long-enough : (a b c d e f g h i j k l : List ℕ) → 16384 ≡ length a → 6147 ≡ length b → 3328 ≡ length c → 256 ≡ length d → 768 ≡ length e → 3072 ≡ length f → 3072 ≡ length g → 1024 ≡ length h → 2048 ≡ length i

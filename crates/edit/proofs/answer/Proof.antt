@@ -7,71 +7,54 @@ use Rattle.edit.proofs.answer.Lts as lts
 use Rattle.edit.proofs.respond.Reads as respond-reads
 use Rattle.io.proofs.large_buffer.Reads as large-buffer-reads
 
--- src/main.rt:77:22
 large-buffer-requires : tie.Need-large-buffer-requires
 large-buffer-requires c κs = search needs
 
--- src/main.rt:93:9
 slice-aggregate-respond : tie.Need-slice-aggregate-respond
 slice-aggregate-respond c = search needs
 
--- src/main.rt:94:9
 slice-aggregate-respond-2 : tie.Need-slice-aggregate-respond-2
 slice-aggregate-respond-2 c = search needs
 
--- src/main.rt:95:9
 slice-aggregate-respond-3 : tie.Need-slice-aggregate-respond-3
 slice-aggregate-respond-3 c = search needs
 
--- src/main.rt:96:9
 slice-aggregate-respond-4 : tie.Need-slice-aggregate-respond-4
 slice-aggregate-respond-4 c = search needs
 
--- src/main.rt:97:9
 slice-aggregate-respond-5 : tie.Need-slice-aggregate-respond-5
 slice-aggregate-respond-5 c = search needs
 
--- src/main.rt:98:9
 slice-aggregate-respond-6 : tie.Need-slice-aggregate-respond-6
 slice-aggregate-respond-6 c = search needs
 
--- src/main.rt:99:9
 slice-aggregate-respond-7 : tie.Need-slice-aggregate-respond-7
 slice-aggregate-respond-7 c = search needs
 
--- src/main.rt:100:9
 slice-aggregate-respond-8 : tie.Need-slice-aggregate-respond-8
 slice-aggregate-respond-8 c = search needs
 
--- src/main.rt:101:9
 slice-aggregate-respond-9 : tie.Need-slice-aggregate-respond-9
 slice-aggregate-respond-9 c = search needs
 
--- src/main.rt:102:9
 slice-aggregate-respond-10 : tie.Need-slice-aggregate-respond-10
 slice-aggregate-respond-10 c = search needs
 
--- src/main.rt:103:9
 slice-aggregate-respond-11 : tie.Need-slice-aggregate-respond-11
 slice-aggregate-respond-11 c = search needs
 
--- src/main.rt:104:9
 slice-aggregate-respond-12 : tie.Need-slice-aggregate-respond-12
 slice-aggregate-respond-12 c = search needs
 
--- src/main.rt:105:9
 slice-aggregate-respond-13 : tie.Need-slice-aggregate-respond-13
 slice-aggregate-respond-13 c = search needs
 
--- src/main.rt:90:5
 respond-requires : tie.Need-respond-requires
 respond-requires c κs = (search needs, search needs, search needs, search (long-enough, needs))
 
--- src/main.rt:73:1
 same-length : tie.Need-same-length
 same-length c = search needs
 
--- src/main.rt:73:1
 returns : tie.Need-returns
 returns c = search needs
 

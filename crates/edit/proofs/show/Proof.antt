@@ -9,39 +9,30 @@ use Rattle.edit.proofs.show.Lts as lts
 use Rattle.printing.proofs.print_refusal.Reads as print-refusal-reads
 use Rattle.printing.proofs.print_result.Reads as print-result-reads
 
--- src/main.rt:20:25
 enum-known-answer : tie.Need-enum-known-answer
 enum-known-answer c = search needs
 
--- src/main.rt:20:36
 print-refusal-requires : tie.Need-print-refusal-requires
 print-refusal-requires c κs = search (refused-room, needs)
 
--- src/main.rt:21:24
 enum-known-answer-2 : tie.Need-enum-known-answer-2
 enum-known-answer-2 c = search needs
 
--- src/main.rt:21:58
 slice-aggregate-print-result : tie.Need-slice-aggregate-print-result
 slice-aggregate-print-result c = edited-counted (c .before .before .before .before .before .before .before .args .result .now) (length (c .before .before .before .before .before .before .before .args .out .now)) (c .before .before .before .answer2 .given .1) (c .before .before .before .before .before .before .before .pre)
 
--- src/main.rt:21:30
 print-result-requires : tie.Need-print-result-requires
 print-result-requires c κs = search (edited-printable, needs)
 
--- src/main.rt:15:1
 same-length : tie.Need-same-length
 same-length c = search needs
 
--- src/main.rt:15:1
 returns : tie.Need-returns
 returns c = search (refused-told, needs)
 
--- src/main.rt:15:1
 same-length-2 : tie.Need-same-length-2
 same-length-2 c = search needs
 
--- src/main.rt:15:1
 returns-2 : tie.Need-returns-2
 returns-2 c = search (edited-told, needs)
 

@@ -7,19 +7,15 @@ use Rattle.edit.proofs.write_front.Reads as reads
 use Rattle.edit.proofs.write_front.Lts as lts
 use Rattle.io.proofs.write_all.Reads as write-all-reads
 
--- src/main.rt:68:26
 slice-aggregate-write-all : tie.Need-slice-aggregate-write-all
 slice-aggregate-write-all c = sym (length-take-le (c .before .before .before .args .n) (c .before .before .before .args .out .now) (search needs))
 
--- src/main.rt:68:9
 write-all-requires : tie.Need-write-all-requires
 write-all-requires c κs = search needs
 
--- src/main.rt:66:1
 returns : tie.Need-returns
 returns c = search needs
 
--- src/main.rt:66:1
 returns-2 : tie.Need-returns-2
 returns-2 c = search needs
 

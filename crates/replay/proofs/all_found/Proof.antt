@@ -17,55 +17,42 @@ Inv-loop batch refusal n missed₀ i₀ missed i = (i ≤ n) × (missed ≤ i)
 abbrev μ-loop : tie.MeasureT-loop
 μ-loop batch refusal n missed₀ i₀ missed i = n - i
 
--- src/main.rt:216:25
 read-word-requires : tie.Need-read-word-requires Inv-loop μ-loop
 read-word-requires c κs = search needs
 
--- src/main.rt:216:20
 enum-known-n : tie.Need-enum-known-n Inv-loop μ-loop
 enum-known-n c = search needs
 
--- src/main.rt:217:9
 enum-told : tie.Need-enum-told Inv-loop μ-loop
 enum-told c = search needs
 
--- src/main.rt:217:9
 returns : tie.Need-returns Inv-loop μ-loop
 returns c = search needs
 
--- src/main.rt:220:9
 returns-2 : tie.Need-returns-2 Inv-loop μ-loop
 returns-2 c = search needs
 
--- src/main.rt:224:5
 loop-holds : tie.Need-loop-holds Inv-loop μ-loop
 loop-holds c = search needs
 
--- src/main.rt:225:24
 next-found-requires : tie.Need-next-found-requires Inv-loop μ-loop
 next-found-requires c κs = search needs
 
--- src/main.rt:225:19
 miss-requires : tie.Need-miss-requires Inv-loop μ-loop
 miss-requires c κs = search needs
 
--- src/main.rt:225:9
 add-missed : tie.Need-add-missed Inv-loop μ-loop
 add-missed c = search needs
 
--- src/main.rt:226:9
 add-i : tie.Need-add-i Inv-loop μ-loop
 add-i c = search needs
 
--- src/main.rt:224:5
 loop-less : tie.Need-loop-less Inv-loop μ-loop
 loop-less c = search needs
 
--- src/main.rt:224:5
 loop-again : tie.Need-loop-again Inv-loop μ-loop
 loop-again c = search needs
 
--- src/main.rt:215:1
 returns-3 : tie.Need-returns-3 Inv-loop μ-loop
 returns-3 c = search needs
 

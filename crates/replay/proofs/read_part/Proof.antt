@@ -11,52 +11,40 @@ use Rattle.replay.proofs.read_part.Lts as lts
 use Rattle.io.proofs.read_full.Reads as read-full-reads
 use Rattle.replay.proofs.read_word.Reads as read-word-reads
 
--- src/main.rt:37:25
 read-word-requires : tie.Need-read-word-requires
 read-word-requires c κs = search needs
 
--- src/main.rt:37:20
 enum-known-n : tie.Need-enum-known-n
 enum-known-n c = search needs
 
--- src/main.rt:38:9
 enum-told : tie.Need-enum-told
 enum-told c = search needs
 
--- src/main.rt:38:9
 returns : tie.Need-returns
 returns c = search needs
 
--- src/main.rt:41:9
 returns-2 : tie.Need-returns-2
 returns-2 c = search needs
 
--- src/main.rt:43:32
 slice-relend-prefix-read-full : tie.Need-slice-relend-prefix-read-full
 slice-relend-prefix-read-full c = search needs
 
--- src/main.rt:43:32
 slice-aggregate-read-full : tie.Need-slice-aggregate-read-full
 slice-aggregate-read-full c =
     sym (length-take-le (c .before .before .before .n .given .0 .0) (c .before .before .before .before .before .before .before .args .part .now) (omega arith))
 
--- src/main.rt:43:9
 read-full-requires : tie.Need-read-full-requires
 read-full-requires c κs = search needs
 
--- src/main.rt:36:1
 same-length : tie.Need-same-length
 same-length c = search needs
 
--- src/main.rt:36:1
 returns-3 : tie.Need-returns-3
 returns-3 c = search needs
 
--- src/main.rt:36:1
 same-length-2 : tie.Need-same-length-2
 same-length-2 c = search needs
 
--- src/main.rt:36:1
 returns-4 : tie.Need-returns-4
 returns-4 c = search needs
 

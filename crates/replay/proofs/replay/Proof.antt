@@ -17,39 +17,30 @@ Inv-loop cases missed₀ i₀ missed i = (i ≤ cases) × (missed ≤ i)
 abbrev μ-loop : tie.MeasureT-loop
 μ-loop cases missed₀ i₀ missed i = cases - i
 
--- src/main.rt:271:5
 loop-holds : tie.Need-loop-holds Inv-loop μ-loop
 loop-holds c = search needs
 
--- src/main.rt:272:22
 next-case-requires : tie.Need-next-case-requires Inv-loop μ-loop
 next-case-requires c κs = search needs
 
--- src/main.rt:272:13
 miss-requires : tie.Need-miss-requires Inv-loop μ-loop
 miss-requires c κs = search needs
 
--- src/main.rt:273:9
 name-requires : tie.Need-name-requires Inv-loop μ-loop
 name-requires c κs = search needs
 
--- src/main.rt:274:9
 add-missed : tie.Need-add-missed Inv-loop μ-loop
 add-missed c = search needs
 
--- src/main.rt:275:9
 add-i : tie.Need-add-i Inv-loop μ-loop
 add-i c = search needs
 
--- src/main.rt:271:5
 loop-less : tie.Need-loop-less Inv-loop μ-loop
 loop-less c = search needs
 
--- src/main.rt:271:5
 loop-again : tie.Need-loop-again Inv-loop μ-loop
 loop-again c = search needs
 
--- src/main.rt:266:1
 returns : tie.Need-returns Inv-loop μ-loop
 returns c = search needs
 
