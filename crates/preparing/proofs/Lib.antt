@@ -1,0 +1,2 @@
+-- What is known at each answer and each turn.
+pub mod Turns

@@ -1,0 +1,2 @@
+-- Ways   the ways out of the functions on work slices
+pub mod Ways

@@ -1,0 +1,41 @@
+use borrow.Author.Needs.{needs}
+use Rattle.work.proofs.Ways.{short-first, short-second, short-third, short-last}
+use Rattle.work.proofs.short_of_four.Statement.{statement}
+use Rattle.work.proofs.short_of_four.Tie as tie
+
+is-short-requires : tie.Need-is-short-requires
+is-short-requires c κs = search needs
+
+returns : tie.Need-returns
+returns c = search (short-first, needs)
+
+is-short-requires-2 : tie.Need-is-short-requires-2
+is-short-requires-2 c κs = search needs
+
+returns-2 : tie.Need-returns-2
+returns-2 c = search (short-second, needs)
+
+is-short-requires-3 : tie.Need-is-short-requires-3
+is-short-requires-3 c κs = search needs
+
+returns-3 : tie.Need-returns-3
+returns-3 c = search (short-third, needs)
+
+is-short-requires-4 : tie.Need-is-short-requires-4
+is-short-requires-4 c κs = search needs
+
+returns-4 : tie.Need-returns-4
+returns-4 c = search (short-last, needs)
+
+pub short-of-four-spec : {M : Type 1} → statement M
+short-of-four-spec =
+    tie.close
+    (tie.spec
+    is-short-requires
+    returns
+    is-short-requires-2
+    returns-2
+    is-short-requires-3
+    returns-3
+    is-short-requires-4
+    returns-4)

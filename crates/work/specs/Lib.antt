@@ -1,0 +1,5 @@
+-- The slices that the public calls are lent, and what the calls promise.
+--     Slices     the lengths that work slices need, and slices of zeros
+--     Promises   THE PROMISES of `edit` and `find_element`
+pub mod Slices
+pub mod Promises

@@ -1,0 +1,97 @@
+// The work slices: whether one is too short, and all of them cleared.
+ghost use mathlib.Core.Path.{_≡_};
+ghost use mathlib.Core.List.{_∷_, []};
+ghost use lib.ListN.{length};
+ghost use lib.Dec.{ltb};
+ghost use Rattle.definition.specs.Answers.{tooShort};
+ghost use Rattle.work.specs.Slices.{asked, lengths, zeros, zeroed};
+
+// Whether a slice has less than `n` words.
+fn is_short(s: &[u32], n: usize) -> bool
+    ensures { λ r. ⌜ r ≡ ltb (length (now (s .entry))) n ⌝ }
+{
+    s.len() < n
+}
+
+// Whether one of four slices is too short.
+fn short_of_four(
+    a: &[u32],
+    i: usize,
+    b: &[u32],
+    j: usize,
+    c: &[u32],
+    k: usize,
+    d: &[u32],
+    l: usize,
+) -> bool
+    ensures { λ r. ⌜ r ≡ tooShort (asked (now (a .entry)) i ∷ asked (now (b .entry)) j ∷ asked (now (c .entry)) k ∷ asked (now (d .entry)) l ∷ []) ⌝ }
+{
+    if is_short(a, i) {
+        return true;
+    }
+    if is_short(b, j) {
+        return true;
+    }
+    if is_short(c, k) {
+        return true;
+    }
+    is_short(d, l)
+}
+
+// Whether a work slice is shorter than its length in docs/WORK.md.
+pub fn too_short(
+    table: &[u32],
+    source: &[u32],
+    changes: &[u32],
+    running: &[u32],
+    first: &[u32],
+    notes: &[u32],
+    incoming: &[u32],
+    changed: &[u32],
+    marks: &[u32],
+    rows: &[u32],
+    prepared: &[u32],
+    sizes: &[u32],
+) -> bool
+    ensures { λ r. ⌜ r ≡ tooShort (lengths (now (table .entry) ∷ now (source .entry) ∷ now (changes .entry) ∷ now (running .entry) ∷ now (first .entry) ∷ now (notes .entry) ∷ now (incoming .entry) ∷ now (changed .entry) ∷ now (marks .entry) ∷ now (rows .entry) ∷ now (prepared .entry) ∷ now (sizes .entry) ∷ [])) ⌝ }
+{
+    if short_of_four(table, 16384, source, 6147, changes, 3328, running, 256) {
+        return true;
+    }
+    if short_of_four(first, 768, notes, 3072, incoming, 3072, changed, 1024) {
+        return true;
+    }
+    short_of_four(marks, 2048, rows, 12291, prepared, 12288, sizes, 1024)
+}
+
+// Four slices become zeros.
+fn clear_four(a: &mut [u32], b: &mut [u32], c: &mut [u32], d: &mut [u32])
+    ensures { λ _. ⌜ (now (a .exit) ≡ zeros (now (a .entry))) × (now (b .exit) ≡ zeros (now (b .entry))) × (now (c .exit) ≡ zeros (now (c .entry))) × (now (d .exit) ≡ zeros (now (d .entry))) ⌝ }
+{
+    words::clear(a);
+    words::clear(b);
+    words::clear(c);
+    words::clear(d);
+}
+
+// Every work slice becomes zeros.
+pub fn clear_all(
+    table: &mut [u32],
+    source: &mut [u32],
+    changes: &mut [u32],
+    running: &mut [u32],
+    first: &mut [u32],
+    notes: &mut [u32],
+    incoming: &mut [u32],
+    changed: &mut [u32],
+    marks: &mut [u32],
+    rows: &mut [u32],
+    prepared: &mut [u32],
+    sizes: &mut [u32],
+)
+    ensures { λ _. ⌜ (now (table .exit) ∷ now (source .exit) ∷ now (changes .exit) ∷ now (running .exit) ∷ now (first .exit) ∷ now (notes .exit) ∷ now (incoming .exit) ∷ now (changed .exit) ∷ now (marks .exit) ∷ now (rows .exit) ∷ now (prepared .exit) ∷ now (sizes .exit) ∷ []) ≡ zeroed (now (table .entry) ∷ now (source .entry) ∷ now (changes .entry) ∷ now (running .entry) ∷ now (first .entry) ∷ now (notes .entry) ∷ now (incoming .entry) ∷ now (changed .entry) ∷ now (marks .entry) ∷ now (rows .entry) ∷ now (prepared .entry) ∷ now (sizes .entry) ∷ []) ⌝ }
+{
+    clear_four(table, source, changes, running);
+    clear_four(first, notes, incoming, changed);
+    clear_four(marks, rows, prepared, sizes);
+}
