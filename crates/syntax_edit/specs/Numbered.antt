@@ -212,14 +212,14 @@ pub edited-numbered : (work : List (ℕ × ℕ)) (b : List ℕ) (room : ℕ) →
 unfolding edited edit
 edited-numbered work b room =
     with-numbered work _ (
-      chained _ _ (
-        chained _ _ (accepted-numbered b) λ a.
-        chained _ _ (plan-numbered a) λ p.
-        chained _ _ (ran-numbered a p) λ w.
-        given-numbered _
-      ) λ r.
-      chained _ _ (fitting-numbered room r) λ r.
-      given-numbered (encoded r)
+    chained _ _ (
+    chained _ _ (accepted-numbered b) λ a.
+    chained _ _ (plan-numbered a) λ p.
+    chained _ _ (ran-numbered a p) λ w.
+    given-numbered _
+    ) λ r.
+    chained _ _ (fitting-numbered room r) λ r.
+    given-numbered (encoded r)
     )
 
 -- the refusals of `find_element`
@@ -227,8 +227,8 @@ pub found-numbered : (work : List (ℕ × ℕ)) (b : List ℕ) (n : ℕ) → Num
 unfolding findElement
 found-numbered work b n =
     with-numbered work _ (
-      chained _ _ (accepted-numbered b) λ a.
-      chained _ _ (plan-numbered a) λ p.
-      chained _ _ (ran-numbered a p) λ w.
-      given-numbered _
+    chained _ _ (accepted-numbered b) λ a.
+    chained _ _ (plan-numbered a) λ p.
+    chained _ _ (ran-numbered a p) λ w.
+    given-numbered _
     )
