@@ -12,8 +12,8 @@ use Rattle.definition.specs.Answers.{edited}
 use Rattle.definition.specs.FindElement.{findElement}
 use Rattle.work.specs.Slices.{lengths, zeroed}
 use Rattle.work.specs.Promises.{leftIn, Edits, Finds}
-use Rattle.syntax_edit.specs.Numbered.{Numbered, edited-numbered, found-numbered}
-use Rattle.syntax_edit.specs.Bounded.{edited-short, found-short}
+use Rattle.answer_numbers.specs.Numbered.{Numbered, edited-numbered, found-numbered}
+use Rattle.answer_numbers.specs.Bounded.{edited-short, found-short}
 
 -- ── The promises ────────────────────────────────────────────────────────────────────────────────────────────
 

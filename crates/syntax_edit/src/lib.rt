@@ -1,1 +1,0 @@
-// The calls for C: see specs/.
