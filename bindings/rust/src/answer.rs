@@ -21,6 +21,22 @@ pub enum Element<'a> {
     Token { kind: u16, text: &'a [u8] },
 }
 
+impl Element<'_> {
+    pub fn kind(&self) -> u16 {
+        match *self {
+            Element::Node { kind, .. } | Element::Token { kind, .. } => kind,
+        }
+    }
+
+    /// A node's count of children, a token's count of text bytes.
+    pub fn measure(&self) -> usize {
+        match *self {
+            Element::Node { children, .. } => children as usize,
+            Element::Token { text, .. } => text.len(),
+        }
+    }
+}
+
 /// A note and the element that it is on.
 #[derive(Clone, Copy, Debug, PartialEq, Eq)]
 pub struct Note {
@@ -100,10 +116,8 @@ impl fmt::Display for Answer<'_> {
         let [n, b, c, a, discarded, climbs] = self.sizes;
         writeln!(f, "ok {n} {b} {c} {a} {discarded} {climbs}")?;
         for element in self.elements() {
-            match element {
-                Element::Node { kind, children } => writeln!(f, "n {kind} {children}")?,
-                Element::Token { kind, text } => writeln!(f, "t {kind} {}", text.len())?,
-            }
+            let sort = if matches!(element, Element::Node { .. }) { 'n' } else { 't' };
+            writeln!(f, "{sort} {} {}", element.kind(), element.measure())?;
         }
         f.write_str(if b == 0 { "text" } else { "text " })?;
         self.text.iter().try_for_each(|it| write!(f, "{it:02x}"))?;

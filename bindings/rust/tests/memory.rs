@@ -25,7 +25,7 @@ fn an_answer_leaves_the_rest_of_the_result() {
         let mut memory = work(|_, least| least);
         let mut result = vec![0xa5; 65_536];
         let length = raw::edit(batch, &mut result, lent(&mut memory));
-        assert!(24 <= length && length <= 61_464);
+        assert!((24..=61_464).contains(&length));
         assert!(result[length as usize..].iter().all(|&it| it == 0xa5));
         assert_zeros(&memory);
 
