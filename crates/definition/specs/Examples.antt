@@ -65,7 +65,7 @@ call op x listed = record { operation = op; target = x; listed = listed }
 -- ── Printed case ────────────────────────────────────────────────────────────────────────────────────────────
 
 -- "Tree 0: node kind 1 of tokens kind 2 "a", kind 3 "b"; tree 1: node kind 1 of token kind 4 "c". One call, word 257, target 1, listing 4; note 9 on 4."
-abbrev printedCase : Told
+abbrev pub printedCase : Told
 printedCase = record {
   trees = nodeOf 1 (tokenOf 2 "a" ∷ tokenOf 3 "b" ∷ []) ∷ nodeOf 1 (tokenOf 4 "c" ∷ []) ∷ [];
   calls = call 1 1 (4 ∷ []) ∷ [];
@@ -74,7 +74,7 @@ printedCase = record {
 }
 
 -- what it prints
-abbrev printedLines : String
+abbrev pub printedLines : String
 printedLines = "ok 4 3 1 1 0 0\nn 1 3\nt 2 1\nt 4 1\nt 3 1\ntext 616362\nchanged 2\nnote 9 2\n"
 
 -- ── The marked examples ─────────────────────────────────────────────────────────────────────────────────────
@@ -107,7 +107,7 @@ onZ calls = record {
 }
 
 -- what the examples tell of an answer: the new text, the changed elements, and how many changes are discarded
-abbrev Short : Type 0
+abbrev pub Short : Type 0
 Short = Answer (List ℕ × List ℕ × ℕ)
 
 -- that much of an answer
@@ -119,7 +119,7 @@ abbrev becomes : String → List ℕ → ℕ → Short
 becomes new changed lost = gives (ascii new, changed, lost)
 
 -- each marked example, and what is told of it
-abbrev marked : List (Told × Short)
+abbrev pub marked : List (Told × Short)
 marked =
     -- c after X, then d after X: adcb
     (onS (call 1 1 (5 ∷ []) ∷ call 1 1 (7 ∷ []) ∷ []), becomes "adcb" (3 ∷ 4 ∷ []) 0)
@@ -184,7 +184,7 @@ intoQ = record {
 }
 
 -- each further example, and what is told of it
-abbrev further : List (Told × Short)
+abbrev pub further : List (Told × Short)
 further =
     -- X by many (d), then delete X: 4 does not merge
     (onS (call 4 1 (7 ∷ []) ∷ call 3 1 [] ∷ []), refused 8)
@@ -212,7 +212,7 @@ further =
     ∷ []
 
 -- X by R, X mapped to X′, c after a; notes 2 on a, 1 on b, 2 on X: one climb step, and the notes of X and a move into R
-abbrev withNotes : Told
+abbrev pub withNotes : Told
 withNotes = record {
   trees = S;
   calls = call 2 1 (8 ∷ []) ∷ call 1 2 (5 ∷ []) ∷ [];
@@ -221,7 +221,7 @@ withNotes = record {
 }
 
 -- what it prints
-abbrev withNotesLines : String
+abbrev pub withNotesLines : String
 withNotesLines = "ok 6 3 1 3 0 1\nn 1 2\nn 7 1\nn 2 2\nt 3 1\nt 6 1\nt 4 1\ntext 616362\nchanged 1\nnote 1 5\nnote 2 3\nnote 2 2\n"
 
 -- the fates of a batch's changes, in sorted order
@@ -246,11 +246,11 @@ twoSplices =
 -- ── The table ───────────────────────────────────────────────────────────────────────────────────────────────
 
 -- what is told of each example
-abbrev told : List (Told × Short) → List Short
+abbrev pub told : List (Told × Short) → List Short
 told es = map (λ m. m .1) es
 
 -- the answer to each example
-abbrev answered : List (Told × Short) → List Short
+abbrev pub answered : List (Told × Short) → List Short
 answered es = map (λ m. short (edit (inBytes (m .0)))) es
 
 -- Each marked example gives what is told of it; the printed case has 91 bytes and prints its lines. So with the further examples; and of `withNotes`

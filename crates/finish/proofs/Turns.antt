@@ -2,7 +2,7 @@
 -- Assumes nothing.
 use mathlib.Core.Path.{_≡_, refl, sym, ap, _∙_}
 use mathlib.Core.List.{List, [], _∷_, _++_, map, flatMap}
-use Prim.Native.Nat.{ℕ, suc, _+_, _-_, _*_, _/_, _≤_, _<_}
+use Prim.Native.Nat.{ℕ, suc, _+_, _-_, _*_, _/_, _^_, _≤_, _<_}
 use native.Mathlib.Omega.{arith}
 use native.Mathlib.Nat.{zero-add, add-zero, sub-self}
 use native.Mathlib.Numerals.{add-one}
@@ -20,10 +20,11 @@ use Rattle.syntax_node.specs.Promises.{Measured}
 use Rattle.syntax_node.proofs.Turns.{Summing, summing-start, summing-next}
 use Rattle.finish_model.specs.Finished.{starts}
 use Rattle.finish_model.specs.Numbers.{starts-at}
+use Rattle.finish.specs.TextSizes.{bytes-any, own-few}
 
 -- ── Text starts ─────────────────────────────────────────────────────────────────────────────────────────────
 
-length-starts : (s : ℕ) (rs : List Row) → length (starts s rs) ≡ length rs
+pub length-starts : (s : ℕ) (rs : List Row) → length (starts s rs) ≡ length rs
 unfolding starts
 length-starts s [] = refl
 length-starts s (r ∷ rs) = ap suc (length-starts (s + textLength r) rs)
@@ -125,6 +126,32 @@ module _ (tree text : List ℕ) (i : ℕ) {k : ℕ} (e : k ≡ getD tree (3 * i)
 
     pub own-outside : length text < o + m → [] ≡ own (rowIn text tree i)
     own-outside l = rw (← e, ← a, ← b, lt-ltb k 2147483648 h, lt-leb (o + m) (length text) l)
+
+-- the text of the first i rows is `sum` long
+pub record Sizing (tree text : List ℕ) (sum i : ℕ) : Type 0 where
+  pub inside : 3 * i ≤ length tree
+  pub rest : length (flatMap own (triples text tree)) ≡ sum + length (flatMap own (drop i (triples text tree)))
+
+pub sizing-start : (tree text : List ℕ) → Sizing tree text 0 0
+sizing-start tree text = record { inside = omega arith; rest = omega arith }
+
+module _ {tree text : List ℕ} {sum i : ℕ} (v : Sizing tree text sum i) where
+  module _ {s : List ℕ} (h : 3 * i + 2 < length tree) (e : s ≡ own (rowIn text tree i)) where
+    sizing-more : length (flatMap own (triples text tree)) ≡ sum + (length s + length (flatMap own (drop (suc i) (triples text tree))))
+    unfolding flatMap
+    sizing-more = v .rest ∙ rw (triples-at text i tree h, ← e) (ap (λ (n : ℕ). sum + n) (length-append s (flatMap own (drop (suc i) (triples text tree)))))
+
+    pub sizing-small : bytes (triples [] tree) < 2 ^ 32 → sum + length s < 2 ^ 32
+    sizing-small b = omega (arith, sizing-more, own-few (triples text tree), bytes-any text [] tree)
+
+    pub sizing-next : Sizing tree text (sum + length s) (i + 1)
+    sizing-next = record { inside = omega arith; rest = rw (add-one i) (sizing-more ∙ omega arith) }
+
+  pub sizing-done : length tree ≤ 3 * i + 2 → bytes (triples [] tree) < 2 ^ 32 → (sum ≡ length (flatMap own (triples text tree))) × (sum < 2 ^ 32)
+  unfolding flatMap
+  sizing-done h b =
+      let e : length (flatMap own (triples text tree)) ≡ sum = v .rest ∙ rw (triples-end text i tree h) (omega arith) in
+      (sym e, omega (arith, own-few (triples text tree), bytes-any text [] tree))
 
 -- l is d with the text of the first i rows written from `at` up to `to`
 pub record Texting (tree text d : List ℕ) (at : ℕ) (l : List ℕ) (to i : ℕ) : Type 0 where

@@ -89,6 +89,21 @@ fn own_text<'a>(tree: &[u32], i: usize, text: &'a [u8]) -> &'a [u8]
     &text[0..0]
 }
 
+// The length of the text of a tree.
+pub fn text_size(tree: &[u32], text: &[u8]) -> usize
+    requires { ⌜ (length (now tree) < 3 * 2 ^ 16) × (bytes (triples [] (now tree)) < 2 ^ 32) ⌝ }
+    ensures { λ r. ⌜ (r ≡ length (flatMap own (triples (now (text .entry)) (now (tree .entry))))) × (r < 2 ^ 32) ⌝ }
+{
+    let mut sum = 0;
+    let mut i = 0;
+    while 3 * i + 2 < tree.len() {
+        let part = own_text(tree, i, text);
+        sum += part.len();
+        i += 1;
+    }
+    sum
+}
+
 // The text of a tree is written at `at`.
 pub fn write_text(b: &mut [u8], at: usize, tree: &[u32], text: &[u8])
     requires { ⌜ (at + length (flatMap own (triples (now text) (now tree))) ≤ length (now b)) × (length (now tree) < 3 * 2 ^ 16) ⌝ }

@@ -3,11 +3,11 @@
 use mathlib.Core.Path.{_≡_, refl, sym, ap, _∙_}
 use mathlib.Core.List.{List, [], _∷_, _++_, map, append-assoc, append-nil}
 use mathlib.Core.Option.{some, Option·map, bind}
-use Prim.Native.Nat.{ℕ, zero, suc, _+_, _<_}
+use Prim.Native.Nat.{ℕ, zero, suc, _+_, _-_, _≤_, _<_}
 use native.Mathlib.Omega.{arith}
 use native.Mathlib.Nat.{add-zero}
-use lib.ListN.{length, take, getD, getElem?, length-append}
-use lib.Seq.{take-at}
+use lib.ListN.{length, take, drop, getD, getElem?, length-append, length-drop}
+use lib.Seq.{take-at, length-take-le}
 use borrow.Author.Tests.{ne-eqb}
 use Rattle.orders.specs.Tree.{Tree, Trees, node, token, nil, cons, list, forest, Path, resolve, strip, children, elements, text, textOf}
 use Rattle.orders.specs.ListLaws.{some-inj, none-some, bind-some, get-lt, lt-get, map-append}
@@ -18,7 +18,7 @@ use Rattle.laws.specs.Kin.{resolve-down}
 use Rattle.laws.specs.Held.{Leads, number-found}
 use Rattle.rows.specs.Row.{Row, rowsOf, rowsIn, rowsAll, skip, textLength, bytes}
 use Rattle.rows.specs.Place.{size, place, rowsAfter, subtree, inRun}
-use Rattle.rows.specs.RowLaws.{skip-none, skip-tree}
+use Rattle.rows.specs.RowLaws.{skip-none, skip-tree, skip-le}
 use Rattle.rows.specs.PlaceLaws.{place-child, place-forest, after-at}
 use Rattle.rows.specs.Moves.{strip-place}
 use Rattle.rows.specs.Numbers.{element-row}
@@ -33,6 +33,16 @@ first-tree (node k nil) = refl
 first-tree (node k (cons c cs)) =
     let e : skip 1 (rowsOf c ++ rowsIn cs) ≡ size c = skip-tree c 0 (rowsIn cs) ∙ omega (arith, skip-none (rowsIn cs)) in
     rw e (take-at (rowsOf c) (rowsIn cs) (size c) refl ∙ sym (append-nil (rowsOf c)))
+
+-- the row behind tree 0
+pub tree-end : (rs : List Row) → rowsAfter rs 1 1 ≡ suc (length (firstTree rs))
+unfolding rowsAfter firstTree subtree
+tree-end rs = let e = length-take-le (skip 1 (drop 1 rs)) (drop 1 rs) (skip-le 1 (drop 1 rs)) in omega arith
+
+-- tree 0 has no more rows than stand behind the root of all
+pub tree-few : (rs : List Row) → length (firstTree rs) ≤ length rs - 1
+unfolding firstTree subtree
+tree-few rs = omega (arith, length-take-le (skip 1 (drop 1 rs)) (drop 1 rs) (skip-le 1 (drop 1 rs)), skip-le 1 (drop 1 rs), length-drop 1 rs)
 
 -- ── Numbers ─────────────────────────────────────────────────────────────────────────────────────────────────
 

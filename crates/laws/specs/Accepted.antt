@@ -106,6 +106,7 @@ batch-sized bytes b e =
 pub record Known (bytes : List ℕ) (a : Accepted) : Type 0 where
   pub limits : Limited (sizes bytes)
   pub arrays : Batch
+  pub read : batch bytes ≡ gives arrays
   pub long : Sized (sizes bytes) arrays
   pub spells : Spells a.trees arrays.kinds arrays.measures arrays.text
   pub roots : length a.trees ≡ (sizes bytes) .trees
@@ -149,6 +150,7 @@ known bytes b ts cs x y z w k =
     record {
       limits = l;
       arrays = b;
+      read = x;
       long = s;
       spells = sp;
       roots = eqb-true (length ts) b.trees (not-false _ n) ∙ s .trees;

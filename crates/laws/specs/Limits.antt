@@ -176,7 +176,7 @@ part-length : {A B : Type 0} (f : A → List B) (n : ℕ) (l : List A) → lengt
 part-length f n l = omega (arith, length-append (flatMap f (take n l)) (flatMap f (drop n l)), ap length (sym (flatMap-append f (take n l) (drop n l)) ∙ ap (flatMap f) (take-append-drop n l)))
 
 -- the new tree is one of the current trees
-new-elements : (w : World) → length (flatMap preorder (newTree w)) ≤ elementsOf (children w.trees)
+pub new-elements : (w : World) → length (flatMap preorder (newTree w)) ≤ elementsOf (children w.trees)
 unfolding newTree
 new-elements w =
     let l = list (children w.trees) in

@@ -1,0 +1,2 @@
+-- The loop's invariant, and each way out.
+pub mod Turns

@@ -1,0 +1,7 @@
+-- The result from what the run leaves, as bytes in the lent buffer.
+--     InTree    the result, from the new tree, its changed elements and its notes in order
+--     Answered  the answer, and what the buffer holds then
+--     Arrays    the arrays written one behind another
+pub mod InTree
+pub mod Answered
+pub mod Arrays

@@ -1,0 +1,186 @@
+-- The sorted rows and their fates: the definition's planned changes, and what rewriting asks of them.
+-- Assumes nothing.
+use mathlib.Core.Bool.{true}
+use mathlib.Core.List.{List, [], _∷_, map, zipWith, map-map}
+use mathlib.Core.Path.{_≡_, refl, sym, ap, _∙_, subst}
+use Prim.Native.Nat.{ℕ, zero, suc, _+_, _*_, _≤_, _<_}
+use native.Mathlib.Omega.{arith}
+use lib.ListN.{length, getD, drop, length-map}
+use lib.Seq.{drop-drop}
+use Rattle.orders.specs.Lists.{All}
+use Rattle.orders.specs.ListLaws.{bool-absurd}
+use Rattle.definition.specs.Basics.{rising, lower}
+use Rattle.definition.specs.Elements.{Table}
+use Rattle.definition.specs.Refusals.{Call}
+use Rattle.definition.specs.Recording.{firstChild, after, Change, insert, replace, delete, replaceWithMany, replaceAll, call, recorded}
+use Rattle.definition.specs.Planning.{Fate, dependent, Planned, target, key, sorted, overlap, nodeByNode, planned}
+use Rattle.laws.specs.Basics.{map-All, getD-map}
+use Rattle.laws.specs.Right.{Right, judged, below-E}
+use Rattle.laws.specs.Sorting.{sort-all}
+use Rattle.laws.specs.Stages.{planned-changes}
+use Rattle.syntax_editor.specs.ChangeRow.{ChangeRow, rowsOf, operation, endOf, changeRow}
+use Rattle.syntax_editor.specs.ChangeRowLaws.{rowAt, length-rowsOf, row-among}
+use Rattle.recording.specs.Recorded.{recordedAt, snd, recorded-changes}
+use Rattle.recording.specs.RecordedRows.{rowFor, changeRows}
+use Rattle.edit_plan.specs.Rows.{rowKey, rowFate, withFate, fate-stated, row-tells, key-told}
+use Rattle.edit_plan.specs.Sorting.{sorted-rows, sorted-changes}
+use Rattle.edit_plan.specs.Overlap.{rowsOverlap, overlap-told}
+use Rattle.changed_region.specs.Fates.{plannedRows, planned-told}
+use Rattle.change_row.specs.Stated.{changeBy, newOf, changeOf, planOf, Rewritable, fate-dependent}
+use Rattle.change_row.specs.Exact.{recorded-states, recorded-exact, exact-stated}
+use Rattle.rewriting.specs.Rewritten.{noChange}
+use Rattle.rewriting.specs.Kept.{Kept}
+use Rattle.plan_model.specs.Recorded.{Known}
+use Rattle.plan_model.specs.Owners.{Owned, planned-owned}
+
+-- ── Sorted ──────────────────────────────────────────────────────────────────────────────────────────────────
+
+module _ (T : Table) (cs : List Call) where
+  -- the recorded changes in sorted order, each with the place where its elements start
+  unfoldable pub sortedAt : List (ℕ × Change)
+  sortedAt = rising (λ p. key T (p .1)) (recordedAt cs)
+
+  -- THE ROWS in sorted order
+  unfoldable pub sortedRows : List ChangeRow
+  sortedRows = rising rowKey (changeRows T cs)
+
+  -- and with their fates
+  unfoldable pub fatedRows : List ChangeRow
+  fatedRows = plannedRows sortedRows
+
+  rows-sorted : sortedRows ≡ map (rowFor T) sortedAt
+  unfolding sortedRows sortedAt changeRows
+  rows-sorted = sorted-rows T (rowFor T) snd (λ x. key-told (row-tells T (x .0) (x .1))) (recordedAt cs)
+
+  changes-sorted : sorted T (recorded cs) ≡ map snd sortedAt
+  unfolding sortedAt
+  changes-sorted = ap (sorted T) (sym (recorded-changes cs)) ∙ sorted-changes T (rowFor T) snd (λ x. key-told (row-tells T (x .0) (x .1))) (recordedAt cs)
+
+  -- refusal 8 is the definition's
+  pub overlap-sorted : rowsOverlap sortedRows ≡ overlap T (sorted T (recorded cs))
+  overlap-sorted = rw (rows-sorted, changes-sorted) (overlap-told T (rowFor T) snd (λ x. row-tells T (x .0) (x .1)) sortedAt)
+
+-- ── Fated ───────────────────────────────────────────────────────────────────────────────────────────────────
+
+operation-most : (c : Change) → operation c ≤ 5
+unfolding operation
+operation-most (insert firstChild x l) = omega arith
+operation-most (insert after x l) = omega arith
+operation-most (replace x y) = omega arith
+operation-most (delete x) = omega arith
+operation-most (replaceWithMany x l) = omega arith
+operation-most (replaceAll x y l) = omega arith
+
+-- the ends of a change that line 6 would not refuse are elements
+right-ends : (T : Table) (c : Change) → Right T c → (target c < length T) × (endOf c < length T)
+unfolding call target endOf
+right-ends T (insert firstChild x l) e = let b = below-E T (x ∷ l) ((judged T _ e) .within) in (b .0, b .0)
+right-ends T (insert after x l) e = let b = below-E T (x ∷ l) ((judged T _ e) .within) in (b .0, b .0)
+right-ends T (replace x y) e = let b = below-E T (x ∷ y ∷ []) ((judged T _ e) .within) in (b .0, b .0)
+right-ends T (delete x) e = let b = below-E T (x ∷ []) ((judged T _ e) .within) in (b .0, b .0)
+right-ends T (replaceWithMany x l) e = let b = below-E T (x ∷ l) ((judged T _ e) .within) in (b .0, b .0)
+right-ends T (replaceAll x y l) e = let b = below-E T (x ∷ y ∷ l) ((judged T _ e) .within) in (b .0, b .1 .0)
+
+-- a call 2 of a node by a node has the number 2
+owner-replaces : (T : Table) (op x y z : ℕ) (new : List ℕ) → nodeByNode T (changeBy op x y z new) ≡ true → op ≡ 2
+unfolding changeBy nodeByNode
+owner-replaces T zero x y z new e = bool-absurd e refl
+owner-replaces T (suc zero) x y z new e = bool-absurd e refl
+owner-replaces T (suc (suc zero)) x y z new e = refl
+owner-replaces T (suc (suc (suc zero))) x y z new e = bool-absurd e refl
+owner-replaces T (suc (suc (suc (suc zero)))) x y z new e = bool-absurd e refl
+owner-replaces T (suc (suc (suc (suc (suc op))))) x y z new e = bool-absurd e refl
+
+-- what holds of all rows holds of each
+pub rows-each : (P : ChangeRow → Type 0) (c : ℕ) (w : List ℕ) → All P (rowsOf c w) → (i : ℕ) → i < c → P (rowAt w i)
+unfolding rowsOf rowAt
+rows-each P zero w h i b = absurd (omega arith)
+rows-each P (suc c) w h zero b = h .0
+rows-each P (suc c) w h (suc i) b =
+    let e : 13 * suc i ≡ 13 + 13 * i = omega arith in
+    rw (e, ← drop-drop (13 * i) 13 w) (rows-each P c (drop 13 w) (h .1) i (omega arith))
+
+module _ (n : ℕ) (T : Table) (listed : List ℕ) (long : length T ≡ n) where
+  abbrev fated : ℕ × Change → Planned → ChangeRow
+  fated y p = withFate (rowFor T y) (p .fate)
+
+  kept-one : (y : ℕ × Change) (f : Fate) → Known T listed y → Kept n T listed (withFate (changeRow T (y .0) (y .1)) f)
+  unfolding withFate changeRow
+  kept-one y f k =
+      let e = recorded-exact T listed (y .0) f (y .1) (k .stands) in
+      let b = right-ends T (y .1) (k .right) in
+      record { exact = e; stated = exact-stated n T listed (withFate (changeRow T (y .0) (y .1)) f) e (operation-most (y .1)) (omega (arith, b .0)) (omega (arith, b .1)) (k .ends) }
+
+  zip-kept : (ys : List (ℕ × Change)) (ps : List Planned) → All (Known T listed) ys → All (Kept n T listed) (zipWith fated ys ps)
+  unfolding zipWith
+  zip-kept [] ps k = tt
+  zip-kept (y ∷ ys) [] k = tt
+  zip-kept (y ∷ ys) (p ∷ ps) k = (kept-one y (p .fate) (k .0), zip-kept ys ps (k .1))
+
+  zip-planned : (ys : List (ℕ × Change)) (ps : List Planned) → map (λ p. p .change) ps ≡ map snd ys → All (Known T listed) ys → map (planOf listed) (zipWith fated ys ps) ≡ ps
+  unfolding zipWith planOf
+  zip-planned [] [] e k = refl
+  zip-planned [] (p ∷ ps) e k = cc
+  zip-planned (y ∷ ys) [] e k = cc
+  zip-planned (y ∷ ys) (p ∷ ps) e k =
+      let a : p .change ≡ y .1 = cc in
+      let b : map (λ p. p .change) ps ≡ map snd ys = cc in
+      rw (recorded-states T listed (y .0) (p .fate) (y .1) (k .0 .stands), fate-stated (rowFor T y) (p .fate), ← a) (ap {B = List Planned} (λ l. p ∷ l) (zip-planned ys ps b (k .1)))
+
+  module _ (cs : List Call) (known : All (Known T listed) (recordedAt cs)) where
+    known-sorted : All (Known T listed) (sortedAt T cs)
+    unfolding sortedAt rising
+    known-sorted = sort-all (λ (x y : ℕ × Change). lower (key T (x .1)) (key T (y .1))) (Known T listed) (recordedAt cs) known
+
+    rows-fated : fatedRows T cs ≡ zipWith fated (sortedAt T cs) (planned T (map snd (sortedAt T cs)))
+    unfolding fatedRows
+    rows-fated = rw (rows-sorted T cs) (planned-told T (rowFor T) snd (λ x. row-tells T (x .0) (x .1)) (sortedAt T cs))
+
+    -- every row is exact and states a change of elements
+    pub fated-kept : All (Kept n T listed) (fatedRows T cs)
+    fated-kept = rw rows-fated (zip-kept (sortedAt T cs) (planned T (map snd (sortedAt T cs))) known-sorted)
+
+    -- the rows tell the definition's planned changes
+    pub fated-planned : map (planOf listed) (fatedRows T cs) ≡ planned T (sorted T (recorded cs))
+    fated-planned =
+        rw (rows-fated, changes-sorted T cs)
+        (zip-planned (sortedAt T cs) (planned T (map snd (sortedAt T cs))) (planned-changes T (map snd (sortedAt T cs))) known-sorted)
+
+    module _ (w : List ℕ) (c : ℕ) (rows : rowsOf c w ≡ fatedRows T cs) where
+      abbrev S : List Change
+      S = sorted T (recorded cs)
+
+      stated-changes : map (changeOf listed) (rowsOf c w) ≡ S
+      unfolding planOf
+      stated-changes =
+          sym (map-map (λ (p : Planned). p .change) (planOf listed) (rowsOf c w))
+          ∙ (ap (map (λ (p : Planned). p .change)) (ap (map (planOf listed)) rows ∙ fated-planned) ∙ planned-changes T S)
+
+      counted : length S ≡ c
+      counted = ap length (sym stated-changes) ∙ (length-map (rowsOf c w) (changeOf listed) ∙ length-rowsOf c w)
+
+      kept-each : (i : ℕ) → i < c → Kept n T listed (rowAt w i)
+      kept-each = rows-each (Kept n T listed) c w (rw rows fated-kept)
+
+      owned-each : (i : ℕ) → i < c → Owned T S (rowFate (rowAt w i))
+      unfolding planOf
+      owned-each =
+          rows-each (λ r. Owned T S (rowFate r)) c w
+          (map-All (λ (p : Planned). Owned T S (p .fate)) (planOf listed) (rowsOf c w) (rw (rows, fated-planned) (planned-owned T S)))
+
+      owner-at : (o : ℕ) → o < c → getD S o (delete 0) ≡ changeOf listed (rowAt w o)
+      owner-at o h =
+          rw (← stated-changes, getD-map (changeOf listed) (rowsOf c w) o (delete 0) noChange (rw (length-rowsOf c w) h), row-among w c o noChange h)
+
+      owner-is : (i : ℕ) → i < c → (rowAt w i) .fate ≡ 1 → ((rowAt w i) .owner < c) × ((rowAt w ((rowAt w i) .owner)) .operation ≡ 2)
+      unfolding changeOf
+      owner-is i h f =
+          let o : ℕ = (rowAt w i) .owner in
+          let g : Owned T S (dependent o) = subst (Owned T S) (fate-dependent (rowAt w i) f) (owned-each i h) in
+          let b : o < c = omega (arith, g .0, counted) in
+          let r : ChangeRow = rowAt w o in
+          (b, owner-replaces T (r .operation) (r .target) (r .end) (getD listed (r .list) 0) (newOf listed r) (rw (owner-at o b) at (g .1)))
+
+      -- what rewriting asks of the rows
+      pub rewritable : c ≤ 256 → 13 * c ≤ length w → All (λ e. e < n) listed → Rewritable n listed w c
+      rewritable few fits elements = record { few = few; long = fits; elements = elements; stated = λ i h. (kept-each i h) .stated; owned = owner-is }

@@ -1,0 +1,1 @@
+// Models and laws only: see specs/.
