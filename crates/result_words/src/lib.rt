@@ -1,0 +1,1 @@
+// Specifications only: every number of an accepted answer is a word.
