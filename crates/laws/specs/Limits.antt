@@ -234,18 +234,17 @@ module _ (bytes : List ℕ) (a : Accepted) (p : Plan) where
       let x : 2 * length a.table * length p.changes ≤ 4096 * length p.changes = mul-le-mul-right (length p.changes) (omega arith) in
       omega (arith, q .climbs)
 
-  ran-changed : (w : World) → Known bytes a → Planning a p → ran a p ≡ gives w → length w.changed ≤ 1024
-  unfolding ran performed atFirst begin records
-  ran-changed w k q e =
+  -- what is performed records no more than the calls list
+  pub performed-records : Known bytes a → Planning a p → total (records a.table) (λ c. length (news c.change)) (performed a p) ≤ 1024
+  unfolding performed records
+  performed-records k q =
       let f : Planned → ℕ = λ c. length (news c.change) in
       let ps = performed a p in
-      let first = atFirst a p in
       let own : total (records a.table) f ps ≤ total isOwn f ps = total-le (records a.table) f isOwn f (λ c. one (isOwn c) (eqb (tree a.table (target c.change)) 0) (f c)) ps in
       let all : total isOwn f p.changes ≤ total (λ c. true) f p.changes = total-le isOwn f (λ c. true) f (λ c. less (isOwn c) (f c)) p.changes in
       let b = k .arrays in
       omega (
         arith,
-        steps-changed a.table first ps first w e,
         own,
         performed-own a.table f p.changes (length p.changes),
         all,
@@ -263,6 +262,12 @@ module _ (bytes : List ℕ) (a : Accepted) (p : Plan) where
       less : (b : Bool) (n : ℕ) → cond b n 0 ≤ n
       less true n = omega arith
       less false n = omega arith
+
+  pub ran-changed : (w : World) → Known bytes a → Planning a p → ran a p ≡ gives w → length w.changed ≤ 1024
+  unfolding ran atFirst begin
+  ran-changed w k q e =
+      let first = atFirst a p in
+      omega (arith, steps-changed a.table first (performed a p) first w e, performed-records k q)
 
 -- Every accepted answer is within the limits.
 pub edit-within : (bytes : List ℕ) (r : Result) → edit bytes ≡ gives r → Within r

@@ -1,11 +1,13 @@
 -- The work slices that the public calls are lent, in the order of docs/WORK.md.
 -- Assumes nothing.
-use mathlib.Core.Path.{_≡_, refl, ap, _∙_}
-use mathlib.Core.Bool.{Bool, true, false, _||_}
-use mathlib.Core.List.{List, [], _∷_, _++_, map, zip}
-use Prim.Native.Nat.{ℕ}
+use mathlib.Core.Path.{_≡_}
+use mathlib.Core.Bool.{false}
+use mathlib.Core.List.{List, [], _∷_, map, zip, zipWith}
+use Prim.Native.Nat.{ℕ, _≤_}
 use lib.ListN.{length, replicate}
 use lib.Dec.{ltb}
+use Rattle.orders.specs.ListLaws.{either-false}
+use borrow.Author.Tests.{ltb-false}
 use Rattle.definition.specs.Basics.{any}
 use Rattle.definition.specs.Answers.{tooShort}
 
@@ -28,3 +30,31 @@ zeroed work = map zeros work
 -- a slice and the length that it needs
 abbrev pub asked : List ℕ → ℕ → ℕ × ℕ
 asked s n = (length s, n)
+
+-- ── Long enough ─────────────────────────────────────────────────────────────────────────────────────────────
+
+-- none of the first lengths is too short, nor any of the others
+short-first : (n m : ℕ) (l : List (ℕ × ℕ)) → tooShort ((n, m) ∷ l) ≡ false → (m ≤ n) × (tooShort l ≡ false)
+unfolding tooShort any
+short-first n m l e = let h = either-false (ltb n m) (any (λ s. ltb (s .0) (s .1)) l) e in (ltb-false n m (h .0), h .1)
+
+-- each work slice has the length that it needs
+module _ (a b c d e f g h i j k l : List ℕ) where
+  pub long-enough : tooShort (lengths (a ∷ b ∷ c ∷ d ∷ e ∷ f ∷ g ∷ h ∷ i ∷ j ∷ k ∷ l ∷ [])) ≡ false
+      → ((16384 ≤ length a) × (6147 ≤ length b) × (3328 ≤ length c) × (256 ≤ length d) × (768 ≤ length e))
+      × ((2048 ≤ length i) × (3072 ≤ length f) × (3072 ≤ length g) × (1024 ≤ length h) × (12291 ≤ length j) × (12288 ≤ length k) × (1024 ≤ length l))
+  unfolding lengths needed zip zipWith
+  long-enough q =
+      let (a₁, q) = short-first _ _ _ q in
+      let (b₁, q) = short-first _ _ _ q in
+      let (c₁, q) = short-first _ _ _ q in
+      let (d₁, q) = short-first _ _ _ q in
+      let (e₁, q) = short-first _ _ _ q in
+      let (f₁, q) = short-first _ _ _ q in
+      let (g₁, q) = short-first _ _ _ q in
+      let (h₁, q) = short-first _ _ _ q in
+      let (i₁, q) = short-first _ _ _ q in
+      let (j₁, q) = short-first _ _ _ q in
+      let (k₁, q) = short-first _ _ _ q in
+      let (l₁, q) = short-first _ _ _ q in
+      ((a₁, b₁, c₁, d₁, e₁), (i₁, f₁, g₁, h₁, j₁, k₁, l₁))

@@ -1,0 +1,113 @@
+-- The ways out of the functions on what a run leaves.
+-- Assumes nothing.
+use mathlib.Core.Path.{_≡_, refl, sym, ap, _∙_}
+use mathlib.Core.Bool.{Bool, true, false, not}
+use mathlib.Core.List.{List}
+use mathlib.Core.Option.{Option, none, some}
+use Prim.Native.Nat.{ℕ, suc, _+_, _-_, _*_, _≤_, _<_}
+use native.Mathlib.Nat.{add-zero}
+use native.Mathlib.Omega.{arith}
+use lib.ListN.{length, getD, drop, take, length-drop}
+use lib.Seq.{take-all}
+use lib.Dec.{eqb}
+use borrow.Author.Tests.{not-true, not-false}
+use Rattle.definition.specs.Basics.{Answer, refused, gives, _>>=_}
+use Rattle.definition.specs.Elements.{isNode}
+use Rattle.element_table.specs.View.{view}
+use Rattle.element_table.specs.Wellformed.{Lines, Wellformed}
+use Rattle.rows.specs.Row.{firstRows}
+use Rattle.annotations.specs.Notes.{notesOf}
+use Rattle.tree_store.specs.Stored.{stored}
+use Rattle.syntax_node.specs.Promises.{found as foundBy}
+use Rattle.syntax_node.specs.declared.Found.{Found}
+use Rattle.syntax_node.specs.declared.Found.the-variants.{At, Nothing}
+use Rattle.finish_model.specs.Finished.{resultOf, firstTree}
+use Rattle.finish_model.specs.Alike.{findRow}
+use Rattle.finishing.specs.Answered.{lengthOf, Answered}
+use Rattle.finishing.specs.declared.Finished.{Finished}
+use Rattle.finishing.specs.declared.Finished.the-variants.{Short, Bytes}
+use Rattle.performing.specs.AtEnd.{AtEnd, Told, Performs}
+use Rattle.performing.specs.Ending.{edit-ending, found-ending}
+use Rattle.performing.specs.declared.Performed.{Performed}
+use Rattle.performing.specs.declared.Performed.the-variants.{Refused as Stopped, Done}
+use Rattle.performing.specs.declared.Ended.{Ended}
+use Rattle.work.specs.Promises.{Answers, applied, found, leftIn}
+use Rattle.edit_algo.specs.declared.Answer.the-variants.{Refused, Edited}
+use Rattle.edit_algo.specs.declared.Element.the-variants.{Refused as NotSought, At as Stands, Nothing as NoElement}
+use Rattle.edit_algo.specs.Numbers.{answerOf, elementOf}
+use Rattle.edit_algo.specs.AtEnd.{RowsAtEnd, rows-at-end, answered-edit, oldNode, none-there, no-node, node-there, no-old-node, old-node}
+
+-- what is behind a place, as a part is told
+pub whole-rest : (k : ℕ) (b : List ℕ) → take (length b - k) (drop k b) ≡ drop k b
+whole-rest k b = take-all (length b - k) (drop k b) (omega (arith, length-drop k b))
+
+-- ── The result's bytes ──────────────────────────────────────────────────────────────────────────────────────
+
+module _ {b rows notes changed : List ℕ} {d : Ended} (v : AtEnd b rows notes changed d) (held out : List ℕ) (a : Finished) (text : List ℕ) (t : text ≡ drop (d .text) b)
+    (f : (marks : List ℕ) → Answered held (resultOf (d .discarded) (d .climbs) (stored text (d .rows) rows marks (notesOf (d .notes) notes) (take (d .changed) changed))) out a) where
+  answered : Answers (applied b (length held)) held (lengthOf a) out
+  answered = answered-edit v a (λ marks. rw (← t) (f marks))
+
+  pub answered-13 : a ≡ Short → Answers (applied b (length held)) held (answerOf (Refused 13)) out
+  unfolding answerOf lengthOf
+  answered-13 e = rw (ap lengthOf (sym e)) answered
+
+  pub answered-bytes : (n : ℕ) → a ≡ Bytes n → Answers (applied b (length held)) held (answerOf (Edited n)) out
+  unfolding answerOf lengthOf
+  answered-bytes n e = rw (ap lengthOf (sym e)) answered
+
+-- ── A node of tree 0 ────────────────────────────────────────────────────────────────────────────────────────
+
+module _ (n : ℕ) (t s : List ℕ) (k : ℕ) (h : k < n) (b : Bool) (e : b ≡ isNode (getD s (3 * suc k) 0)) where
+  pub token-there : not b ≡ true → false ≡ oldNode (view n t s) k
+  token-there q = no-node n t s k h b e (not-true b q)
+
+  pub root-there : Wellformed n t s → not b ≡ false → (x : ℕ) → x ≡ getD t (8 * k + 7) 0 → eqb x 0 ≡ oldNode (view n t s) k
+  root-there W q x f = node-there n t s k h b e (W .lines) (not-false b q) x f
+
+-- ── Where it stands ─────────────────────────────────────────────────────────────────────────────────────────
+
+pub none-numbered : {b rows t s : List ℕ} {d : Ended} → RowsAtEnd b rows d → Told b t s (d .elements) → (k : ℕ) → d .elements ≤ k → elementOf NoElement ≡ found b k
+unfolding elementOf
+none-numbered {b} {rows} {t} {s} {d} v w k h = no-old-node v w k (sym (none-there (d .elements) t s k h))
+
+module _ {b rows t s : List ℕ} {d : Ended} (v : RowsAtEnd b rows d) (w : Told b t s (d .elements)) (k : ℕ) (o : Bool) (p : o ≡ oldNode (view (d .elements) t s) k) where
+  pub none-asked : not o ≡ true → elementOf NoElement ≡ found b k
+  unfolding elementOf
+  none-asked q = no-old-node v w k (sym p ∙ not-true o q)
+
+  module _ (q : not o ≡ false) (low : k < d .elements) (kind start : ℕ) (e : kind ≡ getD s (3 * suc k + 0) 0) (f : start ≡ getD t (8 * k + 4) 0) (r : Found)
+      (g : (text : List ℕ) → r ≡ foundBy (findRow (firstTree (firstRows text (d .rows) rows)) kind start)) where
+    meant : (o : Option ℕ) → r ≡ foundBy o → gives o ≡ found b k → (r ≡ Nothing → elementOf NoElement ≡ found b k) × ((x : ℕ) → r ≡ At x → elementOf (Stands x) ≡ found b k)
+    unfolding foundBy elementOf
+    meant none i j = ((λ z. j), λ x z. absurd (let y : _≡_ {A = ℕ} 0 1 = cc in omega arith))
+    meant (some y) i j = ((λ z. absurd (let y : _≡_ {A = ℕ} 0 1 = cc in omega arith)), λ x z. let m : x ≡ y = cc in rw m j)
+
+    told : (r ≡ Nothing → elementOf NoElement ≡ found b k) × ((x : ℕ) → r ≡ At x → elementOf (Stands x) ≡ found b k)
+    told = meant (findRow (firstTree (firstRows (drop (d .text) b) (d .rows) rows)) kind start) (g (drop (d .text) b)) (old-node v w k (sym p ∙ not-false o q) low kind start (e ∙ ap (λ (i : ℕ). getD s i 0) (add-zero (3 * suc k))) f)
+
+    pub found-none : r ≡ Nothing → elementOf NoElement ≡ found b k
+    found-none = told .0
+
+    pub found-there : (x : ℕ) → r ≡ At x → elementOf (Stands x) ≡ found b k
+    found-there = told .1
+
+-- ── A refusal on the way ────────────────────────────────────────────────────────────────────────────────────
+
+module _ {b t s rows notes changed : List ℕ} {r : Performed} (P : Performs b t s rows notes changed r) where
+  pub edit-stops : (held : List ℕ) (k : ℕ) → r ≡ Stopped k → Answers (applied b (length held)) held (answerOf (Refused k)) held
+  unfolding applied answerOf leftIn _>>=_
+  edit-stops held k e = rw (edit-ending b, P .refuses k e) (record { answer = refl; result = refl })
+
+  pub find-stops : (n k : ℕ) → r ≡ Stopped k → elementOf (NotSought k) ≡ found b n
+  unfolding elementOf _>>=_
+  find-stops n k e = sym (found-ending b n ∙ rw (P .refuses k e) refl)
+
+  pub at-end : (d : Ended) → r ≡ Done d → AtEnd b rows notes changed d
+  at-end = P .ends
+
+  pub rows-end : (d : Ended) → r ≡ Done d → RowsAtEnd b rows d
+  rows-end d e = rows-at-end (P .ends d e)
+
+  pub told-end : (d : Ended) → r ≡ Done d → Told b t s (d .elements)
+  told-end = P .tells

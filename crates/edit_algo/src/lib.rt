@@ -1,0 +1,403 @@
+// The public calls: the edit of a batch, and where an element stands then.
+use finishing::Finished;
+use performing::Ended;
+use performing::Performed;
+use performing::perform;
+use syntax_node::Found;
+ghost use mathlib.Core.Path.{_≡_};
+ghost use mathlib.Core.Bool.{false};
+ghost use mathlib.Core.List.{_∷_, []};
+ghost use Prim.Native.Nat.{_≤_, _<_};
+ghost use lib.ListN.{length};
+ghost use Rattle.definition.specs.Answers.{edited, tooShort};
+ghost use Rattle.definition.specs.FindElement.{findElement};
+ghost use Rattle.element_table.specs.View.{view};
+ghost use Rattle.element_table.specs.Wellformed.{Wellformed};
+ghost use Rattle.performing.specs.AtEnd.{AtEnd, Told};
+ghost use Rattle.work.specs.Slices.{lengths};
+ghost use Rattle.work.specs.Promises.{Answers, Edits, Finds, applied, found};
+ghost use Rattle.edit_algo.specs.Numbers.{answerOf, elementOf};
+ghost use Rattle.edit_algo.specs.AtEnd.{RowsAtEnd, oldNode};
+
+// How many bytes the result has, or a refusal's number.
+pub enum Answer {
+    Refused(usize),
+    Edited(usize),
+}
+
+// Where an element of the old tree stands in the new one, or a refusal's number.
+pub enum Element {
+    Refused(usize),
+    Nothing,
+    At(usize),
+}
+
+// ── From what a run leaves ──
+
+// The result's bytes from what the run of the batch leaves, or 13. `starts` is for where each element's text starts.
+fn write_answer(
+    batch: &[u8],
+    d: Ended,
+    rows: &[u32],
+    notes: &mut [u32],
+    changed: &mut [u32],
+    starts: &mut [u32],
+    result: &mut [u8],
+) -> Answer
+    requires { ⌜ AtEnd (now batch) (now rows) (now notes) (now changed) d ⌝ }
+    requires { ⌜ 4096 ≤ length (now starts) ⌝ }
+    ensures { λ r. ⌜ Answers (applied (now (batch .entry)) (length (now (result .entry)))) (now (result .entry)) (answerOf r) (now (result .exit)) ⌝ }
+{
+    let from = d.text;
+    let text = &batch[from..];
+    let end = finishing::finish(
+        rows,
+        d.rows,
+        notes,
+        d.notes,
+        changed,
+        d.changed,
+        starts,
+        text,
+        d.discarded,
+        d.climbs,
+        result,
+    );
+    match end {
+        Finished::Short => Answer::Refused(13),
+        Finished::Bytes(n) => Answer::Edited(n),
+    }
+}
+
+// Whether element `k` of `n` is a node of tree 0.
+fn is_old_node(table: &[u32], source: &[u32], n: usize, k: usize) -> bool
+    requires { ⌜ Wellformed n (now table) (now source) × (k < n) ⌝ }
+    ensures { λ r. ⌜ r ≡ oldNode (view n (now (table .entry)) (now (source .entry))) k ⌝ }
+{
+    if !calls::is_node(source, k) {
+        return false;
+    }
+    calls::entry(table, k, 7) == 0
+}
+
+// Where element `k` stands in the new tree, from the rows that the run of the batch leaves.
+fn find_from(
+    batch: &[u8],
+    d: Ended,
+    table: &[u32],
+    source: &[u32],
+    rows: &[u32],
+    k: usize,
+) -> Element
+    requires { ⌜ RowsAtEnd (now batch) (now rows) d ⌝ }
+    requires { ⌜ Told (now batch) (now table) (now source) (d .elements) ⌝ }
+    ensures { λ r. ⌜ elementOf r ≡ found (now (batch .entry)) k ⌝ }
+{
+    let n = d.elements;
+    if n <= k {
+        return Element::Nothing;
+    }
+    if !is_old_node(table, source, n, k) {
+        return Element::Nothing;
+    }
+    let kind = calls::row_word(source, k, 0);
+    let start = calls::entry(table, k, 4);
+    match finding::find_in_tree(rows, d.rows, kind, start) {
+        Found::Nothing => Element::Nothing,
+        Found::At(e) => Element::At(e),
+    }
+}
+
+// ── The public calls ──
+
+// The edit, where no work slice is too short.
+fn apply_edits(
+    batch: &[u8],
+    result: &mut [u8],
+    table: &mut [u32],
+    source: &mut [u32],
+    changes: &mut [u32],
+    running: &mut [u32],
+    first: &mut [u32],
+    notes: &mut [u32],
+    incoming: &mut [u32],
+    changed: &mut [u32],
+    marks: &mut [u32],
+    rows: &mut [u32],
+    prepared: &mut [u32],
+    sizes: &mut [u32],
+) -> Answer
+    requires { ⌜ tooShort (lengths (now table ∷ now source ∷ now changes ∷ now running ∷ now first ∷ now notes ∷ now incoming ∷ now changed ∷ now marks ∷ now rows ∷ now prepared ∷ now sizes ∷ [])) ≡ false ⌝ }
+    ensures { λ r. ⌜ Answers (applied (now (batch .entry)) (length (now (result .entry)))) (now (result .entry)) (answerOf r) (now (result .exit)) ⌝ }
+{
+    let done = perform(
+        batch,
+        table,
+        source,
+        changes,
+        running,
+        first,
+        notes,
+        incoming,
+        changed,
+        marks,
+        rows,
+        prepared,
+        sizes,
+    );
+    match done {
+        Performed::Refused(n) => Answer::Refused(n),
+        Performed::Done(d) => write_answer(batch, d, rows, notes, changed, prepared, result),
+    }
+}
+
+// The edit, or refusal 1.
+fn edit_or_refuse(
+    batch: &[u8],
+    result: &mut [u8],
+    table: &mut [u32],
+    source: &mut [u32],
+    changes: &mut [u32],
+    running: &mut [u32],
+    first: &mut [u32],
+    notes: &mut [u32],
+    incoming: &mut [u32],
+    changed: &mut [u32],
+    marks: &mut [u32],
+    rows: &mut [u32],
+    prepared: &mut [u32],
+    sizes: &mut [u32],
+) -> Answer
+    ensures { λ r. ⌜ Answers (edited (lengths (now (table .entry) ∷ now (source .entry) ∷ now (changes .entry) ∷ now (running .entry) ∷ now (first .entry) ∷ now (notes .entry) ∷ now (incoming .entry) ∷ now (changed .entry) ∷ now (marks .entry) ∷ now (rows .entry) ∷ now (prepared .entry) ∷ now (sizes .entry) ∷ [])) (now (batch .entry)) (length (now (result .entry)))) (now (result .entry)) (answerOf r) (now (result .exit)) ⌝ }
+{
+    if work::too_short(
+        table,
+        source,
+        changes,
+        running,
+        first,
+        notes,
+        incoming,
+        changed,
+        marks,
+        rows,
+        prepared,
+        sizes,
+    ) {
+        return Answer::Refused(1);
+    }
+    apply_edits(
+        batch,
+        result,
+        table,
+        source,
+        changes,
+        running,
+        first,
+        notes,
+        incoming,
+        changed,
+        marks,
+        rows,
+        prepared,
+        sizes,
+    )
+}
+
+// THE EDIT of a batch. The result's bytes are written to the front of `result`; the twelve others are work slices, which end as zeros.
+pub fn edit(
+    batch: &[u8],
+    result: &mut [u8],
+    table: &mut [u32],
+    source: &mut [u32],
+    changes: &mut [u32],
+    running: &mut [u32],
+    first: &mut [u32],
+    notes: &mut [u32],
+    incoming: &mut [u32],
+    changed: &mut [u32],
+    marks: &mut [u32],
+    rows: &mut [u32],
+    prepared: &mut [u32],
+    sizes: &mut [u32],
+) -> Answer
+    ensures { λ r. ⌜ Edits (now (batch .entry)) (now (result .entry)) (now (table .entry) ∷ now (source .entry) ∷ now (changes .entry) ∷ now (running .entry) ∷ now (first .entry) ∷ now (notes .entry) ∷ now (incoming .entry) ∷ now (changed .entry) ∷ now (marks .entry) ∷ now (rows .entry) ∷ now (prepared .entry) ∷ now (sizes .entry) ∷ []) (answerOf r) (now (result .exit)) (now (table .exit) ∷ now (source .exit) ∷ now (changes .exit) ∷ now (running .exit) ∷ now (first .exit) ∷ now (notes .exit) ∷ now (incoming .exit) ∷ now (changed .exit) ∷ now (marks .exit) ∷ now (rows .exit) ∷ now (prepared .exit) ∷ now (sizes .exit) ∷ []) ⌝ }
+{
+    let answer = edit_or_refuse(
+        batch,
+        result,
+        table,
+        source,
+        changes,
+        running,
+        first,
+        notes,
+        incoming,
+        changed,
+        marks,
+        rows,
+        prepared,
+        sizes,
+    );
+    work::clear_all(
+        table,
+        source,
+        changes,
+        running,
+        first,
+        notes,
+        incoming,
+        changed,
+        marks,
+        rows,
+        prepared,
+        sizes,
+    );
+    answer
+}
+
+// Where an element stands in the new tree, where no work slice is too short.
+fn find_in_new(
+    batch: &[u8],
+    number: usize,
+    table: &mut [u32],
+    source: &mut [u32],
+    changes: &mut [u32],
+    running: &mut [u32],
+    first: &mut [u32],
+    notes: &mut [u32],
+    incoming: &mut [u32],
+    changed: &mut [u32],
+    marks: &mut [u32],
+    rows: &mut [u32],
+    prepared: &mut [u32],
+    sizes: &mut [u32],
+) -> Element
+    requires { ⌜ tooShort (lengths (now table ∷ now source ∷ now changes ∷ now running ∷ now first ∷ now notes ∷ now incoming ∷ now changed ∷ now marks ∷ now rows ∷ now prepared ∷ now sizes ∷ [])) ≡ false ⌝ }
+    ensures { λ r. ⌜ elementOf r ≡ found (now (batch .entry)) number ⌝ }
+{
+    let done = perform(
+        batch,
+        table,
+        source,
+        changes,
+        running,
+        first,
+        notes,
+        incoming,
+        changed,
+        marks,
+        rows,
+        prepared,
+        sizes,
+    );
+    match done {
+        Performed::Refused(n) => Element::Refused(n),
+        Performed::Done(d) => find_from(batch, d, table, source, rows, number),
+    }
+}
+
+// The same, or refusal 1.
+fn find_or_refuse(
+    batch: &[u8],
+    number: usize,
+    table: &mut [u32],
+    source: &mut [u32],
+    changes: &mut [u32],
+    running: &mut [u32],
+    first: &mut [u32],
+    notes: &mut [u32],
+    incoming: &mut [u32],
+    changed: &mut [u32],
+    marks: &mut [u32],
+    rows: &mut [u32],
+    prepared: &mut [u32],
+    sizes: &mut [u32],
+) -> Element
+    ensures { λ r. ⌜ elementOf r ≡ findElement (lengths (now (table .entry) ∷ now (source .entry) ∷ now (changes .entry) ∷ now (running .entry) ∷ now (first .entry) ∷ now (notes .entry) ∷ now (incoming .entry) ∷ now (changed .entry) ∷ now (marks .entry) ∷ now (rows .entry) ∷ now (prepared .entry) ∷ now (sizes .entry) ∷ [])) (now (batch .entry)) number ⌝ }
+{
+    if work::too_short(
+        table,
+        source,
+        changes,
+        running,
+        first,
+        notes,
+        incoming,
+        changed,
+        marks,
+        rows,
+        prepared,
+        sizes,
+    ) {
+        return Element::Refused(1);
+    }
+    find_in_new(
+        batch,
+        number,
+        table,
+        source,
+        changes,
+        running,
+        first,
+        notes,
+        incoming,
+        changed,
+        marks,
+        rows,
+        prepared,
+        sizes,
+    )
+}
+
+// The first node of the new tree with the kind and the text start of the old tree's node `number`. The twelve others are work slices, which end as zeros.
+pub fn find_element(
+    batch: &[u8],
+    number: usize,
+    table: &mut [u32],
+    source: &mut [u32],
+    changes: &mut [u32],
+    running: &mut [u32],
+    first: &mut [u32],
+    notes: &mut [u32],
+    incoming: &mut [u32],
+    changed: &mut [u32],
+    marks: &mut [u32],
+    rows: &mut [u32],
+    prepared: &mut [u32],
+    sizes: &mut [u32],
+) -> Element
+    ensures { λ r. ⌜ Finds (now (batch .entry)) number (now (table .entry) ∷ now (source .entry) ∷ now (changes .entry) ∷ now (running .entry) ∷ now (first .entry) ∷ now (notes .entry) ∷ now (incoming .entry) ∷ now (changed .entry) ∷ now (marks .entry) ∷ now (rows .entry) ∷ now (prepared .entry) ∷ now (sizes .entry) ∷ []) (elementOf r) (now (table .exit) ∷ now (source .exit) ∷ now (changes .exit) ∷ now (running .exit) ∷ now (first .exit) ∷ now (notes .exit) ∷ now (incoming .exit) ∷ now (changed .exit) ∷ now (marks .exit) ∷ now (rows .exit) ∷ now (prepared .exit) ∷ now (sizes .exit) ∷ []) ⌝ }
+{
+    let element = find_or_refuse(
+        batch,
+        number,
+        table,
+        source,
+        changes,
+        running,
+        first,
+        notes,
+        incoming,
+        changed,
+        marks,
+        rows,
+        prepared,
+        sizes,
+    );
+    work::clear_all(
+        table,
+        source,
+        changes,
+        running,
+        first,
+        notes,
+        incoming,
+        changed,
+        marks,
+        rows,
+        prepared,
+        sizes,
+    );
+    element
+}

@@ -1,0 +1,2 @@
+-- Stages   the ways from stage to stage, and out
+pub mod Stages

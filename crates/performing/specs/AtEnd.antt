@@ -1,0 +1,56 @@
+-- What is held at the end of a run, as the words tell it.
+-- Assumes nothing.
+use mathlib.Core.Path.{_≡_}
+use mathlib.Core.List.{List}
+use Prim.Native.Nat.{ℕ, _*_, _^_, _≤_, _<_}
+use lib.ListN.{length, take, drop}
+use Rattle.definition.specs.Basics.{Answer, refused, gives, keep}
+use Rattle.definition.specs.Planning.{isDiscarded}
+use Rattle.definition.specs.Refusals.{Accepted, accepted}
+use Rattle.laws.specs.Held.{Holds}
+use Rattle.element_table.specs.View.{view}
+use Rattle.element_table.specs.Wellformed.{Wellformed}
+use Rattle.rows.specs.Row.{firstRows, bytes}
+use Rattle.annotations.specs.Notes.{notesOf}
+use Rattle.store_model.specs.Store.{store}
+use Rattle.tree_store.specs.Stored.{stored}
+use Rattle.performing.specs.Ending.{End, ending}
+use Rattle.performing.specs.declared.Ended.{Ended}
+use Rattle.performing.specs.declared.Performed.{Performed}
+use Rattle.performing.specs.declared.Performed.the-variants.{Refused, Done}
+
+-- the run of the batch b has ended, and the slices hold what it left, with these counts
+pub record AtEnd (b rows notes changed : List ℕ) (d : Ended) : Type 0 where
+  pub end : End
+  pub ends : ending b ≡ gives end
+  pub holds : Holds (end .world)
+  -- the current trees, the notes and the changed elements, by their rows
+  pub marks : List ℕ
+  pub held : store (end .world) ≡ stored (drop (d .text) b) (d .rows) rows marks (notesOf (d .notes) notes) (take (d .changed) changed)
+  pub discarded : d .discarded ≡ length (keep (λ p. isDiscarded (p .fate)) (end .planned .changes))
+  pub climbs : d .climbs ≡ end .planned .climbs
+  -- and nothing is larger than its slice
+  pub textWithin : d .text ≤ length b
+  pub rowsWithin : 3 * d .rows ≤ length rows
+  pub someRows : 1 ≤ d .rows
+  pub fewRows : d .rows ≤ 4097
+  pub fewBytes : (text : List ℕ) → bytes (firstRows text (d .rows) rows) < 2 ^ 32
+  pub notesWithin : 3 * d .notes ≤ length notes
+  pub fewNotes : d .notes < 2 ^ 16
+  pub changedWithin : d .changed ≤ length changed
+  pub fewChanged : d .changed < 2 ^ 16
+  pub fewDiscarded : d .discarded < 2 ^ 32
+  pub fewClimbs : d .climbs < 2 ^ 32
+
+-- the words t and s tell of the elements of the batch b
+pub record Told (b t s : List ℕ) (n : ℕ) : Type 0 where
+  pub batch : Accepted
+  pub accepts : accepted b ≡ gives batch
+  pub table : view n t s ≡ batch .table
+  pub formed : Wellformed n t s
+
+-- THE PROMISE of performing: refused by the definition's number, or at the end of the run
+pub record Performs (b t s rows notes changed : List ℕ) (r : Performed) : Type 0 where
+  pub refuses : (k : ℕ) → r ≡ Refused k → ending b ≡ refused k
+  pub ends : (d : Ended) → r ≡ Done d → AtEnd b rows notes changed d
+  pub tells : (d : Ended) → r ≡ Done d → Told b t s (d .elements)
