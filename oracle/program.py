@@ -1,10 +1,10 @@
-"""The program that is compared: an executable, or a Python module that is loaded once."""
+"""The program that is compared: an executable, one that stays and answers batch after batch, or a Python module that is loaded once."""
 
 import importlib.util
 import subprocess
 from pathlib import Path
 
-from rust import ROOT
+from rust import ROOT, Partner, found
 
 # Document 01 as a program, in the shared tools beside the repository.
 MODEL = str(ROOT.parent / "shared" / "tools" / "model.py")
@@ -29,8 +29,23 @@ def caught(function):
     return run
 
 
+class Stream:
+    """A program that stays and answers batches as the oracle does; `found` is what it says of `find_element` for the last one."""
+
+    def __init__(self, path):
+        self.partner = Partner([path, "--stream"])
+
+    def __call__(self, batch):
+        answer = self.partner.answer(batch)
+        self.found = found(answer.remark)
+        return answer.printed
+
+
 def load(path):
-    """Two functions: what the program prints for a batch, and its `find_element`, None if it has none."""
+    """Two functions: what the program prints for a batch, and its `find_element`, None if it has none. A path with ` --stream` behind it is a program
+    that stays and answers batch after batch."""
+    if path.endswith(" --stream"):
+        return Stream(path.removesuffix(" --stream")), None
     if not Path(path).exists():
         raise SystemExit("no program %s" % path)
     if path.endswith(".py"):

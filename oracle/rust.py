@@ -1,4 +1,4 @@
-"""The oracle program as a partner: batches go in, answers come out."""
+"""Programs as partners, the oracle first of all: batches go in, answers come out."""
 
 import subprocess
 from collections import namedtuple
@@ -12,11 +12,11 @@ PROGRAM = ROOT / "target" / "oracle" / "oracle"
 Answer = namedtuple("Answer", "printed remark")
 
 
-class Rust:
-    def __init__(self):
-        if not PROGRAM.exists():
-            raise SystemExit("no %s; run oracle/build first" % PROGRAM.relative_to(ROOT))
-        self.process = subprocess.Popen([PROGRAM, "--stream"], stdin=subprocess.PIPE, stdout=subprocess.PIPE)
+class Partner:
+    """A program that reads batches and writes answers in two parts, each with its length in front."""
+
+    def __init__(self, command):
+        self.process = subprocess.Popen(command, stdin=subprocess.PIPE, stdout=subprocess.PIPE)
 
     def answer(self, batch):
         self.process.stdin.write(pack("<I", len(batch)) + batch)
@@ -26,3 +26,16 @@ class Rust:
     def part(self):
         (length,) = unpack("<I", self.process.stdout.read(4))
         return self.process.stdout.read(length).decode()
+
+
+class Rust(Partner):
+    def __init__(self):
+        if not PROGRAM.exists():
+            raise SystemExit("no %s; run oracle/build first" % PROGRAM.relative_to(ROOT))
+        super().__init__([PROGRAM, "--stream"])
+
+
+def found(remark):
+    """What `find_element` gives, by the number asked for: `find 0:3 1:` is 3 for 0 and none for 1."""
+    pairs = (pair.split(":") for pair in remark.split()[1:])
+    return {int(old): int(new) if new else None for old, new in pairs}

@@ -8,6 +8,7 @@ pub use ast::AstNode;
 pub use rowan::{NodeOrToken, SyntaxElement, SyntaxKind, SyntaxNode, SyntaxToken};
 
 mod ast;
+mod places;
 mod play;
 mod reader;
 mod syntax_editor;
@@ -19,32 +20,6 @@ macro_rules! T {
     };
 }
 pub(crate) use T;
-
-const MAPPING: &str = include_str!("syntax_editor/mapping.rs");
-const EDIT_ALGO: &str = include_str!("syntax_editor/edit_algo.rs");
-
-/// The lines of one function, from its name to the closing brace that is indented as it is.
-fn lines_of(file: &'static str, source: &str, name: &str) -> rowan::watch::Lines {
-    let lines = source.lines().collect::<Vec<_>>();
-    let head = format!("fn {name}(");
-    let start = lines.iter().position(|it| it.contains(&head)).unwrap_or_else(|| panic!("{file} has no {name}"));
-    let indent = lines[start].len() - lines[start].trim_start().len();
-    let close = format!("{}}}", " ".repeat(indent));
-    let len = lines[start..].iter().position(|it| *it == close).unwrap_or_else(|| panic!("{name} has no end"));
-    rowan::watch::Lines { file, lines: start as u32 + 1..(start + len) as u32 + 2 }
-}
-
-fn places() -> rowan::watch::Places {
-    let mapping = |name| lines_of("syntax_editor/mapping.rs", MAPPING, name);
-    let edit_algo = |name| lines_of("syntax_editor/edit_algo.rs", EDIT_ALGO, name);
-    rowan::watch::Places {
-        upmap_child: mapping("upmap_child"),
-        upmap_to_ancestor: mapping("upmap_to_ancestor"),
-        upmap_element: mapping("upmap_element"),
-        rewrite_dependent_target: edit_algo("rewrite_dependent_target"),
-        execute: edit_algo("execute"),
-    }
-}
 
 /// The next batch of the stream, or none at its end.
 fn next_batch(input: &mut impl Read) -> io::Result<Option<Vec<u8>>> {
@@ -64,7 +39,7 @@ fn write_part(output: &mut impl Write, part: &str) -> io::Result<()> {
 }
 
 fn main() -> io::Result<()> {
-    rowan::watch::install(places());
+    rowan::watch::install(places::places());
     play::catch_panics();
     let (mut input, mut output) = (io::stdin().lock(), io::stdout().lock());
     if std::env::args().nth(1).as_deref() != Some("--stream") {

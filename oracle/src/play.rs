@@ -47,7 +47,7 @@ pub fn answer(data: &[u8]) -> Answer {
         Err(number) => return Answer { printed: format!("refused {number}\n"), remark: "reader".to_owned() },
     };
     watch::reset();
-    let roots = batch.roots.iter().map(|&it| SyntaxNode::new_root(green_node(&batch, it))).collect::<Vec<_>>();
+    let roots = trees(&batch);
     let player = Player { batch: &batch, roots: &roots };
     let editor = player.editor(0);
     let recorded = editor.recorded() as u64;
@@ -77,6 +77,11 @@ fn report(edit: Option<SyntaxEdit>) -> String {
     }
 }
 
+/// The batch's trees.
+pub fn trees(batch: &Batch) -> Vec<SyntaxNode> {
+    batch.roots.iter().map(|&it| SyntaxNode::new_root(green_node(batch, it))).collect()
+}
+
 fn green_node(batch: &Batch, number: usize) -> GreenNode {
     let element = &batch.elements[number];
     let children = element.children.iter().map(|&it| match &batch.elements[it] {
@@ -87,9 +92,9 @@ fn green_node(batch: &Batch, number: usize) -> GreenNode {
 }
 
 /// A batch with its trees.
-struct Player<'a> {
-    batch: &'a Batch,
-    roots: &'a [SyntaxNode],
+pub struct Player<'a> {
+    pub batch: &'a Batch,
+    pub roots: &'a [SyntaxNode],
 }
 
 impl Player<'_> {
@@ -104,7 +109,7 @@ impl Player<'_> {
 
     /// One editor for each part of the calls between operations 6, with its share of the mappings and notes, all merged into the first.
     /// `home` is the tree whose outcome is asked for.
-    fn editor(&self, home: usize) -> SyntaxEditor {
+    pub fn editor(&self, home: usize) -> SyntaxEditor {
         let parts = self.batch.calls.split(|call| call.operation == 6).collect::<Vec<_>>();
         let share = |len: usize, i: usize| len * i / parts.len()..len * (i + 1) / parts.len();
         let mut editors = parts.iter().enumerate().map(|(i, calls)| {

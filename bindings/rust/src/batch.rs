@@ -1,0 +1,197 @@
+//! Batches, laid out as document 01 says.
+
+use std::{error::Error, fmt};
+
+/// A batch as bytes.
+#[derive(Clone, Debug, PartialEq, Eq)]
+pub struct Batch(Vec<u8>);
+
+impl Batch {
+    pub fn bytes(&self) -> &[u8] {
+        &self.0
+    }
+}
+
+/// Why a builder gives no batch.
+#[derive(Clone, Copy, Debug, PartialEq, Eq)]
+pub enum Unfit {
+    /// There are fewer or more of these than a batch holds.
+    Size { what: &'static str, count: usize, least: usize, most: usize },
+    /// A node was opened and not closed, or closed and not opened.
+    Unbalanced,
+    /// A token stands outside every tree.
+    Loose,
+}
+
+impl fmt::Display for Unfit {
+    fn fmt(&self, f: &mut fmt::Formatter<'_>) -> fmt::Result {
+        match self {
+            Unfit::Size { what, count, least, most } => write!(f, "{count} {what}; a batch has {least} to {most}"),
+            Unfit::Unbalanced => f.write_str("nodes are not opened and closed in pairs"),
+            Unfit::Loose => f.write_str("a token stands outside every tree"),
+        }
+    }
+}
+
+impl Error for Unfit {}
+
+const NODE: u32 = 1 << 31;
+
+/// Sizes by name, with the least and the most.
+const LIMITS: [(&str, usize, usize); 7] = [
+    ("trees", 1, 16),
+    ("elements", 0, 2_048),
+    ("text bytes", 0, 16_384),
+    ("calls", 0, 256),
+    ("listed elements", 0, 1_024),
+    ("mappings", 0, 1_024),
+    ("notes", 0, 256),
+];
+
+/// Builds a batch. Trees are told in preorder by `open`, `token` and `close`, tree 0 (the one that is edited) first; `open` and `token` give the
+/// element's number, by which calls, mappings and notes name it. Whether these name sensible elements is judged by the editor.
+#[derive(Clone, Debug, Default)]
+pub struct BatchBuilder {
+    trees: usize,
+    kinds: Vec<u32>,
+    measures: Vec<u32>,
+    text: Vec<u8>,
+    calls: Vec<u32>,
+    targets: Vec<u32>,
+    listed: Vec<u32>,
+    inputs: Vec<u32>,
+    outputs: Vec<u32>,
+    noted: Vec<u32>,
+    numbers: Vec<u32>,
+    open: Vec<usize>,
+    fault: Option<Unfit>,
+}
+
+impl BatchBuilder {
+    pub fn new() -> BatchBuilder {
+        BatchBuilder::default()
+    }
+
+    /// A node begins; all up to its `close` stands below it. Outside every node it is the root of a further tree.
+    pub fn open(&mut self, kind: u16) -> u32 {
+        let place = self.kinds.len();
+        if self.open.is_empty() {
+            self.trees += 1;
+        }
+        let number = self.element(NODE | u32::from(kind), 0);
+        self.open.push(place);
+        number
+    }
+
+    pub fn close(&mut self) {
+        if self.open.pop().is_none() {
+            self.fault.get_or_insert(Unfit::Unbalanced);
+        }
+    }
+
+    pub fn token(&mut self, kind: u16, text: &[u8]) -> u32 {
+        if self.open.is_empty() {
+            self.fault.get_or_insert(Unfit::Loose);
+        }
+        self.text.extend_from_slice(text);
+        self.element(u32::from(kind), text.len())
+    }
+
+    fn element(&mut self, kind: u32, measure: usize) -> u32 {
+        if let Some(&parent) = self.open.last() {
+            self.measures[parent] += 1;
+        }
+        self.kinds.push(kind);
+        self.measures.push(word(measure));
+        word(self.kinds.len() - 1)
+    }
+
+    /// Call 0: the listed elements become the parent's first children.
+    pub fn insert_first(&mut self, parent: u32, listed: &[u32]) {
+        self.call(0, parent, listed);
+    }
+
+    /// Call 1: the listed elements go in after the target.
+    pub fn insert_after(&mut self, target: u32, listed: &[u32]) {
+        self.call(1, target, listed);
+    }
+
+    /// Call 2.
+    pub fn replace(&mut self, target: u32, by: u32) {
+        self.call(2, target, &[by]);
+    }
+
+    /// Call 3.
+    pub fn delete(&mut self, target: u32) {
+        self.call(3, target, &[]);
+    }
+
+    /// Call 4.
+    pub fn replace_with_many(&mut self, target: u32, listed: &[u32]) {
+        self.call(4, target, listed);
+    }
+
+    /// Call 5: the run from `first` to `last` is replaced by the listed elements.
+    pub fn replace_all(&mut self, first: u32, last: u32, listed: &[u32]) {
+        self.call(5, first, &[&[last], listed].concat());
+    }
+
+    /// Call 6: the calls that follow are a further editor's.
+    pub fn next_editor(&mut self) {
+        self.call(6, 0, &[]);
+    }
+
+    fn call(&mut self, operation: u32, target: u32, listed: &[u32]) {
+        self.calls.push(word(listed.len()).saturating_mul(256).saturating_add(operation));
+        self.targets.push(target);
+        self.listed.extend_from_slice(listed);
+    }
+
+    /// The node `input` is mapped to the node `output`.
+    pub fn map(&mut self, input: u32, output: u32) {
+        self.inputs.push(input);
+        self.outputs.push(output);
+    }
+
+    pub fn note(&mut self, element: u32, number: u32) {
+        self.noted.push(element);
+        self.numbers.push(number);
+    }
+
+    /// The batch, unless it is too large or its trees are not told whole.
+    pub fn finish(&self) -> Result<Batch, Unfit> {
+        if let Some(fault) = self.fault {
+            return Err(fault);
+        }
+        if !self.open.is_empty() {
+            return Err(Unfit::Unbalanced);
+        }
+        let counts = [self.trees, self.kinds.len(), self.text.len(), self.calls.len(), self.listed.len(), self.inputs.len(), self.noted.len()];
+        for ((what, least, most), count) in LIMITS.into_iter().zip(counts) {
+            if !(least..=most).contains(&count) {
+                return Err(Unfit::Size { what, count, least, most });
+            }
+        }
+        let sizes = counts.map(word);
+        let arrays = [
+            &sizes[..],
+            &self.kinds,
+            &self.measures,
+            &self.calls,
+            &self.targets,
+            &self.listed,
+            &self.inputs,
+            &self.outputs,
+            &self.noted,
+            &self.numbers,
+        ];
+        let mut bytes = arrays.concat().into_iter().flat_map(u32::to_le_bytes).collect::<Vec<u8>>();
+        bytes.extend_from_slice(&self.text);
+        Ok(Batch(bytes))
+    }
+}
+
+/// A count as a word. One that fits no word is over every limit, and so is what stands for it.
+fn word(count: usize) -> u32 {
+    u32::try_from(count).unwrap_or(u32::MAX)
+}

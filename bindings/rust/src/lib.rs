@@ -1,0 +1,105 @@
+//! A safe wrapper of the proved syntax tree editor (`libsyntax_edit.a`).
+//!
+//! A [`Batch`] (trees, calls, mappings, notes) is laid out by a [`BatchBuilder`]; an [`Editor`], which owns the work memory, answers it with an
+//! [`Answer`] (the new tree, its changed elements, its notes) or a [`Refusal`]. No call has a precondition: every batch of bytes gets one of the two.
+
+mod answer;
+mod batch;
+pub mod raw;
+
+use std::{error::Error, fmt};
+
+pub use answer::{Answer, Element, Note};
+pub use batch::{Batch, BatchBuilder, Unfit};
+
+/// The most bytes that an answer has.
+pub const MOST_ANSWER: usize = 61_464;
+
+/// Why a batch got no answer: a number of document 01's list.
+#[derive(Clone, Copy, Debug, PartialEq, Eq, Hash)]
+pub struct Refusal(u8);
+
+const MEANINGS: [&str; 13] = [
+    "a work slice is too short",
+    "the batch has under 28 bytes",
+    "a size is out of its limits",
+    "the length differs from what the sizes give",
+    "the elements do not spell the trees",
+    "a call is not well formed",
+    "a mapping or a note is not well formed",
+    "replacements overlap",
+    "a dependent call or a note cannot be mapped",
+    "a climb never ends",
+    "a step's target is gone",
+    "the trees outgrow their limits",
+    "the result buffer is too short",
+];
+
+impl Refusal {
+    /// The refusal of this number, 1 to 13.
+    fn numbered(number: i64) -> Option<Refusal> {
+        u8::try_from(number).ok().filter(|it| (1..=13).contains(it)).map(Refusal)
+    }
+
+    pub fn number(self) -> u8 {
+        self.0
+    }
+
+    pub fn meaning(self) -> &'static str {
+        MEANINGS[usize::from(self.0) - 1]
+    }
+}
+
+impl fmt::Display for Refusal {
+    fn fmt(&self, f: &mut fmt::Formatter<'_>) -> fmt::Result {
+        write!(f, "refused {}: {}", self.0, self.meaning())
+    }
+}
+
+impl Error for Refusal {}
+
+/// The editor with its work memory and a result buffer in which every answer fits.
+pub struct Editor {
+    work: raw::Work,
+    result: Vec<u8>,
+}
+
+impl Default for Editor {
+    fn default() -> Self {
+        Self::new()
+    }
+}
+
+impl Editor {
+    pub fn new() -> Editor {
+        Editor { work: raw::Work::new(), result: vec![0; MOST_ANSWER] }
+    }
+
+    /// The answer of a batch, or its refusal.
+    pub fn edit(&mut self, batch: &Batch) -> Result<Answer<'_>, Refusal> {
+        self.edit_bytes(batch.bytes())
+    }
+
+    /// The same, of bytes that were laid out elsewhere.
+    pub fn edit_bytes(&mut self, batch: &[u8]) -> Result<Answer<'_>, Refusal> {
+        let length = told(raw::edit(batch, &mut self.result, self.work.slices()))?;
+        let bytes = self.result.get(..length).expect("an answer ends within the result buffer");
+        Ok(Answer::read(bytes).expect("an answer is as long as its sizes tell"))
+    }
+
+    /// The element of the new tree that `find_element` gives for an element of the batch: the first node with its kind and text start.
+    pub fn find_element(&mut self, batch: &[u8], number: u32) -> Result<Option<usize>, Refusal> {
+        match raw::find_element(batch, u64::from(number), self.work.slices()) {
+            raw::NONE => Ok(None),
+            answer => told(answer).map(Some),
+        }
+    }
+}
+
+/// What the static library's number says.
+fn told(answer: i64) -> Result<usize, Refusal> {
+    match usize::try_from(answer) {
+        Ok(number) => Ok(number),
+        Err(_) => Err(Refusal::numbered(-answer).expect("a refusal is numbered 1 to 13")),
+    }
+}

@@ -1,0 +1,272 @@
+//! The printed case, the marked examples of document 01, and every refusal from 2 to 12, through `Editor`.
+
+use syntax_edit::{Answer, Batch, BatchBuilder, Editor, Element, Note, Refusal, Unfit};
+
+/// S, root(X(a), b), with c and d as tokens of other trees.
+struct S {
+    builder: BatchBuilder,
+    root: u32,
+    x: u32,
+    a: u32,
+    b: u32,
+    c: u32,
+    d: u32,
+}
+
+fn s() -> S {
+    let mut builder = BatchBuilder::new();
+    let root = builder.open(1);
+    let x = builder.open(2);
+    let a = builder.token(3, b"a");
+    builder.close();
+    let b = builder.token(3, b"b");
+    builder.close();
+    builder.open(1);
+    let c = builder.token(3, b"c");
+    builder.close();
+    builder.open(1);
+    let d = builder.token(3, b"d");
+    builder.close();
+    S { builder, root, x, a, b, c, d }
+}
+
+/// The text and the discarded changes, or the refusal's number.
+fn answered(s: &S) -> Result<(String, u32), u8> {
+    let mut editor = Editor::new();
+    let batch = s.builder.finish().expect("it is small");
+    let told = |it: Answer<'_>| (String::from_utf8_lossy(it.text()).into_owned(), it.discarded());
+    editor.edit(&batch).map(told).map_err(Refusal::number)
+}
+
+fn text(text: &str, discarded: u32) -> Result<(String, u32), u8> {
+    Ok((text.to_owned(), discarded))
+}
+
+fn printed_case() -> Batch {
+    let mut builder = BatchBuilder::new();
+    builder.open(1);
+    let a = builder.token(2, b"a");
+    builder.token(3, b"b");
+    builder.close();
+    builder.open(1);
+    let c = builder.token(4, b"c");
+    builder.close();
+    builder.insert_after(a, &[c]);
+    builder.note(c, 9);
+    builder.finish().expect("it is small")
+}
+
+#[test]
+fn the_printed_case() {
+    let batch = printed_case();
+    assert_eq!(batch.bytes().len(), 91);
+    let mut editor = Editor::new();
+    let answer = editor.edit(&batch).expect("it is accepted");
+    assert_eq!(answer.to_string(), "ok 4 3 1 1 0 0\nn 1 3\nt 2 1\nt 4 1\nt 3 1\ntext 616362\nchanged 2\nnote 9 2\n");
+    let elements = answer.elements().collect::<Vec<_>>();
+    assert_eq!(elements[0], Element::Node { kind: 1, children: 3 });
+    assert_eq!(elements[2], Element::Token { kind: 4, text: b"c" });
+    assert_eq!(answer.changed().collect::<Vec<_>>(), [2]);
+    assert_eq!(answer.notes().collect::<Vec<_>>(), [Note { number: 9, element: 2 }]);
+    assert_eq!((answer.discarded(), answer.climb_steps()), (0, 0));
+}
+
+#[test]
+fn insertions_and_deletions() {
+    let mut it = s();
+    it.builder.insert_after(it.x, &[it.c]);
+    it.builder.insert_after(it.x, &[it.d]);
+    assert_eq!(answered(&it), text("adcb", 0));
+
+    let mut it = s();
+    it.builder.delete(it.x);
+    it.builder.insert_after(it.x, &[it.c]);
+    assert_eq!(answered(&it), text("b", 1));
+
+    let mut it = s();
+    it.builder.delete(it.a);
+    it.builder.insert_after(it.a, &[it.c]);
+    assert_eq!(answered(&it), text("cb", 0));
+
+    let mut it = s();
+    it.builder.delete(it.x);
+    it.builder.insert_after(it.b, &[it.c]);
+    assert_eq!(answered(&it), text("bc", 0));
+
+    let mut it = s();
+    it.builder.insert_first(it.x, &[it.c, it.d]);
+    it.builder.next_editor();
+    it.builder.replace_all(it.x, it.x, &[it.d]);
+    assert_eq!(answered(&it), text("db", 1));
+}
+
+#[test]
+fn replacements() {
+    let mut it = s();
+    it.builder.replace(it.x, it.c);
+    it.builder.delete(it.x);
+    assert_eq!(answered(&it), text("b", 0));
+
+    let mut it = s();
+    it.builder.delete(it.x);
+    it.builder.replace(it.x, it.c);
+    assert_eq!(answered(&it), text("b", 0));
+
+    let mut it = s();
+    it.builder.replace_with_many(it.x, &[it.d]);
+    it.builder.replace(it.a, it.c);
+    assert_eq!(answered(&it), text("db", 1));
+
+    let mut it = s();
+    it.builder.replace_all(it.x, it.b, &[]);
+    it.builder.replace(it.b, it.c);
+    assert_eq!(answered(&it), Err(8));
+
+    let mut it = s();
+    let by = it.c - 1;
+    it.builder.replace(it.root, by);
+    it.builder.replace(it.x, it.d);
+    assert_eq!(answered(&it), Err(8));
+}
+
+/// X by R(X'(a)), c after a; X mapped to X' or not.
+fn replaced_by_r(mapped: bool) -> S {
+    let mut it = s();
+    let r = it.builder.open(4);
+    let inner = it.builder.open(2);
+    it.builder.token(3, b"a");
+    it.builder.close();
+    it.builder.close();
+    it.builder.replace(it.x, r);
+    it.builder.insert_after(it.a, &[it.c]);
+    if mapped {
+        it.builder.map(it.x, inner);
+    }
+    it
+}
+
+#[test]
+fn a_dependent_follows_its_mapping() {
+    let it = replaced_by_r(true);
+    assert_eq!(answered(&it), text("acb", 0));
+    let mut editor = Editor::new();
+    let batch = it.builder.finish().expect("it is small");
+    let answer = editor.edit(&batch).expect("it is accepted");
+    assert_eq!(answer.changed().collect::<Vec<_>>(), [1]);
+    assert_eq!(answer.climb_steps(), 1);
+    // The root is found where it was; X's kind and start are X''s now; tokens and other trees' nodes are none.
+    let found = |number| Editor::new().find_element(batch.bytes(), number);
+    assert_eq!((found(0), found(1), found(2), found(4), found(9_999)), (Ok(Some(0)), Ok(Some(2)), Ok(None), Ok(None), Ok(None)));
+}
+
+#[test]
+fn a_dependent_without_mapping_is_refused() {
+    assert_eq!(answered(&replaced_by_r(false)), Err(9));
+}
+
+#[test]
+fn an_endless_climb_is_refused() {
+    let mut builder = BatchBuilder::new();
+    let root = builder.open(1);
+    let x = builder.open(1);
+    let token = builder.token(2, b"");
+    builder.close();
+    builder.close();
+    let r = builder.open(1);
+    builder.close();
+    builder.replace(x, r);
+    builder.insert_after(token, &[]);
+    builder.map(root, x);
+    let refusal = Editor::new().edit(&builder.finish().expect("it is small")).map(|_| ()).unwrap_err();
+    assert_eq!(refusal.number(), 10);
+    assert_eq!(refusal.to_string(), "refused 10: a climb never ends");
+}
+
+#[test]
+fn a_gone_target_is_refused() {
+    let mut builder = BatchBuilder::new();
+    builder.open(1);
+    let z = builder.open(2);
+    builder.close();
+    builder.token(3, b"b");
+    builder.close();
+    builder.open(1);
+    let c = builder.token(3, b"c");
+    builder.close();
+    builder.delete(z);
+    builder.insert_after(z, &[c]);
+    let refusal = Editor::new().edit(&builder.finish().expect("it is small")).map(|_| ()).unwrap_err();
+    assert_eq!(refusal.number(), 11);
+}
+
+#[test]
+fn trees_that_outgrow_their_limits_are_refused() {
+    let grown = |copies: usize| {
+        let mut it = s();
+        let large = it.builder.open(1);
+        for _ in 0..10 {
+            it.builder.token(3, b"");
+        }
+        it.builder.close();
+        it.builder.insert_after(it.b, &vec![large; copies]);
+        answered(&it)
+    };
+    // 19 elements stand before the step and 11 come with each copy: 4,096 is the most.
+    assert_eq!(grown(370), text("ab", 0));
+    assert_eq!(grown(371), Err(12));
+}
+
+/// The refusal of the printed case with one word of the batch replaced.
+fn damaged(place: usize, word: u32) -> u8 {
+    let mut bytes = printed_case().bytes().to_vec();
+    bytes[4 * place..4 * place + 4].copy_from_slice(&word.to_le_bytes());
+    Editor::new().edit_bytes(&bytes).map(|_| ()).unwrap_err().number()
+}
+
+#[test]
+fn damaged_batches_are_refused_in_checking_order() {
+    let bytes = printed_case().bytes().to_vec();
+    let mut editor = Editor::new();
+    for length in 0..bytes.len() {
+        let refusal = editor.edit_bytes(&bytes[..length]).map(|_| ()).unwrap_err();
+        assert_eq!(refusal.number(), if length < 28 { 2 } else { 4 });
+    }
+    assert_eq!(damaged(0, 0), 3);
+    assert_eq!(damaged(0, 17), 3);
+    assert_eq!(damaged(1, 2_049), 3);
+    assert_eq!(damaged(2, 4), 4);
+    assert_eq!(damaged(7, 1), 5);
+    assert_eq!(damaged(8, 1 << 16), 5);
+    assert_eq!(damaged(17, 263), 6);
+    assert_eq!(damaged(18, 0), 6);
+    assert_eq!(damaged(20, 5), 7);
+    assert_eq!(damaged(21, 0), 7);
+}
+
+#[test]
+fn a_builder_gives_no_batch_that_does_not_fit() {
+    let mut builder = BatchBuilder::new();
+    assert_eq!(builder.finish(), Err(Unfit::Size { what: "trees", count: 0, least: 1, most: 16 }));
+    builder.open(1);
+    assert_eq!(builder.finish(), Err(Unfit::Unbalanced));
+    builder.token(2, &[0; 16_385]);
+    builder.close();
+    let fault = builder.finish().unwrap_err();
+    assert_eq!(fault.to_string(), "16385 text bytes; a batch has 0 to 16384");
+    builder.token(2, b"");
+    assert_eq!(builder.finish(), Err(Unfit::Loose));
+    let mut builder = BatchBuilder::new();
+    builder.close();
+    assert_eq!(builder.finish(), Err(Unfit::Unbalanced));
+}
+
+#[test]
+fn bytes_that_are_no_answer_are_not_read() {
+    assert!(Answer::read(&[]).is_none());
+    assert!(Answer::read(&[0; 23]).is_none());
+    assert!(Answer::read(&[0xff; 24]).is_none());
+    // One token of more text than there is.
+    let words = [1u32, 1, 0, 0, 0, 0, 2, u32::MAX];
+    let bytes = words.into_iter().flat_map(u32::to_le_bytes).chain([0]).collect::<Vec<_>>();
+    assert!(Answer::read(&bytes).is_none());
+}

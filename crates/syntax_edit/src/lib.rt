@@ -1,0 +1,83 @@
+// The public calls for C and Rust: a slice is a pointer and a length, an answer is one number.
+ghost use mathlib.Core.List.{_∷_, []};
+ghost use Rattle.answer_numbers.specs.Returned.{Returns, ReturnsElement};
+
+// THE EDIT of a batch: the length of the answer, which stands at the front of `result`, or a refusal's number with a minus.
+// The twelve others are work slices, which end as zeros.
+#[no_mangle]
+pub extern "C" fn syntax_edit(
+    batch: &[u8],
+    result: &mut [u8],
+    table: &mut [u32],
+    source: &mut [u32],
+    changes: &mut [u32],
+    running: &mut [u32],
+    first: &mut [u32],
+    notes: &mut [u32],
+    incoming: &mut [u32],
+    changed: &mut [u32],
+    marks: &mut [u32],
+    rows: &mut [u32],
+    prepared: &mut [u32],
+    sizes: &mut [u32],
+) -> i64
+    ensures { λ r. ⌜ Returns (now (batch .entry)) (now (result .entry)) (now (table .entry) ∷ now (source .entry) ∷ now (changes .entry) ∷ now (running .entry) ∷ now (first .entry) ∷ now (notes .entry) ∷ now (incoming .entry) ∷ now (changed .entry) ∷ now (marks .entry) ∷ now (rows .entry) ∷ now (prepared .entry) ∷ now (sizes .entry) ∷ []) r (now (result .exit)) (now (table .exit) ∷ now (source .exit) ∷ now (changes .exit) ∷ now (running .exit) ∷ now (first .exit) ∷ now (notes .exit) ∷ now (incoming .exit) ∷ now (changed .exit) ∷ now (marks .exit) ∷ now (rows .exit) ∷ now (prepared .exit) ∷ now (sizes .exit) ∷ []) ⌝ }
+{
+    let answer = edit_algo::edit(
+        batch,
+        result,
+        table,
+        source,
+        changes,
+        running,
+        first,
+        notes,
+        incoming,
+        changed,
+        marks,
+        rows,
+        prepared,
+        sizes,
+    );
+    answer_numbers::number_of(answer)
+}
+
+// The first node of the new tree with the kind and the text start of the old tree's node `number`: its number, −1000 if there is none, or a
+// refusal's number with a minus. The twelve others are work slices, which end as zeros.
+#[no_mangle]
+pub extern "C" fn syntax_find_element(
+    batch: &[u8],
+    number: usize,
+    table: &mut [u32],
+    source: &mut [u32],
+    changes: &mut [u32],
+    running: &mut [u32],
+    first: &mut [u32],
+    notes: &mut [u32],
+    incoming: &mut [u32],
+    changed: &mut [u32],
+    marks: &mut [u32],
+    rows: &mut [u32],
+    prepared: &mut [u32],
+    sizes: &mut [u32],
+) -> i64
+    ensures { λ r. ⌜ ReturnsElement (now (batch .entry)) number (now (table .entry) ∷ now (source .entry) ∷ now (changes .entry) ∷ now (running .entry) ∷ now (first .entry) ∷ now (notes .entry) ∷ now (incoming .entry) ∷ now (changed .entry) ∷ now (marks .entry) ∷ now (rows .entry) ∷ now (prepared .entry) ∷ now (sizes .entry) ∷ []) r (now (table .exit) ∷ now (source .exit) ∷ now (changes .exit) ∷ now (running .exit) ∷ now (first .exit) ∷ now (notes .exit) ∷ now (incoming .exit) ∷ now (changed .exit) ∷ now (marks .exit) ∷ now (rows .exit) ∷ now (prepared .exit) ∷ now (sizes .exit) ∷ []) ⌝ }
+{
+    let element = edit_algo::find_element(
+        batch,
+        number,
+        table,
+        source,
+        changes,
+        running,
+        first,
+        notes,
+        incoming,
+        changed,
+        marks,
+        rows,
+        prepared,
+        sizes,
+    );
+    answer_numbers::place_of(element)
+}
