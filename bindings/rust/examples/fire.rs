@@ -250,7 +250,7 @@ fn main() {
     let (count, seed) = (number(0, 100_000), number(1, 1));
     let root = PathBuf::from(concat!(env!("CARGO_MANIFEST_DIR"), "/../.."));
     let read = |path: &str| fs::read(root.join(path)).expect(path);
-    let cases = recorded(&read("oracle/cases/cases.bin"), if exact { 1_000 } else { 65_536 });
+    let cases = recorded(&read("crates/replay/stdin"), if exact { 1_000 } else { 65_536 });
     let mut fire = Fire { random: Random(seed), guard: if exact { 0 } else { GUARD }, told: [0; 14], calls: 0 };
     let seeds = ["examples/printed_case.batch", "examples/dosing.batch", "examples/overlap.batch"];
     for path in &seeds[..if exact { 1 } else { 3 }] {

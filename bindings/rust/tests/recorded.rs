@@ -2,7 +2,7 @@
 
 use syntax_edit::raw;
 
-const CASES: &[u8] = include_bytes!("../../../oracle/cases/cases.bin");
+const CASES: &[u8] = include_bytes!("../../../crates/replay/stdin");
 
 struct Reader(&'static [u8]);
 
