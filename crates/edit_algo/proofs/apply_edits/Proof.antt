@@ -1,3 +1,5 @@
+-- `apply_edits` meets its contract: a refusal on the way, or the result.
+-- Assumes nothing.
 use mathlib.Core.Path.{_∙_}
 use native.Mathlib.Omega.{arith}
 use borrow.Author.Needs.{needs}

@@ -1,3 +1,5 @@
+-- `edit_or_refuse` meets its contract: refusal 1, or the edit.
+-- Assumes nothing.
 use mathlib.Core.Path.{refl, sym, _∙_}
 use borrow.Author.Needs.{needs}
 use Rattle.edit_algo.proofs.Ways.{refused-short, edits-long}

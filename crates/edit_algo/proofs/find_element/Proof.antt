@@ -1,3 +1,5 @@
+-- `find_element` meets its contract: the inner function answers, then every work slice is cleared.
+-- Assumes nothing.
 use mathlib.Core.Path.{_∙_}
 use borrow.Author.Needs.{needs}
 use Rattle.edit_algo.proofs.Ways.{zeroed-same, finds-cleared}

@@ -1,3 +1,5 @@
+-- `find_from` meets its contract: no node of tree 0, or the first alike.
+-- Assumes nothing.
 use native.Mathlib.Omega.{arith}
 use borrow.Author.Needs.{needs}
 use Rattle.edit_algo.proofs.Ends.{none-numbered, none-asked, found-none, found-there}

@@ -1,5 +1,5 @@
-use mathlib.Core.Path.{_∙_}
-use native.Mathlib.Omega.{arith}
+-- `find_in_new` meets its contract: a refusal on the way, or what is found.
+-- Assumes nothing.
 use borrow.Author.Needs.{needs}
 use Rattle.work.specs.Slices.{long-enough}
 use Rattle.edit_algo.proofs.Ends.{find-stops, rows-end, told-end}

@@ -1,3 +1,5 @@
+-- `find_or_refuse` meets its contract: refusal 1, or what is found.
+-- Assumes nothing.
 use mathlib.Core.Path.{refl, sym, _∙_}
 use borrow.Author.Needs.{needs}
 use Rattle.edit_algo.proofs.Ways.{not-found-short, finds-long}

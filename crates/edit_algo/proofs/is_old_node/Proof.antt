@@ -1,3 +1,5 @@
+-- `is_old_node` meets its contract: a node, and of tree 0.
+-- Assumes nothing.
 use borrow.Author.Needs.{needs}
 use Rattle.edit_algo.proofs.Ends.{token-there, root-there}
 use Rattle.edit_algo.proofs.is_old_node.Statement.{statement}

@@ -1,3 +1,5 @@
+-- `write_answer` meets its contract: 13, or the bytes.
+-- Assumes nothing.
 use native.Mathlib.Omega.{arith}
 use borrow.Author.Needs.{needs}
 use Rattle.edit_algo.proofs.Ends.{whole-rest, answered-13, answered-bytes}

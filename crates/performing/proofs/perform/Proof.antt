@@ -1,4 +1,5 @@
-use mathlib.Core.Path.{_∙_}
+-- `perform` meets its contract: 2 to 7, or the plan and its run.
+-- Assumes nothing.
 use native.Mathlib.Omega.{arith}
 use borrow.Author.Needs.{needs}
 use Rattle.performing.proofs.Stages.{judged-stops, judged-laid}

@@ -1,3 +1,5 @@
+-- `plan_and_run` meets its contract: 8 to 10, or the run.
+-- Assumes nothing.
 use mathlib.Core.Path.{_∙_}
 use native.Mathlib.Omega.{arith}
 use borrow.Author.Needs.{needs}

@@ -1,4 +1,5 @@
-use mathlib.Core.Path.{refl, _∙_}
+-- `run_plan` meets its contract: the marks are those of the batch's elements.
+-- Assumes nothing.
 use native.Mathlib.Omega.{arith}
 use borrow.Author.Needs.{needs}
 use Rattle.performing.proofs.Stages.{part-long}

@@ -1,3 +1,5 @@
+-- `run_steps` meets its contract: what the run asks for is there, and what it answers is the definition's.
+-- Assumes nothing.
 use native.Mathlib.Omega.{arith}
 use borrow.Author.Needs.{needs}
 use Rattle.performing.proofs.Stages.{may-begin, may-list, may-run, may-record, steps-refused, steps-ended}

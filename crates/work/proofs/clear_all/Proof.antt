@@ -1,3 +1,5 @@
+-- `clear_all` meets its contract: four by four.
+-- Assumes nothing.
 use borrow.Author.Needs.{needs}
 use Rattle.work.proofs.Ways.{all-zeroed}
 use Rattle.work.proofs.clear_all.Statement.{statement}

@@ -1,3 +1,5 @@
+-- `clear_four` meets its contract: slice by slice.
+-- Assumes nothing.
 use borrow.Author.Needs.{needs}
 use Rattle.work.proofs.Ways.{zeros-written}
 use Rattle.work.proofs.clear_four.Statement.{statement}

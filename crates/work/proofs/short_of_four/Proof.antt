@@ -1,3 +1,5 @@
+-- `short_of_four` meets its contract: slice by slice.
+-- Assumes nothing.
 use borrow.Author.Needs.{needs}
 use Rattle.work.proofs.Ways.{short-first, short-second, short-third, short-last}
 use Rattle.work.proofs.short_of_four.Statement.{statement}

@@ -1,3 +1,5 @@
+-- `too_short` meets its contract: four by four.
+-- Assumes nothing.
 use borrow.Author.Needs.{needs}
 use Rattle.work.proofs.Ways.{short-in-first, short-in-second, short-in-third}
 use Rattle.work.proofs.too_short.Statement.{statement}
