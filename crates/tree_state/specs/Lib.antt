@@ -1,3 +1,5 @@
 -- The state of one tree while its batch runs.
 --     State   the state after a splice, and after a replaced root
+--     Laws    that the counts are those of what is held
 pub mod State
+pub mod Laws
