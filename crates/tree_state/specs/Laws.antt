@@ -1,17 +1,19 @@
 -- That the counts are those of what is held: of the store that a splice makes, told before it.
 -- Assumes nothing.
-use mathlib.Core.Path.{_≡_, refl, ap, _∙_}
+use mathlib.Core.Path.{_≡_, refl, sym, ap, _∙_}
 use mathlib.Core.Bool.{Bool, true, false, cond}
 use mathlib.Core.List.{List, [], _∷_, _++_, map, flatMap}
 use mathlib.Core.Option.{Option, none, some, Option·map}
-use Prim.Native.Nat.{ℕ, zero, suc, _+_, _-_, _^_, _≤_, _<_}
+use Prim.Native.Nat.{ℕ, suc, _+_, _-_, _^_, _≤_, _<_}
 use native.Mathlib.Omega.{arith}
-use lib.ListN.{length, length-append, length-map}
+use lib.ListN.{length, take, drop, length-append, length-map}
+use lib.Seq.{length-take-le, take-append-seam, drop-append-seam}
 use lib.Dec.{ltb}
 use Rattle.orders.specs.Lists.{pick, more}
-use Rattle.orders.specs.Tree.{zone, shift}
+use Rattle.orders.specs.ListLaws.{drop-modify-before}
+use Rattle.orders.specs.Tree.{zone, shift, modify}
 use Rattle.rows.specs.Row.{Row, bytes}
-use Rattle.rows.specs.Place.{between, spliceRows, inRun}
+use Rattle.rows.specs.Place.{between, remeasure, spliceRows, inRun}
 use Rattle.store_model.specs.Store.{HeldNote, Store, Gap, Part, withRow, newRows, placedParts, splicedStore}
 use Rattle.store_model.specs.Sums.{splice-length, splice-bytes}
 use Rattle.tree_state.specs.declared.Counts.{Counts}
@@ -152,3 +154,16 @@ module _ (root : ℕ) (g : Gap) (new : List Part) (recorded : Bool) (s : Store) 
     notesFit = n;
     changedFit = c;
   }
+
+  -- What comes in is all that stands at the gap then: of a root that gives way, the tree.
+  pub stands-then : g .parent < g .from → between (g .from) (g .from + m) ((splicedStore g new recorded s) .rows) ≡ newRows new
+  unfolding between splicedStore spliceRows
+  stands-then u =
+      let rest : List Row = newRows new ++ drop (g .to) (s .rows) in
+      let all : List Row = take (g .from) (s .rows) ++ rest in
+      let n : g .from + m - g .from ≡ m = omega arith in
+      let e : length (take (g .from) (s .rows)) ≡ g .from = length-take-le (g .from) (s .rows) (omega (arith, h, k)) in
+      let d : drop (g .from) all ≡ rest = ap (λ (i : ℕ). drop i all) (sym e) ∙ drop-append-seam (take (g .from) (s .rows)) rest in
+      ap (λ (i : ℕ). take i (drop (g .from) (modify (g .parent) (remeasure (g .lost) (length new)) all))) n
+      ∙ (ap (λ (l : List Row). take m l) (drop-modify-before (remeasure (g .lost) (length new)) (g .from) all (g .parent) u ∙ d)
+      ∙ take-append-seam (newRows new) (drop (g .to) (s .rows)))
