@@ -13,7 +13,8 @@ use Rattle.orders.specs.Lists.{pick, more}
 use Rattle.orders.specs.ListLaws.{drop-modify-before}
 use Rattle.orders.specs.Tree.{zone, shift, modify}
 use Rattle.rows.specs.Row.{Row, bytes}
-use Rattle.rows.specs.Place.{between, remeasure, spliceRows, inRun}
+use Rattle.rows.specs.RowLaws.{skip-none}
+use Rattle.rows.specs.Place.{rowsAfter, childRow, between, remeasure, spliceRows, inRun}
 use Rattle.store_model.specs.Store.{HeldNote, Store, Gap, Part, withRow, newRows, placedParts, splicedStore}
 use Rattle.store_model.specs.Sums.{splice-length, splice-bytes}
 use Rattle.tree_state.specs.declared.Counts.{Counts}
@@ -36,6 +37,11 @@ lostIn g s = record {
 -- how much comes in with parts, which are recorded as changed or not
 unfoldable pub gainedBy : List Part → Bool → Counts
 gainedBy new recorded = record { rows = length (newRows new); bytes = bytes (newRows new); notes = length (flatMap (λ y. y .notes) new); changed = cond recorded (length new) 0 }
+
+-- The root of tree 0 stands at row 1, behind the root of all, whatever the rows are: no splice moves it.
+pub first-root : (rs : List Row) → childRow rs 0 0 ≡ 1
+unfolding childRow rowsAfter
+first-root rs = ap (λ (i : ℕ). 1 + i) (skip-none (drop 1 rs))
 
 -- all that a tree has
 unfoldable pub allOf : TreeState → Counts
