@@ -18,7 +18,8 @@ use Rattle.edit_algo.specs.declared.Answer.the-variants.{Refused, Edited}
 use Rattle.work.specs.Promises.{leftIn, Edits}
 use Rattle.edit_algo.specs.Numbers.{answerOf}
 use Rattle.result_words.specs.Worded.{Bytes}
-use Rattle.printing.specs.Decoded.{decoded, Printable}
+use Rattle.result_words.specs.Decoded.{decoded}
+use Rattle.printing.specs.Printable.{Printable}
 use Rattle.printing.specs.Lines.{Put}
 use Rattle.printing.specs.Shown.{shown, shown-printable, shown-printed}
 
@@ -102,7 +103,7 @@ edit-printed b held work holds left r p q e s n v =
     rw (← shown-printed (lengths work) b s n v, e) (edit-shown b held work holds left r p q)
 
 -- slices of the lengths of docs/WORK.md are long enough
-pub long-enough : (a b c d e f g h i j k l : List ℕ) → 16384 ≡ length a → 6147 ≡ length b → 3328 ≡ length c → 256 ≡ length d → 768 ≡ length e → 3072 ≡ length f → 3072 ≡ length g → 1024 ≡ length h → 2048 ≡ length i
+pub lengths-suffice : (a b c d e f g h i j k l : List ℕ) → 16384 ≡ length a → 6147 ≡ length b → 3328 ≡ length c → 256 ≡ length d → 768 ≡ length e → 3072 ≡ length f → 3072 ≡ length g → 1024 ≡ length h → 2048 ≡ length i
     → 12291 ≡ length j → 12288 ≡ length k → 1024 ≡ length l → tooShort (lengths (a ∷ b ∷ c ∷ d ∷ e ∷ f ∷ g ∷ h ∷ i ∷ j ∷ k ∷ l ∷ [])) ≡ false
 unfolding tooShort lengths needed zip any
-long-enough a b c d e f g h i j k l p₁ p₂ p₃ p₄ p₅ p₆ p₇ p₈ p₉ q₁ q₂ q₃ = rw (← p₁, ← p₂, ← p₃, ← p₄, ← p₅, ← p₆, ← p₇, ← p₈, ← p₉, ← q₁, ← q₂, ← q₃)
+lengths-suffice a b c d e f g h i j k l p₁ p₂ p₃ p₄ p₅ p₆ p₇ p₈ p₉ q₁ q₂ q₃ = rw (← p₁, ← p₂, ← p₃, ← p₄, ← p₅, ← p₆, ← p₇, ← p₈, ← p₉, ← q₁, ← q₂, ← q₃)

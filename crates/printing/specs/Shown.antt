@@ -1,8 +1,8 @@
 -- What is printed of the bytes of an answer is what the definition prints of the batch.
 -- Assumes nothing.
-use mathlib.Core.Path.{_≡_, refl, ap, _∙_}
+use mathlib.Core.Path.{_≡_, refl, sym, ap, _∙_}
 use mathlib.Core.Bool.{false}
-use mathlib.Core.List.{List}
+use mathlib.Core.List.{List, [], append-nil}
 use Prim.Native.Nat.{ℕ, _≤_}
 use native.Mathlib.Omega.{arith}
 use lib.Dec.{ltb}
@@ -15,8 +15,9 @@ use Rattle.definition.specs.Printed.{print, printed}
 use Rattle.laws.specs.Answers.{given, gives-inj}
 use Rattle.laws.specs.Limits.{edit-within, room-suffices}
 use Rattle.result_words.specs.Worded.{Bytes, edit-worded}
-use Rattle.printing.specs.Decoded.{decoded, Printable}
-use Rattle.printing.specs.Encoded.{encoded-printable, decoded-encoded}
+use Rattle.result_words.specs.Decoded.{decoded}
+use Rattle.result_words.specs.Encoded.{decoded-encoded}
+use Rattle.printing.specs.Printable.{Printable, encoded-printable}
 
 -- what is printed of an answer whose result is told by its bytes
 unfoldable pub shown : Answer (List ℕ) → List ℕ
@@ -51,4 +52,4 @@ shown-printed work b h k v =
   where
     go : (o : Answer Result) → edit b ≡ o → shown (o >>= λ r. gives (encoded r)) ≡ print o
     go (refused n) e = refl
-    go (gives r) e = ap (λ x. print (gives x)) (decoded-encoded r (edit-within b r e) (edit-worded b r v e))
+    go (gives r) e = ap (λ x. print (gives x)) (decoded-encoded r (encoded r) [] (sym (append-nil (encoded r))) (edit-within b r e) (edit-worded b r v e))
