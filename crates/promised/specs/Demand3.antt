@@ -46,8 +46,9 @@ module _ (b held : List ℕ) (n : ℕ) (holds : List ℕ) (h : Bytes b) (f : Fin
   within : Within R
   within = edit-within b R (f .edits)
 
-  read : decoded holds ≡ R
-  read = decoded-encoded R holds (drop n holds) there within (edit-worded b R h (f .edits))
+  -- which is read in the slice
+  pub finished-read : decoded holds ≡ R
+  finished-read = decoded-encoded R holds (drop n holds) there within (edit-worded b R h (f .edits))
 
   -- what is finished shows its tree at these places
   pub finished-shown : (t : Tree ℕ) → Shows t R → Shown t n holds
@@ -59,8 +60,8 @@ module _ (b held : List ℕ) (n : ℕ) (holds : List ℕ) (h : Bytes b) (f : Fin
       record {
         elements = elements;
         size = text-read R holds (drop n holds) there within ∙ ap length (s .text);
-        kinds = ap (λ (k : ℕ). words k (drop 24 holds)) (sym elements) ∙ (ap (λ x. x .kinds) read ∙ s .kinds);
-        measures = ap (λ (k : ℕ). words k (drop (24 + 4 * k) holds)) (sym elements) ∙ (ap (λ x. x .measures) read ∙ s .measures);
+        kinds = ap (λ (k : ℕ). words k (drop 24 holds)) (sym elements) ∙ (ap (λ x. x .kinds) finished-read ∙ s .kinds);
+        measures = ap (λ (k : ℕ). words k (drop (24 + 4 * k) holds)) (sym elements) ∙ (ap (λ x. x .measures) finished-read ∙ s .measures);
         text = rw (← s .text, last) (text-behind R holds (drop n holds) there within);
       }
 
