@@ -17,7 +17,8 @@ use Rattle.definition.specs.Elements.{isNode, kindOf}
 use Rattle.words.specs.Bytes.{length-words, getD-words}
 use Rattle.words.specs.Parts.{set-paste}
 use Rattle.laws.specs.Basics.{flatMap-append}
-use Rattle.printing.specs.Decoded.{told, decoded, Fits}
+use Rattle.result_words.specs.Decoded.{told, decoded}
+use Rattle.printing.specs.Printable.{Fits}
 use Rattle.printing.specs.Lines.{Put, put-more, digits-length, spaced, spaced-length, texts-length, lineOf, lineOf-length, pairsAt, pairs-length, pair-at, changedLine, changed-length, noteLine, element-length, hex-length, text-length}
 
 -- ── A byte and digits ───────────────────────────────────────────────────────────────────────────────────────

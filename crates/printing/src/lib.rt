@@ -6,7 +6,8 @@ ghost use lib.ListN.{length, getD, take, drop};
 ghost use Rattle.definition.specs.Words.{words};
 ghost use Rattle.definition.specs.Printed.{digits, hexDigit, hex, elementLine, textLine, print};
 ghost use Rattle.definition.specs.Basics.{refused, gives};
-ghost use Rattle.printing.specs.Decoded.{told, decoded, Fits, Printable};
+ghost use Rattle.result_words.specs.Decoded.{told, decoded};
+ghost use Rattle.printing.specs.Printable.{Fits, Printable};
 ghost use Rattle.printing.specs.Lines.{Put, spaced, lineOf, pairsAt, changedLine, noteLine};
 
 // One byte is written at `at`.

@@ -13,10 +13,11 @@ use Rattle.definition.specs.Finishing.{Result, encoded, fitting}
 use Rattle.definition.specs.Answers.{edit, edited, tooShort, withWork}
 use Rattle.definition.specs.FindElement.{findElement}
 use Rattle.laws.specs.Limits.{edit-within, encoded-within}
+use Rattle.result_words.specs.Worded.{Bytes, edit-worded}
+use Rattle.result_words.specs.Decoded.{decoded}
+use Rattle.result_words.specs.Encoded.{decoded-encoded}
 use Rattle.work.specs.Slices.{lengths}
 use Rattle.work.specs.Promises.{leftIn, Edits, Finds, applied, found, long-edited, long-found}
-use Rattle.promised.specs.Reading.{resultIn, result-read}
-use Rattle.promised.specs.Numbers.{Bytes, edit-fits}
 
 -- what is lent suffices: each work slice has its length, and the result slice has room for the answer
 pub record Lent (b held : List ℕ) (work : List (List ℕ)) : Type 0 where
@@ -51,7 +52,7 @@ edit-leaves b held work r holds left p l = go (edit b) refl long
 -- the answer that stands in the slice: a refusal, or the result read there
 unfoldable pub answerIn : Answer ℕ → List ℕ → Answer Result
 answerIn (refused k) holds = refused k
-answerIn (gives n) holds = gives (resultIn holds)
+answerIn (gives n) holds = gives (decoded holds)
 
 -- what is left is read as the answer
 leaves-read : (b held : List ℕ) (r : Answer ℕ) (holds : List ℕ) → Bytes b → Leaves (edit b) held r holds → answerIn r holds ≡ edit b
@@ -60,7 +61,7 @@ leaves-read b held r holds h l = go (edit b) refl l
   where
     go : (o : Answer Result) → edit b ≡ o → Leaves o held r holds → answerIn r holds ≡ o
     go (refused k) e l = ap (λ x. answerIn x holds) (l .0)
-    go (gives R) e l = ap (λ x. answerIn x holds) (l .0) ∙ ap {B = Answer Result} gives (ap resultIn (l .1) ∙ result-read R _ (edit-within b R e) (edit-fits b R h e))
+    go (gives R) e l = ap (λ x. answerIn x holds) (l .0) ∙ ap {B = Answer Result} gives (decoded-encoded R holds _ (l .1) (edit-within b R e) (edit-worded b R h e))
 
 -- the answer to a batch, as it stands in the result slice
 pub record Answered (b held : List ℕ) (r : Answer ℕ) (holds : List ℕ) : Type 0 where

@@ -4,23 +4,24 @@ use mathlib.Core.Path.{_≡_, refl, sym, ap, _∙_}
 use mathlib.Core.Bool.{true}
 use mathlib.Core.List.{List, [], _∷_, _++_, map}
 use Prim.Native.Nat.{ℕ, _+_, _-_, _*_}
-use lib.ListN.{length, getD, take, drop, length-map, take-append-drop}
-use lib.Seq.{drop-drop}
+use native.Mathlib.Omega.{arith}
+use lib.ListN.{length, take, drop, length-map, take-append-drop}
 use Rattle.orders.specs.Tree.{Tree, label, measure, preorder}
 use Rattle.orders.specs.Tree as Tree
 use Rattle.orders.specs.Splices.{oneGo}
 use Rattle.definition.specs.Basics.{Answer, gives, _>>=_}
 use Rattle.definition.specs.Words.{word, words}
 use Rattle.definition.specs.Refusals.{Accepted, accepted}
-use Rattle.definition.specs.Finishing.{Result, sixSizes, encoded}
+use Rattle.definition.specs.Finishing.{Result, encoded}
 use Rattle.definition.specs.Answers.{Plan, plan}
 use Rattle.definition.specs.Performed.{splices, splicesOf}
-use Rattle.laws.specs.Limits.{edit-within}
+use Rattle.laws.specs.Limits.{Within, encoded-length, edit-within}
 use Rattle.demand.specs.Answered.{ApartIn, Shows, apartBatch?, oneGoOf, tested-one-go}
 use Rattle.demand.specs.Demand3.{demand-3}
+use Rattle.result_words.specs.Worded.{Bytes, edit-worded}
+use Rattle.result_words.specs.Decoded.{textAt, told, decoded}
+use Rattle.result_words.specs.Encoded.{elements-read, text-read, text-behind, decoded-encoded}
 use Rattle.work.specs.Promises.{Edits}
-use Rattle.promised.specs.Reading.{resultIn, arraysIn, result-read, sizes-read, text-read}
-use Rattle.promised.specs.Numbers.{Bytes, edit-fits}
 use Rattle.promised.specs.Demand1.{Finished, demand-1}
 
 -- ── The three arrays ────────────────────────────────────────────────────────────────────────────────────────
@@ -34,9 +35,6 @@ pub record Shown (t : Tree ℕ) (n : ℕ) (holds : List ℕ) : Type 0 where
   pub measures : words (length (preorder t)) (drop (24 + 4 * length (preorder t)) holds) ≡ map measure (preorder t)
   pub text : take (length (Tree.text t)) (drop (n - length (Tree.text t)) holds) ≡ Tree.text t
 
-text-shown : (R : Result) (l rest t : List ℕ) (n : ℕ) → l ≡ encoded R ++ rest → R .text ≡ t → length (encoded R) ≡ n → take (length t) (drop (n - length t) l) ≡ t
-text-shown R l rest t n e x m = rw (e, ← x, ← m) (text-read R rest)
-
 module _ (b held : List ℕ) (n : ℕ) (holds : List ℕ) (h : Bytes b) (f : Finished b held n holds) where
   -- the result that is answered
   abbrev R : Result
@@ -45,25 +43,26 @@ module _ (b held : List ℕ) (n : ℕ) (holds : List ℕ) (h : Bytes b) (f : Fin
   there : holds ≡ encoded R ++ drop n holds
   there = sym (take-append-drop n holds) ∙ ap (λ (l : List ℕ). l ++ drop n holds) (f .front)
 
-  read : resultIn holds ≡ R
-  read = ap resultIn there ∙ result-read R (drop n holds) (edit-within b R (f .edits)) (edit-fits b R h (f .edits))
+  within : Within R
+  within = edit-within b R (f .edits)
 
-  sizes : words 6 holds ≡ sixSizes R
-  sizes = ap (words 6) there ∙ sizes-read R (drop n holds) (edit-within b R (f .edits))
+  -- which is read in the slice
+  pub finished-read : decoded holds ≡ R
+  finished-read = decoded-encoded R holds (drop n holds) there within (edit-worded b R h (f .edits))
 
   -- what is finished shows its tree at these places
   pub finished-shown : (t : Tree ℕ) → Shows t R → Shown t n holds
-  unfolding resultIn arraysIn words sixSizes
+  unfolding decoded told
   finished-shown t s =
       let many : length (R .kinds) ≡ length (preorder t) = ap length (s .kinds) ∙ length-map (preorder t) label in
-      let elements : word holds ≡ length (preorder t) = ap (λ l. getD l 0 0) sizes ∙ many in
-      let size : word (drop 4 holds) ≡ length (Tree.text t) = ap (λ l. getD l 1 0) sizes ∙ ap length (s .text) in
+      let elements : word holds ≡ length (preorder t) = elements-read R holds (drop n holds) there within ∙ many in
+      let last : n - length (R .text) ≡ textAt (length (R .kinds)) (length (R .changed)) (length (R .numbers)) = omega (arith, f .size, encoded-length R (within .measures) (within .noted)) in
       record {
         elements = elements;
-        size = size;
-        kinds = ap (λ (k : ℕ). words k (drop 24 holds)) (sym elements) ∙ (ap (λ x. x .kinds) read ∙ s .kinds);
-        measures = ap (λ (k : ℕ). words k (drop (24 + 4 * k) holds)) (sym elements) ∙ (ap (words (word holds)) (sym (drop-drop (4 * word holds) 24 holds)) ∙ (ap (λ x. x .measures) read ∙ s .measures));
-        text = text-shown R holds (drop n holds) (Tree.text t) n there (s .text) (f .size);
+        size = text-read R holds (drop n holds) there within ∙ ap length (s .text);
+        kinds = ap (λ (k : ℕ). words k (drop 24 holds)) (sym elements) ∙ (ap (λ x. x .kinds) finished-read ∙ s .kinds);
+        measures = ap (λ (k : ℕ). words k (drop (24 + 4 * k) holds)) (sym elements) ∙ (ap (λ x. x .measures) finished-read ∙ s .measures);
+        text = rw (← s .text, last) (text-behind R holds (drop n holds) there within);
       }
 
 -- ── The demand ──────────────────────────────────────────────────────────────────────────────────────────────

@@ -19,11 +19,11 @@ use Rattle.definition.specs.Printed.{ascii, print, printed}
 use Rattle.definition.specs.Computing.{computed}
 use Rattle.definition.specs.Examples.{Told, inBytes, Short, short, marked, further, told, answered, printedCase, printedLines, withNotes, withNotesLines, examples}
 use Rattle.laws.specs.Answers.{gives-inj, refused-gives}
+use Rattle.result_words.specs.Worded.{Bytes, take-bytes, tested-bytes}
+use Rattle.result_words.specs.Decoded.{decoded}
 use Rattle.work.specs.Slices.{lengths}
 use Rattle.work.specs.Promises.{Edits, Finds}
 use Rattle.promised.specs.Refused.{refused-inj}
-use Rattle.promised.specs.Reading.{resultIn}
-use Rattle.promised.specs.Numbers.{Bytes, take-bytes, tested-bytes}
 use Rattle.promised.specs.Answered.{Lent, Leaves, answerIn, edit-answered, find-answered}
 use Rattle.promised.specs.Printing.{printed-run}
 
@@ -33,8 +33,8 @@ use Rattle.promised.specs.Printing.{printed-run}
 pub record ReadAs (s : List ℕ × List ℕ × ℕ) (held : List ℕ) (r : Answer ℕ) (holds : List ℕ) : Type 0 where
   pub size : ℕ
   pub answer : r ≡ gives size
-  pub told : short (gives (resultIn holds)) ≡ gives s
-  pub front : take size holds ≡ encoded (resultIn holds)
+  pub told : short (gives (decoded holds)) ≡ gives s
+  pub front : take size holds ≡ encoded (decoded holds)
   pub beyond : drop size holds ≡ drop size held
 
 -- a refusal that is told is the answer, and the slice holds all that it held
@@ -56,7 +56,7 @@ told-run b s y t held work r holds left p l = let z = edit-answered b held work 
     go (refused k) (gives s) t h q = refused-gives t
     go (gives R) (refused j) t h q = refused-gives (sym t)
     go (gives R) (gives s) t h q =
-        let there : resultIn holds ≡ R = gives-inj (ap (λ x. answerIn x holds) (sym (h .0)) ∙ q) in
+        let there : decoded holds ≡ R = gives-inj (ap (λ x. answerIn x holds) (sym (h .0)) ∙ q) in
         let n = length (encoded R) in
         record {
           size = n;

@@ -1,16 +1,12 @@
 -- What the promises of the public calls give a reader. Each theorem speaks of every call that keeps its promise (`Edits`, `Finds` of work/specs/Promises.antt),
 -- and needs nothing of the code that makes the call.
 --     Refused    by which numbers each stage refuses
---     Reading    the result read back from its bytes
---     Numbers    every number of an answer fits a word, so nothing is lost where it is written
 --     Answered   the answer in the result slice, where what is lent suffices: the definition's
 --     Printing   what is printed of it
 --     Examples   THE EXAMPLES of document 01, as the calls answer them
 --     Demand1    DEMAND 1: what each lent slice holds then
 --     Demand3    DEMAND 3: an accepted batch whose splices are apart is answered with the one-go tree
 pub mod Refused
-pub mod Reading
-pub mod Numbers
 pub mod Answered
 pub mod Printing
 pub mod Examples

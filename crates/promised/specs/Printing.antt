@@ -10,9 +10,9 @@ use Rattle.definition.specs.Basics.{Answer}
 use Rattle.definition.specs.Answers.{tooShort}
 use Rattle.definition.specs.Printed.{print, printed}
 use Rattle.laws.specs.Limits.{room-suffices}
+use Rattle.result_words.specs.Worded.{Bytes}
 use Rattle.work.specs.Slices.{lengths}
 use Rattle.work.specs.Promises.{Edits}
-use Rattle.promised.specs.Numbers.{Bytes}
 use Rattle.promised.specs.Answered.{lent-most, answerIn, edit-answered}
 
 -- "Its batch and result buffers have 65,536 bytes each; of a longer input it judges the first 65,536": what is read in the result slice prints what the definition prints of the input.

@@ -6,11 +6,12 @@ use mathlib.Core.List.{List, [], _∷_, _++_, map, flatMap, zip}
 use mathlib.Core.Option.{Option, none, some, Option·map, Option·getD}
 use Prim.Native.Nat.{ℕ, zero, suc, _+_, _*_, _^_, _≤_, _<_}
 use native.Mathlib.Omega.{arith}
-use lib.Dec.{ltb, eqb, eqb→eq}
+use lib.Dec.{leb, ltb, eqb, eqb→eq}
 use lib.ListN.{length, getD, take, drop, length-append, take-append-drop}
 use lib.Seq.{getD-drop}
+use borrow.Author.Tests.{leb-false}
 use Rattle.orders.specs.Lists.{All, pick}
-use Rattle.orders.specs.ListLaws.{some-inj, none-some, All-map₂, All-over, All-pick, map-some, bind-some}
+use Rattle.orders.specs.ListLaws.{none-passes, some-inj, none-some, All-map₂, All-over, All-pick, map-some, bind-some}
 use Rattle.orders.specs.Tree.{Tree, node, token, list, label, measure, text, preorder, children, elementsOf, Path, resolve, adjust, strip}
 use Rattle.definition.specs.Basics.{gives, refuse, orRefuse, isSome, any, rising}
 use Rattle.definition.specs.Words.{word, words}
@@ -55,6 +56,21 @@ all-words (w ∷ ws) h (suc i) = all-words ws (h .1) i
 
 drop-bytes : (n : ℕ) (b : List ℕ) → Bytes b → Bytes (drop n b)
 drop-bytes n b h i = rw (getD-drop n b i 0) (h (n + i))
+
+pub take-bytes : (n : ℕ) (b : List ℕ) → Bytes b → Bytes (take n b)
+take-bytes zero b h i = omega arith
+take-bytes (suc n) [] h i = omega arith
+take-bytes (suc n) (x ∷ b) h zero = h 0
+take-bytes (suc n) (x ∷ b) h (suc i) = take-bytes n b (λ j. h (suc j)) i
+
+-- told by a test
+pub tested-bytes : (b : List ℕ) → any (leb 256) b ≡ false → Bytes b
+tested-bytes b e = each b (none-passes (leb 256) b e)
+  where
+    each : (b : List ℕ) → All (λ x. leb 256 x ≡ false) b → Bytes b
+    each [] h i = omega arith
+    each (x ∷ b) h zero = leb-false 256 x (h .0)
+    each (x ∷ b) h (suc i) = each b (h .1) i
 
 word-bytes : (b : List ℕ) → Bytes b → Word (word b)
 unfolding word

@@ -1,4 +1,4 @@
-use Rattle.edit.specs.Told.{long-enough}
+use Rattle.edit.specs.Told.{lengths-suffice}
 use borrow.Author.Needs.{needs}
 use Rattle.edit.proofs.answer.Statement.{statement}
 use Rattle.edit.proofs.answer.Tie as tie
@@ -50,7 +50,7 @@ slice-aggregate-respond-13 : tie.Need-slice-aggregate-respond-13
 slice-aggregate-respond-13 c = search needs
 
 respond-requires : tie.Need-respond-requires
-respond-requires c κs = (search needs, search needs, search needs, search (long-enough, needs))
+respond-requires c κs = (search needs, search needs, search needs, search (lengths-suffice, needs))
 
 same-length : tie.Need-same-length
 same-length c = search needs

@@ -1,8 +1,8 @@
 -- A result read back out of its bytes.
 -- Assumes nothing.
 use mathlib.Core.List.{List}
-use Prim.Native.Nat.{ℕ, _+_, _*_, _≤_}
-use lib.ListN.{length, take, drop}
+use Prim.Native.Nat.{ℕ, _+_, _*_}
+use lib.ListN.{take, drop}
 use Rattle.definition.specs.Words.{word, words}
 use Rattle.definition.specs.Finishing.{Result}
 
@@ -26,13 +26,3 @@ told b n t c m discarded climbs = record {
 -- the result whose bytes these are
 unfoldable pub decoded : List ℕ → Result
 decoded b = told b (word b) (word (drop 4 b)) (word (drop 8 b)) (word (drop 12 b)) (word (drop 16 b)) (word (drop 20 b))
-
--- `long` bytes hold what the sizes say, and there is room for what is printed of it: at most 69 bytes for the sizes, 24 for an element, 6 and 2 for each byte
--- for the text, 19 for a changed element and 27 for a note
-pub record Fits (long room n t c m : ℕ) : Type 0 where
-  pub whole : textAt n c m + t ≤ long
-  pub fits : 75 + 24 * n + 2 * t + 19 * c + 27 * m ≤ room
-
--- the bytes b can be printed into so much room
-abbrev pub Printable : List ℕ → ℕ → Type 0
-Printable b room = Fits (length b) room (word b) (word (drop 4 b)) (word (drop 8 b)) (word (drop 12 b))

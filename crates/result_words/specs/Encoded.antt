@@ -1,17 +1,17 @@
--- What is read out of a result's bytes is the result, and it can be printed.
+-- What is read out of bytes that begin with a result's is the result.
 -- Assumes nothing.
 use mathlib.Core.Path.{_≡_, refl, sym, ap, _∙_}
 use mathlib.Core.List.{List, [], _++_, append-assoc, append-nil}
-use Prim.Native.Nat.{ℕ, zero, suc, _+_, _*_, _≤_, _<_}
+use Prim.Native.Nat.{ℕ, zero, suc, _+_, _*_, _<_}
 use native.Mathlib.Omega.{arith}
 use lib.ListN.{length, getD, take, drop, length-append}
-use lib.Seq.{take-length, drop-at}
+use lib.Seq.{take-at, drop-at}
 use Rattle.definition.specs.Words.{word, words, written}
 use Rattle.definition.specs.Finishing.{Result, sixSizes, encoded}
 use Rattle.words.specs.Bytes.{words-written, written-append, length-written, getD-words}
 use Rattle.laws.specs.Limits.{Within, encoded-length}
 use Rattle.result_words.specs.Worded.{Words, Worded}
-use Rattle.printing.specs.Decoded.{textAt, told, decoded, Printable}
+use Rattle.result_words.specs.Decoded.{textAt, told, decoded}
 
 -- six lists joined, told from each
 module _ (a b c d e f : List ℕ) where
@@ -32,7 +32,8 @@ part : (p a s text : List ℕ) (at n : ℕ) → Words a → at ≡ 4 * length p 
 part p a s text at n h e f =
     rw (written-append p (a ++ s), append-assoc, drop-at (written p) (written (a ++ s) ++ text) at (length-written p ∙ sym e), written-append a s, append-assoc, f) (words-written a (written s ++ text) h)
 
-module _ (r : Result) (w : Within r) where
+-- bytes that begin with those of a result
+module _ (r : Result) (bytes rest : List ℕ) (begin : bytes ≡ encoded r ++ rest) (w : Within r) where
   sizes-words : Words (sixSizes r)
   unfolding sixSizes
   sizes-words zero = omega (arith, w .elements)
@@ -51,60 +52,54 @@ module _ (r : Result) (w : Within r) where
   unfolding encoded all
   encoded-all = ap (λ ws. written ws ++ r .text) (simp append-assoc)
 
-  sizes-read : words 6 (encoded r) ≡ sixSizes r
-  unfolding all sixSizes
-  sizes-read = rw encoded-all (part [] (sixSizes r) (r .kinds ++ (r .measures ++ (r .changed ++ (r .numbers ++ r .noted)))) r.text 0 6 sizes-words refl refl)
+  bytes-all : bytes ≡ written all ++ (r .text ++ rest)
+  bytes-all = begin ∙ (ap (λ (l : List ℕ). l ++ rest) encoded-all ∙ append-assoc (written all) r.text rest)
 
-  size-at : (i : ℕ) → i < 6 → word (drop (4 * i) (encoded r)) ≡ getD (sixSizes r) i 0
-  size-at i h = sym (getD-words 6 (encoded r) i h) ∙ ap (λ ws. getD ws i 0) sizes-read
+  pub sizes-read : words 6 bytes ≡ sixSizes r
+  unfolding all sixSizes
+  sizes-read = rw bytes-all (part [] (sixSizes r) (r .kinds ++ (r .measures ++ (r .changed ++ (r .numbers ++ r .noted)))) (r .text ++ rest) 0 6 sizes-words refl refl)
+
+  size-at : (i : ℕ) → i < 6 → word (drop (4 * i) bytes) ≡ getD (sixSizes r) i 0
+  size-at i h = sym (getD-words 6 bytes i h) ∙ ap (λ ws. getD ws i 0) sizes-read
 
   -- the sizes, read one by one
-  elements-read : word (encoded r) ≡ length r.kinds
+  pub elements-read : word bytes ≡ length r.kinds
   unfolding sixSizes
   elements-read = size-at 0 (omega arith)
 
-  text-read : word (drop 4 (encoded r)) ≡ length r.text
+  pub text-read : word (drop 4 bytes) ≡ length r.text
   unfolding sixSizes
   text-read = size-at 1 (omega arith)
 
-  changed-read : word (drop 8 (encoded r)) ≡ length r.changed
+  pub changed-read : word (drop 8 bytes) ≡ length r.changed
   unfolding sixSizes
   changed-read = size-at 2 (omega arith)
 
-  notes-read : word (drop 12 (encoded r)) ≡ length r.numbers
+  pub notes-read : word (drop 12 bytes) ≡ length r.numbers
   unfolding sixSizes
   notes-read = size-at 3 (omega arith)
 
-  discarded-read : word (drop 16 (encoded r)) ≡ r .discarded
+  discarded-read : word (drop 16 bytes) ≡ r .discarded
   unfolding sixSizes
   discarded-read = size-at 4 (omega arith)
 
-  climbs-read : word (drop 20 (encoded r)) ≡ r .climbs
+  climbs-read : word (drop 20 bytes) ≡ r .climbs
   unfolding sixSizes
   climbs-read = size-at 5 (omega arith)
 
-  -- A result within the limits can be printed into 180,000 bytes.
-  pub encoded-printable : (room : ℕ) → 180000 ≤ room → Printable (encoded r) room
-  encoded-printable room h =
-      rw (elements-read, text-read, changed-read, notes-read)
-      (record {
-        whole = omega (arith, encoded-length r (w .measures) (w .noted));
-        fits = omega (arith, w .elements, w .text, w .changed, w .notes);
-      })
-
   -- an array out of all words
-  array-read : (p a s : List ℕ) (at n : ℕ) → all ≡ p ++ (a ++ s) → Words a → at ≡ 4 * length p → n ≡ length a → words n (drop at (encoded r)) ≡ a
-  array-read p a s at n e h f g = rw (encoded-all, e) (part p a s r.text at n h f g)
+  array-read : (p a s : List ℕ) (at n : ℕ) → all ≡ p ++ (a ++ s) → Words a → at ≡ 4 * length p → n ≡ length a → words n (drop at bytes) ≡ a
+  array-read p a s at n e h f g = rw (bytes-all, e) (part p a s (r .text ++ rest) at n h f g)
 
-  text-behind : take (length r.text) (drop (textAt (length r.kinds) (length r.changed) (length r.numbers)) (encoded r)) ≡ r .text
+  pub text-behind : take (length r.text) (drop (textAt (length r.kinds) (length r.changed) (length r.numbers)) bytes) ≡ r .text
   unfolding all sixSizes
   text-behind =
       let k : length (written all) ≡ textAt (length r.kinds) (length r.changed) (length r.numbers) =
-      omega (arith, length-written all, ap length encoded-all, length-append (written all) r.text, encoded-length r (w .measures) (w .noted)) in
-      rw (encoded-all, drop-at (written all) r.text (textAt (length r.kinds) (length r.changed) (length r.numbers)) k) (take-length r.text)
+      omega (arith, ap length encoded-all, length-append (written all) r.text, encoded-length r (w .measures) (w .noted)) in
+      rw (bytes-all, drop-at (written all) (r .text ++ rest) (textAt (length r.kinds) (length r.changed) (length r.numbers)) k) (take-at r.text rest (length r.text) refl)
 
   -- What is read out of the bytes is the result.
-  pub decoded-encoded : Worded r → decoded (encoded r) ≡ r
+  pub decoded-encoded : Worded r → decoded bytes ≡ r
   unfolding decoded told all sixSizes
   decoded-encoded v =
       let K = r .kinds in
