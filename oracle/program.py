@@ -36,7 +36,14 @@ class Stream:
         self.partner = Partner([path, "--stream"])
 
     def __call__(self, batch):
-        answer = self.partner.answer(batch)
+        self.ask([batch])
+        return self.told()
+
+    def ask(self, batches):
+        self.partner.ask(batches)
+
+    def told(self):
+        answer = self.partner.told()
         self.found = found(answer.remark)
         return answer.printed
 

@@ -19,8 +19,15 @@ class Partner:
         self.process = subprocess.Popen(command, stdin=subprocess.PIPE, stdout=subprocess.PIPE)
 
     def answer(self, batch):
-        self.process.stdin.write(pack("<I", len(batch)) + batch)
+        self.ask([batch])
+        return self.told()
+
+    def ask(self, batches):
+        """Hands over batches before any of their answers is read: no more than a pipe holds, lest both sides wait for each other."""
+        self.process.stdin.write(b"".join(pack("<I", len(batch)) + batch for batch in batches))
         self.process.stdin.flush()
+
+    def told(self):
         return Answer(self.part(), self.part())
 
     def part(self):
