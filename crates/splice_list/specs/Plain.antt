@@ -7,12 +7,14 @@ use mathlib.Core.Logic.{_⊎_, inl, inr}
 use Prim.Native.Nat.{ℕ, zero, suc, _+_, _*_, _≤_, _<_}
 use native.Mathlib.Omega.{arith}
 use lib.ListN.{length, take, drop, getD, set}
+use lib.Seq.{getD-take, getD-drop}
 use lib.Dec.{ltb, leb, eqb}
 use borrow.Author.Tests.{lt-ltb, le-ltb, le-leb, leb-true, eq-eqb, ne-eqb}
 use Rattle.orders.specs.Lists.{All}
 use Rattle.orders.specs.ListLaws.{lt-or-le}
 use Rattle.orders.specs.Tree.{Tree, Trees, node, token, nil, cons}
 use Rattle.rows.specs.Row.{Row, tok, nod, outside, rowsOf, rowsIn, rowAt, triples, firstRows}
+use Rattle.rows.specs.Words.{token-row, token-words}
 use Rattle.splice_model.specs.Found.{Inside}
 
 -- ── Third words ─────────────────────────────────────────────────────────────────────────────────────────────
@@ -51,23 +53,41 @@ module _ (k m o : ℕ) where
       go (inl h) (inl v) = rw (lt-ltb k 2147483648 h, ne-eqb m 0 (λ e. omega arith))
       go (inl h) (inr v) = rw (lt-ltb k 2147483648 h, eq-eqb m 0 (omega arith))
 
+  -- where a token's row tells an element, its text is there
+  text-there : (text : List ℕ) → Inside (rowAt text k m o) → k < 2147483648 → o + m ≤ length text
+  text-there text w h = go (leb (o + m) (length text)) refl
+    where
+      go : (b : Bool) → leb (o + m) (length text) ≡ b → o + m ≤ length text
+      go true e = leb-true (o + m) (length text) e
+      go false e = absurd (rw (lt-ltb k 2147483648 h, e) at w)
+
   -- a row that tells an element tells the same
   plain-row : (text : List ℕ) → Inside (rowAt text k m o) → rowAt text k m (plainWord k m o) ≡ rowAt text k m o
   plain-row text w = go (lt-or-le k 2147483648) (lt-or-le 0 m)
     where
-      there : k < 2147483648 → o + m ≤ length text
-      there h = by-test (leb (o + m) (length text)) refl
-        where
-          by-test : (b : Bool) → leb (o + m) (length text) ≡ b → o + m ≤ length text
-          by-test true e = leb-true (o + m) (length text) e
-          by-test false e = absurd (rw (lt-ltb k 2147483648 h, e) at w)
-
       go : (k < 2147483648) ⊎ (2147483648 ≤ k) → (0 < m) ⊎ (m ≤ 0) → rowAt text k m (plainWord k m o) ≡ rowAt text k m o
       go (inr h) v = rw (le-ltb k 2147483648 h)
       go (inl h) (inl v) = rw (← plain-token h (λ e. omega arith))
       go (inl h) (inr v) =
           let e : m ≡ 0 = omega arith in
-          rw (← plain-empty h e, lt-ltb k 2147483648 h, le-leb (o + m) (length text) (there h), le-leb (0 + m) (length text) (omega (arith, there h)), e)
+          rw (← plain-empty h e, lt-ltb k 2147483648 h, le-leb (o + m) (length text) (text-there text w h), le-leb (0 + m) (length text) (omega (arith, text-there text w h)), e)
+
+-- no two numbers of a text are the same
+abbrev pub Distinct : List ℕ → Type 0
+Distinct text = (i j : ℕ) → i < length text → j < length text → getD text i 0 ≡ getD text j 0 → i ≡ j
+
+-- in such a text a row that is told the same has the same third word
+pub third-same : (text : List ℕ) → Distinct text → (k m o o′ : ℕ) → Inside (rowAt text k m o) → rowAt text k m o ≡ rowAt text k m o′ → o ≡ plainWord k m o → o′ ≡ plainWord k m o′ → o ≡ o′
+third-same text d k m o o′ w e p p′ = go (lt-or-le k 2147483648) (lt-or-le 0 m)
+  where
+    go : (k < 2147483648) ⊎ (2147483648 ≤ k) → (0 < m) ⊎ (m ≤ 0) → o ≡ o′
+    go (inr h) v = p ∙ (sym (plain-node k m o h) ∙ (plain-node k m o′ h ∙ sym p′))
+    go (inl h) (inr v) = let z : m ≡ 0 = omega arith in p ∙ (sym (plain-empty k m o h z) ∙ (plain-empty k m o′ h z ∙ sym p′))
+    go (inl h) (inl v) =
+        let l : o + m ≤ length text = text-there k m o text w h in
+        let t = token-words text k m o′ k (take m (drop o text)) (sym e ∙ token-row text k m o h l) in
+        let first : (a : ℕ) → getD (take m (drop a text)) 0 0 ≡ getD text a 0 = λ a. getD-take m (drop a text) 0 0 v ∙ (getD-drop a text 0 0 ∙ ap (λ (x : ℕ). getD text x 0) (let q : a + 0 ≡ a = omega arith in q)) in
+        d o o′ (omega arith) (omega (arith, t .2)) (sym (first o) ∙ (ap (λ (x : List ℕ). getD x 0 0) (sym (t .4)) ∙ first o′))
 
 -- ── Many rows ───────────────────────────────────────────────────────────────────────────────────────────────
 
