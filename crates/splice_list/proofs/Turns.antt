@@ -25,6 +25,7 @@ use Rattle.splice_model.specs.Step.{begin-holds}
 use Rattle.splice_list.specs.declared.Outcome.the-variants.{Refused, Done}
 use Rattle.splice_step.specs.Promises.{Stepped}
 use Rattle.splice_list.specs.Plain.{plainWord, plain, plain-next, plain-long, plain-beyond, plain-third, plain-tree}
+use Rattle.splice_list.specs.SameWords.{upFrom-many, upFrom-get}
 use Rattle.splice_list.specs.Promises.{Listed, Good, ListedAll, isDone, Spliced}
 
 -- ── A list ──────────────────────────────────────────────────────────────────────────────────────────────────
@@ -87,15 +88,6 @@ module _ {rows₀ : List ℕ} {n₀ : ℕ} {marks₀ s p : List ℕ} {c : ℕ} {
     going-bounds b = rw (v .many) (bounded-to b h)
 
 -- ── Marks at the start ──────────────────────────────────────────────────────────────────────────────────────
-
-upFrom-many : (a n : ℕ) → length (upFrom a n) ≡ n
-upFrom-many a zero = refl
-upFrom-many a (suc n) = ap suc (upFrom-many (suc a) n)
-
-upFrom-get : (a n i : ℕ) → i < n → getD (upFrom a n) i 0 ≡ a + i
-upFrom-get a zero i h = absurd (omega arith)
-upFrom-get a (suc n) zero h = omega arith
-upFrom-get a (suc n) (suc i) h = upFrom-get (suc a) n i (omega arith) ∙ omega arith
 
 -- the first i marks are numbered
 pub record Counting (marks l : List ℕ) (i : ℕ) : Type 0 where

@@ -2,3 +2,4 @@
 pub mod Plain
 pub mod Promises
 pub mod TwoOrders
+pub mod SameWords

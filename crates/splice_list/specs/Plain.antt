@@ -2,7 +2,7 @@
 -- Assumes nothing.
 use mathlib.Core.Path.{_≡_, refl, sym, ap, _∙_}
 use mathlib.Core.Bool.{Bool, true, false, cond}
-use mathlib.Core.List.{List, [], _∷_, _++_}
+use mathlib.Core.List.{List, [], _∷_}
 use mathlib.Core.Logic.{_⊎_, inl, inr}
 use Prim.Native.Nat.{ℕ, zero, suc, _+_, _*_, _≤_, _<_}
 use native.Mathlib.Omega.{arith}
@@ -13,6 +13,7 @@ use borrow.Author.Tests.{lt-ltb, le-ltb, le-leb, leb-true, eq-eqb, ne-eqb}
 use Rattle.orders.specs.Lists.{All}
 use Rattle.orders.specs.ListLaws.{lt-or-le}
 use Rattle.orders.specs.Tree.{Tree, Trees, node, token, nil, cons}
+use Rattle.laws.specs.Basics.{All-append}
 use Rattle.rows.specs.Row.{Row, tok, nod, outside, rowsOf, rowsIn, rowAt, triples, firstRows}
 use Rattle.rows.specs.Words.{token-row, token-words}
 use Rattle.splice_model.specs.Found.{Inside}
@@ -146,10 +147,6 @@ plain-rows text (suc n) (k ∷ m ∷ o ∷ l) h =
     let h′ : Inside (rowAt text k m o) × All Inside (firstRows text n l) = rw (thrice₀ n) at h in
     rw (thrice₀ n, plain-row k m o text (h′ .0)) (ap (λ (x : List Row). rowAt text k m o ∷ x) (plain-rows text n l (h′ .1)))
 
-all-append : (x y : List Row) → All Inside x → All Inside y → All Inside (x ++ y)
-all-append [] y h k = k
-all-append (r ∷ x) y h k = (h .0, all-append x y (h .1) k)
-
 -- the rows of a tree tell elements
 mutual
   pub rows-inside : (t : Tree ℕ) → All Inside (rowsOf t)
@@ -158,7 +155,7 @@ mutual
 
   rows-inside-in : (ts : Trees ℕ) → All Inside (rowsIn ts)
   rows-inside-in nil = tt
-  rows-inside-in (cons t ts) = all-append (rowsOf t) (rowsIn ts) (rows-inside t) (rows-inside-in ts)
+  rows-inside-in (cons t ts) = All-append Inside (rowsOf t) (rowsIn ts) (rows-inside t) (rows-inside-in ts)
 
 -- so those of a tree stay
 pub plain-tree : (text : List ℕ) (n : ℕ) (l : List ℕ) (t : Tree ℕ) → firstRows text n l ≡ rowsOf t → firstRows text n (plain n l) ≡ rowsOf t
