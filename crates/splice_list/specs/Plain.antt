@@ -14,7 +14,7 @@ use Rattle.orders.specs.Lists.{All}
 use Rattle.orders.specs.ListLaws.{lt-or-le}
 use Rattle.orders.specs.Tree.{Tree, Trees, node, token, nil, cons}
 use Rattle.laws.specs.Basics.{All-append}
-use Rattle.rows.specs.Row.{Row, tok, nod, outside, rowsOf, rowsIn, rowAt, triples, firstRows}
+use Rattle.rows.specs.Row.{Row, rowsOf, rowsIn, rowAt, firstRows}
 use Rattle.rows.specs.Words.{token-row, token-words}
 use Rattle.splice_model.specs.Found.{Inside}
 
