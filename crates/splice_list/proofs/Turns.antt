@@ -24,6 +24,8 @@ use Rattle.splice_model.specs.Places.{upFrom}
 use Rattle.splice_model.specs.Step.{begin-holds}
 use Rattle.splice_list.specs.declared.Outcome.the-variants.{Refused, Done}
 use Rattle.splice_step.specs.Promises.{Stepped}
+use Rattle.splice_list.specs.Plain.{plainWord, plain, plain-next, plain-long, plain-beyond, plain-third, plain-tree}
+use Rattle.splice_list.specs.SameWords.{upFrom-many, upFrom-get}
 use Rattle.splice_list.specs.Promises.{Listed, Good, ListedAll, isDone, Spliced}
 
 -- ── A list ──────────────────────────────────────────────────────────────────────────────────────────────────
@@ -87,15 +89,6 @@ module _ {rows₀ : List ℕ} {n₀ : ℕ} {marks₀ s p : List ℕ} {c : ℕ} {
 
 -- ── Marks at the start ──────────────────────────────────────────────────────────────────────────────────────
 
-upFrom-many : (a n : ℕ) → length (upFrom a n) ≡ n
-upFrom-many a zero = refl
-upFrom-many a (suc n) = ap suc (upFrom-many (suc a) n)
-
-upFrom-get : (a n i : ℕ) → i < n → getD (upFrom a n) i 0 ≡ a + i
-upFrom-get a zero i h = absurd (omega arith)
-upFrom-get a (suc n) zero h = omega arith
-upFrom-get a (suc n) (suc i) h = upFrom-get (suc a) n i (omega arith) ∙ omega arith
-
 -- the first i marks are numbered
 pub record Counting (marks l : List ℕ) (i : ℕ) : Type 0 where
   pub inside : i ≤ length marks
@@ -120,6 +113,29 @@ module _ {marks l : List ℕ} {i : ℕ} (v : Counting marks l i) where
   pub counting-done : length l ≤ i → l ≡ upFrom 0 (length marks)
   counting-done k =
       v .copied ∙ rw (zero-add i, take-all i (upFrom 0 (length marks)) (omega (arith, v .long, upFrom-many 0 (length marks))), drop-of-length-le marks {i = i} (omega (arith, v .long))) (append-nil (upFrom 0 (length marks)))
+
+-- ── Third words ─────────────────────────────────────────────────────────────────────────────────────────────
+
+-- the first i rows are plain
+pub record Plaining (rows : List ℕ) (n : ℕ) (l : List ℕ) (i : ℕ) : Type 0 where
+  pub inside : i ≤ n
+  pub long : length l ≡ length rows
+  pub is : l ≡ plain i rows
+
+pub plaining-start : (rows : List ℕ) (n : ℕ) → Plaining rows n rows 0
+unfolding plain
+plaining-start rows n = record { inside = omega arith; long = refl; is = refl }
+
+module _ {rows : List ℕ} {n : ℕ} {l : List ℕ} {i : ℕ} (v : Plaining rows n l i) where
+  pub plaining-next : {x : ℕ} → 3 * n ≤ length rows → i < n → x ≡ plainWord (getD l (3 * i) 0) (getD l (3 * i + 1) 0) (getD l (3 * i + 2) 0) → Plaining rows n (set l (3 * i + 2) x) (i + 1)
+  plaining-next {x} g h e = record {
+    inside = omega arith;
+    long = simp length-set (v .long);
+    is = rw (e, v .is, add-one i) (plain-next i rows (omega arith));
+  }
+
+  pub plaining-done : n ≤ i → l ≡ plain n rows
+  plaining-done h = let e : i ≡ n = omega (arith, v .inside) in rw e at (v .is)
 
 -- ── The whole list ──────────────────────────────────────────────────────────────────────────────────────────
 
@@ -153,6 +169,7 @@ module _ (rows marks s p : List ℕ) where
     refused = λ z. (refl, refl);
     within = λ n z. let w : _≡_ {A = ℕ} 0 1 = cc in absurd (omega arith);
     beyond = λ n z. refl;
+    plain = λ n z. let w : _≡_ {A = ℕ} 0 1 = cc in absurd (omega arith);
     done = λ n z. let w : _≡_ {A = ℕ} 0 1 = cc in absurd (omega arith);
   }
     where
@@ -168,26 +185,36 @@ module _ (rows marks s p : List ℕ) where
       refused = λ y. (refl, refl);
       within = λ n y. let w : _≡_ {A = ℕ} 0 1 = cc in absurd (omega arith);
       beyond = λ n y. refl;
+      plain = λ n y. let w : _≡_ {A = ℕ} 0 1 = cc in absurd (omega arith);
       done = λ n y. let w : _≡_ {A = ℕ} 0 1 = cc in absurd (omega arith);
     }
 
     pub good : b ≡ true → Good rows marks s p (length s / 6)
     good z = let w = judged-bounds [] rows (length marks) s p (length s / 6) (sym (J .says []) ∙ z) in record { room = w .0; bounds = w .1 }
 
-    pub spliced-done : {out marked : List ℕ} {r : ℕ} → b ≡ true → length out ≡ length rows → ListedAll rows marks s p (length s / 6) out marked r → Spliced rows marks s p out marked (Done r)
+    module _ {left marked : List ℕ} {r : ℕ} (z : b ≡ true) (w : ListedAll rows marks s p (length s / 6) left marked r) where
+      pub plain-room : length left ≡ length rows → 3 * r ≤ length left
+      plain-room l = let g = good z in omega (arith, w .few, g .room .words)
+
+      pub plain-few : r < 2 ^ 16
+      plain-few = let g = good z in omega (arith, w .few, g .room .rows)
+
+    pub spliced-done : {left out marked : List ℕ} {r : ℕ} → b ≡ true → length left ≡ length rows → ListedAll rows marks s p (length s / 6) left marked r → out ≡ plain r left → Spliced rows marks s p out marked (Done r)
     unfolding isDone
-    spliced-done {out} {marked} {r} z l w =
+    spliced-done {left} {out} {marked} {r} z l w u =
         let g = good z in
         let long : 3 * length marks ≤ length rows = omega (arith, g .room .words) in
+        let k : 3 * r ≤ length left = plain-room z w l in
         record {
           verdict = λ text. sym z ∙ J .says text;
           refused = λ y. let u : _≡_ {A = ℕ} 0 1 = cc in absurd (omega arith);
-          within = λ n y. let e : r ≡ n = cc (y) in omega (arith, w .few, g .room .words);
-          beyond = λ n y. w .beyond;
+          within = λ n y. let e : r ≡ n = cc (y) in rw u (omega (arith, plain-long r left, k));
+          beyond = λ n y. rw u (drop-more (3 * r) (3 * (length marks + rowsTo s (length s / 6))) (plain r left) left (omega (arith, w .few)) (plain-beyond r left) ∙ w .beyond);
+          plain = λ n y i h. let e : r ≡ n = cc (y) in rw u (plain-third r left i (omega arith) k);
           done = λ n y text old D f t.
               let e : r ≡ n = cc (y) in
               let a = judged-apart text old rows (length marks) s p D long f t (sym (J .says text) ∙ z) in
-              let o = one-go-rows text old D out r marked a (w .done text old D f (t .told) a) in
-              let m = rows-many text r out (oneGo D old) (omega (arith, w .few, g .room .words)) (o .0) in
-              rw (← e) (a, sym m, o .0, o .1);
+              let o = one-go-rows text old D left r marked a (w .done text old D f (t .told) a) in
+              let m = rows-many text r left (oneGo D old) k (o .0) in
+              rw (← e) (a, sym m, rw u (plain-tree text r left (oneGo D old) (o .0)), o .1);
         }

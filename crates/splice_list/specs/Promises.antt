@@ -3,8 +3,8 @@
 use mathlib.Core.Path.{_≡_}
 use mathlib.Core.Bool.{Bool, true, false}
 use mathlib.Core.List.{List, map}
-use Prim.Native.Nat.{ℕ, _+_, _*_, _/_, _≤_}
-use lib.ListN.{length, drop}
+use Prim.Native.Nat.{ℕ, _+_, _*_, _/_, _≤_, _<_}
+use lib.ListN.{length, drop, getD}
 use Rattle.orders.specs.Lists.{All}
 use Rattle.orders.specs.Tree.{Tree}
 use Rattle.orders.specs.Splices.{Splice, begin, oneGo, AllApart}
@@ -14,6 +14,7 @@ use Rattle.rows.specs.Place.{size, markOf}
 use Rattle.splice_model.specs.Bounds.{BoundedAll, rowsTo}
 use Rattle.splice_model.specs.Verdict.{Room, Listing, judgedBy}
 use Rattle.splice_model.specs.Cuts.{paths, Holds, Told, stateOf}
+use Rattle.splice_list.specs.Plain.{plainWord}
 use Rattle.splice_list.specs.declared.Outcome.{Outcome}
 use Rattle.splice_list.specs.declared.Outcome.the-variants.{Refused, Done}
 
@@ -49,6 +50,8 @@ pub record Spliced (rows marks splices prepared out marked : List ℕ) (r : Outc
   pub within : (n : ℕ) → r ≡ Done n → 3 * n ≤ length out
   -- beyond all that come in nothing is written; between these and the rows that are left stand words of earlier steps, and they are left free
   pub beyond : (n : ℕ) → r ≡ Done n → drop (3 * (length marks + rowsTo splices (length splices / 6))) out ≡ drop (3 * (length marks + rowsTo splices (length splices / 6))) rows
+  -- a third word that tells nothing, a node's or that of a token without text, is 0
+  pub plain : (n : ℕ) → r ≡ Done n → (i : ℕ) → i < n → getD out (3 * i + 2) 0 ≡ plainWord (getD out (3 * i) 0) (getD out (3 * i + 1) 0) (getD out (3 * i + 2) 0)
   -- and where the words tell a list of splices of a tree, that list is apart, the rows are those of the one-go tree, and the marks the rows of the law's paths
   pub done : (n : ℕ) → r ≡ Done n → (text : List ℕ) (old : Tree ℕ) (D : List (Splice ℕ)) → firstRows text (length marks) rows ≡ rowsOf old → Listing text old splices prepared D
       → AllApart old D × (n ≡ size (oneGo D old)) × (firstRows text n out ≡ rowsOf (oneGo D old)) × (marked ≡ map (λ e. markOf (oneGo D old) (oneGoPath D e)) (paths old))

@@ -1,14 +1,16 @@
 -- What `splice_all` leaves is the law's state, the same in every order.
 -- Assumes nothing.
-use mathlib.Core.Path.{_≡_, refl, sym, ap, _∙_}
+use mathlib.Core.Path.{_≡_, refl, sym, ap, subst, _∙_}
 use mathlib.Core.Bool.{true, _&&_}
 use mathlib.Core.List.{List, [], _∷_, map, reverseAux, List·Permᴰ, Permᴰ·refl, cons≢nil}
-use mathlib.Core.Logic.{_↔_}
+use mathlib.Core.Logic.{_↔_, _⊎_, inl, inr}
 use mathlib.Core.Option.{Option, none, some}
-use Prim.Native.Nat.{ℕ, _+_, _*_, _/_, _≤_, _<_}
+use Prim.Native.Nat.{ℕ, zero, suc, _+_, _*_, _/_, _≤_, _<_}
 use native.Mathlib.Omega.{arith}
-use lib.ListN.{length, getD, getElem?}
-use Rattle.orders.specs.ListLaws.{both-true, some-inj, none-some}
+use lib.ListN.{length, take, getD, getElem?}
+use lib.Seq.{length-take-le, getD-take, ext-getD}
+use Rattle.orders.specs.Lists.{All}
+use Rattle.orders.specs.ListLaws.{both-true, some-inj, none-some, lt-or-le}
 use Rattle.orders.specs.Tree.{Tree, Path, resolve}
 use Rattle.orders.specs.Splices.{Splice, State, begin, performs, oneGo, EntersDeleted, AllApart}
 use Rattle.orders.specs.Check.{allApart?, says-all-apart}
@@ -17,7 +19,7 @@ use Rattle.orders.specs.Paths.{oneGoPath, down}
 use Rattle.orders.specs.Order.{one-go-same, path-same, apart-perm}
 use Rattle.orders.specs.Demand.{Demanded, demand}
 use Rattle.orders.specs.Done.{performs-one-go, reversed}
-use Rattle.rows.specs.Row.{kind, measure, rowsOf, firstRows, rowIn}
+use Rattle.rows.specs.Row.{Row, kind, measure, rowsOf, firstRows, rowIn}
 use Rattle.rows.specs.Place.{place, markOf, Held}
 use Rattle.rows.specs.PlaceLaws.{place-pos}
 use Rattle.rows.specs.Moves.{place-inj}
@@ -27,9 +29,22 @@ use Rattle.splice_model.specs.Cuts.{paths, stateOf}
 use Rattle.splice_model.specs.Places.{get-map, paths-at}
 use Rattle.splice_model.specs.Orders.{map-same, state-after, performs-state}
 use Rattle.splice_model.specs.Verdict.{Listing, roomy, judgedBy, judged-bounds, judged-told, room-same}
+use Rattle.splice_model.specs.Found.{Inside}
+use Rattle.splice_list.specs.Plain.{Distinct, rows-inside, third-same}
 use Rattle.splice_list.specs.Promises.{isDone, Spliced}
 use Rattle.splice_list.specs.declared.Outcome.{Outcome}
 use Rattle.splice_list.specs.declared.Outcome.the-variants.{Refused, Done}
+
+all-get : (l : List Row) (i : ℕ) (r : Row) → All Inside l → getElem? l i ≡ some r → Inside r
+all-get [] i r h e = absurd (none-some e)
+all-get (x ∷ l) zero r h e = subst Inside (some-inj e) (h .0)
+all-get (x ∷ l) (suc i) r h e = all-get l i r (h .1) e
+
+thirds : (j : ℕ) → (j ≡ 3 * (j / 3)) ⊎ ((j ≡ 3 * (j / 3) + 1) ⊎ (j ≡ 3 * (j / 3) + 2))
+thirds j = elim (lt-or-le (3 * (j / 3)) j) [
+  | inr h ↦ inl (omega arith)
+  | inl h ↦ elim (lt-or-le (3 * (j / 3) + 1) j) [ inr g ↦ inr (inl (omega arith)) | inl g ↦ inr (inr (omega arith)) ]
+]
 
 -- the rows are those of a state's tree, and the marks the rows where its paths lead
 pub record Leaves (text : List ℕ) (old : Tree ℕ) (now : State ℕ) (out : List ℕ) (n : ℕ) (marked : List ℕ) : Type 0 where
@@ -57,15 +72,40 @@ module _ (text : List ℕ) (old : Tree ℕ) (rows marks : List ℕ) (tree : firs
         let t : oneGo D old ≡ oneGo D′ old = one-go-same D D′ same (neat old D (d .0)) old in
         (d .1 ∙ cc (t, d′ .1), d .2 ∙ cc (t, d′ .2), d .3 ∙ (map-same _ _ (λ q. cc (t, path-same D D′ same q)) (paths old) ∙ sym (d′ .3)))
 
-    -- word by word: kind words and measures are the same (and so is the text, since the rows are)
-    pub same-words : {out marked out′ marked′ : List ℕ} {n n′ : ℕ} → Spliced rows marks s p out marked (Done n) → Spliced rows marks s′ p′ out′ marked′ (Done n′)
-        → (i : ℕ) → i < n → (getD out (3 * i) 0 ≡ getD out′ (3 * i) 0) × (getD out (3 * i + 1) 0 ≡ getD out′ (3 * i + 1) 0)
-    same-words {out = out} {out′ = out′} {n = n} {n′ = n′} w w′ i h =
-        let t = two-orders w w′ in
-        let e : rowIn text out i ≡ rowIn text out′ i = some-inj (sym (first-get text n out (w .within n refl) i h) ∙ (ap (λ l. getElem? l i) (t .1) ∙ first-get text n′ out′ (w′ .within n′ refl) i (omega (arith, t .0)))) in
-        let k : (l : List ℕ) → kind (rowIn text l i) ≡ getD l (3 * i) 0 = λ l. kind-word text (getD l (3 * i) 0) (getD l (3 * i + 1) 0) (getD l (3 * i + 2) 0) in
-        let m : (l : List ℕ) → measure (rowIn text l i) ≡ getD l (3 * i + 1) 0 = λ l. measure-word text (getD l (3 * i) 0) (getD l (3 * i + 1) 0) (getD l (3 * i + 2) 0) in
-        (sym (k out) ∙ (ap kind e ∙ k out′), sym (m out) ∙ (ap measure e ∙ m out′))
+    module _ {out marked out′ marked′ : List ℕ} {n n′ : ℕ} (w : Spliced rows marks s p out marked (Done n)) (w′ : Spliced rows marks s′ p′ out′ marked′ (Done n′)) where
+      row-same : (i : ℕ) → i < n → rowIn text out i ≡ rowIn text out′ i
+      row-same i h =
+          let t = two-orders w w′ in
+          some-inj (sym (first-get text n out (w .within n refl) i h) ∙ (ap (λ l. getElem? l i) (t .1) ∙ first-get text n′ out′ (w′ .within n′ refl) i (omega (arith, t .0))))
+
+      -- word by word: kind words and measures are the same (and so is the text, since the rows are)
+      pub same-words : (i : ℕ) → i < n → (getD out (3 * i) 0 ≡ getD out′ (3 * i) 0) × (getD out (3 * i + 1) 0 ≡ getD out′ (3 * i + 1) 0)
+      same-words i h =
+          let k : (l : List ℕ) → kind (rowIn text l i) ≡ getD l (3 * i) 0 = λ l. kind-word text (getD l (3 * i) 0) (getD l (3 * i + 1) 0) (getD l (3 * i + 2) 0) in
+          let m : (l : List ℕ) → measure (rowIn text l i) ≡ getD l (3 * i + 1) 0 = λ l. measure-word text (getD l (3 * i) 0) (getD l (3 * i + 1) 0) (getD l (3 * i + 2) 0) in
+          (sym (k out) ∙ (ap kind (row-same i h) ∙ k out′), sym (m out) ∙ (ap measure (row-same i h) ∙ m out′))
+
+      -- in a text of which no two numbers are the same, third words are the same too
+      same-third : Distinct text → (i : ℕ) → i < n → getD out (3 * i + 2) 0 ≡ getD out′ (3 * i + 2) 0
+      same-third d i h =
+          let e = same-words i h in
+          let u = w .done n refl text old D tree l in
+          let inside : Inside (rowIn text out i) = all-get (firstRows text n out) i (rowIn text out i) (rw (u .2) (rows-inside (oneGo D old))) (first-get text n out (w .within n refl) i h) in
+          let q′ = w′ .plain n′ refl i (omega (arith, two-orders w w′ .0)) in
+          third-same text d (getD out (3 * i) 0) (getD out (3 * i + 1) 0) (getD out (3 * i + 2) 0) (getD out′ (3 * i + 2) 0) inside (row-same i h ∙ rw (e .0, e .1)) (w .plain n refl i h) (rw (e .0, e .1) q′)
+
+      -- so that every word is
+      pub every-word : Distinct text → take (3 * n) out ≡ take (3 * n′) out′
+      every-word d =
+          let e : n ≡ n′ = two-orders w w′ .0 in
+          let a : length (take (3 * n) out) ≡ 3 * n = length-take-le (3 * n) out (w .within n refl) in
+          let b : length (take (3 * n′) out′) ≡ 3 * n′ = length-take-le (3 * n′) out′ (w′ .within n′ refl) in
+          ext-getD 0 (take (3 * n) out) (take (3 * n′) out′) (omega arith) (λ j h. getD-take (3 * n) out j 0 (omega arith) ∙ (word j (j / 3) (thirds j) (omega arith) ∙ sym (getD-take (3 * n′) out′ j 0 (omega arith))))
+        where
+          word : (j i : ℕ) → (j ≡ 3 * i) ⊎ ((j ≡ 3 * i + 1) ⊎ (j ≡ 3 * i + 2)) → j < 3 * n → getD out j 0 ≡ getD out′ j 0
+          word j i (inl e) h = rw e (same-words i (omega arith) .0)
+          word j i (inr (inl e)) h = rw e (same-words i (omega arith) .1)
+          word j i (inr (inr e)) h = rw e (same-third d i (omega arith))
 
   -- and where the one is done, so is every other: six words for each splice, and the same prepared rows
   pub every-order : (D D′ : List (Splice ℕ)) → List·Permᴰ D D′ → (s s′ p : List ℕ) → Listing text old s p D → Listing text old s′ p D′ → length s′ ≡ 6 * (length s′ / 6)

@@ -4,6 +4,7 @@ ghost use mathlib.Core.Path.{_≡_};
 ghost use Prim.Native.Nat.{_+_, _*_, _^_, _≤_, _<_};
 ghost use lib.ListN.{length};
 ghost use Rattle.orders.specs.Lists.{All};
+ghost use Rattle.splice_list.specs.Plain.{plainWord, plain};
 ghost use Rattle.splice_list.specs.Promises.{Listed, Good, ListedAll, Spliced};
 ghost use Rattle.splice_model.specs.Bounds.{BoundedAll, rowsTo};
 ghost use Rattle.splice_model.specs.Places.{upFrom};
@@ -60,13 +61,41 @@ fn splice_list(
     splice_each(rows, e, marks, splices, prepared, c)
 }
 
+// The third word of a row, 0 where it tells nothing: in a node's row, and in that of a token without text.
+fn plain_word(k: u32, m: u32, o: u32) -> u32
+    ensures { λ r. ⌜ r ≡ plainWord k m o ⌝ }
+{
+    if 2147483648 <= k {
+        return 0;
+    }
+    if m == 0 {
+        return 0;
+    }
+    o
+}
+
+// Such third words in each of the first `n` rows.
+fn make_plain(rows: &mut [u32], n: usize)
+    requires { ⌜ (3 * n ≤ length (now rows)) × (n < 2 ^ 16) ⌝ }
+    ensures { λ _. ⌜ now (rows .exit) ≡ plain n (now (rows .entry)) ⌝ }
+{
+    let mut i = 0;
+    while i < n {
+        let k = rows[3 * i];
+        let m = rows[3 * i + 1];
+        let o = rows[3 * i + 2];
+        rows[3 * i + 2] = plain_word(k, m, o);
+        i += 1;
+    }
+}
+
 pub enum Outcome {
     Refused,
     Done(usize),
 }
 
 // All splices of the list, in the order given, on the old tree that the first rows tell, one row for each mark: refused with nothing changed if the list does
-// not fit the tree or is not apart, or if there is no room; else the new number of rows.
+// not fit the tree or is not apart, or if there is no room; else the new number of rows, in which a third word that tells nothing is 0.
 pub fn splice_all(rows: &mut [u32], marks: &mut [u32], splices: &[u32], prepared: &[u32]) -> Outcome
     ensures { λ r. ⌜ Spliced (now (rows .entry)) (now (marks .entry)) (now (splices .entry)) (now (prepared .entry)) (now (rows .exit)) (now (marks .exit)) r ⌝ }
 {
@@ -76,7 +105,9 @@ pub fn splice_all(rows: &mut [u32], marks: &mut [u32], splices: &[u32], prepared
     }
     let c = splices.len() / 6;
     if judged(rows, e, splices, prepared, c) {
-        return Outcome::Done(splice_list(rows, marks, splices, prepared, c));
+        let n = splice_list(rows, marks, splices, prepared, c);
+        make_plain(rows, n);
+        return Outcome::Done(n);
     }
     Outcome::Refused
 }

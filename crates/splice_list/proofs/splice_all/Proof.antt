@@ -1,7 +1,7 @@
 -- `splice_all` meets its contract.
 -- Assumes nothing.
 use borrow.Author.Needs.{needs}
-use Rattle.splice_list.proofs.Turns.{spliced-not, good, spliced-done, spliced-refused}
+use Rattle.splice_list.proofs.Turns.{spliced-not, good, plain-room, plain-few, spliced-done, spliced-refused}
 use Rattle.splice_list.proofs.splice_all.Statement.{statement}
 use Rattle.splice_list.proofs.splice_all.Tie as tie
 
@@ -13,6 +13,9 @@ judged-requires c κs = search needs
 
 splice-list-requires : tie.Need-splice-list-requires
 splice-list-requires c κs = search (good, needs)
+
+make-plain-requires : tie.Need-make-plain-requires
+make-plain-requires c κs = (search (plain-room, needs), search (plain-few, needs))
 
 same-length : tie.Need-same-length
 same-length c = search needs
@@ -36,6 +39,7 @@ splice-all-spec =
     returns
     judged-requires
     splice-list-requires
+    make-plain-requires
     same-length
     same-length-2
     returns-2
