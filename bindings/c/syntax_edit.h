@@ -13,7 +13,7 @@
  *  - the result holds the answer and beyond it what it held; after a refusal it holds all that it held;
  *  - every work slice is all zeros when the call returns.
  *
- * Not proved: how much stack a call takes. 64 KiB were enough for every recorded case (oracle/cases). */
+ * Not proved: how much stack a call takes. 64 KiB were enough for every recorded case (crates/replay/stdin). */
 #ifndef SYNTAX_EDIT_H
 #define SYNTAX_EDIT_H
 
