@@ -8,6 +8,7 @@
 --     Moves      what survives of paths, whatever the splices
 --     Right      what is known of the targets of calls that line 6 accepts
 --     Sorting    the sorted order is a stable permutation, also where places are sorted and not the elements
+--     Searching  where an element is put in a sorted list, found by halves
 --     Regions    the last region that contains a change is the one that popping finds
 --     Stages     what each stage from calls to performed changes keeps of every change
 --     Accepted   what is known of a batch that lines 2 to 7 accept
@@ -25,6 +26,7 @@ pub mod Kin
 pub mod Moves
 pub mod Right
 pub mod Sorting
+pub mod Searching
 pub mod Regions
 pub mod Stages
 pub mod Accepted
