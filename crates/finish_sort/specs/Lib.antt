@@ -1,5 +1,5 @@
 -- Changed elements and notes of the new tree, picked and sorted in place.
---     Items      items in a slice, one written, one put among those sorted, all that are picked sorted
+--     Items      items in a slice, some copied, one put among those sorted, all that are picked sorted
 --     Keys       what changed elements and notes are sorted by
 --     Sorted     what the functions promise, in words
 pub mod Items
