@@ -1,19 +1,19 @@
 -- A change recorded among rows: each answer, from the tests that led there.
 -- Assumes nothing.
-use mathlib.Core.Bool.{Bool, true, false, cond, not}
+use mathlib.Core.Bool.{Bool, true, false, cond, not, _&&_, and-true, and-false}
 use mathlib.Core.List.{List, [], _∷_, _++_, headD, zip}
 use mathlib.Core.Option.{Option, Option·map}
 use mathlib.Core.Path.{_≡_, refl, sym, ap, _∙_}
 use Prim.Native.Nat.{ℕ, zero, suc, _+_, _-_, _*_, _/_, _%_, _^_, _≤_, _<_}
 use native.Mathlib.Numerals.{add-one}
 use native.Mathlib.Omega.{arith}
-use lib.ListN.{length, getD, take, drop, drop-of-length-le, take-append-drop}
+use lib.ListN.{length, getD, take, drop, length-drop, drop-of-length-le, take-append-drop}
 use lib.Seq.{paste, getD-drop, split-at, drop-drop, drop-paste}
 use lib.Dec.{eqb}
 use borrow.Author.Tests.{eq-eqb, ne-eqb, not-true, not-false}
 use Rattle.syntax_editor.specs.ChangeRow.{ChangeRow, rowWords, rowOf, rowsOf}
 use Rattle.syntax_editor.specs.ChangeRowLaws.{rowAt, length-row, length-rowsOf, rows-written, row-among, row-set, row-added}
-use Rattle.recording.specs.Queueing.{place, place-passed, place-found, put, put-found, put-new, through, through-editor, through-put, through-end}
+use Rattle.recording.specs.Queueing.{place, place-none, place-passed, place-found, put, put-found, put-new, through, through-editor, through-put, through-end}
 use Rattle.definition.specs.Elements.{Table}
 use Rattle.definition.specs.Words.{word, words}
 use Rattle.definition.specs.Refusals.{Call, operationOf, countOf}
@@ -33,7 +33,7 @@ use Rattle.syntax_editor.specs.declared.Change.{Change}
 use Rattle.syntax_editor.specs.declared.Change.the-variants.{Insert, Replace, Delete, ReplaceWithMany, ReplaceAll}
 use Rattle.syntax_editor.specs.declared.Numbers.{Numbers}
 use Rattle.syntax_editor.specs.declared.Spot.{Spot}
-use Rattle.recording.specs.RecordedRows.{isSingle, meetsBy, meetsRow, mergedRow, rowFor, changeRows, rowsAsked, rows-through, Put, RowsRecorded}
+use Rattle.recording.specs.RecordedRows.{isSingle, meetsSingle, meetsBy, meetsRow, mergedRow, rowFor, changeRows, rowsAsked, rows-through, Put, RowsRecorded}
 
 -- ── Which row ───────────────────────────────────────────────────────────────────────────────────────────────
 
@@ -45,7 +45,7 @@ pub single-delete : (op : ℕ) → (op ≡ 2 → ⊥) → eqb op 3 ≡ isSingle 
 unfolding isSingle
 single-delete op e = rw (ne-eqb op 2 e)
 
-module _ (w : List ℕ) (k op x : ℕ) where
+module _ (w : List ℕ) (k : ℕ) where
   first-word : (v : ℕ) → v ≡ getD w (13 * k) 0 → v ≡ (rowAt w k) .operation
   unfolding rowAt rowOf
   first-word v e = e ∙ sym (getD-drop (13 * k) w 0 0 ∙ ap (λ (i : ℕ). getD w i 0) (omega arith))
@@ -54,50 +54,61 @@ module _ (w : List ℕ) (k op x : ℕ) where
   unfolding rowAt rowOf
   second-word v e = e ∙ sym (getD-drop (13 * k) w 1 0)
 
-  module _ (t : Bool) (e : t ≡ isSingle op) where
-    pub meets-neither : not t ≡ true → false ≡ meetsBy op x (rowAt w k)
-    unfolding meetsBy
-    meets-neither q = rw (← e, not-true t q)
+  module _ (x z : ℕ) (h : z ≡ getD w (13 * k + 1) 0) where
+    pub meets-other : (x ≡ z → ⊥) → false ≡ meetsSingle x (rowAt w k)
+    unfolding meetsSingle
+    meets-other n = rw (← second-word z h, ne-eqb x z n, and-false)
 
-    module _ (v : ℕ) (f : v ≡ getD w (13 * k) 0) (u : Bool) (g : u ≡ isSingle v) where
-      pub meets-other : not t ≡ false → not u ≡ true → false ≡ meetsBy op x (rowAt w k)
-      unfolding meetsBy
-      meets-other p q = rw (← e, not-false t p, ← first-word v f, ← g, not-true u q)
-
-      pub meets-target : (z : ℕ) → not t ≡ false → not u ≡ false → z ≡ getD w (13 * k + 1) 0 → eqb x z ≡ meetsBy op x (rowAt w k)
-      unfolding meetsBy
-      meets-target z p q h = rw (← e, not-false t p, ← first-word v f, ← g, not-false u q, ← second-word z h)
+    pub meets-target : x ≡ z → (v : ℕ) → v ≡ getD w (13 * k) 0 → (t : Bool) → t ≡ isSingle v → t ≡ meetsSingle x (rowAt w k)
+    unfolding meetsSingle
+    meets-target e v f t g = rw (← second-word z h, eq-eqb x z e, and-true, ← first-word v f) g
 
 -- ── The place ───────────────────────────────────────────────────────────────────────────────────────────────
 
 -- what is sought stands from k on
-pub record Seeking (w : List ℕ) (start count op x k : ℕ) : Type 0 where
+pub record Seeking (w : List ℕ) (start count x k : ℕ) : Type 0 where
   pub inside : k ≤ count
-  pub same : start + place (meetsBy op x) (drop start (rowsOf count w)) ≡ k + place (meetsBy op x) (drop k (rowsOf count w))
+  pub same : start + place (meetsSingle x) (drop start (rowsOf count w)) ≡ k + place (meetsSingle x) (drop k (rowsOf count w))
 
-pub seeking-start : (w : List ℕ) (start count op x : ℕ) → start ≤ count → Seeking w start count op x start
-seeking-start w start count op x h = record { inside = h; same = refl }
+pub seeking-start : (w : List ℕ) (start count x : ℕ) → start ≤ count → Seeking w start count x start
+seeking-start w start count x h = record { inside = h; same = refl }
 
-module _ {w : List ℕ} {start count op x k : ℕ} (v : Seeking w start count op x k) where
-  pub seeking-none : count ≤ k → count ≡ start + place (meetsBy op x) (drop start (rowsOf count w))
+module _ {w : List ℕ} {start count x k : ℕ} (v : Seeking w start count x k) where
+  pub seeking-none : count ≤ k → count ≡ start + place (meetsSingle x) (drop start (rowsOf count w))
   unfolding place
   seeking-none h =
       let e : k ≡ count = omega (arith, v .inside) in
       sym (v .same ∙ rw (drop-of-length-le (rowsOf count w) {i = k} (omega (arith, length-rowsOf count w)), e) (omega arith))
 
-  module _ (h : k < count) {t : Bool} (e : t ≡ meetsBy op x (rowAt w k)) where
-    known : meetsBy op x (getD (rowsOf count w) k (rowAt w k)) ≡ t
+  module _ (h : k < count) {t : Bool} (e : t ≡ meetsSingle x (rowAt w k)) where
+    known : meetsSingle x (getD (rowsOf count w) k (rowAt w k)) ≡ t
     known = rw (row-among w count k (rowAt w k) h) (sym e)
 
-    pub seeking-found : t ≡ true → k ≡ start + place (meetsBy op x) (drop start (rowsOf count w))
-    seeking-found q = sym (v .same ∙ place-found (meetsBy op x) (rowsOf count w) k (rowAt w k) (omega (arith, length-rowsOf count w)) (known ∙ q))
+    pub seeking-found : t ≡ true → k ≡ start + place (meetsSingle x) (drop start (rowsOf count w))
+    seeking-found q = sym (v .same ∙ place-found (meetsSingle x) (rowsOf count w) k (rowAt w k) (omega (arith, length-rowsOf count w)) (known ∙ q))
 
-    pub seeking-next : t ≡ false → Seeking w start count op x (k + 1)
+    pub seeking-next : t ≡ false → Seeking w start count x (k + 1)
     seeking-next q =
         record {
           inside = omega arith;
-          same = v .same ∙ rw (add-one k) (place-passed (meetsBy op x) (rowsOf count w) k (rowAt w k) (omega (arith, length-rowsOf count w)) (known ∙ q));
+          same = v .same ∙ rw (add-one k) (place-passed (meetsSingle x) (rowsOf count w) k (rowAt w k) (omega (arith, length-rowsOf count w)) (known ∙ q));
         }
+
+module _ (w : List ℕ) (start count op x : ℕ) (t : Bool) (e : t ≡ isSingle op) where
+  -- the place is sought if the operation merges; else no row is met
+  place-by : (l : List ChangeRow) → place (meetsBy op x) l ≡ cond t (place (meetsSingle x) l) (length l)
+  unfolding meetsBy
+  place-by l = ap (λ (u : Bool). place (λ s. u && meetsSingle x s) l) (sym e) ∙ go t
+    where
+      go : (u : Bool) → place (λ s. u && meetsSingle x s) l ≡ cond u (place (meetsSingle x) l) (length l)
+      go true = refl
+      go false = place-none l
+
+  pub place-neither : start ≤ count → not t ≡ true → count ≡ start + place (meetsBy op x) (drop start (rowsOf count w))
+  place-neither h q = rw (place-by (drop start (rowsOf count w)), not-true t q, length-drop, length-rowsOf) (omega arith)
+
+  pub place-single : (k : ℕ) → not t ≡ false → k ≡ start + place (meetsSingle x) (drop start (rowsOf count w)) → k ≡ start + place (meetsBy op x) (drop start (rowsOf count w))
+  place-single k q f = rw (place-by (drop start (rowsOf count w)), not-false t q) f
 
 -- ── One change more ─────────────────────────────────────────────────────────────────────────────────────────
 
@@ -132,7 +143,7 @@ module _ (r : ChangeRow) (start count : ℕ) (w : List ℕ) (h : start ≤ count
     unfolding mergedRow
     put-stays q =
         let m : k < count = omega (arith, n) in
-        let g : eqb ((rowAt w k) .operation) 3 ≡ true = rw (← first-word w k 0 0 v f) (eq-eqb v 3 q) in
+        let g : eqb ((rowAt w k) .operation) 3 ≡ true = rw (← first-word w k v f) (eq-eqb v 3 q) in
         record {
           low = omega arith;
           high = omega arith;
@@ -145,7 +156,7 @@ module _ (r : ChangeRow) (start count : ℕ) (w : List ℕ) (h : start ≤ count
     unfolding mergedRow
     put-over w′ q p =
         let m : k < count = omega (arith, n) in
-        let g : eqb ((rowAt w k) .operation) 3 ≡ false = rw (← first-word w k 0 0 v f) (ne-eqb v 3 q) in
+        let g : eqb ((rowAt w k) .operation) 3 ≡ false = rw (← first-word w k v f) (ne-eqb v 3 q) in
         let over : take k (rowsOf count w) ++ (r ∷ drop (suc k) (rowsOf count w)) ≡ take start (rowsOf count w) ++ put meetsRow mergedRow r (drop start (rowsOf count w)) =
         sym (found ∙ rw g) in
         record {

@@ -16,6 +16,12 @@ unfoldable pub place : {A : Type 0} → (A → Bool) → List A → ℕ
 place p [] = 0
 place p (d ∷ l) = cond (p d) 0 (suc (place p l))
 
+-- no element passes
+pub place-none : {A : Type 0} (l : List A) → place (λ d. false) l ≡ length l
+unfolding place
+place-none [] = refl
+place-none (d ∷ l) = ap suc (place-none l)
+
 -- ── A search from the place k on ────────────────────────────────────────────────────────────────────────────
 
 module _ {A : Type 0} (p : A → Bool) (l : List A) (k : ℕ) (z : A) (h : k < length l) where

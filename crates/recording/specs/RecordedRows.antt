@@ -20,9 +20,13 @@ use Rattle.recording.specs.Recorded.{meets, isDelete, meetsAt, mergedAt,
 unfoldable pub isSingle : ℕ → Bool
 isSingle op = eqb op 2 || eqb op 3
 
+-- a change of the target x whose operation merges, and the earlier row s
+unfoldable pub meetsSingle : ℕ → ChangeRow → Bool
+meetsSingle x s = isSingle s.operation && eqb x s.target
+
 -- a change of the operation op and target x, and the earlier row s
 unfoldable pub meetsBy : ℕ → ℕ → ChangeRow → Bool
-meetsBy op x s = isSingle op && isSingle s.operation && eqb x s.target
+meetsBy op x s = isSingle op && meetsSingle x s
 
 abbrev pub meetsRow : ChangeRow → ChangeRow → Bool
 meetsRow r s = meetsBy (r .operation) (r .target) s
@@ -45,7 +49,7 @@ module _ (T : Table) where
   rowsAsked at cs = map (Option·map rowFor) (allAsked at cs)
 
   meets-row : (c d : ℕ × Change) → meetsRow (rowFor c) (rowFor d) ≡ meetsAt c d
-  unfolding meetsBy isSingle changeRow operation target meets merges
+  unfolding meetsBy meetsSingle isSingle changeRow operation target meets merges
   meets-row (i, insert firstChild x l) d = refl
   meets-row (i, insert after x l) d = refl
   meets-row (i, replaceWithMany x l) d = refl

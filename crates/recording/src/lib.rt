@@ -13,7 +13,7 @@ ghost use Rattle.syntax_editor.specs.ChangeRowLaws.{rowAt};
 ghost use Rattle.syntax_editor.specs.Numbers.{rowWith, NumbersFit};
 ghost use Rattle.syntax_editor.specs.Spots.{SpotFits};
 ghost use Rattle.recording.specs.Queueing.{place};
-ghost use Rattle.recording.specs.RecordedRows.{isSingle, meetsBy, changeRows, Put, RowsRecorded};
+ghost use Rattle.recording.specs.RecordedRows.{isSingle, meetsSingle, meetsBy, changeRows, Put, RowsRecorded};
 ghost use Rattle.recording.specs.CallList.{callAs, callsOf, Fit, CallFits, CallPut, Stands};
 
 // The rows so far: where the present editor's start, and how many there are.
@@ -32,33 +32,42 @@ fn is_single(operation: usize) -> bool
     operation == 3
 }
 
-// Whether the row at place `k` and a later change of this operation and target merge.
-fn meets(rows: &[u32], k: usize, operation: usize, target: usize) -> bool
+// Whether the row at place `k` and a later change of this target, whose operation merges, merge.
+fn meets(rows: &[u32], k: usize, target: usize) -> bool
     requires { ⌜ (13 * k + 13 ≤ length (now rows)) × (k < 2 ^ 32) ⌝ }
-    ensures { λ r. ⌜ r ≡ meetsBy operation target (rowAt (now (rows .entry)) k) ⌝ }
+    ensures { λ r. ⌜ r ≡ meetsSingle target (rowAt (now (rows .entry)) k) ⌝ }
 {
-    if !is_single(operation) {
+    // The target first: most rows differ there.
+    if target != words::word(rows, 13 * k + 1) {
         return false;
     }
-    if !is_single(words::word(rows, 13 * k)) {
-        return false;
-    }
-    target == words::word(rows, 13 * k + 1)
+    is_single(words::word(rows, 13 * k))
 }
 
-// The place of the first row that such a change meets, from `start` on; `count` if there is none.
-fn place_of(rows: &[u32], start: usize, count: usize, operation: usize, target: usize) -> usize
+// The place of the first row that a change of this target, whose operation merges, meets, from `start` on; `count` if there is none.
+fn single_place(rows: &[u32], start: usize, count: usize, target: usize) -> usize
     requires { ⌜ (start ≤ count) × (count ≤ 256) × (13 * count ≤ length (now rows)) ⌝ }
-    ensures { λ r. ⌜ (r ≡ start + place (meetsBy operation target) (drop start (rowsOf count (now (rows .entry))))) × (r ≤ count) ⌝ }
+    ensures { λ r. ⌜ (r ≡ start + place (meetsSingle target) (drop start (rowsOf count (now (rows .entry))))) × (r ≤ count) ⌝ }
 {
     let mut k = start;
     while k < count {
-        if meets(rows, k, operation, target) {
+        if meets(rows, k, target) {
             return k;
         }
         k += 1;
     }
     count
+}
+
+// The place of the first row that a change of this operation and target meets, from `start` on; `count` if there is none.
+fn place_of(rows: &[u32], start: usize, count: usize, operation: usize, target: usize) -> usize
+    requires { ⌜ (start ≤ count) × (count ≤ 256) × (13 * count ≤ length (now rows)) ⌝ }
+    ensures { λ r. ⌜ (r ≡ start + place (meetsBy operation target) (drop start (rowsOf count (now (rows .entry))))) × (r ≤ count) ⌝ }
+{
+    if !is_single(operation) {
+        return count;
+    }
+    single_place(rows, start, count, target)
 }
 
 // A change is recorded among the rows from `start` on; how many rows there are then.

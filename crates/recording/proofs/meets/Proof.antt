@@ -1,51 +1,43 @@
 -- `meets` meets its contract. A row's first word is its operation, its second the target.
 -- Assumes nothing.
-use Rattle.recording.proofs.Recordings.{meets-neither, meets-other, meets-target}
+use Rattle.recording.proofs.Recordings.{meets-other, meets-target}
 use borrow.Author.Needs.{needs}
 use Rattle.recording.proofs.meets.Statement.{statement}
 use Rattle.recording.proofs.meets.Tie as tie
 
-is-single-requires : tie.Need-is-single-requires
-is-single-requires c κs = search needs
-
-returns : tie.Need-returns
-returns c = search (meets-neither, needs)
-
 mul-word : tie.Need-mul-word
 mul-word c = search needs
-
-word-requires : tie.Need-word-requires
-word-requires c κs = search needs
-
-is-single-requires-2 : tie.Need-is-single-requires-2
-is-single-requires-2 c κs = search needs
-
-returns-2 : tie.Need-returns-2
-returns-2 c = search (meets-other, needs)
-
-mul-word-2 : tie.Need-mul-word-2
-mul-word-2 c = search needs
 
 add-word : tie.Need-add-word
 add-word c = search needs
 
+word-requires : tie.Need-word-requires
+word-requires c κs = search needs
+
+returns : tie.Need-returns
+returns c = search (meets-other, needs)
+
+mul-word-2 : tie.Need-mul-word-2
+mul-word-2 c = search needs
+
 word-requires-2 : tie.Need-word-requires-2
 word-requires-2 c κs = search needs
 
-returns-3 : tie.Need-returns-3
-returns-3 c = search (meets-target, needs)
+is-single-requires : tie.Need-is-single-requires
+is-single-requires c κs = search needs
+
+returns-2 : tie.Need-returns-2
+returns-2 c = search (meets-target, needs)
 
 pub meets-spec : {M : Type 1} → statement M
 meets-spec =
     tie.close
     (tie.spec
-    is-single-requires
-    returns
     mul-word
-    word-requires
-    is-single-requires-2
-    returns-2
-    mul-word-2
     add-word
+    word-requires
+    returns
+    mul-word-2
     word-requires-2
-    returns-3)
+    is-single-requires
+    returns-2)

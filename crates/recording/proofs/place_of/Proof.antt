@@ -1,48 +1,21 @@
--- `place_of` meets its contract. The invariant: what is sought stands from place k on.
+-- `place_of` meets its contract: a change whose operation does not merge meets no row.
 -- Assumes nothing.
-use Prim.Native.Nat.{_-_}
-use Rattle.recording.proofs.Recordings.{Seeking, seeking-start, seeking-next, seeking-found, seeking-none}
+use Rattle.recording.proofs.Recordings.{place-neither, place-single}
 use borrow.Author.Needs.{needs}
 use Rattle.recording.proofs.place_of.Statement.{statement}
 use Rattle.recording.proofs.place_of.Tie as tie
 
-abbrev Inv-loop : tie.InvT-loop
-Inv-loop rows start count operation target k₀ k = Seeking rows start count operation target k
+is-single-requires : tie.Need-is-single-requires
+is-single-requires c κs = search needs
 
-abbrev μ-loop : tie.MeasureT-loop
-μ-loop rows start count operation target k₀ k = count - k
+returns : tie.Need-returns
+returns c = (search (place-neither, needs), search needs)
 
-loop-holds : tie.Need-loop-holds Inv-loop μ-loop
-loop-holds c = search (seeking-start, needs)
+single-place-requires : tie.Need-single-place-requires
+single-place-requires c κs = search needs
 
-meets-requires : tie.Need-meets-requires Inv-loop μ-loop
-meets-requires c κs = search needs
-
-returns : tie.Need-returns Inv-loop μ-loop
-returns c = (search (seeking-found, needs), search needs)
-
-add-k : tie.Need-add-k Inv-loop μ-loop
-add-k c = search needs
-
-loop-less : tie.Need-loop-less Inv-loop μ-loop
-loop-less c = search needs
-
-loop-again : tie.Need-loop-again Inv-loop μ-loop
-loop-again c = search (seeking-next, needs)
-
-returns-2 : tie.Need-returns-2 Inv-loop μ-loop
-returns-2 c = (search (seeking-none, needs), search needs)
+returns-2 : tie.Need-returns-2
+returns-2 c = (search (place-single, needs), search needs)
 
 pub place-of-spec : {M : Type 1} → statement M
-place-of-spec =
-    tie.close
-    (tie.spec
-    Inv-loop
-    μ-loop
-    loop-holds
-    meets-requires
-    returns
-    add-k
-    loop-less
-    loop-again
-    returns-2)
+place-of-spec = tie.close (tie.spec is-single-requires returns single-place-requires returns-2)
