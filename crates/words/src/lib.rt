@@ -142,14 +142,14 @@ fn move_up(s: &mut [u32], from: usize, to: usize, len: usize)
     }
 }
 
-// The `len` words at `from` are written at `to`.
+// The `len` words at `from` are written at `to`; where that is the same place nothing is done.
 pub fn move_words(s: &mut [u32], from: usize, to: usize, len: usize)
     requires { ⌜ (from + len ≤ length (now s)) × (to + len ≤ length (now s)) ⌝ }
     ensures { λ _. ⌜ now (s .exit) ≡ paste (now (s .entry)) to (drop from (now (s .entry))) len ⌝ }
 {
-    if to <= from {
+    if to < from {
         move_down(s, from, to, len)
-    } else {
+    } else if from < to {
         move_up(s, from, to, len)
     }
 }
