@@ -12,7 +12,7 @@ use lib.ListN.{length, getD, set, take, drop, length-set, length-append, length-
 use lib.Seq.{paste, paste-zero, paste-suc, take-paste, drop-cons, take-suc, take-suc-set, take-all, drop-set-lt, drop-drop, length-take-le, getD-take, getD-drop}
 use Rattle.orders.specs.Lists.{All, more, pick}
 use Rattle.orders.specs.Tree.{shift}
-use Rattle.orders.specs.ListLaws.{zone-before, zone-inside, zone-after}
+use Rattle.orders.specs.ListLaws.{zone-before, zone-inside, zone-after, All-at}
 use Rattle.orders.specs.TreeLaws.{shift-before, shift-inside, shift-after}
 use Rattle.rows.specs.Place.{inRun}
 use Rattle.store_model.specs.Store.{HeldNote, withRow}
@@ -32,11 +32,6 @@ pick-more {X} {Y} f (y ∷ l) x = go (f y) (pick-more f l x)
     go : (o : Option Y) → pick f (l ++ (x ∷ [])) ≡ pick f l ++ more (f x) [] → more o (pick f (l ++ (x ∷ []))) ≡ more o (pick f l) ++ more (f x) []
     go none e = e
     go (some z) e = ap {B = List Y} (λ r. z ∷ r) e
-
-All-get : {X : Type 0} (P : X → Type 0) (z : X) (l : List X) (i : ℕ) → i < length l → All P l → P (getD l i z)
-All-get P z [] i h a = absurd (omega arith)
-All-get P z (x ∷ l) zero h a = a .0
-All-get P z (x ∷ l) (suc i) h a = All-get P z l i (omega arith) (a .1)
 
 -- ── Changed rows ────────────────────────────────────────────────────────────────────────────────────────────
 
@@ -83,7 +78,7 @@ module _ {l : List ℕ} {k p q m : ℕ} {out : List ℕ} {i r : ℕ} (v : Moving
       ap (λ (j : ℕ). getD out j 0) (sym (add-zero i)) ∙ (sym (getD-drop i out 0 0) ∙ (ap (λ (d : List ℕ). getD d 0 0) (v .rest) ∙ (getD-drop i l 0 0 ∙ ap (λ (j : ℕ). getD l j 0) (add-zero i))))
 
   pub moving-small : i < k → k ≤ length l → All (λ x. x < 2 ^ 16) (take k l) → getD out i 0 < 2 ^ 16
-  moving-small h b a = rw (unmoved, ← getD-take k l i 0 h) (All-get (λ x. x < 2 ^ 16) 0 (take k l) i (omega (arith, length-take-le k l b)) a)
+  moving-small h b a = rw (unmoved, ← getD-take k l i 0 h) (All-at (λ x. x < 2 ^ 16) 0 (take k l) i (omega (arith, length-take-le k l b)) a)
 
   pub moving-next : {out′ : List ℕ} {r′ : ℕ} → i < k → k ≤ length l → RowMoved out i r p q m out′ r′ → Moving l k p q m out′ (i + 1) r′
   moving-next h b w = record {
@@ -141,7 +136,7 @@ module _ {l : List ℕ} {i r p q m : ℕ} where
 row-small : (l : List ℕ) (k i : ℕ) → i < k → All (λ n. n .row < 2 ^ 16) (notesOf k l) → noteAt l i .row < 2 ^ 16
 row-small l k i h a =
     let z : HeldNote = noteAt l i in
-    subst (λ (n : HeldNote). n .row < 2 ^ 16) (note-among l k i z h) (All-get (λ n. n .row < 2 ^ 16) z (notesOf k l) i (omega (arith, length-notesOf k l)) a)
+    subst (λ (n : HeldNote). n .row < 2 ^ 16) (note-among l k i z h) (All-at (λ n. n .row < 2 ^ 16) z (notesOf k l) i (omega (arith, length-notesOf k l)) a)
 
 -- the first i notes are moved, and r of them are left
 pub record MovingNotes (l : List ℕ) (k p q m : ℕ) (out : List ℕ) (i r : ℕ) : Type 0 where
@@ -300,7 +295,7 @@ module _ {l : List ℕ} {k at : ℕ} {sizes out : List ℕ} {i row : ℕ} (v : A
   unfolding partRows
   adding-next {n} h b a e =
       let P : List ℕ = partRows at sizes in
-      let s : n < 2 ^ 16 = rw (e .0) (All-get (λ x. x < 2 ^ 16) 0 sizes i h a) in
+      let s : n < 2 ^ 16 = rw (e .0) (All-at (λ x. x < 2 ^ 16) 0 sizes i h a) in
       let f : drop i P ≡ row ∷ partRows (row + n) (drop (suc i) sizes) = v .rest ∙ rw (drop-cons sizes i 0 h, ← e .0) refl in
       let g : getD P i 0 ≡ row = ap (λ (j : ℕ). getD P j 0) (sym (add-zero i)) ∙ (sym (getD-drop i P 0 0) ∙ ap (λ (d : List ℕ). getD d 0 0) f) in
       record {

@@ -12,13 +12,14 @@ use lib.Seq.{set-out, drop-drop}
 use lib.Dec.{leb, eqb}
 use borrow.Author.Tests.{eq-eqb, ne-eqb, le-leb, lt-leb}
 use Rattle.orders.specs.Lists.{All}
+use Rattle.orders.specs.ListLaws.{All-getD}
 use Rattle.definition.specs.Planning.{own, dependent, discarded, isDiscarded, fate}
 use Rattle.syntax_editor.specs.ChangeRow.{ChangeRow, rowOf, rowsOf, fateOf, ownerOf}
 use Rattle.syntax_editor.specs.ChangeRowLaws.{rowAt, rowsWords, rows-to, rows-same, rows-written}
 use Rattle.edit_plan.specs.Rows.{rowFate}
 use Rattle.changed_region.specs.Fates.{rowInner, rowRegion, rowsFates, plannedRows}
 use Rattle.changed_region.specs.Stacks.{outer, regionAt, stackTo, contains, enclosing, Outward, stated, stack-last, stack-lift, enclosing-here, enclosing-lift, enclosing-most}
-use Rattle.changed_region.specs.Steps.{All-get, regionAround, nextRows, nextTops, next-before, next-rest, fates-next, outward-next, tops-next}
+use Rattle.changed_region.specs.Steps.{regionAround, nextRows, nextTops, next-before, next-rest, fates-next, outward-next, tops-next}
 
 -- ── Ranges ──────────────────────────────────────────────────────────────────────────────────────────────────
 
@@ -147,7 +148,7 @@ module _ (w : List ℕ) (k p x : ℕ) (f : x ≡ getD (drop (13 * k) w) 10 0) wh
 
 module _ (w tops : List ℕ) (k t x : ℕ) (low : All (λ q. q ≤ k) tops) (e : x ≡ getD tops t 0) where
   top-low : x ≤ k
-  top-low = rw e (All-get k tops t low)
+  top-low = rw e (All-getD (λ p. p ≤ k) 0 (omega arith) tops t low)
 
   pub top-bound : k < 256 → x ≤ 256
   top-bound h = omega (arith, top-low)

@@ -9,7 +9,7 @@ use native.Mathlib.Omega.{arith}
 use lib.ListN.{length, getD, set, drop, List·getD-map}
 use lib.Dec.{eqb}
 use Rattle.orders.specs.Lists.{All}
-use Rattle.orders.specs.ListLaws.{All-map, lt-or-le}
+use Rattle.orders.specs.ListLaws.{All-map, All-set, lt-or-le}
 use Rattle.definition.specs.Planning.{Fate, dependent, discarded, isDiscarded, around, fate}
 use Rattle.syntax_editor.specs.ChangeRow.{ChangeRow, rowsOf, fateOf, ownerOf}
 use Rattle.syntax_editor.specs.ChangeRowLaws.{rowAt, rows-from}
@@ -41,16 +41,6 @@ map-set {Y = Y} f (y ∷ l) (suc i) x = ap {B = List Y} (λ r. f y ∷ r) (map-s
 map-same : {X Y : Type 0} (f g : X → Y) (l : List X) → All (λ x. f x ≡ g x) l → map f l ≡ map g l
 map-same f g [] h = refl
 map-same f g (x ∷ l) h = rw (h .0, map-same f g l (h .1))
-
-All-set : {X : Type 0} (P : X → Type 0) (l : List X) (i : ℕ) (x : X) → P x → All P l → All P (set l i x)
-All-set P [] i x p h = tt
-All-set P (y ∷ l) zero x p h = (p, h .1)
-All-set P (y ∷ l) (suc i) x p h = (h .0, All-set P l i x p (h .1))
-
-pub All-get : (k : ℕ) (l : List ℕ) (i : ℕ) → All (λ p. p ≤ k) l → getD l i 0 ≤ k
-All-get k [] i h = omega arith
-All-get k (p ∷ l) zero h = h .0
-All-get k (p ∷ l) (suc i) h = All-get k l i (h .1)
 
 -- ── What a stack's last region makes of a change ────────────────────────────────────────────────────────────
 

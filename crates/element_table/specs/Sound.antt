@@ -11,7 +11,7 @@ use borrow.Author.Tests.{ltb-false}
 use lib.Dec.{ltb}
 use lib.ListN.{length, drop}
 use Rattle.orders.specs.Lists.{All}
-use Rattle.orders.specs.ListLaws.{lt-or-le, bool-absurd}
+use Rattle.orders.specs.ListLaws.{lt-or-le, either-false}
 use Rattle.orders.specs.Tree.{Tree, Trees, node, token, nil, cons, list, forest, elements, elementsOf, text, textOf, deepest, deepestOf}
 use Rattle.definition.specs.Basics.{any}
 use Rattle.definition.specs.Elements.{isNode, numbers}
@@ -59,10 +59,6 @@ numbers-below : (n e : ℕ) (cs : Trees ℕ) → e + elementsOf cs ≤ n → All
 unfolding numbers elementsOf
 numbers-below n e nil h = tt
 numbers-below n e (cons x xs) h = (omega (arith, elements-some x), numbers-below n (e + elements x) xs (omega arith))
-
-neither : (a b : Bool) → (a || b) ≡ false → (a ≡ false) × (b ≡ false)
-neither true b h = bool-absurd refl h
-neither false b h = (refl, h)
 
 module _ (ws : List ℕ) (trees : ℕ) (es : List (ℕ × ℕ)) (z : List ℕ) (n : ℕ) where
   -- one element
@@ -142,7 +138,7 @@ module _ (ws : List ℕ) (trees : ℕ) (es : List (ℕ × ℕ)) (z : List ℕ) (
       let l : List ℕ = wordsAll xs e′ o′ (t + 1) ++ r in
       let h′ : drop (8 * e) ws ≡ wordsOf x e o 0 t 1 0 t ++ l = h ∙ append-assoc (wordsOf x e o 0 t 1 0 t) (wordsAll xs e′ o′ (t + 1)) r in
       let g′ : drop e es ≡ flat x ++ (flats (forest xs) ++ r′) = rw (flats-cons x (forest xs), append-assoc (flat x) (flats (forest xs)) r′) at g in
-      let shallow = neither (ltb 64 (deepest x)) (any (λ x. ltb 64 (deepest x)) xs) low in
+      let shallow = either-false (ltb 64 (deepest x)) (any (λ x. ltb 64 (deepest x)) xs) low in
       let here : Here ws rs e 0 t 1 t = record { before = omega arith; root = λ q. (refl, refl); below = λ q y. absurd (omega arith); place = at } in
       let after : hop ws rs (t + 1) 0 ≡ e′ = rw (add-one t, at) (after-word ws rs x e o 0 t 1 0 t l h′) in
       elim (lt-or-le i e′) [

@@ -12,7 +12,7 @@ use Rattle.orders.specs.Lists.{All}
 use Rattle.store_model.specs.Store.{Store, storeSteps}
 use Rattle.rows.specs.Row.{triples, firstRows, bytes}
 use Rattle.syntax_node.specs.Promises.{Bytes}
-use Rattle.element_table.specs.View.{upFrom, view}
+use Rattle.element_table.specs.View.{upFrom, up-at, view}
 use Rattle.mapping.specs.Mapped.{wordsAt}
 use Rattle.syntax_editor.specs.ChangeRowLaws.{rowAt}
 use Rattle.annotations.specs.Notes.{notesOf, notes-same}
@@ -20,7 +20,7 @@ use Rattle.tree_store.specs.Stored.{stored, storedFirst}
 use Rattle.splicing.specs.Store.{heldIn}
 use Rattle.splicing.specs.declared.TreeState.{TreeState}
 use Rattle.splicing.specs.declared.Executed.{Executed}
-use Rattle.stepping.specs.Standing.{Begun, up-at, up-long, Now, now-first, Standing}
+use Rattle.stepping.specs.Standing.{Begun, up-long, Now, now-first, Standing}
 use Rattle.stepping.specs.Stepping.{Performs}
 use Rattle.executing.specs.Running.{plansIn, listsAll, RanSteps, Began, Ran, marks-many}
 

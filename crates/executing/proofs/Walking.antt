@@ -8,6 +8,7 @@ use native.Mathlib.Omega.{arith}
 use lib.ListN.{length, getD, drop, drop-of-length-le}
 use lib.Seq.{drop-cons}
 use Rattle.orders.specs.Lists.{All}
+use Rattle.orders.specs.ListLaws.{All-at}
 use Rattle.definition.specs.Basics.{Answer, refused, _>>=_}
 use Rattle.definition.specs.Elements.{Table}
 use Rattle.store_model.specs.Store.{Store, storeStep, storeSteps}
@@ -41,11 +42,6 @@ pub walking-start : {lines source first : List ℕ} {a : ℕ} {listed changes ru
     → Walking (length marks) lines source first a listed changes running (length changed) s rows marks notes changed s rows marks notes changed 0
 walking-start v h = record { standing = v; steps = λ text. refl; room = h; inside = omega arith }
 
-All-at : (P : ℕ → Type 0) (l : List ℕ) (i : ℕ) → i < length l → All P l → P (getD l i 0)
-All-at P [] i h a = absurd (omega arith)
-All-at P (x ∷ l) zero h a = a .0
-All-at P (x ∷ l) (suc i) h a = All-at P l i (omega arith) (a .1)
-
 module _ {n : ℕ} {lines source first : List ℕ} {a : ℕ} {listed changes running : List ℕ} {m : ℕ} {s₀ : TreeState} {rows₀ marks₀ notes₀ changed₀ : List ℕ} {s : TreeState} {rows marks notes changed : List ℕ} {i : ℕ}
     (v : Walking n lines source first a listed changes running m s₀ rows₀ marks₀ notes₀ changed₀ s rows marks notes changed i) where
   many : length marks ≡ n
@@ -63,7 +59,7 @@ module _ {n : ℕ} {lines source first : List ℕ} {a : ℕ} {listed changes run
     here = drop-cons running i 0 h ∙ ap (λ (x : ℕ). x ∷ drop (suc i) running) (sym (e .0))
 
     performs : Performs n (view n lines source) listed (rowAt changes k)
-    performs = subst (λ (k : ℕ). Performs n (view n lines source) listed (rowAt changes k)) (sym (e .0)) (All-at (λ k. Performs n (view n lines source) listed (rowAt changes k)) running i h all)
+    performs = subst (λ (k : ℕ). Performs n (view n lines source) listed (rowAt changes k)) (sym (e .0)) (All-at (λ k. Performs n (view n lines source) listed (rowAt changes k)) 0 running i h all)
 
     pub walking-performs : Performs (length marks) (view (length marks) lines source) listed (rowAt changes k)
     walking-performs = subst (λ (n : ℕ). Performs n (view n lines source) listed (rowAt changes k)) (sym many) performs

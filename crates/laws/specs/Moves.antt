@@ -11,7 +11,7 @@ use lib.ListN.{length}
 use borrow.Author.Tests.{eqb-true, eqb-false}
 use Rattle.orders.specs.ListLaws.{some-inj, none-some, map-some, bind-some, Zone, before, inside, after, zone?}
 use Rattle.orders.specs.Tree.{Path, adjust, shift, front, last}
-use Rattle.orders.specs.TreeLaws.{shift-before, shift-inside, shift-after, adjust-root, adjust-shift, adjust-in, adjust-out, adjust-length, front-child, last-child}
+use Rattle.orders.specs.TreeLaws.{shift-before, shift-inside, shift-after, adjust-root, adjust-shift, adjust-in, adjust-out, adjust-length, last-same}
 use Rattle.orders.specs.Splices.{samePath}
 
 -- ── One splice ──────────────────────────────────────────────────────────────────────────────────────────────
@@ -72,12 +72,6 @@ pub record Keeps (move : Path → Option Path) : Type 0 where
   pub child : (p q : Path) (i : ℕ) → move (p ++ (i ∷ [])) ≡ some q → (r : Path) × (k : ℕ) × (move p ≡ some r) × (q ≡ r ++ (k ∷ []))
   -- children that stay keep their order
   pub order : (p r : Path) (i j k l : ℕ) → i < j → move (p ++ (i ∷ [])) ≡ some (r ++ (k ∷ [])) → move (p ++ (j ∷ [])) ≡ some (r ++ (l ∷ [])) → k < l
-
-pub last-same : (p q : Path) (i j : ℕ) → p ++ (i ∷ []) ≡ q ++ (j ∷ []) → i ≡ j
-last-same p q i j e = sym (last-child p i) ∙ (ap last e ∙ last-child q j)
-
-pub front-same : (p q : Path) (i j : ℕ) → p ++ (i ∷ []) ≡ q ++ (j ∷ []) → p ≡ q
-front-same p q i j e = sym (front-child p i) ∙ (ap front e ∙ front-child q j)
 
 -- one splice keeps it
 pub adjust-keeps : (parent : Path) (a b n : ℕ) → Keeps (adjust parent a b n)

@@ -12,7 +12,7 @@ use lib.Dec.{eqb, leb}
 use borrow.Author.Tests.{eqb-true, eqb-false, leb-false}
 use mathlib.Core.Logic.{⊎-elim}
 use Rattle.orders.specs.Lists.{All}
-use Rattle.orders.specs.ListLaws.{lt-or-le, bool-absurd}
+use Rattle.orders.specs.ListLaws.{lt-or-le, either-false}
 use Rattle.definition.specs.Words.{words}
 use Rattle.definition.specs.Basics.{any}
 use Rattle.definition.specs.Elements.{Table, node?, root?}
@@ -118,19 +118,15 @@ mapped-elements k n ms l h = record { long = omega (arith, length-mappingWords k
 
 -- ── What line 7 accepts ─────────────────────────────────────────────────────────────────────────────────────
 
-neither : (a b : Bool) → (a || b) ≡ false → (a ≡ false) × (b ≡ false)
-neither true b h = bool-absurd refl h
-neither false b h = (refl, h)
-
 pub accepted-bounded : (T : Table) (k : ℕ) (ms : List (ℕ × ℕ)) → length T ≤ k → any (wrongMapping T) ms ≡ false → Bounded k (length T) ms
 unfolding any wrongMapping
 accepted-bounded T k [] l h = tt
 accepted-bounded T k (m ∷ ms) l h =
-    let both = neither _ (any (wrongMapping T) ms) h in
-    let ends = neither _ (root? T (m .1)) (both .0) .0 in
-    let each = neither (leb (length T) (m .0) || not (node? T (m .0))) _ ends in
-    let low = neither (leb (length T) (m .0)) (not (node? T (m .0))) (each .0) .0 in
-    let out = neither (leb (length T) (m .1)) (not (node? T (m .1))) (neither _ false (each .1) .0) .0 in
+    let both = either-false _ (any (wrongMapping T) ms) h in
+    let ends = either-false _ (root? T (m .1)) (both .0) .0 in
+    let each = either-false (leb (length T) (m .0) || not (node? T (m .0))) _ ends in
+    let low = either-false (leb (length T) (m .0)) (not (node? T (m .0))) (each .0) .0 in
+    let out = either-false (leb (length T) (m .1)) (not (node? T (m .1))) (either-false _ false (each .1) .0) .0 in
     ((omega (arith, leb-false (length T) (m .0) low), leb-false (length T) (m .1) out), accepted-bounded T k ms l (both .1))
 
 -- a higher bound of outputs

@@ -10,7 +10,7 @@ use lib.ListN.{length, getD}
 use lib.Dec.{eqb}
 use borrow.Author.Tests.{eqb-true}
 use Rattle.orders.specs.Tree.{Path, front, last, strip}
-use Rattle.orders.specs.TreeLaws.{front-child, last-child, strip-append}
+use Rattle.orders.specs.TreeLaws.{front-same, last-same, strip-append}
 use Rattle.definition.specs.Elements.{row, placeBelow}
 use Rattle.element_table.specs.View.{field, pathTo, rowAt, view}
 use Rattle.element_table.specs.Wellformed.{Lines}
@@ -37,13 +37,6 @@ module _ (n : ℕ) (w s : List ℕ) (L : Lines n w) (e : ℕ) (h : e < n) where
   unfolding rowAt field
   length-told = rw (row-view n w s e h) (length-path n w s L (getD w (8 * e + 3) 0) e h refl)
 
--- two paths with their last child numbers
-snoc-front : (p q : Path) (i j : ℕ) → p ++ (i ∷ []) ≡ q ++ (j ∷ []) → p ≡ q
-snoc-front p q i j e = sym (front-child p i) ∙ (ap front e ∙ front-child q j)
-
-snoc-last : (p q : Path) (i j : ℕ) → p ++ (i ∷ []) ≡ q ++ (j ∷ []) → i ≡ j
-snoc-last p q i j e = sym (last-child p i) ∙ (ap last e ∙ last-child q j)
-
 -- ── No two elements have one path ───────────────────────────────────────────────────────────────────────────
 
 module _ (n : ℕ) (w s : List ℕ) (L : Lines n w) where
@@ -58,7 +51,7 @@ module _ (n : ℕ) (w s : List ℕ) (L : Lines n w) where
           → ((a b : ℕ) → a < n → b < n → getD w (8 * a + 3) 0 ≡ d → (row (view n w s) a) .path ≡ (row (view n w s) b) .path → a ≡ b) → a ≡ b
       go zero zero x y ih =
           let e = sym (path-root n w s L a ha x) ∙ (q ∙ path-root n w s L b hb y) in
-          L .apart a b ha hb (x ∙ sym y) (snoc-last [] [] _ _ e)
+          L .apart a b ha hb (x ∙ sym y) (last-same [] [] _ _ e)
       go zero (suc k) x y ih = absurd (omega (arith, depth-same a b ha hb q, L .root a ha x .0, L .below b k hb y .0, deep n w L k (parent-below n w L b k hb y)))
       go (suc j) zero x y ih = absurd (omega (arith, depth-same a b ha hb q, L .root b hb y .0, L .below a j ha x .0, deep n w L j (parent-below n w L a j ha x)))
       go (suc j) (suc k) x y ih =
@@ -66,8 +59,8 @@ module _ (n : ℕ) (w s : List ℕ) (L : Lines n w) where
           let hk = parent-below n w L b k hb y in
           let P : ℕ → Path = λ e. (row (view n w s) e) .path in
           let e = sym (path-child n w s L a ha j x) ∙ (q ∙ path-child n w s L b hb k y) in
-          let p : j ≡ k = ih j k hj hk (omega (arith, L .below a j ha x .0)) (snoc-front (P j) (P k) _ _ e) in
-          L .apart a b ha hb (x ∙ (ap suc p ∙ sym y)) (snoc-last (P j) (P k) _ _ e)
+          let p : j ≡ k = ih j k hj hk (omega (arith, L .below a j ha x .0)) (front-same (P j) (P k) _ _ e) in
+          L .apart a b ha hb (x ∙ (ap suc p ∙ sym y)) (last-same (P j) (P k) _ _ e)
 
   pub path-unique : (a b : ℕ) → a < n → b < n → (row (view n w s) a) .path ≡ (row (view n w s) b) .path → a ≡ b
   path-unique a b ha hb q = one-path (getD w (8 * a + 3) 0) a b ha hb refl q

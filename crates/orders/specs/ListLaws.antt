@@ -9,7 +9,7 @@ use Prim.Native.Nat.{ℕ, zero, suc, _+_, _-_, _≤_, _<_}
 use native.Mathlib.Omega.{arith}
 use native.Mathlib.Nat.{zero-add, le-of-suc-le-suc, not-suc-le-zero}
 use lib.Dec.{ltb}
-use lib.ListN.{length, take, drop, getElem?, length-append, length-drop, take-append-drop}
+use lib.ListN.{length, getD, set, take, drop, getElem?, length-append, length-drop, take-append-drop}
 use lib.Seq.{take-at, drop-at, drop-drop, length-take-le, take-append-le, take-take}
 use borrow.Author.Tests.{ltb-true, ltb-false, lt-ltb, le-ltb}
 use Rattle.orders.specs.Lists.{more, pick, any, All, Pairs, total}
@@ -101,6 +101,11 @@ module _ {ℓ} {A : Type ℓ} where
   lt-get [] i h = absurd (not-suc-le-zero h)
   lt-get (y ∷ l) zero h = (y, refl)
   lt-get (y ∷ l) (suc i) h = lt-get l i (le-of-suc-le-suc h)
+
+  pub get-none : (l : List A) (i : ℕ) → length l ≤ i → getElem? l i ≡ none
+  get-none [] i h = refl
+  get-none (x ∷ l) zero h = absurd (omega arith)
+  get-none (x ∷ l) (suc i) h = get-none l i (omega arith)
 
   pub get-mem : (l : List A) (i : ℕ) (x : A) → getElem? l i ≡ some x → List·Memᴰ x l
   get-mem [] i x e = none-some e
@@ -261,6 +266,22 @@ All-map f (x ∷ l) h = (f x (h .0), All-map f l (h .1))
 pub All-map₂ {ℓ κ μ ν} : {A : Type ℓ} {P : A → Type κ} {Q : A → Type μ} {R : A → Type ν} → ((x : A) → P x → Q x → R x) → (l : List A) → All P l → All Q l → All R l
 All-map₂ f [] h k = tt
 All-map₂ f (x ∷ l) h k = (f x (h .0) (k .0), All-map₂ f l (h .1) (k .1))
+
+-- what each element has, the one at place i has; d where there is none
+pub All-at : {X : Type 0} (P : X → Type 0) (d : X) (l : List X) (i : ℕ) → i < length l → All P l → P (getD l i d)
+All-at P d [] i b h = absurd (omega arith)
+All-at P d (x ∷ l) zero b h = h .0
+All-at P d (x ∷ l) (suc i) b h = All-at P d l i (omega arith) (h .1)
+
+pub All-getD : {X : Type 0} (P : X → Type 0) (d : X) → P d → (l : List X) (i : ℕ) → All P l → P (getD l i d)
+All-getD P d p [] i h = p
+All-getD P d p (x ∷ l) zero h = h .0
+All-getD P d p (x ∷ l) (suc i) h = All-getD P d p l i (h .1)
+
+pub All-set : {X : Type 0} (P : X → Type 0) (l : List X) (i : ℕ) (x : X) → P x → All P l → All P (set l i x)
+All-set P [] i x p h = tt
+All-set P (y ∷ l) zero x p h = (p, h .1)
+All-set P (y ∷ l) (suc i) x p h = (h .0, All-set P l i x p (h .1))
 
 pub All-mem : {X : Type 0} (P : X → Type 0) (l : List X) (x : X) → All P l → List·Memᴰ x l → P x
 All-mem P [] x h m = absurd (List·Memᴰ·not-nil m)

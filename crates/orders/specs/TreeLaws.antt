@@ -85,6 +85,13 @@ last-child [] i = refl
 last-child (j ∷ []) i = refl
 last-child (j ∷ k ∷ p) i = last-child (k ∷ p) i
 
+-- two paths with their last child numbers
+pub front-same : (p q : Path) (i j : ℕ) → p ++ (i ∷ []) ≡ q ++ (j ∷ []) → p ≡ q
+front-same p q i j e = sym (front-child p i) ∙ (ap front e ∙ front-child q j)
+
+pub last-same : (p q : Path) (i j : ℕ) → p ++ (i ∷ []) ≡ q ++ (j ∷ []) → i ≡ j
+last-same p q i j e = sym (last-child p i) ∙ (ap last e ∙ last-child q j)
+
 pub front-last : (i : ℕ) (p : Path) → front (i ∷ p) ++ (last (i ∷ p) ∷ []) ≡ i ∷ p
 unfolding front last
 front-last i [] = refl

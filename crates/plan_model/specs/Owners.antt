@@ -7,7 +7,7 @@ use Prim.Native.Nat.{ℕ, zero, suc, _<_}
 use native.Mathlib.Omega.{arith}
 use lib.ListN.{length, getD, set, drop, replicate}
 use Rattle.orders.specs.Lists.{All}
-use Rattle.orders.specs.ListLaws.{both-true}
+use Rattle.orders.specs.ListLaws.{both-true, All-getD, All-set}
 use Rattle.definition.specs.Elements.{Table, tree}
 use Rattle.definition.specs.Recording.{Change, delete}
 use Rattle.definition.specs.Planning.{Fate, own, dependent, discarded, isDiscarded, Region, contains, around, fate, target, from, to, addsRegion, nodeByNode, inner, pushed, fates, planned}
@@ -15,16 +15,6 @@ use Rattle.definition.specs.Planning.{Fate, own, dependent, discarded, isDiscar
 -- ── Lists ───────────────────────────────────────────────────────────────────────────────────────────────────
 
 module _ {A : Type 0} (P : A → Type 0) where
-  get-all : (z : A) → P z → (l : List A) (i : ℕ) → All P l → P (getD l i z)
-  get-all z p [] i h = p
-  get-all z p (x ∷ l) zero h = h .0
-  get-all z p (x ∷ l) (suc i) h = get-all z p l i (h .1)
-
-  set-all : (l : List A) (i : ℕ) (x : A) → P x → All P l → All P (set l i x)
-  set-all [] i x p h = tt
-  set-all (y ∷ l) zero x p h = (p, h .1)
-  set-all (y ∷ l) (suc i) x p h = (h .0, set-all l i x p (h .1))
-
   replicate-all : (n : ℕ) (x : A) → P x → All P (replicate n x)
   replicate-all zero x p = tt
   replicate-all (suc n) x p = (p, replicate-all n x p)
@@ -82,9 +72,9 @@ module _ (T : Table) (cs : List Change) where
   fates-owned k stacks (c ∷ ds) e h =
       let t : ℕ = tree T (target c) in
       let rs : List Region = around (from T c) (to T c) (getD stacks t []) in
-      let g : OwnedAll rs = around-owned (from T c) (to T c) (getD stacks t []) (get-all OwnedAll [] tt stacks t h) in
+      let g : OwnedAll rs = around-owned (from T c) (to T c) (getD stacks t []) (All-getD OwnedAll [] tt stacks t h) in
       let f = front k cs c (delete 0) ds e in
-      (fate-owned rs g, fates-owned (suc k) (set stacks t (pushed T k c rs)) ds (f .2) (set-all OwnedAll stacks t (pushed T k c rs) (pushed-owned k c rs (f .0) (f .1) g) h))
+      (fate-owned rs g, fates-owned (suc k) (set stacks t (pushed T k c rs)) ds (f .2) (All-set OwnedAll stacks t (pushed T k c rs) (pushed-owned k c rs (f .0) (f .1) g) h))
 
   -- each dependent has such an owner
   pub planned-owned : All (λ p. Owned (p .fate)) (planned T cs)

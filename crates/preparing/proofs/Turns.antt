@@ -12,12 +12,12 @@ use lib.ListN.{length, getD, set, drop, length-set, length-append, length-map}
 use lib.Seq.{take-suc-set, drop-drop}
 use lib.Dec.{ltb}
 use Rattle.orders.specs.Lists.{All, pick}
-use Rattle.orders.specs.ListLaws.{map-append}
+use Rattle.orders.specs.ListLaws.{map-append, All-at}
 use Rattle.definition.specs.Words.{word, words}
 use Rattle.words.specs.Bytes.{words-append, length-words, getD-words}
 use Rattle.rows.specs.Row.{Row, firstRows, triples}
 use Rattle.rows.specs.Words.{length-triples}
-use Rattle.element_table.specs.View.{upFrom}
+use Rattle.element_table.specs.View.{upFrom, up-at}
 use Rattle.store_model.specs.Store.{HeldNote, withRow, Store, there, marked, Part, partAt, partOf, newRows, placedParts}
 use Rattle.syntax_node.specs.Promises.{Appended}
 use Rattle.annotations.specs.Notes.{notesOf}
@@ -54,22 +54,11 @@ module _ {marks first : List ℕ} {a : ℕ} {notes : List ℕ} {k e size at : �
 
 -- ── Elements ────────────────────────────────────────────────────────────────────────────────────────────────
 
-All-getD : (n : ℕ) (l : List ℕ) (i : ℕ) → All (λ m. m < n) l → i < length l → getD l i 0 < n
-All-getD n [] i h k = absurd (omega arith)
-All-getD n (x ∷ l) zero h k = h .0
-All-getD n (x ∷ l) (suc i) h k = All-getD n l i (h .1) (omega arith)
-
 -- a mark is a row
 pub mark-few : (n : ℕ) (l : List ℕ) (i : ℕ) → All (λ m. m < n) l → n ≤ 4097 → i < length l → getD l i 0 ≤ 4097
-mark-few n l i h k b = omega (arith, All-getD n l i h b)
+mark-few n l i h k b = omega (arith, All-at (λ x. x < n) 0 l i b h)
 
 -- ── What one element yields ─────────────────────────────────────────────────────────────────────────────────
-
-up-at : (k n e : ℕ) → e < n → getD (upFrom k n) e 0 ≡ k + e
-unfolding upFrom
-up-at k zero e h = absurd (omega arith)
-up-at k (suc n) zero h = omega arith
-up-at k (suc n) (suc e) h = up-at (suc k) n e (omega arith) ∙ omega arith
 
 -- the notes at the rows of an element, by their number
 part-notes : (s : Store) (m size : ℕ) → size ≡ length ((partAt s m) .rows) → (partAt s m) .notes ≡ pick (noteIn m (m + size)) (s .notes)
@@ -259,7 +248,7 @@ module _ (b : List ℕ) (list i : ℕ) where
   pub listed-low : (marks : List ℕ) (count e : ℕ) → i < count → All (λ e. e < length marks) (words count (drop list b)) → (e ≡ word (drop (list + 4 * i) b)) × (e < 2 ^ 32) → e < length marks
   listed-low marks count e h a v =
       let f : getD (words count (drop list b)) i 0 ≡ e = getD-words count (drop list b) i h ∙ (ap word (drop-drop (4 * i) list b) ∙ sym (v .0)) in
-      omega (arith, f, All-getD (length marks) (words count (drop list b)) i a (omega (arith, length-words count (drop list b))))
+      omega (arith, f, All-at (λ x. x < length marks) 0 (words count (drop list b)) i (omega (arith, length-words count (drop list b))) a)
 
 -- what came in with an element is few
 module _ {rows : List ℕ} {n : ℕ} {source marks first : List ℕ} {a : ℕ} {notes : List ℕ} {k e at : ℕ} {old : List ℕ} {m : ℕ} {held : List ℕ} {c : ℕ} {old′ held′ : List ℕ} {r : Prepared} {end y : ℕ}

@@ -118,6 +118,14 @@ fn is_element(element: Element, refusal: usize, found: usize) -> bool {
     }
 }
 
+// Whether an answer and the result slice are as recorded.
+fn is_recorded(answer: Answer, result: &[u8], refusal: usize, expected: &[u8]) -> bool {
+    if !is_answer(answer, refusal, expected.len()) {
+        return false;
+    }
+    holds(result, expected)
+}
+
 // Whether the edit of a batch, its result slice and its work slices are as recorded.
 fn edit_agrees(batch: &[u8], refusal: usize, expected: &[u8]) -> bool {
     let mut result = [BYTE; 65536];
@@ -149,10 +157,7 @@ fn edit_agrees(batch: &[u8], refusal: usize, expected: &[u8]) -> bool {
         &mut prepared,
         &mut sizes,
     );
-    if !is_answer(answer, refusal, expected.len()) {
-        return false;
-    }
-    if !holds(&result, expected) {
+    if !is_recorded(answer, &result, refusal, expected) {
         return false;
     }
     if !are_zero(&table, &source, &changes, &running, &first, &notes) {

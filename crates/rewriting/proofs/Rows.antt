@@ -17,7 +17,7 @@ use Rattle.definition.specs.Planning.{own, dependent, discarded, target}
 use Rattle.definition.specs.Rewriting.{replacement}
 use Rattle.element_table.specs.View.{view}
 use Rattle.syntax_editor.specs.ChangeRow.{ChangeRow, rowOf, rowsOf}
-use Rattle.syntax_editor.specs.ChangeRowLaws.{rowAt, rows-from}
+use Rattle.syntax_editor.specs.ChangeRowLaws.{rowAt, rows-from, row-among}
 use Rattle.edit_plan.specs.Rows.{rowFate}
 use Rattle.mapping.specs.Mapped.{mappedBy}
 use Rattle.change_row.specs.Stated.{newOf, changeOf, Dependent, NewEnds, Fated, Rewritable, fate-dependent}
@@ -92,14 +92,6 @@ module _ (n : ℕ) (ws s m listed : List ℕ) (v : List ℕ) (i : ℕ) (f : ℕ)
 
 -- ── All rows ────────────────────────────────────────────────────────────────────────────────────────────────
 
-get-row : (w : List ℕ) (c k : ℕ) (d : ChangeRow) → k < c → getD (rowsOf c w) k d ≡ rowAt w k
-unfolding rowsOf rowAt
-get-row w zero k d h = absurd (omega arith)
-get-row w (suc c) zero d h = refl
-get-row w (suc c) (suc k) d h =
-    let e : 13 * suc k ≡ 13 + 13 * k = omega arith in
-    get-row (drop 13 w) c k d (omega arith) ∙ ap rowOf (drop-drop (13 * k) 13 w ∙ ap (λ (j : ℕ). drop j w) (sym e))
-
 module _ (n : ℕ) (T : Table) (mapped : ℕ → Option ℕ) (listed v : List ℕ) (c : ℕ) (R : Rewritable n listed v c) where
   -- a row that is no dependent stays
   other-fate : (rs : List ChangeRow) (r : ChangeRow) → eqb (r .fate) 1 ≡ false → rewriteFated T mapped listed rs (rowFate r) r ≡ gives (r, 0)
@@ -120,7 +112,7 @@ module _ (n : ℕ) (T : Table) (mapped : ℕ → Option ℕ) (listed v : List �
           → rewriteFated T mapped listed (rowsOf c v) (rowFate (rowAt v i)) (rowAt v i) ≡ cond b (rewriteUnder T mapped listed (changeOf listed (rowAt v ((rowAt v i) .owner))) (rowAt v i)) (gives (rowAt v i, 0))
       go true q =
           let f : (rowAt v i) .fate ≡ 1 = eqb-true ((rowAt v i) .fate) 1 q in
-          rw (fate-dependent (rowAt v i) f, get-row v c ((rowAt v i) .owner) noChange (R .owned i h f .0))
+          rw (fate-dependent (rowAt v i) f, row-among v c ((rowAt v i) .owner) noChange (R .owned i h f .0))
       go false q = other-fate (rowsOf c v) (rowAt v i) q
 
 -- the rows from place i on are rewritten in `out`, by this many steps

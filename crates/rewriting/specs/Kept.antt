@@ -16,12 +16,13 @@ use Rattle.definition.specs.Recording.{Change, call}
 use Rattle.definition.specs.Planning.{Fate, own, dependent, discarded, target}
 use Rattle.definition.specs.Rewriting.{replacement, moved, rewriteInto}
 use Rattle.definition.specs.Running.{news}
+use Rattle.laws.specs.Answers.{gives-inj}
 use Rattle.laws.specs.Right.{judged, below-E}
 use Rattle.syntax_editor.specs.ChangeRow.{ChangeRow, operation, endOf, changeRow}
 use Rattle.edit_plan.specs.Rows.{rowFate, withFate, fate-stated}
 use Rattle.change_row.specs.Stated.{changeBy, newOf, changeOf, Stated, operation-by, news-by}
 use Rattle.change_row.specs.Exact.{Exact, exact-stated}
-use Rattle.rewriting.specs.Rewritten.{noChange, rewriteUnder, rewriteFated, rewriteRow, rewriteRows, movedEnds, judgedEnds, withEnds, rewriteInto-by, change-back, given}
+use Rattle.rewriting.specs.Rewritten.{noChange, rewriteUnder, rewriteFated, rewriteRow, rewriteRows, movedEnds, judgedEnds, withEnds, rewriteInto-by, change-back}
 
 -- ── A row rewritten ─────────────────────────────────────────────────────────────────────────────────────────
 
@@ -45,7 +46,7 @@ record Anew (T : Table) (listed : List ℕ) (r m : ChangeRow) : Type 0 where
 module _ (T : Table) (mapped : ℕ → Option ℕ) (listed : List ℕ) where
   same-or-anew : (rs : List ChangeRow) (r : ChangeRow) (f : Fate) (m : ChangeRow × ℕ) → r .operation ≤ 5 → rewriteFated T mapped listed rs f r ≡ gives m → (r ≡ m .0) ⊎ Anew T listed r (m .0)
   unfolding rewriteFated rewriteUnder changeOf
-  same-or-anew rs r own m h e = inl (ap (λ (q : ChangeRow × ℕ). q .0) (given e))
+  same-or-anew rs r own m h e = inl (ap (λ (q : ChangeRow × ℕ). q .0) (gives-inj e))
   same-or-anew rs r (dependent k) m h e =
       let o : Change = changeOf listed (getD rs k noChange) in
       let z : ℕ = getD listed (r .list) 0 in
@@ -56,10 +57,10 @@ module _ (T : Table) (mapped : ℕ → Option ℕ) (listed : List ℕ) where
       (sym (rewriteInto-by T mapped (target o) (replacement o) (r .operation) (r .target) (r .end) z new h) ∙ u .1) in
       let q : ℕ × ℕ × ℕ = v .0 in
       let w = then-gives (refuse 9 (wrongCall T (call (changeBy (r .operation) (q .0) (q .1) z new)))) (λ _. withEnds (r .operation) z new q) (u .0) (v .2) in
-      let c : changeBy (r .operation) (q .0) (q .1) z new ≡ u .0 .0 = ap (λ (p : Change × ℕ). p .0) (given (w .2)) in
-      let d : withFate (changeRow T (r .list) (u .0 .0)) (rowFate r) ≡ m .0 = ap (λ (p : ChangeRow × ℕ). p .0) (given (u .2)) in
+      let c : changeBy (r .operation) (q .0) (q .1) z new ≡ u .0 .0 = ap (λ (p : Change × ℕ). p .0) (gives-inj (w .2)) in
+      let d : withFate (changeRow T (r .list) (u .0 .0)) (rowFate r) ≡ m .0 = ap (λ (p : ChangeRow × ℕ). p .0) (gives-inj (u .2)) in
       inr (record { x = q .0; y = q .1; row = sym (ap (λ (p : Change). withFate (changeRow T (r .list) p) (rowFate r)) c ∙ d); right = accepts (wrongCall T (call (changeBy (r .operation) (q .0) (q .1) z new))) (w .0) (w .1) })
-  same-or-anew rs r (discarded k) m h e = inl (ap (λ (q : ChangeRow × ℕ). q .0) (given e))
+  same-or-anew rs r (discarded k) m h e = inl (ap (λ (q : ChangeRow × ℕ). q .0) (gives-inj e))
 
 -- ── Exact, and a change of elements ─────────────────────────────────────────────────────────────────────────
 
@@ -114,9 +115,9 @@ module _ (n : ℕ) (T : Table) (mapped : ℕ → Option ℕ) (listed : List ℕ)
 
   pub rewritten-kept : (rs later : List ChangeRow) (q : List ChangeRow × ℕ) → All (Kept n T listed) later → rewriteRows T mapped listed rs later ≡ gives q → All (Kept n T listed) (q .0)
   unfolding rewriteRows
-  rewritten-kept rs [] q K e = subst (All (Kept n T listed)) (ap (λ (p : List ChangeRow × ℕ). p .0) (given e)) tt
+  rewritten-kept rs [] q K e = subst (All (Kept n T listed)) (ap (λ (p : List ChangeRow × ℕ). p .0) (gives-inj e)) tt
   rewritten-kept rs (r ∷ later) q K e =
       let u = then-gives (rewriteRows T mapped listed rs later) (λ l. _>>=_ {B = List ChangeRow × ℕ} (rewriteRow T mapped listed rs r) (λ m. gives (m .0 ∷ l .0, m .1 + l .1))) q e in
       let l : List ChangeRow × ℕ = u .0 in
       let v = then-gives (rewriteRow T mapped listed rs r) (λ m. gives (m .0 ∷ l .0, m .1 + l .1)) q (u .2) in
-      subst (All (Kept n T listed)) (ap (λ (p : List ChangeRow × ℕ). p .0) (given (v .2))) (kept-row rs r (v .0) (K .0) (v .1), rewritten-kept rs later l (K .1) (u .1))
+      subst (All (Kept n T listed)) (ap (λ (p : List ChangeRow × ℕ). p .0) (gives-inj (v .2))) (kept-row rs r (v .0) (K .0) (v .1), rewritten-kept rs later l (K .1) (u .1))

@@ -17,6 +17,7 @@ use Rattle.definition.specs.Recording.{firstChild, after, Change, insert, repla
 use Rattle.definition.specs.Planning.{Fate, own, dependent, discarded, Planned, target}
 use Rattle.definition.specs.Rewriting.{replacement, moved, retarget, rewriteInto, rewriteOne, rewriting, rewritten}
 use Rattle.definition.specs.Running.{news}
+use Rattle.laws.specs.Answers.{gives-inj}
 use Rattle.syntax_editor.specs.ChangeRow.{ChangeRow, rowsOf, operation, endOf, changeRow}
 use Rattle.syntax_editor.specs.ChangeRowLaws.{rowAt}
 use Rattle.edit_plan.specs.Rows.{rowFate, withFate, fate-stated}
@@ -158,9 +159,6 @@ unfoldable pub toldRows : List ℕ → Answer (List ChangeRow × ℕ) → Answer
 toldRows listed (refused n) = refused n
 toldRows listed (gives q) = gives (map (planOf listed) (q .0), q .1)
 
-pub given : {A : Type 0} {x y : A} → _≡_ {A = Answer A} (gives x) (gives y) → x ≡ y
-given e = cc
-
 -- a change with its fate, and the steps
 abbrev plannedWith : Fate → Change × ℕ → Answer (Planned × ℕ)
 plannedWith f m = gives (record { change = m .0; fate = f }, m .1)
@@ -208,7 +206,7 @@ module _ (T : Table) (mapped : ℕ → Option ℕ) (listed : List ℕ) where
   one-more f (refused n) (refused m) l e = cc
   one-more f (refused n) (gives m) l e = cc
   one-more f (gives n) (refused m) l e = cc
-  one-more f (gives n) (gives m) l e = ap {B = Answer (List Planned × ℕ)} (λ p. gives (p .0 ∷ map (planOf listed) (l .0), p .1 + l .1)) (given e)
+  one-more f (gives n) (gives m) l e = ap {B = Answer (List Planned × ℕ)} (λ p. gives (p .0 ∷ map (planOf listed) (l .0), p .1 + l .1)) (gives-inj e)
 
   -- on rows that state changes it is the definition's
   pub rewrite-told : (n : ℕ) (rs later : List ChangeRow) → All (Stated n listed) later

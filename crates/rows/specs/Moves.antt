@@ -56,7 +56,7 @@ place-inj (i ∷ e) (j ∷ f) (node k cs) u v a b s =
 
 -- ── What is at or below an element ──────────────────────────────────────────────────────────────────────────
 
-inRun-before : (p q x : ℕ) → x < p → inRun p q x ≡ none
+pub inRun-before : (p q x : ℕ) → x < p → inRun p q x ≡ none
 unfolding inRun
 inRun-before p q x h = zone-before x p q _ _ _ h
 

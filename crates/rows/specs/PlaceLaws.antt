@@ -13,7 +13,7 @@ use lib.Dec.{ltb}
 use borrow.Author.Tests.{lt-ltb, le-ltb}
 use lib.Seq.{take-at, drop-at, take-add, length-take-le}
 use Rattle.orders.specs.Tree.{Tree, Trees, node, token, list, forest, Path, resolve, modify, splice, HasRun}
-use Rattle.orders.specs.ListLaws.{some-inj, none-some, bind-some, lt-or-le, lt-get, get-lt, get-right, length-cut, length-modify, modify-right, parts, part-out}
+use Rattle.orders.specs.ListLaws.{some-inj, none-some, bind-some, lt-or-le, lt-get, get-lt, get-none, get-right, length-cut, length-modify, modify-right, parts, part-out}
 use Rattle.orders.specs.TreeLaws.{list-forest, resolve-child, resolve-append}
 use Rattle.rows.specs.Row.{Row, nod, rowOf, rowsOf, rowsIn, rowsAll, skip, treesIn, bytes}
 use Rattle.rows.specs.Place.{size, sizeAll, orZero, place, runOf, rowsAfter, childRow, follow, between, subtree, remeasure, spliceRows}
@@ -172,11 +172,6 @@ place-pos i p (token k x) u f = none-some f
 place-pos i p (node k cs) u f = omega arith
 
 -- ── A path followed ─────────────────────────────────────────────────────────────────────────────────────────
-
-pub get-none : {A : Type 0} (l : List A) (i : ℕ) → length l ≤ i → getElem? l i ≡ none
-get-none [] i h = refl
-get-none (x ∷ l) zero h = absurd (omega arith)
-get-none (x ∷ l) (suc i) h = get-none l i (omega arith)
 
 -- followed in the rows from the place of u on, a path leads where it leads in u
 pub follow-at : (p q : Path) (t u : Tree ℕ) → resolve q t ≡ some u → follow (rowsOf t) (place q t) p ≡ Option·map (λ v. place (q ++ p) t) (resolve p u)

@@ -50,6 +50,34 @@ const PREPARED: [u32; 18] = [
     0,
 ];
 
+// Z(h) for X, e and f behind it, c out of Y.
+const FOUR: [u32; 24] = [
+    9,
+    0,
+    0,
+    1,
+    3,
+    2,
+    2,
+    0,
+    1,
+    1,
+    0,
+    1,
+    7,
+    0,
+    1,
+    1,
+    1,
+    1,
+    4,
+    4,
+    0,
+    1,
+    0,
+    0,
+];
+
 const ORDERS3: [u32; 18] = [0, 1, 2, 0, 2, 1, 1, 0, 2, 1, 2, 0, 2, 0, 1, 2, 1, 0];
 
 const ORDERS4: [u32; 96] = [
@@ -368,37 +396,7 @@ fn accepted() {
         &ORDERS3,
         3,
     );
-    // Z(h) for X, e and f behind it, c out of Y.
-    try_list(
-        &[
-            9,
-            0,
-            0,
-            1,
-            3,
-            2,
-            2,
-            0,
-            1,
-            1,
-            0,
-            1,
-            7,
-            0,
-            1,
-            1,
-            1,
-            1,
-            4,
-            4,
-            0,
-            1,
-            0,
-            0,
-        ],
-        &ORDERS4,
-        4,
-    );
+    try_list(&FOUR, &ORDERS4, 4);
 }
 
 fn refusals() {

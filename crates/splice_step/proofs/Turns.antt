@@ -11,7 +11,7 @@ use lib.Dec.{leb, ltb}
 use lib.ListN.{length, getD, take, drop}
 use borrow.Author.Tests.{leb-true, ltb-true, lt-ltb, le-ltb, le-leb, lt-leb, eq-eqb, ne-eqb}
 use Rattle.orders.specs.Lists.{All, total}
-use Rattle.orders.specs.ListLaws.{both-true, bool-absurd}
+use Rattle.orders.specs.ListLaws.{both-true, bool-absurd, All-at}
 use Rattle.orders.specs.Tree.{Tree, node, list, Run}
 use Rattle.orders.specs.Splices.{Splice, State}
 use Rattle.syntax_node.specs.Promises.{TreesIn, After, ChildAt}
@@ -148,17 +148,12 @@ module _ {s p : List ℕ} {i gained lost from : ℕ} (v : Shifted s p i i gained
   pub start-some : {e : ℕ} → Bounded e s p i → e < 2 ^ 16 → i < 2 ^ 15 → Started s p i (from + gained - lost)
   start-some h k l = record { start = start-told; small = omega (arith, v .few, f .0, h .ordered, h .within) }
 
-All-at : (l : List ℕ) (i b : ℕ) → i < length l → All (λ x. x < b) l → getD l i 0 < b
-All-at [] i b h a = absurd (omega arith)
-All-at (x ∷ l) zero b h a = a .0
-All-at (x ∷ l) (suc i) b h a = All-at l i b (omega arith) (a .1)
-
 module _ (marks s : List ℕ) (i : ℕ) {pw : ℕ} (f : Read pw (getD s (6 * i + 1) 0)) where
   pub parent-inside : getD s (6 * i + 1) 0 < length marks → pw < length marks
   parent-inside h = rw (f .0) h
 
   pub parent-told : {n r : ℕ} → Read r (getD marks pw 0) → getD s (6 * i + 1) 0 < length marks → All (λ m. m < n) marks → ParentAt n marks s i r
-  parent-told {n} k h a = record { under = k .0 ∙ ap (λ x. getD marks x 0) (f .0); below = rw (k .0) (All-at marks pw n (parent-inside h) a) }
+  parent-told {n} k h a = record { under = k .0 ∙ ap (λ x. getD marks x 0) (f .0); below = rw (k .0) (All-at (λ x. x < n) 0 marks pw (parent-inside h) a) }
 
 pub gap-told : {rows : List ℕ} {n : ℕ} {marks s p : List ℕ} {i parent start lost from to gained : ℕ} → ParentAt n marks s i parent → Started s p i start → Deletes s i lost
     → ChildAt rows n parent start from → After rows n from lost to → TreesOf s p i gained → GapAt rows n marks s p i (record { parent = parent; from = from; to = to; lost = lost; gain = gained })

@@ -19,6 +19,7 @@ use Rattle.syntax_node.specs.Promises.{Spliced, Shifted}
 use Rattle.rows.specs.Row.{Row}
 use Rattle.rows.specs.Words.{length-triples}
 use Rattle.store_model.specs.Store.{HeldNote, Store, withRow, newRows, placedParts, splicedStore}
+use Rattle.store_model.specs.Spliced.{store-same}
 use Rattle.annotations.specs.Notes.{noteOf, notesOf, noteAt, note-row, notes-to, notes-same}
 use Rattle.annotations.specs.Places.{partRows, part-rows}
 use Rattle.annotations.specs.Promises.{RowsMoved, movedNote, NotesMoved, RowsAdded}
@@ -156,10 +157,6 @@ module _ {s : TreeState} {rows marks notes changed : List ℕ} {g : Gap} {record
   pub asks-changed : ((g .from ≤ g .to) × (g .to < 2 ^ 16) × (length run / 3 < 2 ^ 16) × All (λ x. x < 2 ^ 16) (take (s .changed) changed))
       × ((s .changed + cond recorded (length sizes) 0 ≤ length changed) × (length sizes < 2 ^ 12) × All (λ x. x < 2 ^ 16) sizes)
   asks-changed = ((v .order, omega (arith, v .high, v .few), omega (arith, w .short), v .held), (v .room, omega (arith, w .fewParts), w .sized))
-
-store-same : {r r′ : List Row} {m m′ : List ℕ} {n n′ : List HeldNote} {c c′ : List ℕ} → r ≡ r′ → m ≡ m′ → n ≡ n′ → c ≡ c′
-    → _≡_ {A = Store} (record { rows = r; marks = m; notes = n; changed = c }) (record { rows = r′; marks = m′; notes = n′; changed = c′ })
-store-same a b c d = rw (a, b, c, d)
 
 pub store-spliced : (s : TreeState) (rows marks notes changed : List ℕ) (g : Gap) (recorded : Bool) (run sizes incoming : List ℕ) (c bytes : ℕ) (rows′ marks′ notes′ changed′ : List ℕ) (r k l : ℕ)
     → SplicedMarks rows (s .rows) marks (g .parent) (g .from) (g .to) (g .lost) run (length sizes) rows′ marks′ r → NotesSpliced notes (s .notes) (g .from) (g .to) (length run / 3) incoming c notes′ k

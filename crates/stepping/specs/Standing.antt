@@ -31,7 +31,7 @@ use Rattle.rows.specs.Words.{rows-many}
 use Rattle.rows.specs.Numbers.{element-row}
 use Rattle.store_model.specs.Store.{heldNote, Store, store, storeStep}
 use Rattle.store_model.specs.Step.{Kept, step-store, step-kept}
-use Rattle.element_table.specs.View.{upFrom, view}
+use Rattle.element_table.specs.View.{upFrom, up-at, view}
 use Rattle.element_table.specs.Told.{length-view}
 use Rattle.element_table.specs.Wellformed.{Lines}
 use Rattle.annotations.specs.Notes.{notesOf, length-notesOf}
@@ -58,12 +58,6 @@ pub record Begun (n : ℕ) (lines source first : List ℕ) (a : ℕ) : Type 0 wh
   pub long : 3 * n + 3 ≤ length source
   pub fewNotes : a ≤ 256
   pub longNotes : 3 * a ≤ length first
-
-pub up-at : (k n e : ℕ) → e < n → getD (upFrom k n) e 0 ≡ k + e
-unfolding upFrom
-up-at k zero e h = absurd (omega arith)
-up-at k (suc n) zero h = omega arith
-up-at k (suc n) (suc e) h = up-at (suc k) n e (omega arith) ∙ omega arith
 
 pub up-long : (k n : ℕ) → length (upFrom k n) ≡ n
 unfolding upFrom

@@ -78,7 +78,7 @@ module _ (t : Tree ℕ) (q : Path) where
 
 -- ── The whole ───────────────────────────────────────────────────────────────────────────────────────────────
 
-store-same : {r r′ : List Row} {m m′ : List ℕ} {n n′ : List HeldNote} {c c′ : List ℕ} → r ≡ r′ → m ≡ m′ → n ≡ n′ → c ≡ c′
+pub store-same : {r r′ : List Row} {m m′ : List ℕ} {n n′ : List HeldNote} {c c′ : List ℕ} → r ≡ r′ → m ≡ m′ → n ≡ n′ → c ≡ c′
     → _≡_ {A = Store} (record { rows = r; marks = m; notes = n; changed = c }) (record { rows = r′; marks = m′; notes = n′; changed = c′ })
 store-same e f g h = rw (e, f, g, h)
 

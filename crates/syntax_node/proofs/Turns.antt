@@ -14,14 +14,13 @@ use borrow.Author.Tests.{lt-ltb, le-ltb}
 use lib.Seq.{getD-set-same, getD-set-other, drop-cons, paste, paste-suc, take-paste, drop-paste, take-all, length-take-le, getD-take, take-set-lt, drop-set-lt, drop-at}
 use Rattle.orders.specs.Lists.{All}
 use Rattle.orders.specs.Tree.{modify}
-use Rattle.orders.specs.ListLaws.{take-modify, drop-modify-before, modify-left}
+use Rattle.orders.specs.ListLaws.{get-none, take-modify, drop-modify-before, modify-left}
 use Rattle.orders.specs.TreeLaws.{shift-before, shift-inside, shift-after}
 use Rattle.laws.specs.Basics.{getD-map}
 use Rattle.words.specs.Parts.{spliced, getD-above, length-spliced, take-spliced}
 use Rattle.rows.specs.Row.{Row, owes, textLength, rowIn, firstRows, triples, skip, treesFrom, treesIn, bytes, opened, heightIn, height}
 use Rattle.rows.specs.Place.{rowsAfter, childRow, between, subtree, follow, remeasure, spliceRows, movedMark}
 use Rattle.rows.specs.RowLaws.{skip-none, height-closed}
-use Rattle.rows.specs.PlaceLaws.{get-none}
 use Rattle.rows.specs.Marks.{marks-below}
 use Rattle.rows.specs.Words.{node-row, token-owes, token-length, first-at, first-end, first-get, length-triples, triples-at, triples-end, triples-append, triples-take, triples-drop, triples-set, length-first, words-between}
 use Rattle.syntax_node.specs.Promises.{Counted, Measured, After, ChildAt, TreesIn, TreesBetween, Bytes, Height, Part, Appended, Spliced, Moved, Shifted, found}

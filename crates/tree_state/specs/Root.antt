@@ -13,13 +13,10 @@ use Rattle.orders.specs.Lists.{All, pick, more}
 use Rattle.orders.specs.Tree.{zone, shift}
 use Rattle.rows.specs.Row.{bytes}
 use Rattle.rows.specs.Place.{inRun}
+use Rattle.rows.specs.Moves.{inRun-before}
 use Rattle.store_model.specs.Store.{HeldNote, Store, Gap, Part, withRow, newRows, placedParts, splicedStore}
 use Rattle.tree_state.specs.declared.Counts.{Counts}
 use Rattle.tree_state.specs.Laws.{lostIn, gainedBy, stands-then}
-
-in-before : (p r x : ℕ) → x < p → inRun p r x ≡ none
-unfolding inRun zone
-in-before p r x h = ap (λ (b : Bool). cond b none (cond (ltb x r) (some (x - p)) none)) (lt-ltb x p h)
 
 in-inside : (p r x : ℕ) → p ≤ x → x < r → inRun p r x ≡ some (x - p)
 unfolding inRun zone
@@ -61,7 +58,7 @@ shift-misses p q m x h =
     (x + m - (q - p))
     (ltb x p)
     (ltb x q)
-    (λ e. in-before p (p + m) x (ltb-true x p e))
+    (λ e. inRun-before p (p + m) x (ltb-true x p e))
     (λ e f. let w : q ≤ x = ltb-false x q f in in-after p (p + m) (x + m - (q - p)) (omega (arith, h, w)) (omega (arith, h, w)))
 
 note-misses : (p r : ℕ) (n : HeldNote) (o : Option ℕ) → Misses (inRun p r) o → Misses (λ (n : HeldNote). inRun p r (n .row)) (Option·map (withRow n) o)

@@ -10,7 +10,8 @@ use lib.ListN.{length, getD}
 use lib.Dec.{eqb, ltb}
 use borrow.Author.Tests.{lt-ltb, le-ltb, ne-eqb}
 use Rattle.orders.specs.Lists.{All}
-use Rattle.element_table.specs.View.{upFrom, view}
+use Rattle.orders.specs.ListLaws.{All-at}
+use Rattle.element_table.specs.View.{upFrom, up-at, view}
 use Rattle.element_table.specs.Wellformed.{Lines}
 use Rattle.element_table.specs.Told.{root-told, tree-told}
 use Rattle.definition.specs.Elements.{Table, root?, tree}
@@ -28,20 +29,9 @@ use Rattle.tree_store.specs.declared.Site.the-variants.{Gone, At}
 
 -- ── Marks ───────────────────────────────────────────────────────────────────────────────────────────────────
 
-All-getD : (n : ℕ) (l : List ℕ) (i : ℕ) → All (λ m. m < n) l → i < length l → getD l i 0 < n
-All-getD n [] i h k = absurd (omega arith)
-All-getD n (x ∷ l) zero h k = h .0
-All-getD n (x ∷ l) (suc i) h k = All-getD n l i (h .1) (omega arith)
-
 -- a mark is a row
 pub mark-low : (n : ℕ) (l : List ℕ) (i m : ℕ) → All (λ m. m < n) l → i < length l → m ≡ getD l i 0 → m ≤ n
-mark-low n l i m h k e = omega (arith, e, All-getD n l i h k)
-
-up-at : (k n e : ℕ) → e < n → getD (upFrom k n) e 0 ≡ k + e
-unfolding upFrom
-up-at k zero e h = absurd (omega arith)
-up-at k (suc n) zero h = omega arith
-up-at k (suc n) (suc e) h = up-at (suc k) n e (omega arith) ∙ omega arith
+mark-low n l i m h k e = omega (arith, e, All-at (λ x. x < n) 0 l i k h)
 
 there-not : (m : ℕ) → (m ≡ 0 → ⊥) → there m ≡ some m
 there-not zero h = absurd (h refl)

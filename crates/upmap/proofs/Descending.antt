@@ -9,6 +9,7 @@ use native.Mathlib.Numerals.{add-one}
 use native.Mathlib.Omega.{arith}
 use lib.ListN.{length, getD, getElem?}
 use Rattle.orders.specs.Lists.{All}
+use Rattle.orders.specs.ListLaws.{get-none}
 use Rattle.orders.specs.Tree.{Path}
 use Rattle.definition.specs.Basics.{_>>=_, refuse, orRefuse}
 use Rattle.definition.specs.Elements.{row, isNode, descend}
@@ -28,11 +29,6 @@ and-false true = refl
 and-false false = refl
 
 -- beyond the last there is none
-get-beyond : {A : Type 0} (l : List A) (i : ℕ) → length l ≤ i → getElem? l i ≡ none
-get-beyond [] i h = refl
-get-beyond (x ∷ l) zero h = absurd (omega arith)
-get-beyond (x ∷ l) (suc i) h = get-beyond l i (omega arith)
-
 module _ (n : ℕ) (w s : List ℕ) where
   all-here : (k c : ℕ) → 0 < k → All (λ c. c < n) (siblings w s k c) → c < n
   unfolding siblings
@@ -67,7 +63,7 @@ module _ (n : ℕ) (w s : List ℕ) (e i m : ℕ) (W : Wellformed n w s) (h : e 
 
   pub no-child-beyond : m ≤ i → FoundChild n w s e i Missing
   unfolding found
-  no-child-beyond l = record { child = sym (rw children-are (get-beyond (siblings w s m (suc e)) i (rw (length-siblings w s m (suc e)) l))); within = tt }
+  no-child-beyond l = record { child = sym (rw children-are (get-none (siblings w s m (suc e)) i (rw (length-siblings w s m (suc e)) l))); within = tt }
 
   pub siblings-start : i < m → Siblings n w s e i (e + 1) 0
   siblings-start l =
