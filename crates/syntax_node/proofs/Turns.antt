@@ -115,13 +115,13 @@ module _ {marks : List ℕ} {p q m : ℕ} {l : List ℕ} {i : ℕ} (v : Shifting
   unmoved : i < length marks → getD l i 0 ≡ getD marks i 0
   unmoved h = rw (v .copied) (getD-above marks 0 (map (movedMark p q m) marks) i (omega arith) (omega (arith, length-map marks (movedMark p q m))) 0 i (omega arith))
 
-  pub shifting-small : {x : ℕ} → i < length l → All (λ x. x < 2 ^ 16) marks → (x ≡ getD l i 0) × (x < 2 ^ 32) → x < 2 ^ 16
-  shifting-small h a e = rw (e .0, unmoved (omega (arith, v .long))) (All-get marks i (2 ^ 16) (omega (arith, v .long)) a)
+  pub shifting-small : i < length l → All (λ x. x < 2 ^ 16) marks → getD l i 0 < 2 ^ 16
+  shifting-small h a = rw (unmoved (omega (arith, v .long))) (All-get marks i (2 ^ 16) (omega (arith, v .long)) a)
 
-  pub shifting-next : {x y : ℕ} → i < length l → (x ≡ getD l i 0) × (x < 2 ^ 32) → Moved p q m x y → Shifting marks p q m (set l i y) (i + 1)
-  shifting-next {x} {y} h e f =
+  pub shifting-next : {y : ℕ} → i < length l → Moved p q m (getD l i 0) y → Shifting marks p q m (set l i y) (i + 1)
+  shifting-next {y} h f =
       let h′ : i < length marks = omega (arith, v .long) in
-      let g : getD (map (movedMark p q m) marks) i 0 ≡ y = getD-map (movedMark p q m) marks i 0 0 h′ ∙ sym (f .mark ∙ ap (movedMark p q m) (e .0 ∙ unmoved h′)) in
+      let g : getD (map (movedMark p q m) marks) i 0 ≡ y = getD-map (movedMark p q m) marks i 0 0 h′ ∙ sym (f .mark ∙ ap (movedMark p q m) (unmoved h′)) in
       record {
         inside = omega arith;
         long = simp length-set (v .long);

@@ -227,7 +227,7 @@ pub fn splice_rows(
 // ── Marks ──
 
 // What becomes of a mark where the rows `p` up to `q` give way to `m` others.
-pub fn moved_mark(x: usize, p: usize, q: usize, m: usize) -> usize
+fn moved_word(x: u32, p: u32, q: u32, m: u32) -> u32
     requires { ⌜ (p ≤ q) × (q < 2 ^ 16) × (m < 2 ^ 16) × (x < 2 ^ 16) ⌝ }
     ensures { λ r. ⌜ Moved p q m x r ⌝ }
 {
@@ -240,15 +240,17 @@ pub fn moved_mark(x: usize, p: usize, q: usize, m: usize) -> usize
     x + m - (q - p)
 }
 
-// The same for every mark.
+// The same for every mark. All is in words, so that the loop becomes vector code.
 pub fn shift_marks(marks: &mut [u32], p: usize, q: usize, m: usize)
     requires { ⌜ (p ≤ q) × (q < 2 ^ 16) × (m < 2 ^ 16) × All (λ x. x < 2 ^ 16) (now marks) ⌝ }
     ensures { λ _. ⌜ Shifted (now (marks .entry)) p q m (now (marks .exit)) ⌝ }
 {
+    let from = p as u32;
+    let to = q as u32;
+    let count = m as u32;
     let mut i = 0;
     while i < marks.len() {
-        let x = word(marks, i);
-        marks[i] = moved_mark(x, p, q, m) as u32;
+        marks[i] = moved_word(marks[i], from, to, count);
         i += 1;
     }
 }

@@ -8,22 +8,31 @@ use Rattle.syntax_node.proofs.shift_marks.Statement.{statement}
 use Rattle.syntax_node.proofs.shift_marks.Tie as tie
 
 abbrev Inv-loop : tie.InvT-loop
-Inv-loop marks₀ p q m i₀ marks i = Shifting marks₀ p q m marks i
+Inv-loop marks₀ p q m from to count i₀ marks i = Shifting marks₀ p q m marks i
 
 abbrev μ-loop : tie.MeasureT-loop
-μ-loop marks₀ p q m i₀ marks i = length marks₀ - i
+μ-loop marks₀ p q m from to count i₀ marks i = length marks₀ - i
+
+cast-from : tie.Need-cast-from Inv-loop μ-loop
+cast-from c = search needs
+
+cast-to : tie.Need-cast-to Inv-loop μ-loop
+cast-to c = search needs
+
+cast-count : tie.Need-cast-count Inv-loop μ-loop
+cast-count c = search needs
 
 loop-holds : tie.Need-loop-holds Inv-loop μ-loop
 loop-holds c = search (shifting-start, needs)
 
-word-requires : tie.Need-word-requires Inv-loop μ-loop
-word-requires c κs = search needs
+mul-moved-word : tie.Need-mul-moved-word Inv-loop μ-loop
+mul-moved-word c = search needs
 
-moved-mark-requires : tie.Need-moved-mark-requires Inv-loop μ-loop
-moved-mark-requires c κs = search (shifting-small, needs)
+slice-read-moved-word : tie.Need-slice-read-moved-word Inv-loop μ-loop
+slice-read-moved-word c = search needs
 
-cast-marks : tie.Need-cast-marks Inv-loop μ-loop
-cast-marks c = search needs
+moved-word-requires : tie.Need-moved-word-requires Inv-loop μ-loop
+moved-word-requires c κs = search (shifting-small, needs)
 
 mul-marks : tie.Need-mul-marks Inv-loop μ-loop
 mul-marks c = search needs
@@ -52,10 +61,13 @@ shift-marks-spec =
     (tie.spec
     Inv-loop
     μ-loop
+    cast-from
+    cast-to
+    cast-count
     loop-holds
-    word-requires
-    moved-mark-requires
-    cast-marks
+    mul-moved-word
+    slice-read-moved-word
+    moved-word-requires
     mul-marks
     slice-write-marks
     add-i

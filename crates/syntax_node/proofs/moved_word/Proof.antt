@@ -1,9 +1,9 @@
--- `moved_mark` meets its contract.
+-- `moved_word` meets its contract.
 -- Assumes nothing.
 use Rattle.syntax_node.proofs.Turns.{mark-before, mark-inside, mark-after}
 use borrow.Author.Needs.{needs}
-use Rattle.syntax_node.proofs.moved_mark.Statement.{statement}
-use Rattle.syntax_node.proofs.moved_mark.Tie as tie
+use Rattle.syntax_node.proofs.moved_word.Statement.{statement}
+use Rattle.syntax_node.proofs.moved_word.Tie as tie
 
 returns : tie.Need-returns
 returns c = search (mark-before, needs)
@@ -23,6 +23,6 @@ sub-result-2 c = search needs
 returns-3 : tie.Need-returns-3
 returns-3 c = search (mark-after, needs)
 
-pub moved-mark-spec : {M : Type 1} → statement M
-moved-mark-spec =
+pub moved-word-spec : {M : Type 1} → statement M
+moved-word-spec =
     tie.close (tie.spec returns returns-2 add-result sub-result sub-result-2 returns-3)
