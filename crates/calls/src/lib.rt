@@ -1,9 +1,11 @@
 // The judgement of one call by what the element table tells, for a batch's calls and for rewritten ones.
 ghost use mathlib.Core.Path.{_≡_};
 ghost use mathlib.Core.Bool.{not, _&&_};
+ghost use mathlib.Core.List.{headD};
 ghost use Prim.Native.Nat.{suc, _+_, _*_, _^_, _≤_, _<_};
-ghost use lib.ListN.{length, getD};
+ghost use lib.ListN.{length, getD, drop};
 ghost use lib.Dec.{eqb};
+ghost use Rattle.definition.specs.Words.{words as wordsOf};
 ghost use Rattle.definition.specs.Elements.{isNode};
 ghost use Rattle.element_table.specs.View.{view};
 ghost use Rattle.element_table.specs.Wellformed.{Wellformed};
@@ -24,6 +26,17 @@ pub fn row_word(source: &[u32], e: usize, k: usize) -> usize
     ensures { λ r. ⌜ (r ≡ getD (now (source .entry)) (3 * suc e + k) 0) × (r < 2 ^ 32) ⌝ }
 {
     words::word(source, 3 * e + 3 + k)
+}
+
+// The first of the `count` listed elements that stand at `from` in a batch, 0 if there is none.
+pub fn first_listed(b: &[u8], from: usize, count: usize) -> usize
+    requires { ⌜ from + 4 * count ≤ length (now b) ⌝ }
+    ensures { λ r. ⌜ r ≡ headD (wordsOf count (drop from (now (b .entry)))) 0 ⌝ }
+{
+    if count == 0 {
+        return 0;
+    }
+    words::read_word(b, from)
 }
 
 // Whether element `e` is a node.

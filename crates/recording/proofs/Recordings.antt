@@ -183,15 +183,6 @@ module _ (m : Numbers) (s : Spot) (start count : ℕ) (w : List ℕ) (h : start 
 
 -- ── One call ────────────────────────────────────────────────────────────────────────────────────────────────
 
-pub first-none : (l : List ℕ) (n : ℕ) → n ≡ 0 → 0 ≡ headD (words n l) 0
-unfolding words headD
-first-none l n h = rw h
-
-pub first-some : (l : List ℕ) (n w : ℕ) → (n ≡ 0 → ⊥) → w ≡ word l → w ≡ headD (words n l) 0
-unfolding words headD
-first-some l zero w h e = absurd (h refl)
-first-some l (suc n) w h e = e
-
 -- what a call's change names, and its numbers
 module _ (op x at k y : ℕ) where
   -- a fact of each case

@@ -87,17 +87,6 @@ fn record_change(rows: &mut [u32], start: usize, count: usize, m: Numbers, s: Sp
     count
 }
 
-// The first of the `count` words at `from`, 0 if there is none.
-fn first_listed(b: &[u8], from: usize, count: usize) -> usize
-    requires { ⌜ from + 4 * count ≤ length (now b) ⌝ }
-    ensures { λ r. ⌜ r ≡ headD (wordsOf count (drop from (now (b .entry)))) 0 ⌝ }
-{
-    if count == 0 {
-        return 0;
-    }
-    words::read_word(b, from)
-}
-
 // A call is recorded, whose `listed` elements stand at `from` in the batch and at `at` in its list: the present editor's first row, and how many rows there are.
 fn record_call(
     b: &[u8],
@@ -125,7 +114,7 @@ fn record_call(
             count,
         };
     }
-    let first = first_listed(b, from, listed);
+    let first = calls::first_listed(b, from, listed);
     let c = syntax_editor::change_of(operation, target, at, listed, first);
     let s = syntax_editor::spot_of(c, first, n, table, source);
     let next = record_change(rows, start, count, syntax_editor::numbers_of(c), s);

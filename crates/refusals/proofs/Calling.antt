@@ -26,17 +26,6 @@ use Rattle.laws.specs.Right.{neither, none-passes}
 use Rattle.layout.specs.Truth.{or-true, twice}
 use Rattle.refusals.specs.Called.{callOf, callsFit, fit-end, fit-more}
 
--- ── The first listed element ────────────────────────────────────────────────────────────────────────────────
-
-pub first-none : (l : List ℕ) (n : ℕ) → n ≡ 0 → 0 ≡ headD (words n l) 0
-unfolding words headD
-first-none l n h = rw h
-
-pub first-some : (l : List ℕ) (n w : ℕ) → (n ≡ 0 → ⊥) → w ≡ word l → w ≡ headD (words n l) 0
-unfolding words headD
-first-some l zero w h e = absurd (h refl)
-first-some l (suc n) w h e = e
-
 -- ── One call ────────────────────────────────────────────────────────────────────────────────────────────────
 
 all-below : (n : ℕ) (l : List ℕ) → any (leb n) l ≡ false → All (λ e. e < n) l

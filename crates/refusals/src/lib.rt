@@ -42,17 +42,6 @@ fn all_below(b: &[u8], from: usize, count: usize, n: usize) -> bool
     true
 }
 
-// The first of the `count` words at `from`, 0 if there is none.
-fn first_listed(b: &[u8], from: usize, count: usize) -> usize
-    requires { ⌜ from + 4 * count ≤ length (now b) ⌝ }
-    ensures { λ r. ⌜ r ≡ headD (wordsOf count (drop from (now (b .entry)))) 0 ⌝ }
-{
-    if count == 0 {
-        return 0;
-    }
-    words::read_word(b, from)
-}
-
 // Whether a call, whose listed elements stand at `from`, is as line 6 asks.
 fn call_stands(
     b: &[u8],
@@ -78,7 +67,7 @@ fn call_stands(
     if !all_below(b, from, count, n) {
         return false;
     }
-    let first = first_listed(b, from, count);
+    let first = calls::first_listed(b, from, count);
     calls::call_fits(table, source, n, operation, target, first)
 }
 
