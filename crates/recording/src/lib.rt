@@ -2,7 +2,7 @@
 use syntax_editor::Numbers;
 use syntax_editor::Spot;
 ghost use mathlib.Core.Path.{_≡_};
-ghost use mathlib.Core.List.{headD, zip};
+ghost use mathlib.Core.List.{zip};
 ghost use Prim.Native.Nat.{_+_, _*_, _^_, _≤_, _<_};
 ghost use lib.ListN.{length, drop};
 ghost use Rattle.definition.specs.Words.{words as wordsOf};

@@ -1,7 +1,7 @@
 // Lines 6 and 7: the calls, the mappings and the notes of a batch, judged by what the element table tells.
 ghost use mathlib.Core.Path.{_≡_};
 ghost use mathlib.Core.Bool.{not};
-ghost use mathlib.Core.List.{headD, zip};
+ghost use mathlib.Core.List.{zip};
 ghost use Prim.Native.Nat.{_+_, _*_, _^_, _≤_, _<_};
 ghost use lib.ListN.{length, drop};
 ghost use lib.Dec.{leb};
