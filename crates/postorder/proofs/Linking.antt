@@ -1,8 +1,8 @@
 -- What each test tells of a change's owner, and each turn of the linking.
 -- Assumes nothing.
-use mathlib.Core.Path.{_≡_, refl, sym, ap, _∙_}
+use mathlib.Core.Path.{_≡_, refl, sym, _∙_}
 use mathlib.Core.Bool.{Bool, true, false, cond}
-use mathlib.Core.List.{List, [], _∷_, _++_}
+use mathlib.Core.List.{List, [], _∷_}
 use Prim.Native.Nat.{ℕ, zero, suc, _+_, _-_, _*_, _^_, _≤_, _<_}
 use native.Mathlib.Omega.{arith}
 use lib.ListN.{length, getD, set, take, drop, replicate, length-set, length-replicate, getD-replicate, take-append-drop, drop-of-length-le}
@@ -12,7 +12,7 @@ use borrow.Author.Tests.{eqb-true, eqb-false, eq-eqb, ne-eqb}
 use Rattle.orders.specs.Lists.{All, pick, total}
 use Rattle.orders.specs.ListLaws.{All-perm}
 use Rattle.definition.specs.Basics.{keep}
-use Rattle.definition.specs.Planning.{Fate, own, dependent, discarded}
+use Rattle.definition.specs.Planning.{own, dependent, discarded}
 use Rattle.definition.specs.Running.{owned}
 use Rattle.laws.specs.Basics.{All-drop, All-keep, total-append}
 use Rattle.laws.specs.Sorting.{insert-perm}
@@ -23,7 +23,7 @@ use Rattle.edit_plan.specs.Rows.{rowFate}
 use Rattle.edit_plan.specs.Sorting.{sortFrom, comesAt, rankedPlaces, length-ranked}
 use Rattle.postorder.specs.Order.{ownerTold, ownedAt}
 use Rattle.postorder.specs.Counting.{times, times-sorted}
-use Rattle.postorder.specs.Links.{OwnerOf, Linked, Links}
+use Rattle.postorder.specs.Links.{OwnerOf, Linked, Links, ownedBy}
 
 -- ── Owners ──────────────────────────────────────────────────────────────────────────────────────────────────
 
@@ -46,7 +46,7 @@ module _ (w : List ℕ) (k x : ℕ) (f : x ≡ getD (drop (13 * k) w) 11 0) wher
         go (suc i) y = refl
 
     module _ (e : x ≡ 1) (y : ℕ) (g : y ≡ getD (drop (13 * k) w) 12 0) where
-      -- the owner is told as one more; o is that or, like it, no place of a change
+      -- o tells the owner y if it tells the same of each place below 256
       dependent-of : (o : ℕ) → o ≤ 257 → ((i : ℕ) → i < 256 → eqb i y ≡ eqb o (suc i)) → eqb o 0 ≡ false → OwnerOf w k o
       unfolding ownedAt ownerTold rowFate rowAt rowOf owned
       dependent-of o h same z = record { inside = h; owns = λ p l. rw (← f, e, ← g) (go p l) }
@@ -73,8 +73,8 @@ linked-set next k v x [] a h = h
 linked-set next k v x (q ∷ qs) a h = (h .0, h .1, rw (getD-set-other next k q v 0 (a .0)) (linked-set next k v (getD next q 0) qs (a .1) (h .2)))
 
 -- one more place, before all
-links-cons : (w qs first next : List ℕ) (k o : ℕ) → Links w qs first next → k < 256 → All (λ q. q ≡ k → ⊥) qs → OwnerOf w k o
-    → Links w (k ∷ qs) (set first o (k + 1)) (set next k (getD first o 0))
+links-cons : (w qs first next : List ℕ) (k o : ℕ) → Links (ownedBy w qs) first next → k < 256 → All (λ q. q ≡ k → ⊥) qs → OwnerOf w k o
+    → Links (ownedBy w (k ∷ qs)) (set first o (k + 1)) (set next k (getD first o 0))
 links-cons w qs first next k o v b a t = record {
   firsts = simp length-set (v .firsts);
   nexts = simp length-set (v .nexts);
@@ -84,17 +84,16 @@ links-cons w qs first next k o v b a t = record {
     next′ : List ℕ
     next′ = set next k (getD first o 0)
 
-    go : (p : ℕ) → Linked next (getD first p 0) (keep (ownedAt w p) qs) → (c : Bool) → eqb o p ≡ c
-        → Linked next′ (getD (set first o (k + 1)) p 0) (cond c (k ∷ keep (ownedAt w p) qs) (keep (ownedAt w p) qs))
+    stays : (p : ℕ) → Linked next (getD first p 0) (ownedBy w qs p) → Linked next′ (getD first p 0) (ownedBy w qs p)
+    stays p h = linked-set next k (getD first o 0) (getD first p 0) (ownedBy w qs p) (All-keep (λ q. q ≡ k → ⊥) (ownedAt w p) qs a) h
+
+    go : (p : ℕ) → Linked next (getD first p 0) (ownedBy w qs p) → (c : Bool) → eqb o p ≡ c
+        → Linked next′ (getD (set first o (k + 1)) p 0) (cond c (k ∷ ownedBy w qs p) (ownedBy w qs p))
     go p h true e =
-        let same : o ≡ p = eqb-true o p e in (
-          rw (← same, getD-set-same first o (k + 1) 0 (omega (arith, v .firsts, t .inside))) (omega arith),
-          b,
-          rw (getD-set-same next k (getD first o 0) 0 (omega (arith, v .nexts)), same) (linked-set next k (getD first p 0) (getD first p 0) (keep (ownedAt w p) qs) (All-keep (λ q. q ≡ k → ⊥) (ownedAt w p) qs a) h),
-        )
-    go p h false e =
-        rw (getD-set-other first o p (k + 1) 0 (λ q. eqb-false o p e (sym q)))
-        (linked-set next k (getD first o 0) (getD first p 0) (keep (ownedAt w p) qs) (All-keep (λ q. q ≡ k → ⊥) (ownedAt w p) qs a) h)
+        let same : o ≡ p = eqb-true o p e in
+        let after : getD next′ k 0 ≡ getD first p 0 = getD-set-same next k (getD first o 0) 0 (omega (arith, v .nexts)) ∙ rw same in
+        (rw (← same, getD-set-same first o (k + 1) 0 (omega (arith, v .firsts, t .inside))) (omega arith), b, rw after (stays p h))
+    go p h false e = rw (getD-set-other first o p (k + 1) 0 (λ q. eqb-false o p e (sym q))) (stays p h)
 
 -- a place that is not counted is not there
 times-none : (y : ℕ) (l : List ℕ) → times y l ≡ 0 → All (λ q. q ≡ y → ⊥) l
@@ -114,7 +113,7 @@ once-behind y j l r e h =
     let one : times y (y ∷ r) ≡ 1 + times y r = rw (eq-eqb y y refl) in
     times-none y r (omega arith)
 
--- each place is below the number of places
+-- the n places from i on are below m
 places-below : (comes : ℕ → ℕ → Bool) (m i n : ℕ) → i + n ≤ m → All (λ q. q < m) (sortFrom comes i n)
 unfolding sortFrom
 places-below comes m i zero h = tt
@@ -123,7 +122,7 @@ places-below comes m i (suc n) h = All-perm (λ q. q < m) (insert-perm comes i (
 -- the n ranked places from i on are linked
 pub record Linking (w : List ℕ) (n : ℕ) (first next : List ℕ) (i : ℕ) : Type 0 where
   pub inside : i ≤ n
-  pub links : Links w (drop i (rankedPlaces w n)) first next
+  pub links : Links (ownedBy w (drop i (rankedPlaces w n))) first next
 
 pub linking-start : (w : List ℕ) (n : ℕ) (first next : List ℕ) → first ≡ replicate 258 0 → length next ≡ 256 → Linking w n first next n
 unfolding keep pick
@@ -136,7 +135,7 @@ linking-start w n first next e h = record {
   };
 }
 
-pub linking-done : (w : List ℕ) (n : ℕ) (first next : List ℕ) (i : ℕ) → Linking w n first next i → i ≤ 0 → Links w (rankedPlaces w n) first next
+pub linking-done : (w : List ℕ) (n : ℕ) (first next : List ℕ) (i : ℕ) → Linking w n first next i → i ≤ 0 → Links (ownedBy w (rankedPlaces w n)) first next
 linking-done w n first next i v h = let z : i ≡ 0 = omega arith in rw z at (v .links)
 
 module _ {w : List ℕ} {n : ℕ} {first next : List ℕ} {i : ℕ} (v : Linking w n first next i) (ranked : List ℕ) (few : n ≤ 256)

@@ -8,12 +8,11 @@ use native.Mathlib.Numerals.{add-one}
 use native.Mathlib.Omega.{arith}
 use lib.ListN.{length, getD, set, take, drop, length-set, length-append, take-append-drop}
 use lib.Seq.{length-take-le, take-at, drop-at, drop-drop, take-suc-set, drop-set-lt}
-use Rattle.definition.specs.Basics.{keep}
 use Rattle.edit_plan.specs.Sorting.{rankedPlaces, length-ranked}
 use Rattle.postorder.specs.Order.{ordered, ownerTold, ownedAt, runs, runningPlaces}
 use Rattle.postorder.specs.Sums.{kept-most}
 use Rattle.postorder.specs.Counting.{joined-same, running-most, runs-all}
-use Rattle.postorder.specs.Links.{Linked, Links, chain, linkedTo, Ending, linkedRuns, dependents}
+use Rattle.postorder.specs.Links.{Linked, Links, ownedBy, chain, linkedTo, linkedRuns, dependents}
 
 -- ── A turn ──────────────────────────────────────────────────────────────────────────────────────────────────
 
@@ -42,7 +41,7 @@ pub record Appending (first next : List ℕ) (o : ℕ) (l₀ : List ℕ) (at : �
   pub done : take end l ++ visits first next rest ≡ take at l₀ ++ dependents first next o
   pub beyond : drop end l ≡ drop end l₀
 
-pub appending-start : (first next : List ℕ) (o : ℕ) (l : List ℕ) (at k : ℕ) → Ending first next → o ≤ 256 → length (dependents first next o) ≤ 256 → k ≡ getD first o 0
+pub appending-start : (first next : List ℕ) (o : ℕ) (l : List ℕ) (at k : ℕ) → Links (linkedTo first next) first next → o ≤ 256 → length (dependents first next o) ≤ 256 → k ≡ getD first o 0
     → Appending first next o l at l at k
 appending-start first next o l at k v h most e = record {
   rest = linkedTo first next o;
@@ -81,7 +80,7 @@ module _ {first next : List ℕ} {o : ℕ} {l₀ : List ℕ} {at : ℕ} {l : Lis
   pub told-fits : k - 1 < 2 ^ 32
   told-fits = omega (arith, told-low)
 
-  pub told-inside : Ending first next → k - 1 < length next
+  pub told-inside : Links (linkedTo first next) first next → k - 1 < length next
   told-inside e = omega (arith, told-low, e .nexts)
 
 module _ {first next : List ℕ} {o : ℕ} {l₀ : List ℕ} {at : ℕ} {l : List ℕ} {end k : ℕ} (v : Appending first next o l₀ at l end k)
@@ -119,14 +118,14 @@ module _ {first next : List ℕ} {o : ℕ} {l₀ : List ℕ} {at : ℕ} {l : Lis
     abbrev S : List ℕ
     S = dependents first next k
 
-    visited : visits first next (v .rest) ≡ (S ++ ((k - 1) ∷ [])) ++ visits first next (others)
+    visited : visits first next (v .rest) ≡ (S ++ ((k - 1) ∷ [])) ++ visits first next others
     unfolding flatMap
     visited = let c : suc (k - 1) ≡ k = omega arith in ap (visits first next) (turn v h .parted) ∙ rw c
 
     -- what runs below the change has room, without the change
     below-room : end + length S + 1 ≤ at + length all
     below-room =
-        let a = length-append (S ++ ((k - 1) ∷ [])) (visits first next (others)) in
+        let a = length-append (S ++ ((k - 1) ∷ [])) (visits first next others) in
         let c = length-append S ((k - 1) ∷ []) in
         omega (arith, counted, ap length visited)
 
@@ -166,7 +165,7 @@ module _ {first next : List ℕ} {o : ℕ} {l₀ : List ℕ} {at : ℕ} {l : Lis
             let d : place + 1 ≡ end + (length S + 1) = omega arith in
             rw (d, ← drop-drop (length S + 1) end l, ← drop-drop (length S + 1) end l₀, v .beyond)
 
-        written : take (place + 1) (set l₁ place (k - 1)) ++ visits first next (others) ≡ take end l ++ ((S ++ ((k - 1) ∷ [])) ++ visits first next (others))
+        written : take (place + 1) (set l₁ place (k - 1)) ++ visits first next others ≡ take end l ++ ((S ++ ((k - 1) ∷ [])) ++ visits first next others)
         written = rw (add-one place, take-suc-set l₁ place (k - 1) place-inside, front) (simp append-assoc)
 
         pub appending-next : (k′ : ℕ) → k′ ≡ getD next (k - 1) 0 → Appending first next o l₀ at (set l₁ place (k - 1)) (place + 1) k′
@@ -189,20 +188,20 @@ chain-linked next (suc m) k [] h p = rw h
 chain-linked next zero k (q ∷ qs) h p = absurd (omega arith)
 chain-linked next (suc m) k (q ∷ qs) h p = rw (h .0, chain-linked next m (getD next q 0) qs (h .2) (omega arith))
 
-module _ {w first next : List ℕ} {n : ℕ} (v : Links w (rankedPlaces w n) first next) (few : n ≤ 256) where
+module _ (w first next : List ℕ) (n : ℕ) (v : Links (ownedBy w (rankedPlaces w n)) first next) (few : n ≤ 256) where
   abbrev ranked : List ℕ
   ranked = rankedPlaces w n
 
-  linked-kept : (o : ℕ) → o ≤ 256 → linkedTo first next o ≡ keep (ownedAt w o) ranked
-  linked-kept o h = chain-linked next 256 (getD first o 0) (keep (ownedAt w o) ranked) (v .told o h) (omega (arith, kept-most (ownedAt w o) ranked, length-ranked w n))
+  linked-kept : (o : ℕ) → o ≤ 256 → linkedTo first next o ≡ ownedBy w ranked o
+  linked-kept o h = chain-linked next 256 (getD first o 0) (ownedBy w ranked o) (v .told o h) (omega (arith, kept-most (ownedAt w o) ranked, length-ranked w n))
 
-  pub links-ending : Ending first next
-  links-ending = record { firsts = v .firsts; nexts = v .nexts; told = λ o h. rw (linked-kept o h) (v .told o h) }
+  pub links-kept : Links (linkedTo first next) first next
+  links-kept = record { firsts = v .firsts; nexts = v .nexts; told = λ o h. rw (linked-kept o h) (v .told o h) }
 
   linked-runs : (m o : ℕ) → o ≤ 256 → linkedRuns first next m o ≡ runs w ranked m o
   unfolding linkedRuns runs ordered ownedAt ownerTold flatMap
   linked-runs zero o h = refl
-  linked-runs (suc m) o h = rw (linked-kept o h) (go (linked-runs m) (getD first o 0) (keep (ownedAt w o) ranked) (v .told o h))
+  linked-runs (suc m) o h = rw (linked-kept o h) (go (linked-runs m) (getD first o 0) (ownedBy w ranked o) (v .told o h))
     where
       go : ((o : ℕ) → o ≤ 256 → linkedRuns first next m o ≡ runs w ranked m o) → (k : ℕ) (qs : List ℕ) → Linked next k qs
           → flatMap (λ q. linkedRuns first next m (suc q) ++ (q ∷ [])) qs ≡ flatMap (λ q. runs w ranked m (suc q) ++ (q ∷ [])) qs

@@ -155,7 +155,7 @@ running-most w n = runs-most w n n
 
 -- ── Fewer may remain ────────────────────────────────────────────────────────────────────────────────────────
 
--- lists joined, each with the element that tells it behind it, are the same where each list that is short enough is
+-- f and g tell the same where f tells less than n: so they do joined, each element behind what they tell of it, where that is at most n
 pub joined-same : {A : Type 0} (f g : A → List A) (n : ℕ) → ((q : A) → length (f q) < n → g q ≡ f q) → (ks : List A) → length (flatMap (λ q. f q ++ (q ∷ [])) ks) ≤ n
     → flatMap (λ q. g q ++ (q ∷ [])) ks ≡ flatMap (λ q. f q ++ (q ∷ [])) ks
 unfolding flatMap

@@ -8,7 +8,7 @@ use lib.Dec.{eqb}
 use Rattle.definition.specs.Basics.{keep}
 use Rattle.postorder.specs.Order.{ownedAt}
 
--- the owner of the row at place k, told as one more, is o; of a row that no place and not 0 owns, o is 257
+-- o is the owner of the row at place k, told as one more, 0 if it has none; 257 if it is discarded or no place below 256 owns it
 pub record OwnerOf (w : List ℕ) (k o : ℕ) : Type 0 where
   pub inside : o ≤ 257
   pub owns : (p : ℕ) → p ≤ 256 → ownedAt w p k ≡ eqb o p
@@ -18,11 +18,15 @@ abbrev pub Linked : List ℕ → ℕ → List ℕ → Type 0
 Linked next k [] = k ≡ 0
 Linked next k (q ∷ qs) = (k ≡ suc q) × (q < 256) × Linked next (getD next q 0) qs
 
--- of the places qs, those of each owner are linked in their order
-pub record Links (w qs first next : List ℕ) : Type 0 where
+-- the places of each owner, as `below` lists them, are linked
+pub record Links (below : ℕ → List ℕ) (first next : List ℕ) : Type 0 where
   pub firsts : length first ≡ 258
   pub nexts : length next ≡ 256
-  pub told : (o : ℕ) → o ≤ 256 → Linked next (getD first o 0) (keep (ownedAt w o) qs)
+  pub told : (o : ℕ) → o ≤ 256 → Linked next (getD first o 0) (below o)
+
+-- of the places qs, those that the owner o has
+abbrev pub ownedBy : List ℕ → List ℕ → ℕ → List ℕ
+ownedBy w qs o = keep (ownedAt w o) qs
 
 -- the places that the links from k on tell, at most m
 unfoldable pub chain : List ℕ → ℕ → ℕ → List ℕ
@@ -30,21 +34,15 @@ chain next zero k = []
 chain next (suc m) zero = []
 chain next (suc m) (suc k) = k ∷ chain next m (getD next k 0)
 
--- the changes of the owner o
+-- those that they tell of the owner o
 abbrev pub linkedTo : List ℕ → List ℕ → ℕ → List ℕ
 linkedTo first next o = chain next 256 (getD first o 0)
 
--- the links from each owner end
-pub record Ending (first next : List ℕ) : Type 0 where
-  pub firsts : length first ≡ 258
-  pub nexts : length next ≡ 256
-  pub told : (o : ℕ) → o ≤ 256 → Linked next (getD first o 0) (linkedTo first next o)
-
--- the changes of the owner o, each after its own dependents; n may remain
+-- those of the owner o, each after its own dependents; n may remain
 unfoldable pub linkedRuns : List ℕ → List ℕ → ℕ → ℕ → List ℕ
 linkedRuns first next zero o = []
 linkedRuns first next (suc n) o = flatMap (λ q. linkedRuns first next n (suc q) ++ (q ∷ [])) (linkedTo first next o)
 
--- the same where all may remain
+-- all that run below the owner o
 abbrev pub dependents : List ℕ → List ℕ → ℕ → List ℕ
 dependents first next o = linkedRuns first next 257 o

@@ -5,11 +5,11 @@ ghost use Prim.Native.Nat.{_+_, _^_, _≤_, _<_};
 ghost use lib.ListN.{length, take, drop, replicate};
 ghost use Rattle.edit_plan.specs.Sorting.{rankedPlaces};
 ghost use Rattle.postorder.specs.Order.{runningPlaces};
-ghost use Rattle.postorder.specs.Links.{OwnerOf, Links, Ending, dependents};
+ghost use Rattle.postorder.specs.Links.{OwnerOf, Links, ownedBy, linkedTo, dependents};
 use edit_plan::field;
 use words::word;
 
-// The owner of the change at place `k`, told as one more, and 0 of a change that has none; 257 of a change that no change runs before.
+// The owner of the change at place `k`, told as one more; 0 of a change without owner, 257 of one that never runs.
 fn owner_of(rows: &[u32], k: usize) -> usize
     requires { ⌜ k < 2 ^ 32 ⌝ }
     ensures { λ r. ⌜ OwnerOf (now (rows .entry)) k r ⌝ }
@@ -28,7 +28,8 @@ fn owner_of(rows: &[u32], k: usize) -> usize
     257
 }
 
-// The ranked changes are linked, from the last to the first: `first` gets the first change of each owner and `next` the one after each change, told as one more.
+// The ranked changes of each owner are linked, from the last to the first: `first` tells the first one of an owner and `next` the one after a change, as one
+// more; 0 if there is none.
 fn link_dependents(
     rows: &[u32],
     n: usize,
@@ -38,7 +39,7 @@ fn link_dependents(
 )
     requires { ⌜ (n ≤ 256) × (n ≤ length (now ranked)) × (take n (now ranked) ≡ rankedPlaces (now rows) n) ⌝ }
     requires { ⌜ (now first ≡ replicate 258 0) × (length (now next) ≡ 256) ⌝ }
-    ensures { λ _. ⌜ Links (now (rows .entry)) (rankedPlaces (now (rows .entry)) n) (now (first .exit)) (now (next .exit)) ⌝ }
+    ensures { λ _. ⌜ Links (ownedBy (now (rows .entry)) (rankedPlaces (now (rows .entry)) n)) (now (first .exit)) (now (next .exit)) ⌝ }
 {
     let mut i = n;
     while 0 < i {
@@ -59,7 +60,7 @@ fn append_postorder(
     running: &mut [u32],
     at: usize,
 ) -> usize
-    requires { ⌜ Ending (now first) (now next) ⌝ }
+    requires { ⌜ Links (linkedTo (now first) (now next)) (now first) (now next) ⌝ }
     requires { ⌜ (owner ≤ 256) × (length (dependents (now first) (now next) owner) ≤ 256) × (at + length (dependents (now first) (now next) owner) ≤ length (now running)) ⌝ }
     ensures { λ r. ⌜ r ≡ at + length (dependents (now (first .entry)) (now (next .entry)) owner) ⌝ }
     ensures { λ r. ⌜ now (running .exit) ≡ take at (now (running .entry)) ++ (dependents (now (first .entry)) (now (next .entry)) owner ++ drop r (now (running .entry))) ⌝ }

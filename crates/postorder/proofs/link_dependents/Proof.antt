@@ -2,7 +2,6 @@
 -- Assumes nothing.
 use Rattle.postorder.proofs.Linking.{Linking, linking-start, linking-done, place-below, told-below, linking-next}
 use borrow.Author.Needs.{needs}
-use native.Mathlib.Omega.{arith}
 use Rattle.postorder.proofs.link_dependents.Statement.{statement}
 use Rattle.postorder.proofs.link_dependents.Tie as tie
 

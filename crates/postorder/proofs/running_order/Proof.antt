@@ -1,15 +1,10 @@
 -- `running_order` meets its contract. The links tell what runs, and no change runs twice.
 -- Assumes nothing.
-use Rattle.postorder.proofs.Visits.{links-ending, all-few, all-fit, all-counted, all-written, ranked-front}
+use Rattle.postorder.proofs.Visits.{links-kept, all-few, all-fit, all-counted, all-written, ranked-front}
 use mathlib.Core.Path.{refl}
 use borrow.Author.Needs.{needs}
 use Rattle.postorder.proofs.running_order.Statement.{statement}
 use Rattle.postorder.proofs.running_order.Tie as tie
-use Rattle.postorder.proofs.running_order.Reads as reads
-use Rattle.postorder.proofs.running_order.Lts as lts
-use Rattle.edit_plan.proofs.rank_changes.Reads as rank-changes-reads
-use Rattle.postorder.proofs.append_postorder.Reads as append-postorder-reads
-use Rattle.postorder.proofs.link_dependents.Reads as link-dependents-reads
 
 rank-changes-requires : tie.Need-rank-changes-requires
 rank-changes-requires c κs = search needs
@@ -18,7 +13,7 @@ link-dependents-requires : tie.Need-link-dependents-requires
 link-dependents-requires c κs = ((search needs, search needs, search (ranked-front, needs)), (refl, refl))
 
 append-postorder-requires : tie.Need-append-postorder-requires
-append-postorder-requires c κs = (search (links-ending, needs), (search needs, search (all-few, needs), search (all-fit, needs)))
+append-postorder-requires c κs = (search (links-kept, needs), (search needs, search (all-few, needs), search (all-fit, needs)))
 
 same-length : tie.Need-same-length
 same-length c = search needs
