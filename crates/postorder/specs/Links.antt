@@ -43,6 +43,6 @@ unfoldable pub linkedRuns : List ℕ → List ℕ → ℕ → ℕ → List ℕ
 linkedRuns first next zero o = []
 linkedRuns first next (suc n) o = flatMap (λ q. linkedRuns first next n (suc q) ++ (q ∷ [])) (linkedTo first next o)
 
--- all that run below the owner o
+-- all that run below the owner o: more may remain than there are
 abbrev pub dependents : List ℕ → List ℕ → ℕ → List ℕ
 dependents first next o = linkedRuns first next 257 o

@@ -1,4 +1,5 @@
--- `append_postorder` meets its contract. The invariant: what has been written, and what the changes that are still linked give, is what was to be written.
+-- `append_postorder` meets its contract. The invariant: what has been written, and what the changes that are still linked give, is what was to be written. A call's
+-- measure is how many changes run below its owner.
 -- Assumes nothing.
 use Rattle.postorder.specs.Links.{dependents}
 use Rattle.postorder.proofs.Visits.{Appending, appending-start, appended-to, appended, below-falls, told-low, below-few, below-fits, told-inside, told-fits, place-inside, end-falls, appending-next}
