@@ -41,15 +41,15 @@ pub record Appending (first next : List ℕ) (o : ℕ) (l₀ : List ℕ) (at : �
   pub done : take end l ++ visits first next rest ≡ take at l₀ ++ dependents first next o
   pub beyond : drop end l ≡ drop end l₀
 
-pub appending-start : (first next : List ℕ) (o : ℕ) (l : List ℕ) (at k : ℕ) → Links (linkedTo first next) first next → o ≤ 256 → length (dependents first next o) ≤ 256 → k ≡ getD first o 0
-    → Appending first next o l at l at k
-appending-start first next o l at k v h most e = record {
+pub appending-start : (first next : List ℕ) (o left : ℕ) (l : List ℕ) (at k : ℕ) → Links (linkedTo first next) first next → o ≤ 256 → left ≤ 256 → length (dependents first next o) ≤ left
+    → k ≡ getD first o 0 → Appending first next o l at l at k
+appending-start first next o left l at k v h few most e = record {
   rest = linkedTo first next o;
   told = rw e (v .told o h);
   from = omega arith;
   room = omega arith;
   long = refl;
-  done = rw (visits-all first next o most);
+  done = rw (visits-all first next o (omega arith));
   beyond = refl;
 }
 
@@ -83,8 +83,8 @@ module _ {first next : List ℕ} {o : ℕ} {l₀ : List ℕ} {at : ℕ} {l : Lis
   pub told-inside : Links (linkedTo first next) first next → k - 1 < length next
   told-inside e = omega (arith, told-low, e .nexts)
 
-module _ {first next : List ℕ} {o : ℕ} {l₀ : List ℕ} {at : ℕ} {l : List ℕ} {end k : ℕ} (v : Appending first next o l₀ at l end k)
-    (most : length (dependents first next o) ≤ 256) (fits : at + length (dependents first next o) ≤ length l₀) where
+module _ {first next : List ℕ} {o left : ℕ} {l₀ : List ℕ} {at : ℕ} {l : List ℕ} {end k : ℕ} (v : Appending first next o l₀ at l end k)
+    (fits : at + left ≤ length l₀) (most : length (dependents first next o) ≤ left) where
   abbrev all : List ℕ
   all = dependents first next o
 
@@ -122,28 +122,31 @@ module _ {first next : List ℕ} {o : ℕ} {l₀ : List ℕ} {at : ℕ} {l : Lis
     unfolding flatMap
     visited = let c : suc (k - 1) ≡ k = omega arith in ap (visits first next) (turn v h .parted) ∙ rw c
 
-    -- what runs below the change has room, without the change
+    -- what was appended, what runs below the change, and the change itself are among those of the owner
     below-room : end + length S + 1 ≤ at + length all
     below-room =
         let a = length-append (S ++ ((k - 1) ∷ [])) (visits first next others) in
         let c = length-append S ((k - 1) ∷ []) in
         omega (arith, counted, ap length visited)
 
-    pub below-falls : (t : ℕ) → length all ≡ t → length S < t
-    below-falls t u = omega (arith, below-room, v .from)
+    pub some-left : 1 ≤ left - (end - at)
+    some-left = omega (arith, below-room, v .from)
 
-    pub below-few : length S ≤ 256
-    below-few = omega (arith, below-room, v .from)
+    pub left-falls : (t : ℕ) → left ≡ t → left - (end - at) - 1 < t
+    left-falls t u = omega (arith, some-left)
 
-    pub below-fits : end + length S ≤ length l
-    below-fits = omega (arith, below-room, v .long)
+    pub left-room : end + (left - (end - at) - 1) ≤ length l
+    left-room = omega (arith, some-left, v .from, v .long)
+
+    pub below-most : length S ≤ left - (end - at) - 1
+    below-most = omega (arith, below-room, v .from)
 
     module _ (place : ℕ) (l₁ : List ℕ) (p : place ≡ end + length S) (m : length l₁ ≡ length l) where
       pub place-inside : place < length l₁
       place-inside = omega (arith, below-room, v .long)
 
-      pub end-falls : length (set l₁ place (k - 1)) - (place + 1) < length l - end
-      end-falls = simp length-set (omega (arith, place-inside))
+      pub unvisited-fall : left - (place + 1 - at) < left - (end - at)
+      unvisited-fall = omega (arith, some-left, v .from)
 
       module _ (s : l₁ ≡ take end l ++ (S ++ drop place l)) where
         parted : l₁ ≡ (take end l ++ S) ++ drop place l
@@ -212,11 +215,8 @@ module _ (w first next : List ℕ) (n : ℕ) (v : Links (ownedBy w (rankedPlaces
   all-run : dependents first next 0 ≡ runningPlaces w n
   all-run = linked-runs 257 0 (omega arith) ∙ runs-all w n 257 (omega arith)
 
-  pub all-few : length (dependents first next 0) ≤ 256
-  all-few = rw all-run (omega (arith, running-most w n))
-
-  pub all-fit : (l : List ℕ) → n ≤ length l → 0 + length (dependents first next 0) ≤ length l
-  all-fit l h = rw all-run (omega (arith, running-most w n))
+  pub all-most : length (dependents first next 0) ≤ n
+  all-most = rw all-run (running-most w n)
 
   pub all-counted : (r : ℕ) → r ≡ 0 + length (dependents first next 0) → r ≡ length (runningPlaces w n)
   all-counted r q = q ∙ rw all-run (zero-add (length (runningPlaces w n)))

@@ -51,24 +51,26 @@ fn link_dependents(
     }
 }
 
-// The changes of an owner, told as one more, are appended to `running` at `at`, each after its own dependents; of 0, those without an owner. Where the
-// next one is to be appended.
+// The changes of an owner, told as one more, are appended to `running` at `at`, each after its own dependents; of 0, those without an owner. Of all
+// changes `left` are not yet visited. Where the next one is to be appended.
 fn append_postorder(
     first: &[u32; 258],
     next: &[u32; 256],
     owner: usize,
+    left: usize,
     running: &mut [u32],
     at: usize,
 ) -> usize
     requires { ⌜ Links (linkedTo (now first) (now next)) (now first) (now next) ⌝ }
-    requires { ⌜ (owner ≤ 256) × (length (dependents (now first) (now next) owner) ≤ 256) × (at + length (dependents (now first) (now next) owner) ≤ length (now running)) ⌝ }
+    requires { ⌜ (owner ≤ 256) × (left ≤ 256) × (at + left ≤ length (now running)) × (length (dependents (now first) (now next) owner) ≤ left) ⌝ }
     ensures { λ r. ⌜ r ≡ at + length (dependents (now (first .entry)) (now (next .entry)) owner) ⌝ }
     ensures { λ r. ⌜ now (running .exit) ≡ take at (now (running .entry)) ++ (dependents (now (first .entry)) (now (next .entry)) owner ++ drop r (now (running .entry))) ⌝ }
 {
     let mut end = at;
     let mut k = word(first, owner);
     while 0 < k {
-        let place = append_postorder(first, next, k, running, end);
+        let unvisited = left - (end - at);
+        let place = append_postorder(first, next, k, unvisited - 1, running, end);
         running[place] = (k - 1) as u32;
         end = place + 1;
         k = word(next, k - 1);
@@ -87,5 +89,5 @@ pub fn running_order(rows: &[u32], n: usize, ranked: &mut [u32], running: &mut [
     let mut first = [0u32; 258];
     let mut next = [0u32; 256];
     link_dependents(rows, n, ranked, &mut first, &mut next);
-    append_postorder(&first, &next, 0, running, 0)
+    append_postorder(&first, &next, 0, n, running, 0)
 }

@@ -1,12 +1,10 @@
--- `append_postorder` meets its contract. The invariant: what has been written, and what the changes that are still linked give, is what was to be written. A call's
--- measure is how many changes run below its owner.
+-- `append_postorder` meets its contract. The invariant: what has been written, and what the changes that are still linked give, is what was to be written. The
+-- measure of a call, and of its loop, is how many changes are not yet visited.
 -- Assumes nothing.
-use Rattle.postorder.specs.Links.{dependents}
-use Rattle.postorder.proofs.Visits.{Appending, appending-start, appended-to, appended, below-falls, told-low, below-few, below-fits, told-inside, told-fits, place-inside, end-falls, appending-next}
+use Rattle.postorder.proofs.Visits.{Appending, appending-start, appended-to, appended, some-left, left-falls, left-room, below-most, told-low, told-inside, told-fits, place-inside, unvisited-fall, appending-next}
 use borrow.Author.Needs.{needs}
 use native.Mathlib.Omega.{arith}
 use Prim.Native.Nat.{ℕ, _-_, _<_}
-use lib.ListN.{length}
 use borrow.Fn.Kinds.{In}
 use borrow.Fn.PlainCycle.{Measures, is, falls, and}
 use Rattle.postorder.proofs.append_postorder.Reads as append-postorder
@@ -17,7 +15,7 @@ use Rattle.postorder.proofs.+append_postorder.{statement}
 use Rattle.postorder.proofs.+append_postorder.Tie.{close}
 
 abbrev μ-append-postorder : Measures 3 append-postorder-kinds.ps ℕ
-μ-append-postorder κs a = length (dependents (a .0 .now) (a .1 .0 .now) (a .1 .1 .0))
+μ-append-postorder κs a = a .1 .1 .1 .0
 
 abbrev append-postorder-at : ℕ → In 3 append-postorder-kinds.ps
 append-postorder-at t =
@@ -36,10 +34,10 @@ append-postorder-below t =
     append-postorder.Pre
 
 abbrev append-postorder-Inv-loop : append-postorder-lts.InvT-loop
-append-postorder-Inv-loop first next owner running₀ at end₀ k₀ running end k = Appending first next owner running₀ at running end k
+append-postorder-Inv-loop first next owner left running₀ at end₀ k₀ running end k = Appending first next owner running₀ at running end k
 
 abbrev append-postorder-μ-loop : append-postorder-lts.MeasureT-loop
-append-postorder-μ-loop first next owner running₀ at end₀ k₀ running end k = length running - end
+append-postorder-μ-loop first next owner left running₀ at end₀ k₀ running end k = left - (end - at)
 
 append-postorder-word-requires : (t : ℕ) → append-postorder-lts.Need-word-requires (
   word-reads.Asked,
@@ -57,6 +55,30 @@ append-postorder-loop-holds : (t : ℕ) → append-postorder-lts.Need-loop-holds
 ) (append-postorder-at t) append-postorder.Post append-postorder-Inv-loop append-postorder-μ-loop
 append-postorder-loop-holds t c = search (appending-start, needs)
 
+append-postorder-sub-unvisited : (t : ℕ) → append-postorder-lts.Need-sub-unvisited (
+  word-reads.Asked,
+  word-reads.Learnt,
+  append-postorder-below t,
+  append-postorder.Post,
+) (append-postorder-at t) append-postorder.Post append-postorder-Inv-loop append-postorder-μ-loop
+append-postorder-sub-unvisited t c = omega arith
+
+append-postorder-sub-unvisited-2 : (t : ℕ) → append-postorder-lts.Need-sub-unvisited-2 (
+  word-reads.Asked,
+  word-reads.Learnt,
+  append-postorder-below t,
+  append-postorder.Post,
+) (append-postorder-at t) append-postorder.Post append-postorder-Inv-loop append-postorder-μ-loop
+append-postorder-sub-unvisited-2 t c = omega arith
+
+append-postorder-sub-append-postorder : (t : ℕ) → append-postorder-lts.Need-sub-append-postorder (
+  word-reads.Asked,
+  word-reads.Learnt,
+  append-postorder-below t,
+  append-postorder.Post,
+) (append-postorder-at t) append-postorder.Post append-postorder-Inv-loop append-postorder-μ-loop
+append-postorder-sub-append-postorder t c = search (some-left, needs)
+
 append-postorder-append-postorder-requires :
     (t : ℕ) → append-postorder-lts.Need-append-postorder-requires (
       word-reads.Asked,
@@ -68,7 +90,7 @@ append-postorder-append-postorder-requires :
     append-postorder.Post
     append-postorder-Inv-loop
     append-postorder-μ-loop
-append-postorder-append-postorder-requires t c κs = (search (below-falls, needs), (search needs, (search (told-low, needs), search (below-few, needs), search (below-fits, needs))))
+append-postorder-append-postorder-requires t c κs = (search (left-falls, needs), (search needs, (search (told-low, needs), omega arith, search (left-room, needs), search (below-most, needs))))
 
 append-postorder-sub-running : (t : ℕ) → append-postorder-lts.Need-sub-running (
   word-reads.Asked,
@@ -132,7 +154,7 @@ append-postorder-loop-less : (t : ℕ) → append-postorder-lts.Need-loop-less (
   append-postorder-below t,
   append-postorder.Post,
 ) (append-postorder-at t) append-postorder.Post append-postorder-Inv-loop append-postorder-μ-loop
-append-postorder-loop-less t c = search (end-falls, needs)
+append-postorder-loop-less t c = search (unvisited-fall, needs)
 
 append-postorder-loop-again : (t : ℕ) → append-postorder-lts.Need-loop-again (
   word-reads.Asked,
@@ -171,6 +193,9 @@ pub +append-postorder-spec : {M : Type 1} → statement M
     append-postorder-μ-loop
     (append-postorder-word-requires t)
     (append-postorder-loop-holds t)
+    (append-postorder-sub-unvisited t)
+    (append-postorder-sub-unvisited-2 t)
+    (append-postorder-sub-append-postorder t)
     (append-postorder-append-postorder-requires t)
     (append-postorder-sub-running t)
     (append-postorder-cast-running t)

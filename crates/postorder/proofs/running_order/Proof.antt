@@ -1,6 +1,6 @@
 -- `running_order` meets its contract. The links tell what runs, and no change runs twice.
 -- Assumes nothing.
-use Rattle.postorder.proofs.Visits.{links-kept, all-few, all-fit, all-counted, all-written, ranked-front}
+use Rattle.postorder.proofs.Visits.{links-kept, all-most, all-counted, all-written, ranked-front}
 use mathlib.Core.Path.{refl}
 use borrow.Author.Needs.{needs}
 use Rattle.postorder.proofs.running_order.Statement.{statement}
@@ -13,7 +13,7 @@ link-dependents-requires : tie.Need-link-dependents-requires
 link-dependents-requires c κs = ((search needs, search needs, search (ranked-front, needs)), (refl, refl))
 
 append-postorder-requires : tie.Need-append-postorder-requires
-append-postorder-requires c κs = (search (links-kept, needs), (search needs, search (all-few, needs), search (all-fit, needs)))
+append-postorder-requires c κs = (search (links-kept, needs), (search needs, search needs, search needs, search (all-most, needs)))
 
 same-length : tie.Need-same-length
 same-length c = search needs
