@@ -1,2 +1,3 @@
--- What the functions' proofs cite: what each test tells, the invariant of the loop, and a turn of it.
+-- What the functions' proofs cite: what each test tells, the invariants of the loops, and a turn of each.
+pub mod Linking
 pub mod Visits

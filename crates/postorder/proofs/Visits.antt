@@ -1,226 +1,229 @@
--- What each test tells of owners, and each turn of the running order.
+-- Each turn of the running order, and that the links tell it.
 -- Assumes nothing.
 use mathlib.Core.Path.{_≡_, refl, sym, ap, _∙_}
-use mathlib.Core.Bool.{Bool, true, false, cond}
 use mathlib.Core.List.{List, [], _∷_, _++_, flatMap, append-assoc, append-nil}
-use mathlib.Core.Option.{Option, none, some}
-use Prim.Native.Nat.{ℕ, zero, suc, _+_, _-_, _*_, _≤_, _<_}
+use Prim.Native.Nat.{ℕ, zero, suc, _+_, _-_, _^_, _≤_, _<_}
 use native.Mathlib.Nat.{zero-add}
 use native.Mathlib.Numerals.{add-one}
 use native.Mathlib.Omega.{arith}
-use lib.ListN.{length, getD, set, take, drop, length-set, length-append, take-append-drop, drop-of-length-le}
-use lib.Seq.{length-take-le, take-at, drop-at, drop-drop, drop-cons, take-suc-set, drop-set-lt, getD-take}
-use lib.Dec.{eqb}
-use borrow.Author.Tests.{ne-eqb}
-use Rattle.orders.specs.Lists.{pick}
-use Rattle.definition.specs.Basics.{keep}
-use Rattle.definition.specs.Planning.{own, dependent, discarded}
-use Rattle.definition.specs.Running.{owned}
-use Rattle.syntax_editor.specs.ChangeRow.{rowOf}
-use Rattle.edit_plan.specs.Lists.{keep-cons}
-use Rattle.syntax_editor.specs.ChangeRowLaws.{rowAt}
-use Rattle.edit_plan.specs.Rows.{rowFate}
+use lib.ListN.{length, getD, set, take, drop, length-set, length-append, take-append-drop}
+use lib.Seq.{length-take-le, take-at, drop-at, drop-drop, take-suc-set, drop-set-lt}
 use Rattle.edit_plan.specs.Sorting.{rankedPlaces, length-ranked}
 use Rattle.postorder.specs.Order.{ordered, ownerTold, ownedAt, runs, runningPlaces}
-use Rattle.postorder.specs.Counting.{ordered-fewer, runs-most, runs-all}
-
--- ── Owners ──────────────────────────────────────────────────────────────────────────────────────────────────
-
-told-some : (o : ℕ) → (o ≡ 0 → ⊥) → ownerTold o ≡ some (o - 1)
-unfolding ownerTold
-told-some zero n = absurd (n refl)
-told-some (suc i) n = ap {B = Option ℕ} some (omega arith)
-
-module _ (w : List ℕ) (k o x : ℕ) (f : x ≡ getD (drop (13 * k) w) 11 0) where
-  pub owned-none : o ≡ 0 → eqb x 0 ≡ ownedAt w o k
-  unfolding ownedAt ownerTold rowFate rowAt rowOf owned
-  owned-none e = rw (e, ← f) (go (eqb x 0) (eqb x 1) (getD (drop (13 * k) w) 12 0))
-    where
-      go : (b c : Bool) (y : ℕ) → b ≡ owned none (cond b own (cond c (dependent y) (discarded y)))
-      go true c y = refl
-      go false true y = refl
-      go false false y = refl
-
-  module _ (n : o ≡ 0 → ⊥) where
-    pub not-dependent : (x ≡ 1 → ⊥) → false ≡ ownedAt w o k
-    unfolding ownedAt rowFate rowAt rowOf owned
-    not-dependent m = rw (told-some o n, ← f, ne-eqb x 1 m) (go (eqb x 0) (getD (drop (13 * k) w) 12 0))
-      where
-        go : (b : Bool) (y : ℕ) → false ≡ owned (some (o - 1)) (cond b own (discarded y))
-        go true y = refl
-        go false y = refl
-
-    pub owned-some : x ≡ 1 → (y : ℕ) → y ≡ getD (drop (13 * k) w) 12 0 → eqb (o - 1) y ≡ ownedAt w o k
-    unfolding ownedAt rowFate rowAt rowOf owned
-    owned-some e y g = rw (told-some o n, ← f, e, ← g)
+use Rattle.postorder.specs.Sums.{kept-most}
+use Rattle.postorder.specs.Counting.{joined-same, running-most, runs-all}
+use Rattle.postorder.specs.Links.{Linked, Links, ownedBy, chain, linkedTo, linkedRuns, dependents}
 
 -- ── A turn ──────────────────────────────────────────────────────────────────────────────────────────────────
 
--- a place after its dependents, where m may remain
-abbrev pub visit : List ℕ → List ℕ → ℕ → ℕ → List ℕ
-visit w qs m k = runs w qs m (suc k) ++ (k ∷ [])
+-- where what runs is less than may remain, that one more may remain changes nothing
+linked-more : (first next : List ℕ) (m o : ℕ) → length (linkedRuns first next m o) < m → linkedRuns first next (suc m) o ≡ linkedRuns first next m o
+unfolding linkedRuns
+linked-more first next zero o h = absurd (omega arith)
+linked-more first next (suc m) o h =
+    joined-same (λ q. linkedRuns first next m (suc q)) (λ q. linkedRuns first next (suc m) (suc q)) m (λ q b. linked-more first next m (suc q) b) (linkedTo first next o) (omega arith)
 
--- what the places from i on give
-unfoldable pub rest : List ℕ → List ℕ → ℕ → ℕ → ℕ → List ℕ
-rest w qs m o i = flatMap (visit w qs m) (keep (ownedAt w o) (drop i qs))
+-- what the places qs give, each after its own dependents
+abbrev pub visits : List ℕ → List ℕ → List ℕ → List ℕ
+visits first next qs = flatMap (λ q. dependents first next (suc q) ++ (q ∷ [])) qs
 
-rest-all : (w qs : List ℕ) (m o : ℕ) → rest w qs m o 0 ≡ runs w qs (suc m) o
-unfolding rest runs ordered ownedAt ownerTold
-rest-all w qs m o = refl
+visits-all : (first next : List ℕ) (o : ℕ) → length (dependents first next o) ≤ 256 → visits first next (linkedTo first next o) ≡ dependents first next o
+unfolding linkedRuns
+visits-all first next o h = linked-more first next 257 o (omega arith)
 
--- the changes of the owner o are to be written at `at` of l₀; l is l₀ with what the first i of the n ranked places gave, up to `end`
-pub record Appending (w ranked : List ℕ) (n left o : ℕ) (l₀ : List ℕ) (at : ℕ) (l : List ℕ) (end i : ℕ) : Type 0 where
-  pub inside : i ≤ n
+-- the changes of the owner o are to be written at `at` of l₀; l is l₀ with what the first of them gave, up to `end`, and k tells the next one
+pub record Appending (first next : List ℕ) (o : ℕ) (l₀ : List ℕ) (at : ℕ) (l : List ℕ) (end k : ℕ) : Type 0 where
+  pub rest : List ℕ
+  pub told : Linked next k rest
   pub from : at ≤ end
-  pub room : end ≤ at + left
+  pub room : end ≤ at + length (dependents first next o)
   pub long : length l ≡ length l₀
-  pub done : take end l ++ rest w (take n ranked) left o i ≡ take at l₀ ++ runs w (take n ranked) (suc left) o
+  pub done : take end l ++ visits first next rest ≡ take at l₀ ++ dependents first next o
   pub beyond : drop end l ≡ drop end l₀
 
-pub appending-start : (w ranked : List ℕ) (n left o : ℕ) (l : List ℕ) (at : ℕ) → Appending w ranked n left o l at l at 0
-appending-start w ranked n left o l at = record { inside = omega arith; from = omega arith; room = omega arith; long = refl; done = rw (rest-all w (take n ranked) left o); beyond = refl }
+pub appending-start : (first next : List ℕ) (o left : ℕ) (l : List ℕ) (at k : ℕ) → Links (linkedTo first next) first next → o ≤ 256 → left ≤ 256 → length (dependents first next o) ≤ left
+    → k ≡ getD first o 0 → Appending first next o l at l at k
+appending-start first next o left l at k v h few most e = record {
+  rest = linkedTo first next o;
+  told = rw e (v .told o h);
+  from = omega arith;
+  room = omega arith;
+  long = refl;
+  done = rw (visits-all first next o (omega arith));
+  beyond = refl;
+}
 
-module _ {w ranked : List ℕ} {n left o : ℕ} {l₀ : List ℕ} {at : ℕ} {l : List ℕ} {end i : ℕ} (v : Appending w ranked n left o l₀ at l end i)
-    (listed : n ≤ length ranked) (fits : at + left ≤ length l₀) (most : length (runs w (take n ranked) (suc left) o) ≤ left) where
-  abbrev qs : List ℕ
-  qs = take n ranked
+-- the first of the places that are linked from k on, and the others
+record Parts (next qs : List ℕ) (k : ℕ) : Type 0 where
+  others : List ℕ
+  parted : qs ≡ (k - 1) ∷ others
+  low : k ≤ 256
+  linked : Linked next (getD next (k - 1) 0) others
 
+parts : (next qs : List ℕ) (k : ℕ) → Linked next k qs → 0 < k → Parts next qs k
+parts next [] k h p = absurd (omega arith)
+parts next (q ∷ qs) k h p =
+    let e : q ≡ k - 1 = omega (arith, h .0) in
+    record { others = qs; parted = rw e; low = omega (arith, h .0, h .1); linked = rw e at (h .2) }
+
+none-linked : (next qs : List ℕ) (k : ℕ) → Linked next k qs → k ≤ 0 → qs ≡ []
+none-linked next [] k h p = refl
+none-linked next (q ∷ qs) k h p = absurd (omega (arith, h .0))
+
+module _ {first next : List ℕ} {o : ℕ} {l₀ : List ℕ} {at : ℕ} {l : List ℕ} {end k : ℕ} (v : Appending first next o l₀ at l end k) (h : 0 < k) where
+  abbrev turn : Parts next (v .rest) k
+  turn = parts next (v .rest) k (v .told) h
+
+  pub told-low : k ≤ 256
+  told-low = turn .low
+
+  pub told-fits : k - 1 < 2 ^ 32
+  told-fits = omega (arith, told-low)
+
+  pub told-inside : Links (linkedTo first next) first next → k - 1 < length next
+  told-inside e = omega (arith, told-low, e .nexts)
+
+module _ {first next : List ℕ} {o left : ℕ} {l₀ : List ℕ} {at : ℕ} {l : List ℕ} {end k : ℕ} (v : Appending first next o l₀ at l end k)
+    (fits : at + left ≤ length l₀) (most : length (dependents first next o) ≤ left) where
   abbrev all : List ℕ
-  all = runs w qs (suc left) o
+  all = dependents first next o
 
   long-front : length (take end l) ≡ end
   long-front = length-take-le end l (omega (arith, v .room, v .long))
 
   -- what is still to come has room
-  counted : end + length (rest w qs left o i) ≡ at + length all
+  counted : end + length (visits first next (v .rest)) ≡ at + length all
   counted =
-      let a = length-append (take end l) (rest w qs left o i) in
+      let a = length-append (take end l) (visits first next (v .rest)) in
       let b = length-append (take at l₀) all in
       let c = ap length (v .done) in
       omega (arith, long-front, length-take-le at l₀ (omega arith))
 
-  rest-none : n ≤ i → rest w qs left o i ≡ []
-  unfolding rest flatMap keep pick
-  rest-none h = rw (drop-of-length-le qs {i = i} (omega (arith, length-take-le n ranked listed)))
+  rest-none : k ≤ 0 → visits first next (v .rest) ≡ []
+  unfolding flatMap
+  rest-none h = rw (none-linked next (v .rest) k (v .told) h)
 
-  pub appended-to : n ≤ i → end ≡ at + length all
+  pub appended-to : k ≤ 0 → end ≡ at + length all
   appended-to h = omega (arith, counted, ap length (rest-none h))
 
-  pub appended : n ≤ i → l ≡ take at l₀ ++ (all ++ drop end l₀)
+  pub appended : k ≤ 0 → l ≡ take at l₀ ++ (all ++ drop end l₀)
   appended h =
       let e : take end l ≡ take at l₀ ++ all = sym (append-nil (take end l)) ∙ (ap {B = List ℕ} (λ r. take end l ++ r) (sym (rest-none h)) ∙ v .done) in
       sym (take-append-drop end l) ∙ rw (e, v .beyond) (append-assoc (take at l₀) all (drop end l₀))
 
-  module _ (k : ℕ) (h : i < n) (q : k ≡ getD ranked i 0) (b : Bool) (e : b ≡ ownedAt w o k) where
-    here : rest w qs left o i ≡ cond b (visit w qs left k ++ rest w qs left o (suc i)) (rest w qs left o (suc i))
-    unfolding rest flatMap
-    here =
-        let d : drop i qs ≡ k ∷ drop (suc i) qs = drop-cons qs i 0 (omega (arith, length-take-le n ranked listed)) ∙ rw (getD-take n ranked i 0 h, ← q) in
-        rw (d, keep-cons (ownedAt w o) k (drop (suc i) qs), ← e) (go b)
-      where
-        go : (b : Bool) → flatMap (visit w qs left) (cond b (k ∷ keep (ownedAt w o) (drop (suc i) qs)) (keep (ownedAt w o) (drop (suc i) qs)))
-            ≡ cond b (visit w qs left k ++ flatMap (visit w qs left) (keep (ownedAt w o) (drop (suc i) qs))) (flatMap (visit w qs left) (keep (ownedAt w o) (drop (suc i) qs)))
-        go true = refl
-        go false = refl
+  module _ (h : 0 < k) where
+    abbrev others : List ℕ
+    others = turn v h .others
 
-    pub appending-skip : b ≡ false → Appending w ranked n left o l₀ at l end (i + 1)
-    appending-skip z = record {
-      inside = omega arith;
-      from = v .from;
-      room = v .room;
-      long = v .long;
-      done = rw (add-one i) (sym (ap {B = List ℕ} (λ r. take end l ++ r) (rw z at here)) ∙ v .done);
-      beyond = v .beyond;
-    }
+    abbrev S : List ℕ
+    S = dependents first next k
 
-    module _ (z : b ≡ true) where
-      abbrev S : List ℕ
-      S = runs w qs left (suc k)
+    visited : visits first next (v .rest) ≡ (S ++ ((k - 1) ∷ [])) ++ visits first next others
+    unfolding flatMap
+    visited = let c : suc (k - 1) ≡ k = omega arith in ap (visits first next) (turn v h .parted) ∙ rw c
 
-      visited : rest w qs left o i ≡ (S ++ (k ∷ [])) ++ rest w qs left o (suc i)
-      visited = rw z at here
+    -- what was appended, what runs below the change, and the change itself are among those of the owner
+    below-room : end + length S + 1 ≤ at + length all
+    below-room =
+        let a = length-append (S ++ ((k - 1) ∷ [])) (visits first next others) in
+        let c = length-append S ((k - 1) ∷ []) in
+        omega (arith, counted, ap length visited)
 
-      -- what runs below k has room in what is left, without k
-      below-room : end + length S + 1 ≤ at + left
-      below-room =
-          let a = length-append (S ++ (k ∷ [])) (rest w qs left o (suc i)) in
-          let c = length-append S (k ∷ []) in
-          omega (arith, counted, ap length visited)
+    pub some-left : 1 ≤ left - (end - at)
+    some-left = omega (arith, below-room, v .from)
 
-      pub some-left : 1 ≤ left - (end - at)
-      some-left = omega (arith, below-room, v .from)
+    pub left-falls : (t : ℕ) → left ≡ t → left - (end - at) - 1 < t
+    left-falls t u = omega (arith, some-left)
 
-      -- it is the same where only what is left may remain
-      below-same : runs w qs (suc (left - (end - at) - 1)) (k + 1) ≡ S
-      unfolding runs
-      below-same =
-          let c : suc (left - (end - at) - 1) ≡ left - (end - at) = omega (arith, some-left) in
-          rw (c, add-one k)
-          (ordered-fewer (λ o k. owned o (rowFate (rowAt w k))) (λ k. k) qs left (left - (end - at)) (ownerTold (suc k)) (omega (arith, below-room, v .from)) (omega arith))
+    pub left-room : end + (left - (end - at) - 1) ≤ length l
+    left-room = omega (arith, some-left, v .from, v .long)
 
-      pub below-most : length (runs w qs (suc (left - (end - at) - 1)) (k + 1)) ≤ left - (end - at) - 1
-      below-most = rw below-same (omega (arith, below-room, v .from))
+    pub below-most : length S ≤ left - (end - at) - 1
+    below-most = omega (arith, below-room, v .from)
 
-      pub left-room : end + (left - (end - at) - 1) ≤ length l
-      left-room = omega (arith, below-room, v .from, v .long)
+    module _ (place : ℕ) (l₁ : List ℕ) (p : place ≡ end + length S) (m : length l₁ ≡ length l) where
+      pub place-inside : place < length l₁
+      place-inside = omega (arith, below-room, v .long)
 
-      pub left-falls : (t : ℕ) → left ≡ t → left - (end - at) - 1 < t
-      left-falls t u = omega (arith, below-room, v .from)
+      pub unvisited-fall : left - (place + 1 - at) < left - (end - at)
+      unvisited-fall = omega (arith, some-left, v .from)
 
-      module _ (place : ℕ) (l₁ : List ℕ) (p : place ≡ end + length (runs w qs (suc (left - (end - at) - 1)) (k + 1))) (m : length l₁ ≡ length l) where
-        at-place : place ≡ end + length S
-        at-place = p ∙ rw below-same
+      module _ (s : l₁ ≡ take end l ++ (S ++ drop place l)) where
+        parted : l₁ ≡ (take end l ++ S) ++ drop place l
+        parted = s ∙ sym (append-assoc (take end l) S (drop place l))
 
-        pub place-inside : place < length l₁
-        place-inside = omega (arith, at-place, below-room, v .long)
+        long-parted : length (take end l ++ S) ≡ place
+        long-parted = length-append (take end l) S ∙ omega (arith, long-front)
 
-        module _ (s : l₁ ≡ take end l ++ (runs w qs (suc (left - (end - at) - 1)) (k + 1) ++ drop place l)) where
-          parted : l₁ ≡ (take end l ++ S) ++ drop place l
-          parted = s ∙ rw below-same (sym (append-assoc (take end l) S (drop place l)))
+        front : take place l₁ ≡ take end l ++ S
+        front = rw parted (take-at (take end l ++ S) (drop place l) place long-parted)
 
-          long-parted : length (take end l ++ S) ≡ place
-          long-parted = length-append (take end l) S ∙ omega (arith, long-front, at-place)
+        back : drop (place + 1) l₁ ≡ drop (place + 1) l
+        back =
+            rw (← drop-drop 1 place l₁, ← drop-drop 1 place l)
+            (ap (drop 1) (ap (drop place) parted ∙ drop-at (take end l ++ S) (drop place l) place long-parted))
 
-          front : take place l₁ ≡ take end l ++ S
-          front = rw parted (take-at (take end l ++ S) (drop place l) place long-parted)
+        further : drop (place + 1) l ≡ drop (place + 1) l₀
+        further =
+            let d : place + 1 ≡ end + (length S + 1) = omega arith in
+            rw (d, ← drop-drop (length S + 1) end l, ← drop-drop (length S + 1) end l₀, v .beyond)
 
-          back : drop (place + 1) l₁ ≡ drop (place + 1) l
-          back =
-              rw (← drop-drop 1 place l₁, ← drop-drop 1 place l)
-              (ap (drop 1) (ap (drop place) parted ∙ drop-at (take end l ++ S) (drop place l) place long-parted))
+        written : take (place + 1) (set l₁ place (k - 1)) ++ visits first next others ≡ take end l ++ ((S ++ ((k - 1) ∷ [])) ++ visits first next others)
+        written = rw (add-one place, take-suc-set l₁ place (k - 1) place-inside, front) (simp append-assoc)
 
-          further : drop (place + 1) l ≡ drop (place + 1) l₀
-          further =
-              let d : place + 1 ≡ end + (length S + 1) = omega (arith, at-place) in
-              rw (d, ← drop-drop (length S + 1) end l, ← drop-drop (length S + 1) end l₀, v .beyond)
-
-          written : take (place + 1) (set l₁ place k) ++ rest w qs left o (i + 1) ≡ take end l ++ ((S ++ (k ∷ [])) ++ rest w qs left o (suc i))
-          written = rw (add-one place, add-one i, take-suc-set l₁ place k place-inside, front) (simp append-assoc)
-
-          pub appending-next : Appending w ranked n left o l₀ at (set l₁ place k) (place + 1) (i + 1)
-          appending-next = record {
-            inside = omega arith;
-            from = omega (arith, at-place, v .from);
-            room = omega (arith, at-place, below-room);
-            long = simp length-set (m ∙ v .long);
-            done = written ∙ (ap {B = List ℕ} (λ r. take end l ++ r) (sym visited) ∙ v .done);
-            beyond = drop-set-lt (place + 1) l₁ place k (omega arith) ∙ (back ∙ further);
-          }
+        pub appending-next : (k′ : ℕ) → k′ ≡ getD next (k - 1) 0 → Appending first next o l₀ at (set l₁ place (k - 1)) (place + 1) k′
+        appending-next k′ e = record {
+          rest = others;
+          told = rw e (turn v h .linked);
+          from = omega (arith, v .from);
+          room = omega (arith, below-room);
+          long = simp length-set (m ∙ v .long);
+          done = written ∙ (ap {B = List ℕ} (λ r. take end l ++ r) (sym visited) ∙ v .done);
+          beyond = drop-set-lt (place + 1) l₁ place (k - 1) (omega arith) ∙ (back ∙ further);
+        }
 
 -- ── All changes ─────────────────────────────────────────────────────────────────────────────────────────────
 
-module _ (w ranked₀ ranked : List ℕ) (n : ℕ) (e : ranked ≡ rankedPlaces w n ++ drop n ranked₀) where
-  ranked-front : take n ranked ≡ rankedPlaces w n
-  ranked-front = rw e (take-at (rankedPlaces w n) (drop n ranked₀) n (length-ranked w n))
+chain-linked : (next : List ℕ) (m k : ℕ) (qs : List ℕ) → Linked next k qs → length qs ≤ m → chain next m k ≡ qs
+unfolding chain
+chain-linked next zero k [] h p = refl
+chain-linked next (suc m) k [] h p = rw h
+chain-linked next zero k (q ∷ qs) h p = absurd (omega arith)
+chain-linked next (suc m) k (q ∷ qs) h p = rw (h .0, chain-linked next m (getD next q 0) qs (h .2) (omega arith))
 
-  pub all-most : length (runs w (take n ranked) (suc n) 0) ≤ n
-  all-most = rw ranked-front (runs-most w n (suc n))
+module _ (w first next : List ℕ) (n : ℕ) (v : Links (ownedBy w (rankedPlaces w n)) first next) (few : n ≤ 256) where
+  abbrev ranked : List ℕ
+  ranked = rankedPlaces w n
 
-  all-run : runs w (take n ranked) (suc n) 0 ≡ runningPlaces w n
-  all-run = rw ranked-front (runs-all w n)
+  linked-kept : (o : ℕ) → o ≤ 256 → linkedTo first next o ≡ ownedBy w ranked o
+  linked-kept o h = chain-linked next 256 (getD first o 0) (ownedBy w ranked o) (v .told o h) (omega (arith, kept-most (ownedAt w o) ranked, length-ranked w n))
 
-  pub all-counted : (r : ℕ) → r ≡ 0 + length (runs w (take n ranked) (suc n) 0) → r ≡ length (runningPlaces w n)
+  pub links-kept : Links (linkedTo first next) first next
+  links-kept = record { firsts = v .firsts; nexts = v .nexts; told = λ o h. rw (linked-kept o h) (v .told o h) }
+
+  linked-runs : (m o : ℕ) → o ≤ 256 → linkedRuns first next m o ≡ runs w ranked m o
+  unfolding linkedRuns runs ordered ownedAt ownerTold flatMap
+  linked-runs zero o h = refl
+  linked-runs (suc m) o h = rw (linked-kept o h) (go (linked-runs m) (getD first o 0) (ownedBy w ranked o) (v .told o h))
+    where
+      go : ((o : ℕ) → o ≤ 256 → linkedRuns first next m o ≡ runs w ranked m o) → (k : ℕ) (qs : List ℕ) → Linked next k qs
+          → flatMap (λ q. linkedRuns first next m (suc q) ++ (q ∷ [])) qs ≡ flatMap (λ q. runs w ranked m (suc q) ++ (q ∷ [])) qs
+      go same k [] l = refl
+      go same k (q ∷ qs) l = rw (same (suc q) (omega (arith, l .1)), go same (getD next q 0) qs (l .2))
+
+  -- what the links tell runs
+  all-run : dependents first next 0 ≡ runningPlaces w n
+  all-run = linked-runs 257 0 (omega arith) ∙ runs-all w n 257 (omega arith)
+
+  pub all-most : length (dependents first next 0) ≤ n
+  all-most = rw all-run (running-most w n)
+
+  pub all-counted : (r : ℕ) → r ≡ 0 + length (dependents first next 0) → r ≡ length (runningPlaces w n)
   all-counted r q = q ∙ rw all-run (zero-add (length (runningPlaces w n)))
 
-  pub all-written : (r : ℕ) (l₀ l : List ℕ) → l ≡ take 0 l₀ ++ (runs w (take n ranked) (suc n) 0 ++ drop r l₀) → l ≡ runningPlaces w n ++ drop r l₀
+  pub all-written : (r : ℕ) (l₀ l : List ℕ) → l ≡ take 0 l₀ ++ (dependents first next 0 ++ drop r l₀) → l ≡ runningPlaces w n ++ drop r l₀
   all-written r l₀ l q = q ∙ rw all-run
+
+-- what is ranked stands in front
+pub ranked-front : (w ranked₀ ranked : List ℕ) (n : ℕ) → ranked ≡ rankedPlaces w n ++ drop n ranked₀ → take n ranked ≡ rankedPlaces w n
+ranked-front w ranked₀ ranked n e = rw e (take-at (rankedPlaces w n) (drop n ranked₀) n (length-ranked w n))

@@ -155,30 +155,31 @@ running-most w n = runs-most w n n
 
 -- ── Fewer may remain ────────────────────────────────────────────────────────────────────────────────────────
 
+-- f and g tell the same where f tells less than n: so they do joined, each element behind what they tell of it, where that is at most n
+pub joined-same : {A : Type 0} (f g : A → List A) (n : ℕ) → ((q : A) → length (f q) < n → g q ≡ f q) → (ks : List A) → length (flatMap (λ q. f q ++ (q ∷ [])) ks) ≤ n
+    → flatMap (λ q. g q ++ (q ∷ [])) ks ≡ flatMap (λ q. f q ++ (q ∷ [])) ks
+unfolding flatMap
+joined-same f g n same [] h = refl
+joined-same f g n same (q ∷ ks) h =
+    let e₁ = length-append (f q ++ (q ∷ [])) (flatMap (λ q. f q ++ (q ∷ [])) ks) in
+    let e₂ = length-append (f q) (q ∷ []) in
+    rw (same q (omega arith), joined-same f g n same ks (omega arith))
+
 module _ {A : Type 0} (owns : Option ℕ → A → Bool) (place : A → ℕ) (qs : List A) where
   -- where what runs is no more than may remain, that more may remain changes nothing
-  pub ordered-fewer : (m l : ℕ) (o : Option ℕ) → length (ordered owns place qs m o) ≤ l → l ≤ m → ordered owns place qs l o ≡ ordered owns place qs m o
-  unfolding ordered flatMap
+  ordered-fewer : (m l : ℕ) (o : Option ℕ) → length (ordered owns place qs m o) ≤ l → l ≤ m → ordered owns place qs l o ≡ ordered owns place qs m o
+  unfolding ordered
   ordered-fewer m zero o h k = sym (empty (ordered owns place qs m o) h)
     where
       empty : (r : List A) → length r ≤ 0 → r ≡ []
       empty [] e = refl
       empty (x ∷ r) e = absurd (omega arith)
   ordered-fewer zero (suc l) o h k = absurd (omega arith)
-  ordered-fewer (suc m) (suc l) o h k = go (λ q b. ordered-fewer m l (some (place q)) b (omega arith)) (keep (owns o) qs) h
-    where
-      sub : ℕ → A → List A
-      sub n q = ordered owns place qs n (some (place q))
-
-      go : ((q : A) → length (sub m q) ≤ l → sub l q ≡ sub m q) → (ks : List A) → length (flatMap (λ q. sub m q ++ (q ∷ [])) ks) ≤ suc l
-          → flatMap (λ q. sub l q ++ (q ∷ [])) ks ≡ flatMap (λ q. sub m q ++ (q ∷ [])) ks
-      go fewer [] b = refl
-      go fewer (q ∷ ks) b =
-          let e₁ = length-append (sub m q ++ (q ∷ [])) (flatMap (λ q. sub m q ++ (q ∷ [])) ks) in
-          let e₂ = length-append (sub m q) (q ∷ []) in
-          rw (fewer q (omega arith), go fewer ks (omega arith))
+  ordered-fewer (suc m) (suc l) o h k =
+      joined-same (λ q. ordered owns place qs m (some (place q))) (λ q. ordered owns place qs l (some (place q))) (suc l)
+      (λ q b. ordered-fewer m l (some (place q)) (omega arith) (omega arith)) (keep (owns o) qs) h
 
 -- as many as there are rows is enough
-pub runs-all : (w : List ℕ) (n : ℕ) → runs w (rankedPlaces w n) (suc n) 0 ≡ runningPlaces w n
+pub runs-all : (w : List ℕ) (n m : ℕ) → n ≤ m → runs w (rankedPlaces w n) m 0 ≡ runningPlaces w n
 unfolding runningPlaces runs
-runs-all w n = sym (ordered-fewer (λ o k. owned o (rowFate (rowAt w k))) (λ k. k) (rankedPlaces w n) (suc n) n (ownerTold 0) (runs-most w n (suc n)) (omega arith))
+runs-all w n m h = sym (ordered-fewer (λ o k. owned o (rowFate (rowAt w k))) (λ k. k) (rankedPlaces w n) m n (ownerTold 0) (runs-most w n m) h)
