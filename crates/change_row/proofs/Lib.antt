@@ -1,2 +1,2 @@
--- Measuring   what planning goes by, word by word
-pub mod Measuring
+-- Writing   a row with other ends, and a row copied
+pub mod Writing

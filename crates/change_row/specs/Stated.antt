@@ -1,19 +1,21 @@
--- The change that a row states, and the row of a change with another target.
+-- The change that a row states, and the row of a change with other ends.
 -- Assumes nothing.
-use mathlib.Core.Bool.{Bool, true, false, cond, _&&_}
-use mathlib.Core.List.{List}
+use mathlib.Core.List.{List, [], _∷_, _++_, headD}
+use mathlib.Core.Bool.{cond}
 use mathlib.Core.Path.{_≡_, refl, sym, ap, _∙_}
 use Prim.Native.Nat.{ℕ, zero, suc, _+_, _*_, _≤_, _<_}
 use native.Mathlib.Omega.{arith}
 use lib.ListN.{length, getD, take, drop}
-use lib.Dec.{eqb, ltb}
-use borrow.Author.Tests.{eqb-true}
-use Rattle.definition.specs.Elements.{Table, row, node?, depth, tree}
+use lib.Dec.{eqb}
+use Rattle.definition.specs.Elements.{Table}
 use Rattle.definition.specs.Recording.{firstChild, after, Change, insert, replace, delete, replaceWithMany, replaceAll}
-use Rattle.definition.specs.Planning.{own, dependent, discarded, Planned, target, rank, from, to, above, parentDepth, addsRegion, nodeByNode}
+use Rattle.definition.specs.Planning.{own, dependent, discarded, Planned, target, rank, from, to, parentDepth, addsRegion, nodeByNode}
 use Rattle.definition.specs.Running.{news}
-use Rattle.syntax_editor.specs.ChangeRow.{ChangeRow, operation, endOf, regionOf, changeRow, fateOf, ownerOf}
+use Rattle.syntax_editor.specs.ChangeRow.{ChangeRow, rowWords, rowOf, operation, endOf, regionOf, changeRow, fateOf, ownerOf}
 use Rattle.syntax_editor.specs.ChangeRowLaws.{rowAt}
+use Rattle.syntax_editor.specs.Numbers.{numbersOf, asChange, rowWith, NumbersFit, changeBy as codeBy}
+use Rattle.syntax_editor.specs.Spots.{spotOf, Named}
+use Rattle.syntax_editor.specs.declared.Change as code
 use Rattle.edit_plan.specs.Rows.{rowFate, withFate}
 use Rattle.orders.specs.Lists.{All}
 
@@ -92,37 +94,23 @@ fated-row n listed w c i R h =
 
 -- ── The row anew ────────────────────────────────────────────────────────────────────────────────────────────
 
-module _ (T : Table) where
-  -- range, depth of target parent and region word of an operation with the target x, the end y (the target, if it is no run) and the first listed element z
-  unfoldable pub fromBy : ℕ → ℕ → ℕ
-  fromBy op x = cond (eqb op 1) ((row T x) .end) ((row T x) .start)
+-- the code's change of the row r with the target x and the end y
+unfoldable pub changeAnew : ChangeRow → ℕ → ℕ → code.Change
+changeAnew r x y = codeBy r.operation x y (record { at = r .list; count = r .count })
 
-  unfoldable pub toBy : ℕ → ℕ → ℕ → ℕ
-  toBy op x y = cond (eqb op 0) ((row T x) .start) ((row T y) .end)
+-- c is that change: its ends are elements, and its numbers fit words
+pub record ChangedEnds (n : ℕ) (r : ChangeRow) (x y : ℕ) (c : code.Change) : Type 0 where
+  pub change : c ≡ changeAnew r x y
+  pub named : Named n c
+  pub fits : NumbersFit (numbersOf c)
 
-  unfoldable pub depthBy : ℕ → ℕ → ℕ
-  depthBy op x = cond (eqb op 0) (depth T x) (above T x)
+-- the row q with the fate and owner of r
+unfoldable pub keptFate : ChangeRow → ChangeRow → ChangeRow
+keptFate r q = rowOf (take 11 (rowWords q) ++ (r .fate ∷ r .owner ∷ []))
 
-  unfoldable pub regionBy : ℕ → ℕ → ℕ → ℕ
-  regionBy op x z = cond (ltb op 2) 0 (cond (eqb op 5) 1 (cond (node? T x) (cond (eqb op 2 && node? T z) 2 1) 0))
-
-  -- the row r with another target and end
-  unfoldable pub rowAnew : ChangeRow → ℕ → ℕ → ℕ → ChangeRow
-  rowAnew r x y z = record {
-    operation = r .operation;
-    target = x;
-    end = y;
-    list = r .list;
-    count = r .count;
-    tree = tree T x;
-    from = fromBy r.operation x;
-    to = toBy r.operation x y;
-    depth = depthBy r.operation x;
-    rank = r .rank;
-    region = regionBy r.operation x z;
-    fate = r .fate;
-    owner = r .owner;
-  }
+-- the row r with the target x, the end y and the first listed element z
+unfoldable pub rowAnew : Table → ChangeRow → ℕ → ℕ → ℕ → ChangeRow
+rowAnew T r x y z = keptFate r (rowWith (numbersOf (changeAnew r x y)) (spotOf T (asChange (z ∷ []) (changeAnew r x y))))
 
 -- ── A change by its number, part by part ────────────────────────────────────────────────────────────────────
 
@@ -146,17 +134,6 @@ target-by (suc (suc (suc (suc zero)))) x y z new h = refl
 target-by (suc (suc (suc (suc (suc zero))))) x y z new h = refl
 target-by (suc (suc (suc (suc (suc (suc op)))))) x y z new h = absurd (omega arith)
 
--- the end is the target, if it is no run
-pub end-by : (op x y z : ℕ) (new : List ℕ) → op ≤ 5 → ((op ≡ 5 → ⊥) → y ≡ x) → endOf (changeBy op x y z new) ≡ y
-unfolding changeBy endOf
-end-by zero x y z new h e = sym (e (λ q. omega arith))
-end-by (suc zero) x y z new h e = sym (e (λ q. omega arith))
-end-by (suc (suc zero)) x y z new h e = sym (e (λ q. omega arith))
-end-by (suc (suc (suc zero))) x y z new h e = sym (e (λ q. omega arith))
-end-by (suc (suc (suc (suc zero)))) x y z new h e = sym (e (λ q. omega arith))
-end-by (suc (suc (suc (suc (suc zero))))) x y z new h e = refl
-end-by (suc (suc (suc (suc (suc (suc op)))))) x y z new h e = absurd (omega arith)
-
 -- the elements that go in are the same for every target and end
 pub news-by : (op x y z x′ y′ : ℕ) (new : List ℕ) → op ≤ 5 → news (changeBy op x y z new) ≡ news (changeBy op x′ y′ z new)
 unfolding changeBy news
@@ -168,21 +145,6 @@ news-by (suc (suc (suc (suc zero)))) x y z x′ y′ new h = refl
 news-by (suc (suc (suc (suc (suc zero))))) x y z x′ y′ new h = refl
 news-by (suc (suc (suc (suc (suc (suc op)))))) x y z x′ y′ new h = absurd (omega arith)
 
-pub rank-by : (op x y z x′ y′ : ℕ) (new : List ℕ) → op ≤ 5 → rank (changeBy op x y z new) ≡ rank (changeBy op x′ y′ z new)
-unfolding changeBy rank
-rank-by zero x y z x′ y′ new h = refl
-rank-by (suc zero) x y z x′ y′ new h = refl
-rank-by (suc (suc zero)) x y z x′ y′ new h = refl
-rank-by (suc (suc (suc zero))) x y z x′ y′ new h = refl
-rank-by (suc (suc (suc (suc zero)))) x y z x′ y′ new h = refl
-rank-by (suc (suc (suc (suc (suc zero))))) x y z x′ y′ new h = refl
-rank-by (suc (suc (suc (suc (suc (suc op)))))) x y z x′ y′ new h = absurd (omega arith)
-
-both : (a b : Bool) → _≡_ {A = ℕ} (cond (a && b) 2 (cond a 1 0)) (cond a (cond b 2 1) 0)
-both true true = refl
-both true false = refl
-both false b = refl
-
 pub fate-dependent : (r : ChangeRow) → r .fate ≡ 1 → rowFate r ≡ dependent (r .owner)
 unfolding rowFate
 fate-dependent r f = go (r .fate) f
@@ -190,79 +152,31 @@ fate-dependent r f = go (r .fate) f
     go : (k : ℕ) → k ≡ 1 → cond (eqb k 0) own (cond (eqb k 1) (dependent (r .owner)) (discarded (r .owner))) ≡ dependent (r .owner)
     go k q = rw q
 
-module _ (T : Table) where
-  from-by : (op x y z : ℕ) (new : List ℕ) → op ≤ 5 → from T (changeBy op x y z new) ≡ fromBy T op x
-  unfolding changeBy from fromBy
-  from-by zero x y z new h = refl
-  from-by (suc zero) x y z new h = refl
-  from-by (suc (suc zero)) x y z new h = refl
-  from-by (suc (suc (suc zero))) x y z new h = refl
-  from-by (suc (suc (suc (suc zero)))) x y z new h = refl
-  from-by (suc (suc (suc (suc (suc zero))))) x y z new h = refl
-  from-by (suc (suc (suc (suc (suc (suc op)))))) x y z new h = absurd (omega arith)
+-- a dependent's fate is kept by its words
+fate-kept : (r q : ChangeRow) → r .fate ≡ 1 → withFate q (rowFate r) ≡ keptFate r q
+unfolding withFate keptFate fateOf ownerOf rowOf rowWords
+fate-kept r q f = rw (fate-dependent r f) (ap (λ (k : ℕ). rowOf (take 11 (rowWords q) ++ (k ∷ r .owner ∷ []))) (sym f))
 
-  to-by : (op x y z : ℕ) (new : List ℕ) → op ≤ 5 → ((op ≡ 5 → ⊥) → y ≡ x) → to T (changeBy op x y z new) ≡ toBy T op x y
-  unfolding changeBy to toBy
-  to-by zero x y z new h e = refl
-  to-by (suc zero) x y z new h e = rw (e (λ q. omega arith))
-  to-by (suc (suc zero)) x y z new h e = rw (e (λ q. omega arith))
-  to-by (suc (suc (suc zero))) x y z new h e = rw (e (λ q. omega arith))
-  to-by (suc (suc (suc (suc zero)))) x y z new h e = rw (e (λ q. omega arith))
-  to-by (suc (suc (suc (suc (suc zero))))) x y z new h e = refl
-  to-by (suc (suc (suc (suc (suc (suc op)))))) x y z new h e = absurd (omega arith)
+module _ (T : Table) (at k x y z z′ : ℕ) (new : List ℕ) where
+  -- the row of a change by its number, by the numbers of the code's change
+  row-by : (op : ℕ) → op ≤ 5 → k ≡ length (news (changeBy op x y z new)) → (op ≡ 2 → z′ ≡ z)
+      → changeRow T at (changeBy op x y z new) ≡ rowWith (numbersOf (codeBy op x y (record { at = at; count = k }))) (spotOf T (asChange (z′ ∷ []) (codeBy op x y (record { at = at; count = k }))))
+  unfolding changeBy codeBy news changeRow rowWith spotOf operation endOf target rank from to parentDepth regionOf addsRegion nodeByNode headD
+  row-by zero h c g = rw c
+  row-by (suc zero) h c g = rw c
+  row-by (suc (suc zero)) h c g = rw (g refl)
+  row-by (suc (suc (suc zero))) h c g = refl
+  row-by (suc (suc (suc (suc zero)))) h c g = rw c
+  row-by (suc (suc (suc (suc (suc zero))))) h c g = rw c
+  row-by (suc (suc (suc (suc (suc (suc op)))))) h c g = absurd (omega arith)
 
-  depth-by : (op x y z : ℕ) (new : List ℕ) → op ≤ 5 → parentDepth T (changeBy op x y z new) ≡ depthBy T op x
-  unfolding changeBy parentDepth depthBy
-  depth-by zero x y z new h = refl
-  depth-by (suc zero) x y z new h = refl
-  depth-by (suc (suc zero)) x y z new h = refl
-  depth-by (suc (suc (suc zero))) x y z new h = refl
-  depth-by (suc (suc (suc (suc zero)))) x y z new h = refl
-  depth-by (suc (suc (suc (suc (suc zero))))) x y z new h = refl
-  depth-by (suc (suc (suc (suc (suc (suc op)))))) x y z new h = absurd (omega arith)
-
-  region-by : (op x y z : ℕ) (new : List ℕ) → op ≤ 5 → regionOf T (changeBy op x y z new) ≡ regionBy T op x z
-  unfolding changeBy regionOf regionBy addsRegion nodeByNode
-  region-by zero x y z new h = refl
-  region-by (suc zero) x y z new h = refl
-  region-by (suc (suc zero)) x y z new h = both (node? T x) (node? T z)
-  region-by (suc (suc (suc zero))) x y z new h = refl
-  region-by (suc (suc (suc (suc zero)))) x y z new h = refl
-  region-by (suc (suc (suc (suc (suc zero))))) x y z new h = refl
-  region-by (suc (suc (suc (suc (suc (suc op)))))) x y z new h = absurd (omega arith)
-
-  -- the region word goes by the first listed element of a call 2 alone
-  region-same : (op x z z′ : ℕ) → (op ≡ 2 → z ≡ z′) → regionBy T op x z ≡ regionBy T op x z′
-  unfolding regionBy
-  region-same op x z z′ h = go (eqb op 2) refl
-    where
-      go : (b : Bool) → eqb op 2 ≡ b
-          → _≡_ {A = ℕ} (cond (ltb op 2) 0 (cond (eqb op 5) 1 (cond (node? T x) (cond (b && node? T z) 2 1) 0)))
-          (cond (ltb op 2) 0 (cond (eqb op 5) 1 (cond (node? T x) (cond (b && node? T z′) 2 1) 0)))
-      go true q = rw (h (eqb-true op 2 q))
-      go false q = refl
-
-  -- the row anew is that of the change with the new target and end, and with the fate as it was
-  pub row-anew : (n : ℕ) (listed : List ℕ) (r : ChangeRow) (x y z : ℕ) → Stated n listed r → r .fate ≡ 1 → ((r .operation ≡ 5 → ⊥) → y ≡ x) → (r .operation ≡ 2 → z ≡ getD listed (r .list) 0)
-      → withFate (changeRow T (r .list) (changeBy (r .operation) x y (getD listed (r .list) 0) (newOf listed r))) (rowFate r) ≡ rowAnew T r x y z
-  unfolding withFate changeRow rowAnew rowFate changeOf fateOf ownerOf
-  row-anew n listed r x y z′ S f e g =
-      let op : ℕ = r .operation in
-      let z : ℕ = getD listed (r .list) 0 in
-      let new : List ℕ = newOf listed r in
-      let h : op ≤ 5 = S .known in
-      λ i. record {
-        operation = operation-by op x y z new h i;
-        target = target-by op x y z new h i;
-        end = end-by op x y z new h e i;
-        list = r .list;
-        count = (ap length (news-by op x y z (r .target) (r .end) new h) ∙ sym (S .counted)) i;
-        tree = ap (tree T) (target-by op x y z new h) i;
-        from = from-by op x y z new h i;
-        to = to-by op x y z new h e i;
-        depth = depth-by op x y z new h i;
-        rank = (rank-by op x y z (r .target) (r .end) new h ∙ sym (S .ranked)) i;
-        region = (region-by op x y z new h ∙ sym (region-same op x z′ z g)) i;
-        fate = (ap fateOf (fate-dependent r f) ∙ sym f) i;
-        owner = ap ownerOf (fate-dependent r f) i;
-      }
+-- the row anew is that of the change with the new target and end, and with the fate as it was
+pub row-anew : (T : Table) (n : ℕ) (listed : List ℕ) (r : ChangeRow) (x y z : ℕ) → Stated n listed r → r .fate ≡ 1 → ((r .operation ≡ 5 → ⊥) → y ≡ x) → (r .operation ≡ 2 → z ≡ getD listed (r .list) 0)
+    → withFate (changeRow T (r .list) (changeBy (r .operation) x y (getD listed (r .list) 0) (newOf listed r))) (rowFate r) ≡ rowAnew T r x y z
+unfolding rowAnew changeAnew changeOf
+row-anew T n listed r x y z′ S f _ g =
+    let op : ℕ = r .operation in
+    let z : ℕ = getD listed (r .list) 0 in
+    let new : List ℕ = newOf listed r in
+    let c : r .count ≡ length (news (changeBy op x y z new)) = S .counted ∙ ap length (news-by op (r .target) (r .end) z x y new (S .known)) in
+    fate-kept r (changeRow T (r .list) (changeBy op x y z new)) f ∙ ap (keptFate r) (row-by T (r .list) (r .count) x y z z′ new op (S .known) c g)

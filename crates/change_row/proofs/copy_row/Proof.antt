@@ -3,7 +3,7 @@
 use mathlib.Core.Path.{refl, _∙_}
 use Prim.Native.Nat.{_+_, _*_}
 use borrow.Author.Needs.{needs}
-use Rattle.change_row.proofs.Measuring.{row-copied}
+use Rattle.change_row.proofs.Writing.{row-copied}
 use Rattle.change_row.proofs.copy_row.Statement.{statement}
 use Rattle.change_row.proofs.copy_row.Tie as tie
 
