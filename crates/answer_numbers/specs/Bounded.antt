@@ -1,21 +1,21 @@
 -- The bytes of an answer, and the element that is found, are few.
 -- Assumes nothing.
-use mathlib.Core.Path.{_≡_, refl, sym, ap, _∙_}
+use mathlib.Core.Path.{_≡_, refl}
 use mathlib.Core.Bool.{Bool, true, false, cond, _&&_}
 use mathlib.Core.List.{List, [], _∷_, _++_, headD}
 use mathlib.Core.Option.{Option, none, some, Option·map}
-use Prim.Native.Nat.{ℕ, zero, suc, _+_, _≤_, _<_}
+use Prim.Native.Nat.{ℕ, suc, _+_, _≤_, _<_}
 use native.Mathlib.Omega.{arith}
 use lib.ListN.{length, take}
 use lib.Dec.{eqb}
 use Rattle.orders.specs.Lists.{All}
 use Rattle.orders.specs.ListLaws.{some-inj, none-some}
 use Rattle.orders.specs.Tree.{Tree, Trees, node, token, nil, cons, Path, list, children, elements, elementsOf, text}
-use Rattle.definition.specs.Basics.{Answer, gives, _>>=_, first}
+use Rattle.definition.specs.Basics.{gives, first, _>>=_}
 use Rattle.definition.specs.Elements.{Table, Row, row, node?, tree, rows, rowsBelow, table}
 use Rattle.definition.specs.Refusals.{accepted}
 use Rattle.definition.specs.Running.{World}
-use Rattle.definition.specs.Finishing.{newTree, newTable, fitting, encoded}
+use Rattle.definition.specs.Finishing.{newTree, newTable, fitting}
 use Rattle.definition.specs.Answers.{plan, ran, edit, withWork, edited}
 use Rattle.definition.specs.FindElement.{alike, findIn, findElement}
 use Rattle.laws.specs.Answers.{given, gives-inj}

@@ -2,9 +2,9 @@
 use layout::Laid;
 use layout::Layout;
 ghost use mathlib.Core.Path.{_≡_};
-ghost use mathlib.Core.Bool.{not, _||_};
+ghost use mathlib.Core.Bool.{not};
 ghost use mathlib.Core.List.{zip};
-ghost use Prim.Native.Nat.{_+_, _*_, _≤_, _<_};
+ghost use Prim.Native.Nat.{_≤_};
 ghost use lib.ListN.{length};
 ghost use Rattle.definition.specs.Basics.{gives, any};
 ghost use Rattle.definition.specs.Refusals.{wrongMapping};

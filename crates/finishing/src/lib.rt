@@ -1,7 +1,7 @@
 // The result from what the run leaves: changed elements and notes in order, refusal 13, and the bytes.
 ghost use mathlib.Core.Path.{_≡_};
 ghost use mathlib.Core.List.{List, map, flatMap, _∷_, []};
-ghost use Prim.Native.Nat.{ℕ, suc, _+_, _*_, _/_, _^_, _≤_, _<_};
+ghost use Prim.Native.Nat.{ℕ, _+_, _*_, _/_, _^_, _≤_, _<_};
 ghost use lib.ListN.{length, take};
 ghost use lib.Seq.{paste};
 ghost use Rattle.definition.specs.Words.{written};

@@ -10,7 +10,7 @@ use lib.Dec.{eqb}
 use lib.ListN.{length}
 use borrow.Author.Tests.{eqb-true, eqb-false}
 use Rattle.orders.specs.ListLaws.{some-inj, none-some, map-some, bind-some, Zone, before, inside, after, zone?}
-use Rattle.orders.specs.Tree.{Path, adjust, shift, front, last}
+use Rattle.orders.specs.Tree.{Path, adjust, shift}
 use Rattle.orders.specs.TreeLaws.{shift-before, shift-inside, shift-after, adjust-root, adjust-shift, adjust-in, adjust-out, adjust-length, last-same}
 use Rattle.orders.specs.Splices.{samePath}
 

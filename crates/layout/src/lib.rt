@@ -1,7 +1,7 @@
 // Lines 2 to 4: a batch is refused, or it is known where each of its arrays stands.
 ghost use mathlib.Core.Path.{_≡_};
 ghost use mathlib.Core.Bool.{not};
-ghost use Prim.Native.Nat.{_+_, _*_, _^_, _≤_, _<_};
+ghost use Prim.Native.Nat.{_+_, _*_, _≤_, _<_};
 ghost use lib.ListN.{length};
 ghost use Rattle.definition.specs.Batch.{sizes, beyond};
 ghost use Rattle.layout.specs.Layout.{sizesOf, layoutOf, Limits, laidOf, endsAt, laid};

@@ -9,7 +9,7 @@ use native.Mathlib.Omega.{arith}
 use lib.ListN.{length, getD}
 use lib.Dec.{eqb}
 use borrow.Author.Tests.{eqb-true}
-use Rattle.orders.specs.Tree.{Path, front, last, strip}
+use Rattle.orders.specs.Tree.{Path, strip}
 use Rattle.orders.specs.TreeLaws.{front-same, last-same, strip-append}
 use Rattle.definition.specs.Elements.{row, placeBelow}
 use Rattle.element_table.specs.View.{field, pathTo, rowAt, view}

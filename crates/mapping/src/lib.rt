@@ -1,8 +1,8 @@
 // Mappings: the mapped node of an element, its place below another, and the climb from a replaced node to its replacement.
 ghost use mathlib.Core.Path.{_≡_};
 ghost use mathlib.Core.Option.{Option·getD};
-ghost use Prim.Native.Nat.{suc, _+_, _*_, _^_, _≤_, _<_};
-ghost use lib.ListN.{length, getD};
+ghost use Prim.Native.Nat.{_+_, _*_, _≤_, _<_};
+ghost use lib.ListN.{length};
 ghost use mathlib.Core.List.{zip};
 ghost use Rattle.element_table.specs.Wellformed.{Lines};
 ghost use Rattle.mapping.specs.Mapped.{wordsAt, mappedBy, Mapped, Bounded, mappingWords};

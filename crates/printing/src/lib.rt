@@ -2,7 +2,7 @@
 ghost use mathlib.Core.Path.{_≡_};
 ghost use mathlib.Core.List.{_∷_, [], _++_, flatMap};
 ghost use Prim.Native.Nat.{_+_, _*_, _≤_, _<_, _^_};
-ghost use lib.ListN.{length, getD, take, drop};
+ghost use lib.ListN.{length, take, drop};
 ghost use Rattle.definition.specs.Words.{words};
 ghost use Rattle.definition.specs.Printed.{digits, hexDigit, hex, elementLine, textLine, print};
 ghost use Rattle.definition.specs.Basics.{refused, gives};

@@ -10,7 +10,7 @@ use lib.Seq.{drop-drop}
 use lib.Dec.{eqb}
 use borrow.Author.Tests.{eq-eqb, ne-eqb}
 use Rattle.orders.specs.Lists.{All}
-use Rattle.definition.specs.Words.{word, words}
+use Rattle.definition.specs.Words.{word}
 use Rattle.definition.specs.Planning.{target}
 use Rattle.definition.specs.Rewriting.{replacement}
 use Rattle.definition.specs.Running.{news}

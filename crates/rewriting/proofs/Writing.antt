@@ -13,7 +13,6 @@ use Rattle.orders.specs.Lists.{All}
 use Rattle.definition.specs.Basics.{Answer, refused, gives, _>>=_, refuse}
 use Rattle.definition.specs.Refusals.{wrongCall}
 use Rattle.definition.specs.Recording.{call}
-use Rattle.definition.specs.Words.{words}
 use Rattle.words.specs.Bytes.{length-words}
 use Rattle.element_table.specs.View.{view}
 use Rattle.element_table.specs.Wellformed.{Wellformed}

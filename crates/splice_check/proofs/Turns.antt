@@ -3,23 +3,22 @@
 use mathlib.Core.Path.{_≡_, refl, sym, ap, _∙_}
 use mathlib.Core.Bool.{Bool, true, false, not, _&&_}
 use mathlib.Core.List.{List, [], _∷_}
-use mathlib.Core.Logic.{_⊎_, inl, inr}
+use mathlib.Core.Logic.{inl, inr}
 use Prim.Native.Nat.{ℕ, zero, suc, _+_, _-_, _*_, _^_, _≤_, _<_}
 use native.Mathlib.Omega.{arith}
 use native.Mathlib.Nat.{sub-zero}
 use native.Mathlib.Numerals.{add-one}
 use lib.Dec.{leb, ltb, eqb}
 use lib.ListN.{length, getD, take, drop}
-use borrow.Author.Tests.{leb-true, ltb-true, lt-ltb, le-ltb, le-leb, lt-leb, eq-eqb, ne-eqb}
+use borrow.Author.Tests.{ltb-true, lt-ltb, le-ltb, le-leb, lt-leb, eq-eqb, ne-eqb}
 use Rattle.orders.specs.ListLaws.{both-true, lt-or-le}
 use Rattle.orders.specs.Check.{each, pairs}
 use Rattle.syntax_node.specs.Promises.{Counted, ChildAt, TreesIn}
 use Rattle.rows.specs.Row.{Row, owes, rowIn, firstRows, triples}
-use Rattle.rows.specs.Place.{childRow}
 use Rattle.rows.specs.Words.{triples-at, triples-end}
 use Rattle.splice_model.specs.Cuts.{Cut, partAt, cutAt, cutsTo}
-use Rattle.splice_model.specs.Bounds.{Bounded, rowsTo, rowsTo-more, part-is}
-use Rattle.splice_model.specs.Verdict.{owed, closed, boundedAt, hasRunAt, fitAt, treeRows, fitsTo, fitsTree, entersCut, overlapCut, apartCut, roomy, judgedBy, bounded-is, fits-each}
+use Rattle.splice_model.specs.Bounds.{rowsTo, rowsTo-more, part-is}
+use Rattle.splice_model.specs.Verdict.{owed, closed, boundedAt, hasRunAt, fitAt, treeRows, fitsTo, fitsTree, entersCut, overlapCut, apartCut, roomy, judgedBy, fits-each}
 use Rattle.splice_check.specs.Promises.{Closes, FitsAt, FitsAll, OneTree, FitsTree, EntersAt, Overlaps, ApartAt, RowsTo, ApartFrom, ApartAll, Judged}
 
 -- what `word` tells

@@ -12,7 +12,7 @@ use lib.ListN.{length, getD, set, length-set, drop-of-length-le, drop}
 use lib.Seq.{paste, paste-suc, take-all, drop-drop}
 use Rattle.orders.specs.Lists.{All}
 use Rattle.orders.specs.ListLaws.{bool?}
-use Rattle.orders.specs.Tree.{Tree, list}
+use Rattle.orders.specs.Tree.{Tree}
 use Rattle.orders.specs.Splices.{Splice, begin, oneGo, AllApart}
 use Rattle.rows.specs.Words.{rows-many}
 use Rattle.splice_model.specs.Cuts.{cutsTo, Holds, Told, stateOf}

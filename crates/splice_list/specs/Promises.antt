@@ -5,7 +5,6 @@ use mathlib.Core.Bool.{Bool, true, false}
 use mathlib.Core.List.{List, map}
 use Prim.Native.Nat.{ℕ, _+_, _*_, _/_, _≤_, _<_}
 use lib.ListN.{length, drop, getD}
-use Rattle.orders.specs.Lists.{All}
 use Rattle.orders.specs.Tree.{Tree}
 use Rattle.orders.specs.Splices.{Splice, begin, oneGo, AllApart}
 use Rattle.orders.specs.Paths.{oneGoPath}

@@ -1,7 +1,7 @@
 -- What `splice_all` leaves is the law's state, the same in every order.
 -- Assumes nothing.
 use mathlib.Core.Path.{_≡_, refl, sym, ap, subst, _∙_}
-use mathlib.Core.Bool.{true, _&&_}
+use mathlib.Core.Bool.{true}
 use mathlib.Core.List.{List, [], _∷_, map, reverseAux, List·Permᴰ, Permᴰ·refl, cons≢nil}
 use mathlib.Core.Logic.{_↔_, _⊎_, inl, inr}
 use mathlib.Core.Option.{Option, none, some}
@@ -15,7 +15,7 @@ use Rattle.orders.specs.Tree.{Tree, Path, resolve}
 use Rattle.orders.specs.Splices.{Splice, State, begin, performs, oneGo, EntersDeleted, AllApart}
 use Rattle.orders.specs.Check.{allApart?, says-all-apart}
 use Rattle.orders.specs.Parts.{neat}
-use Rattle.orders.specs.Paths.{oneGoPath, down}
+use Rattle.orders.specs.Paths.{down}
 use Rattle.orders.specs.Order.{one-go-same, path-same, apart-perm}
 use Rattle.orders.specs.Demand.{Demanded, demand}
 use Rattle.orders.specs.Done.{performs-one-go, reversed}
@@ -33,7 +33,7 @@ use Rattle.splice_model.specs.Found.{Inside}
 use Rattle.splice_list.specs.Plain.{Distinct, rows-inside, third-same}
 use Rattle.splice_list.specs.Promises.{isDone, Spliced}
 use Rattle.splice_list.specs.declared.Outcome.{Outcome}
-use Rattle.splice_list.specs.declared.Outcome.the-variants.{Refused, Done}
+use Rattle.splice_list.specs.declared.Outcome.the-variants.{Done}
 
 all-get : (l : List Row) (i : ℕ) (r : Row) → All Inside l → getElem? l i ≡ some r → Inside r
 all-get [] i r h e = absurd (none-some e)

@@ -11,7 +11,7 @@ use Rattle.orders.specs.Lists.{All, total}
 use Rattle.orders.specs.Tree.{Tree, Trees, node, token, nil, cons, Path, resolve}
 use Rattle.orders.specs.Splices.{Splice, State, begin, perform}
 use Rattle.rows.specs.Row.{Row, rowsOf, rowsAll, triples, firstRows, treesIn}
-use Rattle.rows.specs.Place.{place, markOf, Held, rowsAfter, childRow}
+use Rattle.rows.specs.Place.{place, markOf, Held}
 
 -- ── A splice in rows ────────────────────────────────────────────────────────────────────────────────────────
 

@@ -2,11 +2,10 @@
 -- Assumes nothing.
 use mathlib.Core.Path.{_≡_, refl, sym, ap, _∙_}
 use mathlib.Core.Bool.{true, _&&_}
-use mathlib.Core.List.{List, [], _∷_, _++_, map, append-assoc, append-nil}
-use mathlib.Core.Option.{some}
+use mathlib.Core.List.{List, [], _∷_, _++_, append-assoc, append-nil}
 use Prim.Native.Nat.{ℕ, zero, suc, _+_, _*_, _/_, _≤_, _<_}
 use native.Mathlib.Omega.{arith}
-use lib.ListN.{length, take, drop, getD, getElem?, length-drop, take-append-drop}
+use lib.ListN.{length, take, drop, getD, length-drop, take-append-drop}
 use lib.Seq.{length-take-le}
 use lib.Dec.{eqb}
 use borrow.Author.Tests.{eqb-true}
@@ -19,7 +18,7 @@ use Rattle.rows.specs.RowLaws.{rows-node, rows-append, trees-count}
 use Rattle.rows.specs.Words.{rows-many}
 use Rattle.splice_model.specs.Cuts.{Cut, cutOf, cutAt, cutsTo, partAt, paths, Stands, Told}
 use Rattle.splice_model.specs.Places.{paths-many, paths-stood}
-use Rattle.splice_model.specs.Verdict.{owed, closed, boundedAt, hasRunAt, fitAt, fitsTo, treeRows, fitsTree, roomy, Room, judgedBy, judged-bounds, judged-apart, Listing}
+use Rattle.splice_model.specs.Verdict.{owed, closed, boundedAt, hasRunAt, fitAt, fitsTo, treeRows, fitsTree, roomy, judgedBy, judged-bounds, judged-apart, Listing}
 
 -- ── Closed rows are those of trees ──────────────────────────────────────────────────────────────────────────
 

@@ -1,18 +1,17 @@
 -- A list of splices done one after the other, on rows and marks: the state of the law.
 -- Assumes nothing.
-use mathlib.Core.Path.{_≡_, refl, sym, ap, _∙_}
+use mathlib.Core.Path.{_≡_, refl, ap, _∙_}
 use mathlib.Core.List.{List, [], _∷_, map, reverseAux}
-use mathlib.Core.Option.{some}
 use Prim.Native.Nat.{ℕ, suc, _+_}
 use native.Mathlib.Omega.{arith}
 use Rattle.orders.specs.Tree.{Tree, Run}
-use Rattle.orders.specs.Splices.{Splice, State, begin, perform, performs, start, deleted, oneGo, AllApart}
+use Rattle.orders.specs.Splices.{Splice, State, perform, performs, start, deleted, oneGo, AllApart}
 use Rattle.orders.specs.Paths.{oneGoPath}
 use Rattle.orders.specs.Step.{apart-rest}
-use Rattle.orders.specs.Done.{After, Ready, ready, perform-after, begin-after}
+use Rattle.orders.specs.Done.{After, ready, perform-after, begin-after}
 use Rattle.rows.specs.Row.{rowsOf, firstRows}
 use Rattle.rows.specs.Place.{markOf}
-use Rattle.splice_model.specs.Cuts.{cutOf, cutsTo, cutAt, paths, Holds, Told, stateOf}
+use Rattle.splice_model.specs.Cuts.{cutsTo, paths, Holds, Told, stateOf}
 use Rattle.splice_model.specs.Step.{Due, told-before}
 
 -- the state that a list leaves is what the one go makes of it

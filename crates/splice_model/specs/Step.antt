@@ -1,33 +1,33 @@
 -- One step of a list of splices on rows and marks is the law's step.
 -- Assumes nothing.
 use mathlib.Core.Path.{_≡_, refl, sym, ap, _∙_}
-use mathlib.Core.Bool.{Bool, true, false, cond, _&&_, _||_}
+use mathlib.Core.Bool.{true, false}
 use mathlib.Core.List.{List, [], _∷_, _++_, map, head-eq-of-cons-eq, tail-eq-of-cons-eq}
 use mathlib.Core.Logic.{_⊎_, inl, inr}
-use mathlib.Core.Option.{Option, none, some, Option·map, bind}
-use Prim.Native.Nat.{ℕ, zero, suc, _+_, _-_, _*_, _/_, _≤_, _<_}
+use mathlib.Core.Option.{Option, some, bind}
+use Prim.Native.Nat.{ℕ, zero, suc, _+_, _-_, _*_, _/_}
 use native.Mathlib.Omega.{arith}
 use native.Mathlib.Nat.{zero-add, suc-add}
-use lib.ListN.{length, take, drop, getD, getElem?}
+use lib.ListN.{length, drop, getD, getElem?}
 use lib.Seq.{drop-drop}
 use lib.Dec.{eqb}
 use borrow.Author.Tests.{eq-eqb, ne-eqb}
 use Rattle.orders.specs.Lists.{All, total}
-use Rattle.orders.specs.ListLaws.{bool?, bool-absurd, none-some, some-inj, map-some, All-map}
-use Rattle.orders.specs.Tree.{Tree, Trees, node, list, Path, resolve, adjust, splice, Run, HasRun}
+use Rattle.orders.specs.ListLaws.{bool?, bool-absurd, map-some, All-map}
+use Rattle.orders.specs.Tree.{Tree, Path, adjust, splice, Run, HasRun}
 use Rattle.orders.specs.Splices.{Splice, State, begin, perform, performAt, runNow, start, leftIn, leftOf, inserted, deleted, samePath}
 use Rattle.orders.specs.Check.{says-same}
 use Rattle.orders.specs.Done.{perform-at}
 use Rattle.laws.specs.Kin.{get-getD}
 use Rattle.rows.specs.Row.{Row, rowsOf, rowsAll, firstRows, skip, owes, treesIn, triples}
-use Rattle.rows.specs.Place.{size, sizeAll, place, markOf, mark, movedMark, Held, rowsAfter, childRow, spliceRows}
-use Rattle.rows.specs.RowLaws.{skip-none, trees-count}
+use Rattle.rows.specs.Place.{size, sizeAll, place, markOf, movedMark, Held, rowsAfter, childRow, spliceRows}
+use Rattle.rows.specs.RowLaws.{trees-count}
 use Rattle.rows.specs.PlaceLaws.{child-at, rows-splice}
 use Rattle.rows.specs.Moves.{place-inj}
 use Rattle.rows.specs.Marks.{mark-follows, held-after}
 use Rattle.rows.specs.Words.{length-triples}
 use Rattle.splice_model.specs.Cuts.{Cut, cutOf, cutAt, cutsTo, partAt, gain, loss, leftCut, startCut, paths, Holds, Stands, Told}
-use Rattle.splice_model.specs.Places.{get-map, paths-at, paths-many, places-count, paths-lead, upFrom}
+use Rattle.splice_model.specs.Places.{get-map, paths-at, places-count, paths-lead, upFrom}
 
 -- ── The start of a run ──────────────────────────────────────────────────────────────────────────────────────
 

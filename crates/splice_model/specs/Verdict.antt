@@ -3,22 +3,22 @@
 use mathlib.Core.Path.{_≡_, refl, sym, ap, _∙_}
 use mathlib.Core.Bool.{Bool, true, false, cond, not, _&&_}
 use mathlib.Core.List.{List, [], _∷_, _++_, map, append-assoc, append-nil, List·Permᴰ}
-use mathlib.Core.Logic.{_⊎_, inl, inr, _↔_}
+use mathlib.Core.Logic.{_⊎_, inl, inr}
 use mathlib.Core.Option.{Option, none, some, Option·map}
-use Prim.Native.Nat.{ℕ, zero, suc, _+_, _-_, _*_, _/_, _%_, _^_, _≤_, _<_}
+use Prim.Native.Nat.{ℕ, zero, suc, _+_, _-_, _*_, _/_, _^_, _≤_, _<_}
 use native.Mathlib.Omega.{arith}
 use native.Mathlib.Nat.{add-zero, add-comm, zero-add, suc-add}
-use lib.ListN.{length, take, drop, getD, getElem?}
+use lib.ListN.{length, getD}
 use lib.Dec.{leb, ltb, eqb}
 use borrow.Author.Tests.{leb-true, ltb-true, eqb-true, lt-ltb, le-ltb, le-leb, lt-leb, eq-eqb}
 use Rattle.orders.specs.Lists.{All, total}
-use Rattle.orders.specs.ListLaws.{bool?, bool-absurd, both-true, lt-or-le, total-perm, Zone, before, inside, after, zone?}
-use Rattle.orders.specs.Tree.{Tree, Trees, node, token, nil, cons, list, Path, resolve, adjust, shift, splice, HasRun}
+use Rattle.orders.specs.ListLaws.{bool?, both-true, lt-or-le, total-perm, before, inside, after, zone?}
+use Rattle.orders.specs.Tree.{Tree, Trees, node, token, nil, cons, list, Path, resolve, adjust, shift, splice}
 use Rattle.orders.specs.TreeLaws.{adjust-shift, shift-before, shift-inside, shift-after}
-use Rattle.orders.specs.Splices.{Splice, samePath, AllApart, Fits}
+use Rattle.orders.specs.Splices.{Splice, AllApart, Fits}
 use Rattle.orders.specs.Check.{each, pairs, enters?, run?, fits?, apart?, allApart?, says-all-apart, says-run}
 use Rattle.rows.specs.Row.{Row, owes, rowsOf, rowsIn, rowsAll, triples, firstRows, treesIn}
-use Rattle.rows.specs.Place.{size, sizeAll, place, childRow}
+use Rattle.rows.specs.Place.{sizeAll, place, childRow}
 use Rattle.rows.specs.RowLaws.{children-few, trees-count}
 use Rattle.rows.specs.PlaceLaws.{child-at, place-lt, place-bound}
 use Rattle.rows.specs.Moves.{adjust-place}

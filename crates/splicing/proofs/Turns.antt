@@ -16,9 +16,8 @@ use Rattle.orders.specs.Tree.{shift}
 use Rattle.orders.specs.TreeLaws.{shift-before, shift-inside, shift-after}
 use Rattle.words.specs.Parts.{getD-below, getD-inside}
 use Rattle.syntax_node.specs.Promises.{Spliced, Shifted}
-use Rattle.rows.specs.Row.{Row}
 use Rattle.rows.specs.Words.{length-triples}
-use Rattle.store_model.specs.Store.{HeldNote, Store, withRow, newRows, placedParts, splicedStore}
+use Rattle.store_model.specs.Store.{HeldNote, withRow, newRows, placedParts, splicedStore}
 use Rattle.store_model.specs.Spliced.{store-same}
 use Rattle.annotations.specs.Notes.{noteOf, notesOf, noteAt, note-row, notes-to, notes-same}
 use Rattle.annotations.specs.Places.{partRows, part-rows}

@@ -6,7 +6,7 @@ use mathlib.Core.Option.{none, some}
 use Prim.Native.Nat.{ℕ, zero, suc, _+_, _*_, _≤_, _<_}
 use native.Mathlib.Numerals.{add-one}
 use native.Mathlib.Omega.{arith}
-use lib.ListN.{length, getD, length-map}
+use lib.ListN.{length, length-map}
 use lib.Seq.{ext-getD}
 use Rattle.orders.specs.Lists.{All}
 use Rattle.orders.specs.Tree.{Tree, node, forest, text as textIn, deepest, children, Path}

@@ -6,17 +6,16 @@ use mathlib.Core.Path.{_≡_, refl, ap, _∙_}
 use Prim.Native.Nat.{ℕ, suc, _+_, _-_, _*_, _≤_, _<_}
 use native.Mathlib.Omega.{arith}
 use lib.ListN.{length, getD}
-use lib.Seq.{paste, getD-drop}
+use lib.Seq.{paste}
 use lib.Dec.{eqb}
 use borrow.Author.Tests.{eq-eqb, ne-eqb}
 use Rattle.definition.specs.Elements.{isNode}
 use Rattle.words.specs.Parts.{paste-paste}
-use Rattle.syntax_editor.specs.ChangeRow.{rowWords, rowOf}
-use Rattle.syntax_editor.specs.ChangeRowLaws.{rowAt}
+use Rattle.syntax_editor.specs.ChangeRow.{rowWords}
 use Rattle.element_table.specs.View.{view}
 use Rattle.element_table.specs.Wellformed.{Wellformed}
 use Rattle.element_table.specs.Told.{deep}
-use Rattle.syntax_editor.specs.Numbers.{placeNumber, numbersOf, asChange, runAsked, changeAsked, rowWith, changeBy, changeIn}
+use Rattle.syntax_editor.specs.Numbers.{placeNumber, numbersOf, asChange, runAsked, changeAsked, rowWith, changeBy}
 use Rattle.syntax_editor.specs.Spots.{spotOf, Named, spotIn, insertionIn, runIn, aboveWord, regionBy, spot-insert, spot-replace, spot-delete, spot-many, spot-run}
 use Rattle.syntax_editor.specs.declared.Place.{Place}
 use Rattle.syntax_editor.specs.declared.Place.the-variants.{FirstChild, After}
@@ -191,11 +190,3 @@ module _ (op x y : ℕ) (l : Listed) where
   pub by-run : (op ≡ 0 → ⊥) → (op ≡ 1 → ⊥) → (op ≡ 2 → ⊥) → (op ≡ 3 → ⊥) → (op ≡ 4 → ⊥) → ReplaceAll x y l ≡ changeBy op x y l
   unfolding changeBy
   by-run a b c d e = rw (ne-eqb op 0 a, ne-eqb op 1 b, ne-eqb op 2 c, ne-eqb op 3 d, ne-eqb op 4 e)
-
--- the five words that tell a change
-pub change-words : (w : List ℕ) (k op x y at n : ℕ) (r : Change) → op ≡ getD w (13 * k) 0 → x ≡ getD w (13 * k + 1) 0 → y ≡ getD w (13 * k + 2) 0 → at ≡ getD w (13 * k + 3) 0 → n ≡ getD w (13 * k + 4) 0
-    → r ≡ changeBy op x y (record { at = at; count = n }) → r ≡ changeIn (rowAt w k)
-unfolding changeIn rowAt rowOf
-change-words w k op x y at n r e₀ e₁ e₂ e₃ e₄ e =
-    let z : 13 * k + 0 ≡ 13 * k = omega arith in
-    e ∙ rw (e₀, e₁, e₂, e₃, e₄, getD-drop (13 * k) w 0 0, getD-drop (13 * k) w 1 0, getD-drop (13 * k) w 2 0, getD-drop (13 * k) w 3 0, getD-drop (13 * k) w 4 0, z)

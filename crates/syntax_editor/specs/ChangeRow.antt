@@ -1,12 +1,12 @@
 -- A recorded change as a row of thirteen words, with what planning needs beside it.
 -- Assumes nothing.
-use mathlib.Core.Bool.{Bool, true, false, cond}
+use mathlib.Core.Bool.{cond}
 use mathlib.Core.List.{List, [], _∷_}
 use Prim.Native.Nat.{ℕ, zero, suc}
 use lib.ListN.{length, getD, drop}
 use Rattle.definition.specs.Elements.{Table, tree}
-use Rattle.definition.specs.Recording.{Place, firstChild, after, Change, insert, replace, delete, replaceWithMany, replaceAll}
-use Rattle.definition.specs.Planning.{Fate, own, dependent, discarded, Planned, target, rank, from, to, parentDepth, addsRegion, nodeByNode}
+use Rattle.definition.specs.Recording.{firstChild, after, Change, insert, replace, delete, replaceWithMany, replaceAll}
+use Rattle.definition.specs.Planning.{Fate, own, dependent, discarded, target, rank, from, to, parentDepth, addsRegion, nodeByNode}
 use Rattle.definition.specs.Running.{news}
 
 pub record ChangeRow : Type 0 where

@@ -2,7 +2,6 @@
 -- Assumes nothing.
 use mathlib.Core.Bool.{cond}
 use mathlib.Core.List.{List, headD}
-use mathlib.Core.Path.{_≡_, refl}
 use Prim.Native.Nat.{ℕ, _+_, _-_, _^_, _<_}
 use lib.Dec.{eqb}
 use Rattle.definition.specs.Recording as def
@@ -97,16 +96,3 @@ changeBy op x y l =
     (cond (eqb op 3) (Delete x (l .at))
     (cond (eqb op 4) (ReplaceWithMany x l)
     (ReplaceAll x y l)))))
-
-unfoldable pub changeIn : ChangeRow → Change
-changeIn r = changeBy (r .operation) (r .target) (r .end) (record { at = r .list; count = r .count })
-
--- what was written is read back
-pub change-read : (c : Change) (s : Spot) → changeIn (rowWith (numbersOf c) s) ≡ c
-unfolding changeIn changeBy rowWith
-change-read (Insert FirstChild x l) s = refl
-change-read (Insert After x l) s = refl
-change-read (Replace x at) s = refl
-change-read (Delete x at) s = refl
-change-read (ReplaceWithMany x l) s = refl
-change-read (ReplaceAll x y l) s = refl

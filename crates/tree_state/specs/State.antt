@@ -1,7 +1,6 @@
 -- The state of one tree after a splice, and after its root has given way to another.
 -- Assumes nothing.
-use mathlib.Core.Path.{_≡_}
-use Prim.Native.Nat.{ℕ, _+_, _-_, _^_, _≤_, _<_}
+use Prim.Native.Nat.{_+_, _-_, _^_, _≤_, _<_}
 use Rattle.tree_state.specs.declared.Counts.{Counts}
 use Rattle.tree_state.specs.declared.TreeState.{TreeState}
 

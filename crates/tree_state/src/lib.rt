@@ -1,6 +1,6 @@
 // The state of one tree while its batch runs: where its root stands and how much is held, lent to each splice step and updated by it.
 ghost use mathlib.Core.Path.{_≡_};
-ghost use Prim.Native.Nat.{ℕ, _+_, _-_, _≤_, _<_};
+ghost use Prim.Native.Nat.{_+_, _-_};
 ghost use Rattle.tree_state.specs.State.{splicedState, replacedState, Room};
 
 // How much a part has: rows, their text bytes, notes, changed rows.

@@ -1,8 +1,8 @@
 -- The loops of `nth_child` and `descend`, and the landing.
 -- Assumes nothing.
 use mathlib.Core.Bool.{Bool, true, false, _&&_}
-use mathlib.Core.List.{List, [], _∷_}
-use mathlib.Core.Option.{none, some, bind}
+use mathlib.Core.List.{List}
+use mathlib.Core.Option.{some, bind}
 use mathlib.Core.Path.{_≡_, refl, sym, _∙_}
 use Prim.Native.Nat.{ℕ, zero, suc, _+_, _-_, _*_, _≤_, _<_}
 use native.Mathlib.Numerals.{add-one}

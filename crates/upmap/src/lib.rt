@@ -1,5 +1,4 @@
 // Mapping elements into a replacement: the way down by child numbers, where a dependent's target goes, where a note's element settles.
-ghost use mathlib.Core.Path.{_≡_};
 ghost use Prim.Native.Nat.{_≤_, _<_};
 ghost use lib.ListN.{length};
 ghost use Rattle.element_table.specs.Wellformed.{Lines, Wellformed};

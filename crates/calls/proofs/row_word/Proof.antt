@@ -1,6 +1,5 @@
 -- `row_word` meets its contract. Element e stands at row e + 1.
 -- Assumes nothing.
-use Prim.Native.Nat.{_+_}
 use borrow.Author.Needs.{needs}
 use Rattle.calls.proofs.Judging.{row-at}
 use Rattle.calls.proofs.row_word.Statement.{statement}

@@ -1,6 +1,5 @@
 use lib.ListN.{length}
 use Rattle.edit.specs.Told.{refused-room, edited-counted, edited-printable, refused-told, edited-told}
-use native.Mathlib.Omega.{arith}
 use borrow.Author.Needs.{needs}
 use Rattle.edit.proofs.show.Statement.{statement}
 use Rattle.edit.proofs.show.Tie as tie

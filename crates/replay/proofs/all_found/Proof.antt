@@ -1,8 +1,5 @@
 use borrow.Author.Needs.{needs}
-use native.Mathlib.Omega.{arith}
-use lib.ListN.{length, getD, set, take, drop, replicate, length-set}
-use mathlib.Core.Path.{_≡_, refl, ap, sym, _∙_}
-use Prim.Native.Nat.{ℕ, suc, zero, _+_, _-_, _*_, _≤_, _<_}
+use Prim.Native.Nat.{_-_, _≤_}
 use Rattle.replay.proofs.all_found.Statement.{statement}
 use Rattle.replay.proofs.all_found.Tie as tie
 use Rattle.replay.proofs.all_found.Reads as reads

@@ -1,8 +1,6 @@
 use borrow.Author.Needs.{needs}
-use native.Mathlib.Omega.{arith}
-use lib.ListN.{length, getD, set, take, drop, replicate, length-set}
-use mathlib.Core.Path.{_≡_, refl, ap, sym, _∙_}
-use Prim.Native.Nat.{ℕ, suc, zero, _+_, _-_, _*_, _≤_, _<_}
+use lib.ListN.{length}
+use Prim.Native.Nat.{_-_}
 use Rattle.replay.proofs.holds.Statement.{statement}
 use Rattle.replay.proofs.holds.Tie as tie
 use Rattle.replay.proofs.holds.Reads as reads
