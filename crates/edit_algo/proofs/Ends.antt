@@ -1,6 +1,6 @@
 -- The ways out of the functions on what a run leaves.
 -- Assumes nothing.
-use mathlib.Core.Path.{_≡_, refl, sym, ap, _∙_}
+use mathlib.Core.Path.{_≡_, sym, ap, _∙_}
 use mathlib.Core.Bool.{Bool, true, false, not}
 use mathlib.Core.List.{List}
 use mathlib.Core.Option.{Option, none, some}
@@ -11,7 +11,7 @@ use lib.ListN.{length, getD, drop, take, length-drop}
 use lib.Seq.{take-all}
 use lib.Dec.{eqb}
 use borrow.Author.Tests.{not-true, not-false}
-use Rattle.definition.specs.Basics.{Answer, refused, gives, _>>=_}
+use Rattle.definition.specs.Basics.{gives}
 use Rattle.definition.specs.Elements.{isNode}
 use Rattle.element_table.specs.View.{view}
 use Rattle.element_table.specs.Wellformed.{Lines, Wellformed}
@@ -26,16 +26,13 @@ use Rattle.finish_model.specs.Alike.{findRow}
 use Rattle.finishing.specs.Answered.{lengthOf, Answered}
 use Rattle.finishing.specs.declared.Finished.{Finished}
 use Rattle.finishing.specs.declared.Finished.the-variants.{Short, Bytes}
-use Rattle.performing.specs.AtEnd.{AtEnd, Told, Performs}
-use Rattle.performing.specs.Ending.{edit-ending, found-ending}
-use Rattle.performing.specs.declared.Performed.{Performed}
-use Rattle.performing.specs.declared.Performed.the-variants.{Refused as Stopped, Done}
+use Rattle.performing.specs.AtEnd.{AtEnd, Told}
 use Rattle.performing.specs.declared.Ended.{Ended}
-use Rattle.work.specs.Promises.{Answers, applied, found, leftIn}
+use Rattle.work.specs.Promises.{Answers, applied, found}
 use Rattle.edit_algo.specs.declared.Answer.the-variants.{Refused, Edited}
-use Rattle.edit_algo.specs.declared.Element.the-variants.{Refused as NotSought, At as Stands, Nothing as NoElement}
+use Rattle.edit_algo.specs.declared.Element.the-variants.{At as Stands, Nothing as NoElement}
 use Rattle.edit_algo.specs.Numbers.{answerOf, elementOf}
-use Rattle.edit_algo.specs.AtEnd.{RowsAtEnd, rows-at-end, answered-edit, oldNode, none-there, no-node, node-there, no-old-node, old-node}
+use Rattle.edit_algo.specs.AtEnd.{RowsAtEnd, answered-edit, oldNode, none-there, no-node, node-there, no-old-node, old-node}
 
 -- what is behind a place, as a part is told
 pub whole-rest : (k : ℕ) (b : List ℕ) → take (length b - k) (drop k b) ≡ drop k b
@@ -91,23 +88,3 @@ module _ {b rows t s : List ℕ} {d : Ended} (v : RowsAtEnd b rows d) (w : Told 
 
     pub found-there : (x : ℕ) → r ≡ At x → elementOf (Stands x) ≡ found b k
     found-there = told .1
-
--- ── A refusal on the way ────────────────────────────────────────────────────────────────────────────────────
-
-module _ {b t s rows notes changed : List ℕ} {r : Performed} (P : Performs b t s rows notes changed r) where
-  pub edit-stops : (held : List ℕ) (k : ℕ) → r ≡ Stopped k → Answers (applied b (length held)) held (answerOf (Refused k)) held
-  unfolding applied answerOf leftIn _>>=_
-  edit-stops held k e = rw (edit-ending b, P .refuses k e) (record { answer = refl; result = refl })
-
-  pub find-stops : (n k : ℕ) → r ≡ Stopped k → elementOf (NotSought k) ≡ found b n
-  unfolding elementOf _>>=_
-  find-stops n k e = sym (found-ending b n ∙ rw (P .refuses k e) refl)
-
-  pub at-end : (d : Ended) → r ≡ Done d → AtEnd b rows notes changed d
-  at-end = P .ends
-
-  pub rows-end : (d : Ended) → r ≡ Done d → RowsAtEnd b rows d
-  rows-end d e = rows-at-end (P .ends d e)
-
-  pub told-end : (d : Ended) → r ≡ Done d → Told b t s (d .elements)
-  told-end = P .tells

@@ -1,38 +1,60 @@
 -- The ways out of the public calls.
 -- Assumes nothing.
-use mathlib.Core.Path.{_≡_, refl, sym, ap, _∙_}
-use mathlib.Core.Bool.{Bool, true, false}
+use mathlib.Core.Path.{_≡_, refl, sym, _∙_}
+use mathlib.Core.Bool.{false}
 use mathlib.Core.List.{List, [], _∷_}
 use Prim.Native.Nat.{ℕ}
+use native.Mathlib.Omega.{arith}
 use lib.ListN.{length}
-use Rattle.definition.specs.Basics.{gives, refused, _>>=_}
+use Rattle.definition.specs.Basics.{_>>=_}
 use Rattle.definition.specs.Answers.{edited, tooShort}
+use Rattle.definition.specs.FindElement.{findElement}
 use Rattle.work.specs.Slices.{lengths, zeros, zeroed}
+use Rattle.work.specs.Promises.{leftIn, Answers, Edits, Finds, applied, found, short-edited, long-edited, short-found, long-found}
+use Rattle.performing.specs.AtEnd.{AtEnd, Told, Performs, PerformsWith, short, long}
+use Rattle.performing.specs.Ending.{edit-ending, found-ending}
+use Rattle.performing.specs.declared.Performed.{Performed}
+use Rattle.performing.specs.declared.Performed.the-variants.{Refused as Stopped, Done}
+use Rattle.performing.specs.declared.Ended.{Ended}
 use Rattle.edit_algo.specs.declared.Answer.{Answer}
 use Rattle.edit_algo.specs.declared.Answer.the-variants.{Refused}
-use Rattle.definition.specs.FindElement.{findElement}
 use Rattle.edit_algo.specs.declared.Element.{Element}
 use Rattle.edit_algo.specs.declared.Element.the-variants.{Refused as NoElement}
-use Rattle.work.specs.Promises.{leftIn, Answers, Edits, Finds, applied, found, short-edited, long-edited, short-found, long-found}
 use Rattle.edit_algo.specs.Numbers.{answerOf, elementOf}
 
--- ── Refusal 1, or the edit ──────────────────────────────────────────────────────────────────────────────────
+-- ── Refused, or at the end of the run ───────────────────────────────────────────────────────────────────────
 
-module _ (work : List (List ℕ)) (b held : List ℕ) (t : Bool) (e : t ≡ tooShort (lengths work)) where
-  pub refused-short : t ≡ true → Answers (edited (lengths work) b (length held)) held (answerOf (Refused 1)) held
-  unfolding answerOf leftIn _>>=_
-  refused-short h = rw (short-edited work b (length held) (sym e ∙ h)) (record { answer = refl; result = refl })
+module _ {work : List (List ℕ)} {b t s rows notes changed : List ℕ} {p : Performed} where
+  -- a refusal is the answer
+  pub edit-stops : PerformsWith work b t s rows notes changed p → (held : List ℕ) (k : ℕ) → p ≡ Stopped k → Answers (edited (lengths work) b (length held)) held (answerOf (Refused k)) held
+  unfolding applied answerOf leftIn _>>=_
+  edit-stops (short h q) held k e = let one : k ≡ 1 = cc in rw (short-edited work b (length held) h, one) (record { answer = refl; result = refl })
+  edit-stops (long h P) held k e = rw (long-edited work b (length held) h, edit-ending b, P .refuses k e) (record { answer = refl; result = refl })
 
-  pub edits-long : t ≡ false → (r : Answer) (holds : List ℕ) → Answers (applied b (length held)) held (answerOf r) holds → Answers (edited (lengths work) b (length held)) held (answerOf r) holds
-  edits-long h r holds a = rw (long-edited work b (length held) (sym e ∙ h)) a
+  pub find-stops : PerformsWith work b t s rows notes changed p → (n k : ℕ) → p ≡ Stopped k → elementOf (NoElement k) ≡ findElement (lengths work) b n
+  unfolding elementOf _>>=_
+  find-stops (short h q) n k e = let one : k ≡ 1 = cc in rw one (sym (short-found work b n h))
+  find-stops (long h P) n k e = sym (long-found work b n h ∙ (found-ending b n ∙ rw (P .refuses k e) refl))
 
-module _ (work : List (List ℕ)) (b : List ℕ) (n : ℕ) (t : Bool) (e : t ≡ tooShort (lengths work)) where
-  pub not-found-short : t ≡ true → elementOf (NoElement 1) ≡ findElement (lengths work) b n
-  unfolding elementOf
-  not-found-short h = sym (short-found work b n (sym e ∙ h))
+  -- at the end of the run no work slice is too short
+  pub done-long : PerformsWith work b t s rows notes changed p → (d : Ended) → p ≡ Done d → (tooShort (lengths work) ≡ false) × Performs b t s rows notes changed p
+  done-long (short h q) d e = absurd (let z : _≡_ {A = ℕ} 0 1 = cc in omega arith)
+  done-long (long h P) d e = (h, P)
 
-  pub finds-long : t ≡ false → (r : Element) → elementOf r ≡ found b n → elementOf r ≡ findElement (lengths work) b n
-  finds-long h r f = f ∙ sym (long-found work b n (sym e ∙ h))
+  module _ (P : PerformsWith work b t s rows notes changed p) (d : Ended) (e : p ≡ Done d) where
+    -- the slices hold what the run left
+    pub at-end : AtEnd b rows notes changed d
+    at-end = (done-long P d e) .1 .ends d e
+
+    pub told-end : Told b t s (d .elements)
+    told-end = (done-long P d e) .1 .tells d e
+
+    -- what is answered from there is the answer
+    pub edit-ends : (held holds : List ℕ) (r : Answer) → Answers (applied b (length held)) held (answerOf r) holds → Answers (edited (lengths work) b (length held)) held (answerOf r) holds
+    edit-ends held holds r a = rw (long-edited work b (length held) ((done-long P d e) .0)) a
+
+    pub find-ends : (n : ℕ) (r : Element) → elementOf r ≡ found b n → elementOf r ≡ findElement (lengths work) b n
+    find-ends n r f = f ∙ sym (long-found work b n ((done-long P d e) .0))
 
 -- ── Cleared ─────────────────────────────────────────────────────────────────────────────────────────────────
 

@@ -5,11 +5,10 @@ use performing::Performed;
 use performing::perform;
 use syntax_node::Found;
 ghost use mathlib.Core.Path.{_≡_};
-ghost use mathlib.Core.Bool.{false};
 ghost use mathlib.Core.List.{_∷_, []};
 ghost use Prim.Native.Nat.{_≤_, _<_};
 ghost use lib.ListN.{length};
-ghost use Rattle.definition.specs.Answers.{edited, tooShort};
+ghost use Rattle.definition.specs.Answers.{edited};
 ghost use Rattle.definition.specs.FindElement.{findElement};
 ghost use Rattle.element_table.specs.View.{view};
 ghost use Rattle.element_table.specs.Wellformed.{Wellformed};
@@ -110,7 +109,7 @@ fn find_from(
 
 // ── The public calls ──
 
-// The edit, where no work slice is too short.
+// The edit, before the work slices are cleared.
 fn apply_edits(
     batch: &[u8],
     result: &mut [u8],
@@ -127,8 +126,7 @@ fn apply_edits(
     prepared: &mut [u32],
     sizes: &mut [u32],
 ) -> Answer
-    requires { ⌜ tooShort (lengths (now table ∷ now source ∷ now changes ∷ now running ∷ now first ∷ now notes ∷ now incoming ∷ now changed ∷ now marks ∷ now rows ∷ now prepared ∷ now sizes ∷ [])) ≡ false ⌝ }
-    ensures { λ r. ⌜ Answers (applied (now (batch .entry)) (length (now (result .entry)))) (now (result .entry)) (answerOf r) (now (result .exit)) ⌝ }
+    ensures { λ r. ⌜ Answers (edited (lengths (now (table .entry) ∷ now (source .entry) ∷ now (changes .entry) ∷ now (running .entry) ∷ now (first .entry) ∷ now (notes .entry) ∷ now (incoming .entry) ∷ now (changed .entry) ∷ now (marks .entry) ∷ now (rows .entry) ∷ now (prepared .entry) ∷ now (sizes .entry) ∷ [])) (now (batch .entry)) (length (now (result .entry)))) (now (result .entry)) (answerOf r) (now (result .exit)) ⌝ }
 {
     let done = perform(
         batch,
@@ -151,59 +149,6 @@ fn apply_edits(
     }
 }
 
-// The edit, or refusal 1.
-fn edit_or_refuse(
-    batch: &[u8],
-    result: &mut [u8],
-    table: &mut [u32],
-    source: &mut [u32],
-    changes: &mut [u32],
-    running: &mut [u32],
-    first: &mut [u32],
-    notes: &mut [u32],
-    incoming: &mut [u32],
-    changed: &mut [u32],
-    marks: &mut [u32],
-    rows: &mut [u32],
-    prepared: &mut [u32],
-    sizes: &mut [u32],
-) -> Answer
-    ensures { λ r. ⌜ Answers (edited (lengths (now (table .entry) ∷ now (source .entry) ∷ now (changes .entry) ∷ now (running .entry) ∷ now (first .entry) ∷ now (notes .entry) ∷ now (incoming .entry) ∷ now (changed .entry) ∷ now (marks .entry) ∷ now (rows .entry) ∷ now (prepared .entry) ∷ now (sizes .entry) ∷ [])) (now (batch .entry)) (length (now (result .entry)))) (now (result .entry)) (answerOf r) (now (result .exit)) ⌝ }
-{
-    if work::too_short(
-        table,
-        source,
-        changes,
-        running,
-        first,
-        notes,
-        incoming,
-        changed,
-        marks,
-        rows,
-        prepared,
-        sizes,
-    ) {
-        return Answer::Refused(1);
-    }
-    apply_edits(
-        batch,
-        result,
-        table,
-        source,
-        changes,
-        running,
-        first,
-        notes,
-        incoming,
-        changed,
-        marks,
-        rows,
-        prepared,
-        sizes,
-    )
-}
-
 // THE EDIT of a batch. The result's bytes are written to the front of `result`; the twelve others are work slices, which end as zeros.
 pub fn edit(
     batch: &[u8],
@@ -223,7 +168,7 @@ pub fn edit(
 ) -> Answer
     ensures { λ r. ⌜ Edits (now (batch .entry)) (now (result .entry)) (now (table .entry) ∷ now (source .entry) ∷ now (changes .entry) ∷ now (running .entry) ∷ now (first .entry) ∷ now (notes .entry) ∷ now (incoming .entry) ∷ now (changed .entry) ∷ now (marks .entry) ∷ now (rows .entry) ∷ now (prepared .entry) ∷ now (sizes .entry) ∷ []) (answerOf r) (now (result .exit)) (now (table .exit) ∷ now (source .exit) ∷ now (changes .exit) ∷ now (running .exit) ∷ now (first .exit) ∷ now (notes .exit) ∷ now (incoming .exit) ∷ now (changed .exit) ∷ now (marks .exit) ∷ now (rows .exit) ∷ now (prepared .exit) ∷ now (sizes .exit) ∷ []) ⌝ }
 {
-    let answer = edit_or_refuse(
+    let answer = apply_edits(
         batch,
         result,
         table,
@@ -256,7 +201,7 @@ pub fn edit(
     answer
 }
 
-// Where an element stands in the new tree, where no work slice is too short.
+// Where an element stands in the new tree, before the work slices are cleared.
 fn find_in_new(
     batch: &[u8],
     number: usize,
@@ -273,8 +218,7 @@ fn find_in_new(
     prepared: &mut [u32],
     sizes: &mut [u32],
 ) -> Element
-    requires { ⌜ tooShort (lengths (now table ∷ now source ∷ now changes ∷ now running ∷ now first ∷ now notes ∷ now incoming ∷ now changed ∷ now marks ∷ now rows ∷ now prepared ∷ now sizes ∷ [])) ≡ false ⌝ }
-    ensures { λ r. ⌜ elementOf r ≡ found (now (batch .entry)) number ⌝ }
+    ensures { λ r. ⌜ elementOf r ≡ findElement (lengths (now (table .entry) ∷ now (source .entry) ∷ now (changes .entry) ∷ now (running .entry) ∷ now (first .entry) ∷ now (notes .entry) ∷ now (incoming .entry) ∷ now (changed .entry) ∷ now (marks .entry) ∷ now (rows .entry) ∷ now (prepared .entry) ∷ now (sizes .entry) ∷ [])) (now (batch .entry)) number ⌝ }
 {
     let done = perform(
         batch,
@@ -297,59 +241,6 @@ fn find_in_new(
     }
 }
 
-// The same, or refusal 1.
-fn find_or_refuse(
-    batch: &[u8],
-    number: usize,
-    table: &mut [u32],
-    source: &mut [u32],
-    changes: &mut [u32],
-    running: &mut [u32],
-    first: &mut [u32],
-    notes: &mut [u32],
-    incoming: &mut [u32],
-    changed: &mut [u32],
-    marks: &mut [u32],
-    rows: &mut [u32],
-    prepared: &mut [u32],
-    sizes: &mut [u32],
-) -> Element
-    ensures { λ r. ⌜ elementOf r ≡ findElement (lengths (now (table .entry) ∷ now (source .entry) ∷ now (changes .entry) ∷ now (running .entry) ∷ now (first .entry) ∷ now (notes .entry) ∷ now (incoming .entry) ∷ now (changed .entry) ∷ now (marks .entry) ∷ now (rows .entry) ∷ now (prepared .entry) ∷ now (sizes .entry) ∷ [])) (now (batch .entry)) number ⌝ }
-{
-    if work::too_short(
-        table,
-        source,
-        changes,
-        running,
-        first,
-        notes,
-        incoming,
-        changed,
-        marks,
-        rows,
-        prepared,
-        sizes,
-    ) {
-        return Element::Refused(1);
-    }
-    find_in_new(
-        batch,
-        number,
-        table,
-        source,
-        changes,
-        running,
-        first,
-        notes,
-        incoming,
-        changed,
-        marks,
-        rows,
-        prepared,
-        sizes,
-    )
-}
-
 // The first node of the new tree with the kind and the text start of the old tree's node `number`. The twelve others are work slices, which end as zeros.
 pub fn find_element(
     batch: &[u8],
@@ -369,7 +260,7 @@ pub fn find_element(
 ) -> Element
     ensures { λ r. ⌜ Finds (now (batch .entry)) number (now (table .entry) ∷ now (source .entry) ∷ now (changes .entry) ∷ now (running .entry) ∷ now (first .entry) ∷ now (notes .entry) ∷ now (incoming .entry) ∷ now (changed .entry) ∷ now (marks .entry) ∷ now (rows .entry) ∷ now (prepared .entry) ∷ now (sizes .entry) ∷ []) (elementOf r) (now (table .exit) ∷ now (source .exit) ∷ now (changes .exit) ∷ now (running .exit) ∷ now (first .exit) ∷ now (notes .exit) ∷ now (incoming .exit) ∷ now (changed .exit) ∷ now (marks .exit) ∷ now (rows .exit) ∷ now (prepared .exit) ∷ now (sizes .exit) ∷ []) ⌝ }
 {
-    let element = find_or_refuse(
+    let element = find_in_new(
         batch,
         number,
         table,

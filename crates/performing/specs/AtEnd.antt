@@ -1,12 +1,14 @@
 -- What is held at the end of a run, as the words tell it.
 -- Assumes nothing.
 use mathlib.Core.Path.{_≡_}
+use mathlib.Core.Bool.{true, false}
 use mathlib.Core.List.{List}
 use Prim.Native.Nat.{ℕ, _*_, _^_, _≤_, _<_}
 use lib.ListN.{length, take, drop}
 use Rattle.definition.specs.Basics.{Answer, refused, gives, keep}
 use Rattle.definition.specs.Planning.{isDiscarded}
 use Rattle.definition.specs.Refusals.{Accepted, accepted}
+use Rattle.definition.specs.Answers.{tooShort}
 use Rattle.laws.specs.Held.{Holds}
 use Rattle.element_table.specs.View.{view}
 use Rattle.element_table.specs.Wellformed.{Wellformed}
@@ -14,6 +16,7 @@ use Rattle.rows.specs.Row.{firstRows, bytes}
 use Rattle.annotations.specs.Notes.{notesOf}
 use Rattle.store_model.specs.Store.{store}
 use Rattle.tree_store.specs.Stored.{stored}
+use Rattle.work.specs.Slices.{lengths}
 use Rattle.performing.specs.Ending.{End, ending}
 use Rattle.performing.specs.declared.Ended.{Ended}
 use Rattle.performing.specs.declared.Performed.{Performed}
@@ -49,8 +52,13 @@ pub record Told (b t s : List ℕ) (n : ℕ) : Type 0 where
   pub table : view n t s ≡ batch .table
   pub formed : Wellformed n t s
 
--- THE PROMISE of performing: refused by the definition's number, or at the end of the run
+-- a run of the batch b: refused by the definition's number, or at the end of the run
 pub record Performs (b t s rows notes changed : List ℕ) (r : Performed) : Type 0 where
   pub refuses : (k : ℕ) → r ≡ Refused k → ending b ≡ refused k
   pub ends : (d : Ended) → r ≡ Done d → AtEnd b rows notes changed d
   pub tells : (d : Ended) → r ≡ Done d → Told b t s (d .elements)
+
+-- THE PROMISE of performing with the work slices `work`: 1 where one of them is too short, or what a run answers
+pub data PerformsWith (work : List (List ℕ)) (b t s rows notes changed : List ℕ) (r : Performed) : Type 0 where
+  short : tooShort (lengths work) ≡ true → r ≡ Refused 1 → PerformsWith work b t s rows notes changed r
+  long : tooShort (lengths work) ≡ false → Performs b t s rows notes changed r → PerformsWith work b t s rows notes changed r

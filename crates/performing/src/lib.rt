@@ -1,4 +1,4 @@
-// From a batch to what its run leaves: lines 2 to 7, planning, and the steps.
+// From a batch to what its run leaves: lines 1 to 7, planning, and the steps.
 use batch::accept;
 use executing::execute;
 use layout::Laid;
@@ -8,12 +8,13 @@ use planning::Planned;
 use planning::plan;
 use splicing::Executed;
 ghost use mathlib.Core.Path.{_≡_};
+ghost use mathlib.Core.List.{_∷_, []};
 ghost use Prim.Native.Nat.{_≤_};
 ghost use lib.ListN.{length};
 ghost use Rattle.planning.specs.Answers.{PlanMade};
 ghost use Rattle.planning.specs.declared.Planned.the-variants.{Made};
 ghost use Rattle.performing.specs.Beginning.{LaidOut};
-ghost use Rattle.performing.specs.AtEnd.{Performs};
+ghost use Rattle.performing.specs.AtEnd.{Performs, PerformsWith};
 
 // What a run leaves: where the batch's text starts, how many elements it has, the rows, notes and changed rows that are held, and two numbers of the result.
 pub struct Ended {
@@ -192,7 +193,7 @@ fn plan_and_run(
     }
 }
 
-// From a batch to what its run leaves, or the first refusal out of 2 to 12.
+// From a batch to what its run leaves, or the first refusal out of 1 to 12.
 pub fn perform(
     b: &[u8],
     table: &mut [u32],
@@ -208,10 +209,24 @@ pub fn perform(
     prepared: &mut [u32],
     sizes: &mut [u32],
 ) -> Performed
-    requires { ⌜ (16384 ≤ length (now table)) × (6147 ≤ length (now source)) × (3328 ≤ length (now changes)) × (256 ≤ length (now running)) × (768 ≤ length (now first)) ⌝ }
-    requires { ⌜ (2048 ≤ length (now marks)) × (3072 ≤ length (now notes)) × (3072 ≤ length (now incoming)) × (1024 ≤ length (now changed)) × (12291 ≤ length (now rows)) × (12288 ≤ length (now prepared)) × (1024 ≤ length (now sizes)) ⌝ }
-    ensures { λ r. ⌜ Performs (now (b .entry)) (now (table .exit)) (now (source .exit)) (now (rows .exit)) (now (notes .exit)) (now (changed .exit)) r ⌝ }
+    ensures { λ r. ⌜ PerformsWith (now (table .entry) ∷ now (source .entry) ∷ now (changes .entry) ∷ now (running .entry) ∷ now (first .entry) ∷ now (notes .entry) ∷ now (incoming .entry) ∷ now (changed .entry) ∷ now (marks .entry) ∷ now (rows .entry) ∷ now (prepared .entry) ∷ now (sizes .entry) ∷ []) (now (b .entry)) (now (table .exit)) (now (source .exit)) (now (rows .exit)) (now (notes .exit)) (now (changed .exit)) r ⌝ }
 {
+    if work::too_short(
+        table,
+        source,
+        changes,
+        running,
+        first,
+        notes,
+        incoming,
+        changed,
+        marks,
+        rows,
+        prepared,
+        sizes,
+    ) {
+        return Performed::Refused(1);
+    }
     let laid = accept(b, table, source);
     match laid {
         Laid::Refused(n) => Performed::Refused(n),

@@ -4,12 +4,12 @@ use mathlib.Core.Path.{_∙_}
 use native.Mathlib.Omega.{arith}
 use borrow.Author.Needs.{needs}
 use Rattle.work.specs.Slices.{long-enough}
-use Rattle.edit_algo.proofs.Ends.{edit-stops, at-end}
+use Rattle.edit_algo.proofs.Ways.{edit-stops, done-long, at-end, edit-ends}
 use Rattle.edit_algo.proofs.apply_edits.Statement.{statement}
 use Rattle.edit_algo.proofs.apply_edits.Tie as tie
 
 perform-requires : tie.Need-perform-requires
-perform-requires c κs = long-enough _ _ _ _ _ _ _ _ _ _ _ _ (c .before .before .before .before .before .before .before .before .before .before .before .before .before .before .before .before .before .before .before .before .before .before .before .before .before .before .pre)
+perform-requires c κs = search needs
 
 enum-known-done : tie.Need-enum-known-done
 enum-known-done c = search needs
@@ -18,7 +18,7 @@ enum-known-done-2 : tie.Need-enum-known-done-2
 enum-known-done-2 c = search needs
 
 write-answer-requires : tie.Need-write-answer-requires
-write-answer-requires c κs = (at-end (c .before .before .before .before .before .before .before .before .before .before .before .before .before .before .before .before .before .before .before .before .before .before .before .before .before .before .before .before .before .before .before .before .perform .ensures) _ (c .before .before .before .before .before .before .done2 .given .1), omega (arith, c .before .before .before .before .before .before .before .before .before .before .before .prepared .given, (long-enough _ _ _ _ _ _ _ _ _ _ _ _ (c .before .before .before .before .before .before .before .before .before .before .before .before .before .before .before .before .before .before .before .before .before .before .before .before .before .before .before .before .before .before .before .before .before .before .before .before .before .before .before .before .before .before .before .before .before .before .before .before .before .before .before .before .before .before .before .before .before .before .before .pre)) .1 .5))
+write-answer-requires c κs = let P = c .before .before .before .before .before .before .before .before .before .before .before .before .before .before .before .before .before .before .before .before .before .before .before .before .before .before .before .before .before .before .before .before .perform .ensures in let e = c .before .before .before .before .before .before .done2 .given .1 in (at-end P _ e, omega (arith, c .before .before .before .before .before .before .before .before .before .before .before .prepared .given, (long-enough _ _ _ _ _ _ _ _ _ _ _ _ ((done-long P _ e) .0)) .1 .5))
 
 same-length : tie.Need-same-length
 same-length c = c .before .before .before .before .before .before .before .before .before .before .before .before .before .before .before .before .before .before .before .before .before .before .before .before .before .before .table .given
@@ -99,7 +99,7 @@ same-length-25 : tie.Need-same-length-25
 same-length-25 c = c .before .before .before .before .before .before .before .before .before .before .before .before .before .before .before .before .before .before .sizes .given
 
 returns-2 : tie.Need-returns-2
-returns-2 c = search needs
+returns-2 c = edit-ends (c .before .before .before .before .before .before .before .before .before .before .before .before .before .before .before .before .before .before .before .before .before .before .before .before .before .before .before .before .before .before .before .before .before .before .before .before .before .before .before .before .before .perform .ensures) _ (c .before .before .before .before .before .before .before .before .before .before .before .before .before .before .before .done2 .given .1) _ _ _ (c .before .before .before .before .before .before .before .before .write-answer .ensures)
 
 pub apply-edits-spec : {M : Type 1} → statement M
 apply-edits-spec =

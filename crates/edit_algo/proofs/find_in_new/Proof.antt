@@ -1,13 +1,13 @@
 -- `find_in_new` meets its contract: a refusal on the way, or what is found.
 -- Assumes nothing.
 use borrow.Author.Needs.{needs}
-use Rattle.work.specs.Slices.{long-enough}
-use Rattle.edit_algo.proofs.Ends.{find-stops, rows-end, told-end}
+use Rattle.edit_algo.specs.AtEnd.{rows-at-end}
+use Rattle.edit_algo.proofs.Ways.{find-stops, at-end, told-end, find-ends}
 use Rattle.edit_algo.proofs.find_in_new.Statement.{statement}
 use Rattle.edit_algo.proofs.find_in_new.Tie as tie
 
 perform-requires : tie.Need-perform-requires
-perform-requires c κs = long-enough _ _ _ _ _ _ _ _ _ _ _ _ (c .before .before .before .before .before .before .before .before .before .before .before .before .before .before .before .before .before .before .before .before .before .before .before .before .before .pre)
+perform-requires c κs = search needs
 
 enum-known-done : tie.Need-enum-known-done
 enum-known-done c = search needs
@@ -16,7 +16,7 @@ enum-known-done-2 : tie.Need-enum-known-done-2
 enum-known-done-2 c = search needs
 
 find-from-requires : tie.Need-find-from-requires
-find-from-requires c κs = (rows-end (c .before .before .before .before .before .before .before .before .before .before .before .before .before .before .before .before .before .before .before .before .before .before .before .before .before .before .before .before .before .before .perform .ensures) _ (c .before .before .before .before .done2 .given .1), told-end (c .before .before .before .before .before .before .before .before .before .before .before .before .before .before .before .before .before .before .before .before .before .before .before .before .before .before .before .before .before .before .perform .ensures) _ (c .before .before .before .before .done2 .given .1))
+find-from-requires c κs = let P = c .before .before .before .before .before .before .before .before .before .before .before .before .before .before .before .before .before .before .before .before .before .before .before .before .before .before .before .before .before .before .perform .ensures in let e = c .before .before .before .before .done2 .given .1 in (rows-at-end (at-end P _ e), told-end P _ e)
 
 same-length : tie.Need-same-length
 same-length c = c .before .before .before .before .before .before .before .before .before .before .before .before .before .before .before .before .before .before .before .before .before .before .before .before .before .before .table .given
@@ -94,7 +94,7 @@ same-length-24 : tie.Need-same-length-24
 same-length-24 c = c .before .before .before .before .before .before .before .before .sizes .given
 
 returns-2 : tie.Need-returns-2
-returns-2 c = search needs
+returns-2 c = find-ends (c .before .before .before .before .before .before .before .before .before .before .before .before .before .before .before .before .before .before .before .before .before .before .before .before .before .before .before .before .before .before .before .perform .ensures) _ (c .before .before .before .before .before .done2 .given .1) _ _ (c .find-from .ensures)
 
 pub find-in-new-spec : {M : Type 1} → statement M
 find-in-new-spec =
