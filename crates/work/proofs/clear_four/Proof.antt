@@ -5,6 +5,9 @@ use Rattle.work.proofs.Ways.{zeros-written}
 use Rattle.work.proofs.clear_four.Statement.{statement}
 use Rattle.work.proofs.clear_four.Tie as tie
 
+returns : tie.Need-returns
+returns c = search (zeros-written, needs)
+
 clear-requires : tie.Need-clear-requires
 clear-requires c κs = search needs
 
@@ -28,9 +31,6 @@ same-length-3 c = search needs
 
 same-length-4 : tie.Need-same-length-4
 same-length-4 c = search needs
-
-returns : tie.Need-returns
-returns c = search (zeros-written, needs)
 
 pub clear-four-spec : {M : Type 1} → statement M
 clear-four-spec =
