@@ -1,6 +1,6 @@
 -- The ways out of the functions on what a run leaves.
 -- Assumes nothing.
-use mathlib.Core.Path.{_≡_, sym, ap, _∙_}
+use mathlib.Core.Path.{_≡_, refl, sym, ap, _∙_}
 use mathlib.Core.Bool.{Bool, true, false, not}
 use mathlib.Core.List.{List}
 use mathlib.Core.Option.{Option, none, some}
@@ -11,7 +11,8 @@ use lib.ListN.{length, getD, drop, take, length-drop}
 use lib.Seq.{take-all}
 use lib.Dec.{eqb}
 use borrow.Author.Tests.{not-true, not-false}
-use Rattle.definition.specs.Basics.{gives}
+use Rattle.definition.specs.Basics as basics
+use Rattle.definition.specs.Basics.{gives, _>>=_}
 use Rattle.definition.specs.Elements.{isNode}
 use Rattle.element_table.specs.View.{view}
 use Rattle.element_table.specs.Wellformed.{Lines, Wellformed}
@@ -28,11 +29,13 @@ use Rattle.finishing.specs.declared.Finished.{Finished}
 use Rattle.finishing.specs.declared.Finished.the-variants.{Short, Bytes}
 use Rattle.performing.specs.AtEnd.{AtEnd, Told}
 use Rattle.performing.specs.declared.Ended.{Ended}
-use Rattle.work.specs.Promises.{Answers, applied, found}
+use Rattle.performing.specs.declared.Performed.{Performed}
+use Rattle.performing.specs.declared.Performed.the-variants.{Refused as Stopped, Done}
+use Rattle.work.specs.Promises.{leftIn, Answers, applied, found}
 use Rattle.edit_algo.specs.declared.Answer.the-variants.{Refused, Edited}
 use Rattle.edit_algo.specs.declared.Element.the-variants.{At as Stands, Nothing as NoElement}
 use Rattle.edit_algo.specs.Numbers.{answerOf, elementOf}
-use Rattle.edit_algo.specs.AtEnd.{RowsAtEnd, answered-edit, oldNode, none-there, no-node, node-there, no-old-node, old-node}
+use Rattle.edit_algo.specs.AtEnd.{RowsAtEnd, answered-edit, oldNode, none-there, no-node, node-there, no-old-node, old-node, unless, unless-refused, unless-done}
 
 -- what is behind a place, as a part is told
 pub whole-rest : (k : ℕ) (b : List ℕ) → take (length b - k) (drop k b) ≡ drop k b
@@ -52,6 +55,15 @@ module _ {b rows notes changed : List ℕ} {d : Ended} (v : AtEnd b rows notes c
   pub answered-bytes : (n : ℕ) → a ≡ Bytes n → Answers (applied b (length held)) held (answerOf (Edited n)) out
   unfolding answerOf lengthOf
   answered-bytes n e = rw (ap lengthOf (sym e)) answered
+
+-- a refusal leaves the result slice as it was
+pub answered-refusal : {p : Performed} {k : ℕ} → p ≡ Stopped k → (a : basics.Answer (List ℕ)) (held : List ℕ) → Answers (unless p a) held (answerOf (Refused k)) held
+unfolding answerOf leftIn _>>=_
+answered-refusal e a held = rw (unless-refused e a) (record { answer = refl; result = refl })
+
+-- at the end of the run, what is written is the answer
+pub answered-done : {p : Performed} {d : Ended} {held out : List ℕ} {r : basics.Answer ℕ} → p ≡ Done d → (a : basics.Answer (List ℕ)) → Answers a held r out → Answers (unless p a) held r out
+answered-done e a h = rw (unless-done e a) h
 
 -- ── A node of tree 0 ────────────────────────────────────────────────────────────────────────────────────────
 

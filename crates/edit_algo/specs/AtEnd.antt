@@ -33,6 +33,8 @@ use Rattle.finishing.specs.declared.Finished.{Finished}
 use Rattle.performing.specs.Ending.{End, ending, resultAt, edit-ending, foundAt, found-ending}
 use Rattle.performing.specs.AtEnd.{AtEnd, Told}
 use Rattle.performing.specs.declared.Ended.{Ended}
+use Rattle.performing.specs.declared.Performed.{Performed}
+use Rattle.performing.specs.declared.Performed.the-variants.{Refused, Done}
 use Rattle.work.specs.Promises.{leftIn, Answers, applied, found}
 
 -- ── The edit ────────────────────────────────────────────────────────────────────────────────────────────────
@@ -118,3 +120,30 @@ module _ {b rows t s : List ℕ} {d : Ended} (v : RowsAtEnd b rows d) (w : Told 
   pub old-node : oldNode (view (d .elements) t s) k ≡ true → k < d .elements → (kind start : ℕ) → kind ≡ getD s (3 * suc k) 0 → start ≡ getD t (8 * k + 4) 0
       → gives (findRow (firstTree (firstRows (drop (d .text) b) (d .rows) rows)) kind start) ≡ found b k
   old-node h low kind start e f = sym (found-by ∙ rw (h, kind-told (d .elements) t s k low, start-told (d .elements) t s k low, ← e, ← f) refl)
+
+-- ── Refused, or at the end of the run ───────────────────────────────────────────────────────────────────────
+
+-- the answer `a`, unless what is performed is refused
+unfoldable pub unless : {A : Type 0} → Performed → Answer A → Answer A
+unless (Refused k) a = refused k
+unless (Done d) a = a
+
+-- which is the refusal
+pub unless-refused : {A : Type 0} {p : Performed} {k : ℕ} → p ≡ Refused k → (a : Answer A) → unless p a ≡ refused k
+unfolding unless
+unless-refused e a = rw e refl
+
+-- or the answer
+pub unless-done : {A : Type 0} {p : Performed} {d : Ended} → p ≡ Done d → (a : Answer A) → unless p a ≡ a
+unfolding unless
+unless-done e a = rw e refl
+
+-- where the run has ended, the result can be written
+pub record ToWrite (b rows notes changed starts : List ℕ) (p : Performed) : Type 0 where
+  pub ends : (d : Ended) → p ≡ Done d → AtEnd b rows notes changed d
+  pub room : (d : Ended) → p ≡ Done d → 4096 ≤ length starts
+
+-- where the run has ended, an element can be found
+pub record ToFind (b t s rows : List ℕ) (p : Performed) : Type 0 where
+  pub ends : (d : Ended) → p ≡ Done d → RowsAtEnd b rows d
+  pub tells : (d : Ended) → p ≡ Done d → Told b t s (d .elements)

@@ -8,15 +8,12 @@ ghost use mathlib.Core.Path.{_≡_};
 ghost use mathlib.Core.List.{_∷_, []};
 ghost use Prim.Native.Nat.{_≤_, _<_};
 ghost use lib.ListN.{length};
-ghost use Rattle.definition.specs.Answers.{edited};
-ghost use Rattle.definition.specs.FindElement.{findElement};
 ghost use Rattle.element_table.specs.View.{view};
 ghost use Rattle.element_table.specs.Wellformed.{Wellformed};
 ghost use Rattle.performing.specs.AtEnd.{AtEnd, Told};
-ghost use Rattle.work.specs.Slices.{lengths};
 ghost use Rattle.work.specs.Promises.{Answers, Edits, Finds, applied, found};
 ghost use Rattle.edit_algo.specs.Numbers.{answerOf, elementOf};
-ghost use Rattle.edit_algo.specs.AtEnd.{RowsAtEnd, oldNode};
+ghost use Rattle.edit_algo.specs.AtEnd.{RowsAtEnd, oldNode, unless, ToWrite, ToFind};
 
 // How many bytes the result has, or a refusal's number.
 pub enum Answer {
@@ -68,6 +65,25 @@ fn write_answer(
     }
 }
 
+// What the edit answers from what is performed: a refusal, or the result's bytes.
+fn answer_of(
+    batch: &[u8],
+    done: Performed,
+    rows: &[u32],
+    notes: &mut [u32],
+    changed: &mut [u32],
+    starts: &mut [u32],
+    result: &mut [u8],
+) -> Answer
+    requires { ⌜ ToWrite (now batch) (now rows) (now notes) (now changed) (now starts) done ⌝ }
+    ensures { λ r. ⌜ Answers (unless done (applied (now (batch .entry)) (length (now (result .entry))))) (now (result .entry)) (answerOf r) (now (result .exit)) ⌝ }
+{
+    match done {
+        Performed::Refused(n) => Answer::Refused(n),
+        Performed::Done(d) => write_answer(batch, d, rows, notes, changed, starts, result),
+    }
+}
+
 // Whether element `k` of `n` is a node of tree 0.
 fn is_old_node(table: &[u32], source: &[u32], n: usize, k: usize) -> bool
     requires { ⌜ Wellformed n (now table) (now source) × (k < n) ⌝ }
@@ -107,47 +123,25 @@ fn find_from(
     }
 }
 
-// ── The public calls ──
-
-// The edit, before the work slices are cleared.
-fn apply_edits(
+// Where element `k` stands in the new tree, from what is performed: a refusal, or what is found.
+fn element_of(
     batch: &[u8],
-    result: &mut [u8],
-    table: &mut [u32],
-    source: &mut [u32],
-    changes: &mut [u32],
-    running: &mut [u32],
-    first: &mut [u32],
-    notes: &mut [u32],
-    incoming: &mut [u32],
-    changed: &mut [u32],
-    marks: &mut [u32],
-    rows: &mut [u32],
-    prepared: &mut [u32],
-    sizes: &mut [u32],
-) -> Answer
-    ensures { λ r. ⌜ Answers (edited (lengths (now (table .entry) ∷ now (source .entry) ∷ now (changes .entry) ∷ now (running .entry) ∷ now (first .entry) ∷ now (notes .entry) ∷ now (incoming .entry) ∷ now (changed .entry) ∷ now (marks .entry) ∷ now (rows .entry) ∷ now (prepared .entry) ∷ now (sizes .entry) ∷ [])) (now (batch .entry)) (length (now (result .entry)))) (now (result .entry)) (answerOf r) (now (result .exit)) ⌝ }
+    done: Performed,
+    table: &[u32],
+    source: &[u32],
+    rows: &[u32],
+    k: usize,
+) -> Element
+    requires { ⌜ ToFind (now batch) (now table) (now source) (now rows) done ⌝ }
+    ensures { λ r. ⌜ elementOf r ≡ unless done (found (now (batch .entry)) k) ⌝ }
 {
-    let done = perform(
-        batch,
-        table,
-        source,
-        changes,
-        running,
-        first,
-        notes,
-        incoming,
-        changed,
-        marks,
-        rows,
-        prepared,
-        sizes,
-    );
     match done {
-        Performed::Refused(n) => Answer::Refused(n),
-        Performed::Done(d) => write_answer(batch, d, rows, notes, changed, prepared, result),
+        Performed::Refused(n) => Element::Refused(n),
+        Performed::Done(d) => find_from(batch, d, table, source, rows, k),
     }
 }
+
+// ── The public calls ──
 
 // THE EDIT of a batch. The result's bytes are written to the front of `result`; the twelve others are work slices, which end as zeros.
 pub fn edit(
@@ -168,58 +162,6 @@ pub fn edit(
 ) -> Answer
     ensures { λ r. ⌜ Edits (now (batch .entry)) (now (result .entry)) (now (table .entry) ∷ now (source .entry) ∷ now (changes .entry) ∷ now (running .entry) ∷ now (first .entry) ∷ now (notes .entry) ∷ now (incoming .entry) ∷ now (changed .entry) ∷ now (marks .entry) ∷ now (rows .entry) ∷ now (prepared .entry) ∷ now (sizes .entry) ∷ []) (answerOf r) (now (result .exit)) (now (table .exit) ∷ now (source .exit) ∷ now (changes .exit) ∷ now (running .exit) ∷ now (first .exit) ∷ now (notes .exit) ∷ now (incoming .exit) ∷ now (changed .exit) ∷ now (marks .exit) ∷ now (rows .exit) ∷ now (prepared .exit) ∷ now (sizes .exit) ∷ []) ⌝ }
 {
-    let answer = apply_edits(
-        batch,
-        result,
-        table,
-        source,
-        changes,
-        running,
-        first,
-        notes,
-        incoming,
-        changed,
-        marks,
-        rows,
-        prepared,
-        sizes,
-    );
-    work::clear_all(
-        table,
-        source,
-        changes,
-        running,
-        first,
-        notes,
-        incoming,
-        changed,
-        marks,
-        rows,
-        prepared,
-        sizes,
-    );
-    answer
-}
-
-// Where an element stands in the new tree, before the work slices are cleared.
-fn find_in_new(
-    batch: &[u8],
-    number: usize,
-    table: &mut [u32],
-    source: &mut [u32],
-    changes: &mut [u32],
-    running: &mut [u32],
-    first: &mut [u32],
-    notes: &mut [u32],
-    incoming: &mut [u32],
-    changed: &mut [u32],
-    marks: &mut [u32],
-    rows: &mut [u32],
-    prepared: &mut [u32],
-    sizes: &mut [u32],
-) -> Element
-    ensures { λ r. ⌜ elementOf r ≡ findElement (lengths (now (table .entry) ∷ now (source .entry) ∷ now (changes .entry) ∷ now (running .entry) ∷ now (first .entry) ∷ now (notes .entry) ∷ now (incoming .entry) ∷ now (changed .entry) ∷ now (marks .entry) ∷ now (rows .entry) ∷ now (prepared .entry) ∷ now (sizes .entry) ∷ [])) (now (batch .entry)) number ⌝ }
-{
     let done = perform(
         batch,
         table,
@@ -235,10 +177,22 @@ fn find_in_new(
         prepared,
         sizes,
     );
-    match done {
-        Performed::Refused(n) => Element::Refused(n),
-        Performed::Done(d) => find_from(batch, d, table, source, rows, number),
-    }
+    let answer = answer_of(batch, done, rows, notes, changed, prepared, result);
+    work::clear_all(
+        table,
+        source,
+        changes,
+        running,
+        first,
+        notes,
+        incoming,
+        changed,
+        marks,
+        rows,
+        prepared,
+        sizes,
+    );
+    answer
 }
 
 // The first node of the new tree with the kind and the text start of the old tree's node `number`. The twelve others are work slices, which end as zeros.
@@ -260,9 +214,8 @@ pub fn find_element(
 ) -> Element
     ensures { λ r. ⌜ Finds (now (batch .entry)) number (now (table .entry) ∷ now (source .entry) ∷ now (changes .entry) ∷ now (running .entry) ∷ now (first .entry) ∷ now (notes .entry) ∷ now (incoming .entry) ∷ now (changed .entry) ∷ now (marks .entry) ∷ now (rows .entry) ∷ now (prepared .entry) ∷ now (sizes .entry) ∷ []) (elementOf r) (now (table .exit) ∷ now (source .exit) ∷ now (changes .exit) ∷ now (running .exit) ∷ now (first .exit) ∷ now (notes .exit) ∷ now (incoming .exit) ∷ now (changed .exit) ∷ now (marks .exit) ∷ now (rows .exit) ∷ now (prepared .exit) ∷ now (sizes .exit) ∷ []) ⌝ }
 {
-    let element = find_in_new(
+    let done = perform(
         batch,
-        number,
         table,
         source,
         changes,
@@ -276,6 +229,7 @@ pub fn find_element(
         prepared,
         sizes,
     );
+    let element = element_of(batch, done, table, source, rows, number);
     work::clear_all(
         table,
         source,
