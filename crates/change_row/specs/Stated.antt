@@ -59,14 +59,13 @@ pub record Dependent (n : ℕ) (listed : List ℕ) (o r : ChangeRow) : Type 0 wh
   pub itself : Stated n listed r
   pub fated : r .fate ≡ 1
 
--- the dependent r may have these ends: elements, and one and the same if it is no run
+-- the dependent r may have these ends: elements
 pub record NewEnds (n : ℕ) (listed : List ℕ) (r : ChangeRow) (x y : ℕ) : Type 0 where
   pub elements : All (λ e. e < n) listed
   pub itself : Stated n listed r
   pub fated : r .fate ≡ 1
   pub target : x < n
   pub end : y < n
-  pub alike : (r .operation ≡ 5 → ⊥) → y ≡ x
 
 -- the row at place i is one of 256 and states a change; as a dependent it has an owner
 pub record Fated (n : ℕ) (listed w : List ℕ) (i : ℕ) : Type 0 where
@@ -171,10 +170,10 @@ module _ (T : Table) (at k x y z z′ : ℕ) (new : List ℕ) where
   row-by (suc (suc (suc (suc (suc (suc op)))))) h c g = absurd (omega arith)
 
 -- the row anew is that of the change with the new target and end, and with the fate as it was
-pub row-anew : (T : Table) (n : ℕ) (listed : List ℕ) (r : ChangeRow) (x y z : ℕ) → Stated n listed r → r .fate ≡ 1 → ((r .operation ≡ 5 → ⊥) → y ≡ x) → (r .operation ≡ 2 → z ≡ getD listed (r .list) 0)
+pub row-anew : (T : Table) (n : ℕ) (listed : List ℕ) (r : ChangeRow) (x y z : ℕ) → Stated n listed r → r .fate ≡ 1 → (r .operation ≡ 2 → z ≡ getD listed (r .list) 0)
     → withFate (changeRow T (r .list) (changeBy (r .operation) x y (getD listed (r .list) 0) (newOf listed r))) (rowFate r) ≡ rowAnew T r x y z
 unfolding rowAnew changeAnew changeOf
-row-anew T n listed r x y z′ S f _ g =
+row-anew T n listed r x y z′ S f g =
     let op : ℕ = r .operation in
     let z : ℕ = getD listed (r .list) 0 in
     let new : List ℕ = newOf listed r in

@@ -15,7 +15,7 @@ use Rattle.definition.specs.Basics as basics
 use Rattle.definition.specs.Basics.{gives, _>>=_}
 use Rattle.definition.specs.Elements.{isNode}
 use Rattle.element_table.specs.View.{view}
-use Rattle.element_table.specs.Wellformed.{Lines, Wellformed}
+use Rattle.element_table.specs.Wellformed.{Wellformed}
 use Rattle.rows.specs.Row.{firstRows}
 use Rattle.annotations.specs.Notes.{notesOf}
 use Rattle.tree_store.specs.Stored.{stored}

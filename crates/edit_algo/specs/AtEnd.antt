@@ -2,24 +2,21 @@
 -- Assumes nothing.
 use mathlib.Core.Path.{_≡_, refl, sym, ap, _∙_}
 use mathlib.Core.Bool.{Bool, true, false, cond, _&&_}
-use mathlib.Core.List.{List, [], _∷_, _++_}
-use mathlib.Core.Option.{Option, none, some}
+use mathlib.Core.List.{List, [], _∷_}
+use mathlib.Core.Option.{none, some}
 use Prim.Native.Nat.{ℕ, zero, suc, _+_, _*_, _≤_, _<_}
 use native.Mathlib.Nat.{zero-add}
 use native.Mathlib.Omega.{arith}
 use lib.ListN.{length, drop, take, getD}
 use lib.Dec.{eqb}
-use lib.Seq.{paste, take-all}
-use borrow.Author.Tests.{le-ltb, ne-eqb, eq-eqb}
+use lib.Seq.{take-all}
 use Rattle.definition.specs.Basics.{Answer, refused, gives, _>>=_}
 use Rattle.definition.specs.Elements.{Table, isNode, node?, tree, row, noRow}
 use Rattle.definition.specs.Refusals.{Accepted, accepted}
 use Rattle.definition.specs.Answers.{plan, ran}
 use Rattle.laws.specs.Answers.{gives-inj, given}
-use Rattle.definition.specs.Finishing.{Result, encoded, fitting}
-use Rattle.definition.specs.FindElement.{findIn}
 use Rattle.element_table.specs.View.{view, rowAt, kindWord}
-use Rattle.element_table.specs.Wellformed.{Lines, Wellformed}
+use Rattle.element_table.specs.Wellformed.{Lines}
 use Rattle.element_table.specs.Told.{length-view, row-view, node-told, tree-told, start-told}
 use Rattle.rows.specs.Row.{firstRows, rowsOf}
 use Rattle.store_model.specs.Store as model

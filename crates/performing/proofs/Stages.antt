@@ -7,7 +7,7 @@ use native.Mathlib.Omega.{arith}
 use lib.ListN.{length, take}
 use lib.Seq.{length-take-le}
 use Rattle.orders.specs.Lists.{All}
-use Rattle.definition.specs.Basics.{refused, gives, _>>=_}
+use Rattle.definition.specs.Basics.{refused, _>>=_}
 use Rattle.element_table.specs.View.{view}
 use Rattle.mapping.specs.Mapped.{wordsAt}
 use Rattle.syntax_editor.specs.ChangeRowLaws.{rowAt}

@@ -5,7 +5,7 @@ use mathlib.Core.Bool.{true, false}
 use mathlib.Core.List.{List}
 use Prim.Native.Nat.{ℕ, _*_, _^_, _≤_, _<_}
 use lib.ListN.{length, take, drop}
-use Rattle.definition.specs.Basics.{Answer, refused, gives, keep}
+use Rattle.definition.specs.Basics.{refused, gives, keep}
 use Rattle.definition.specs.Planning.{isDiscarded}
 use Rattle.definition.specs.Refusals.{Accepted, accepted}
 use Rattle.definition.specs.Answers.{tooShort}

@@ -6,7 +6,7 @@ use Prim.Native.Nat.{ℕ, _+_, _*_, _≤_, _<_}
 use native.Mathlib.Omega.{arith}
 use lib.ListN.{length, drop}
 use Rattle.orders.specs.Lists.{All}
-use Rattle.orders.specs.Tree.{Tree, node, forest}
+use Rattle.orders.specs.Tree.{node, forest}
 use Rattle.definition.specs.Basics.{gives}
 use Rattle.definition.specs.Elements.{Table, row}
 use Rattle.definition.specs.Running.{begin}

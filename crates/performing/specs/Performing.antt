@@ -1,8 +1,8 @@
 -- The run of an accepted and planned batch, in words: what it asks for is there, and what it answers is the definition's.
 -- Assumes nothing.
 use mathlib.Core.Path.{_≡_, refl, sym, ap, subst, _∙_}
-use mathlib.Core.List.{List, [], _∷_, map}
-use Prim.Native.Nat.{ℕ, _+_, _*_, _^_, _≤_, _<_}
+use mathlib.Core.List.{List, []}
+use Prim.Native.Nat.{ℕ, _≤_, _<_}
 use native.Mathlib.Omega.{arith}
 use lib.ListN.{length, take, drop, length-map}
 use lib.Seq.{length-take-le}
@@ -23,7 +23,6 @@ use Rattle.laws.specs.Limits.{performed-records, ran-changed, ran-known}
 use Rattle.rows.specs.Place.{place}
 use Rattle.element_table.specs.View.{view}
 use Rattle.mapping.specs.Mapped.{wordsAt}
-use Rattle.syntax_editor.specs.ChangeRow.{ChangeRow, rowsOf}
 use Rattle.syntax_editor.specs.ChangeRowLaws.{rowAt}
 use Rattle.change_row.specs.Stated.{changeOf, planOf}
 use Rattle.rewriting.specs.Kept.{Kept}
@@ -33,7 +32,7 @@ use Rattle.annotations.specs.Notes.{notesOf}
 use Rattle.store_model.specs.Store.{Store, store, storeSteps}
 use Rattle.store_model.specs.Step.{inRows, ran-store}
 use Rattle.tree_store.specs.Stored.{stored, storedFirst}
-use Rattle.plan_model.specs.Ready.{Ready, leaves-ready, Facts, ready-facts, listedIn}
+use Rattle.plan_model.specs.Ready.{leaves-ready, ready-facts}
 use Rattle.plan_model.specs.Fated.{rows-each}
 use Rattle.planning.specs.Answers.{PlanMade}
 use Rattle.planning.specs.Left.{TellsPlan, plan-told}
@@ -44,14 +43,13 @@ use Rattle.splicing.specs.Store.{heldIn}
 use Rattle.splicing.specs.declared.TreeState.{TreeState}
 use Rattle.splicing.specs.declared.Executed.{Executed}
 use Rattle.splicing.specs.declared.Executed.the-variants.{Refused, Done}
-use Rattle.executing.specs.Standing.{Begun, firstWorld, first-told, Standing}
+use Rattle.executing.specs.Standing.{Begun, first-told, Standing}
 use Rattle.executing.specs.Opening.{rows-some, rows-few, notes-few, bytes-few}
 use Rattle.executing.specs.Stepping.{Performs}
 use Rattle.executing.specs.Running.{plansIn, listsAll, lists-total, Ran}
-use Rattle.performing.specs.Ending.{End, ending}
+use Rattle.performing.specs.Ending.{ending}
 use Rattle.performing.specs.Beginning.{known, planned, begun}
 use Rattle.performing.specs.AtEnd.{AtEnd}
-use Rattle.performing.specs.declared.Ended.{Ended}
 
 module _ {b : List ℕ} {l : Layout} {t₀ s₀ t s : List ℕ} (v : Leaves b l t₀ s₀ t s) {changes running first : List ℕ} {c : Counts} (P : PlanMade b l t s changes running first (PlanIs c)) where
   abbrev a : Accepted

@@ -32,7 +32,7 @@ module _ (n : ℕ) (w s m : List ℕ) (x r op t e : ℕ) (a : Moved) (M : MovedT
 
     pub ends-one : (op ≡ 5 → ⊥) → MovedEnds n w s m x r op t e (To x′ x′ k)
     unfolding endsBy movedEnds _>>=_
-    ends-one y = let h = moved-within (M .within) z in record { ends = rw (first-moves, ne-eqb op 5 y); within = (h .0, h .0, omega (arith, h .1), λ _. refl) }
+    ends-one y = let h = moved-within (M .within) z in record { ends = rw (first-moves, ne-eqb op 5 y); within = (h .0, h .0, omega (arith, h .1)) }
 
     module _ (y : op ≡ 5) (b : Moved) (N : MovedTo n w s m x r e b) where
       pub ends-second-refused : (l : ℕ) → b ≡ RefusedMove l → MovedEnds n w s m x r op t e (Refused l)
@@ -44,4 +44,4 @@ module _ (n : ℕ) (w s m : List ℕ) (x r op t e : ℕ) (a : Moved) (M : MovedT
       ends-two y′ l v =
           let h = moved-within (M .within) z in
           let g = moved-within (N .within) v in
-          record { ends = rw (first-moves, eq-eqb op 5 y, ← (N .move), v); within = (h .0, g .0, omega (arith, h .1, g .1), λ u. absurd (u y)) }
+          record { ends = rw (first-moves, eq-eqb op 5 y, ← (N .move), v); within = (h .0, g .0, omega (arith, h .1, g .1)) }

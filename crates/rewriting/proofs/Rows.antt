@@ -54,7 +54,7 @@ module _ (n : ℕ) (w s m listed : List ℕ) (o r : ChangeRow) (D : Dependent n 
 
   module _ (x y k : ℕ) (z : a ≡ To x y k) where
     pub new-ends : (k ≤ 2 * n) × NewEnds n listed r x y
-    new-ends = let h = rw z at (O .within) in (h .2, record { elements = D .elements; itself = D .itself; fated = D .fated; target = h .0; end = h .1; alike = h .3 })
+    new-ends = let h = rw z at (O .within) in (h .2, record { elements = D .elements; itself = D .itself; fated = D .fated; target = h .0; end = h .1 })
 
     pub dependent-written : (i : ℕ) (before after : List ℕ) (q : Rewritten) → RowRewritten (judgedRow (view n w s) listed r (x, y, k)) i before after q
         → RowRewritten (rewriteUnder (view n w s) (mappedBy m) listed (changeOf listed o) r) i before after q

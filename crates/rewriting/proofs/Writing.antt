@@ -85,7 +85,7 @@ module _ (n : ℕ) (w s : List ℕ) (listed : List ℕ) (r : ChangeRow) (x y k :
   unfolding judgedRow refuse _>>=_
   row-of-fitting h =
       rw (wrong-is, h)
-      (ap {B = Answer (ChangeRow × ℕ)} (λ q. gives (q, k)) (row-anew (view n w s) n listed r x y (judge listed r y) (E .itself) (E .fated) (E .alike) (judge-listed listed r y)))
+      (ap {B = Answer (ChangeRow × ℕ)} (λ q. gives (q, k)) (row-anew (view n w s) n listed r x y (judge listed r y) (E .itself) (E .fated) (judge-listed listed r y)))
 
   row-of-wrong : callFits (view n w s) (r .operation) x (judge listed r y) ≡ false → judgedRow (view n w s) listed r (x, y, k) ≡ refused 9
   unfolding judgedRow refuse _>>=_

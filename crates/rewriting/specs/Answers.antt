@@ -27,20 +27,20 @@ unfoldable pub endsBy : Ends → Answer (ℕ × ℕ × ℕ)
 endsBy (To x y steps) = gives (x, y, steps)
 endsBy (Refused number) = refused number
 
--- they are elements, and one and the same if the change is no run
-abbrev pub EndsWithin : ℕ → ℕ → Ends → Type 0
-EndsWithin n op (To x y steps) = (x < n) × (y < n) × (steps ≤ 2 * n) × ((op ≡ 5 → ⊥) → y ≡ x)
-EndsWithin n op (Refused number) = Unit
+-- they are elements, and the steps at most two climbs
+abbrev pub EndsWithin : ℕ → Ends → Type 0
+EndsWithin n (To x y steps) = (x < n) × (y < n) × (steps ≤ 2 * n)
+EndsWithin n (Refused number) = Unit
 
 -- where target and end go when x is replaced by r
 pub record MovedEnds (n : ℕ) (table source map : List ℕ) (x r op target end : ℕ) (answer : Ends) : Type 0 where
   pub ends : endsBy answer ≡ movedEnds (moved (view n table source) (mappedBy map) x r) op target end
-  pub within : EndsWithin n op answer
+  pub within : EndsWithin n answer
 
 -- those of the row r, whose owner is the row o
 pub record OwnedEnds (n : ℕ) (table source map listed : List ℕ) (o r : ChangeRow) (answer : Ends) : Type 0 where
   pub ends : endsBy answer ≡ movedEnds (moved (view n table source) (mappedBy map) (target (changeOf listed o)) (replacement (changeOf listed o))) (r .operation) (r .target) (r .end)
-  pub within : EndsWithin n (r .operation) answer
+  pub within : EndsWithin n answer
 
 -- ── Rows rewritten ──────────────────────────────────────────────────────────────────────────────────────────
 
