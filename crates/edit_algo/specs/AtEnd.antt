@@ -64,13 +64,14 @@ pub record RowsAtEnd (b rows : List ℕ) (d : Ended) : Type 0 where
   pub end : End
   pub ends : ending b ≡ gives end
   pub held : rowsOf (end .world .trees) ≡ firstRows (drop (d .text) b) (d .rows) rows
+  pub place : d .root ≡ 1
   pub within : 3 * d .rows ≤ length rows
   pub some : 1 ≤ d .rows
   pub few : d .rows ≤ 4097
 
 pub rows-at-end : {b rows notes changed : List ℕ} {d : Ended} → AtEnd b rows notes changed d → RowsAtEnd b rows d
 unfolding store stored
-rows-at-end v = record { end = v .end; ends = v .ends; held = ap (λ (s : model.Store). s .rows) (v .held); within = v .rowsWithin; some = v .someRows; few = v .fewRows }
+rows-at-end v = record { end = v .end; ends = v .ends; held = ap (λ (s : model.Store). s .rows) (v .held); place = v .place; within = v .rowsWithin; some = v .someRows; few = v .fewRows }
 
 getD-past : {A : Type 0} (l : List A) (k : ℕ) (d : A) → length l ≤ k → getD l k d ≡ d
 getD-past [] k d h = refl

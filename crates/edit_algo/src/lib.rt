@@ -49,6 +49,7 @@ fn write_answer(
     let end = finishing::finish(
         rows,
         d.rows,
+        d.root,
         notes,
         d.notes,
         changed,
@@ -117,7 +118,7 @@ fn find_from(
     }
     let kind = calls::row_word(source, k, 0);
     let start = calls::entry(table, k, 4);
-    match finding::find_in_tree(rows, d.rows, kind, start) {
+    match finding::find_in_tree(rows, d.rows, d.root, kind, start) {
         Found::Nothing => Element::Nothing,
         Found::At(e) => Element::At(e),
     }

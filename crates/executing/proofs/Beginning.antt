@@ -76,7 +76,7 @@ pub begins : {n : ℕ} (rows source notes first : List ℕ) {a sum : ℕ} {rows�
     → rows′ ≡ paste rows 0 (take (3 * (n + 1) - 0) (drop 0 source)) (length (take (3 * (n + 1) - 0) (drop 0 source)))
     → marks′ ≡ upFrom 1 n
     → notes′ ≡ paste notes 0 (take (3 * a - 0) (drop 0 first)) (length (take (3 * a - 0) (drop 0 first)))
-    → Began n source first a rows′ marks′ notes′ (record { rows = n + 1; bytes = sum; notes = a; changed = 0 })
+    → Began n source first a rows′ marks′ notes′ (record { root = 1; rows = n + 1; bytes = sum; notes = a; changed = 0 })
 unfolding stored storedFirst
 begins {n} rows source notes first {a} {sum} {rows′} {marks′} {notes′} h k s e f g =
     let copied : take (3 * (n + 1)) rows′ ≡ take (3 * (n + 1)) source = front-copied rows source (3 * (n + 1)) (omega arith) e in
@@ -88,6 +88,7 @@ begins {n} rows source notes first {a} {sum} {rows′} {marks′} {notes′} h k
         notes = notes-front a notes′ first (front-copied notes first (3 * a) k g) i;
         changed = [];
       };
+      place = refl;
       count = refl;
       none = refl;
       measured = λ text. s .sum text ∙ ap (λ (l : List ℕ). bytes (triples text l)) (ap (λ (m : ℕ). take m source) z ∙ sym copied);
@@ -103,6 +104,7 @@ module _ {n : ℕ} {lines source first : List ℕ} {a : ℕ} (b : Begun n lines 
   stands = record {
     begun = b;
     now = subst (Now (b .trees)) (sym (w .told (b .text) changed)) (now-first b (b .text) refl);
+    place = w .place;
     long = omega (arith, w .count, b .formed .few);
     held = omega (arith, w .none);
     measured = w .measured;

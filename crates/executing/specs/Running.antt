@@ -52,6 +52,7 @@ pub record RanSteps (lines source first : List ℕ) (a : ℕ) (listed changes ru
 -- before the first step: what the batch's own words tell
 pub record Began (n : ℕ) (source first : List ℕ) (a : ℕ) (rows marks notes : List ℕ) (s : TreeState) : Type 0 where
   pub told : (text changed : List ℕ) → heldIn text s rows marks notes changed ≡ storedFirst text n source (notesOf a first) []
+  pub place : s .root ≡ 1
   pub count : s .rows ≡ n + 1
   pub none : s .changed ≡ 0
   pub measured : (text : List ℕ) → s .bytes ≡ bytes (firstRows text (s .rows) rows)
@@ -85,6 +86,7 @@ standing-next {lines} {source} {first} {a} {listed} {c} {s} {t} {rows} {marks} {
     record {
       begun = v .begun;
       now = now-next (v .begun) (heldIn (v .begun .text) s rows marks notes changed) (heldIn (v .begun .text) t rows′ marks′ notes′ changed′) (planOf listed c) (v .now) (u .right) (sym (w .answer (v .begun .text)));
+      place = g .place ∙ v .place;
       long = omega (arith, g .few);
       held = omega (arith, g .most);
       measured = g .measured;

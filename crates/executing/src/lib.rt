@@ -51,6 +51,7 @@ fn begin(
     let to = 3 * a;
     copy_in(notes, 0, &first[0..to]);
     TreeState {
+        root: 1,
         rows: n,
         bytes,
         notes: a,

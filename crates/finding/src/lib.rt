@@ -43,11 +43,11 @@ fn find_alike(tree: &[u32], kind: usize, start: usize) -> Found
     Found::Nothing
 }
 
-// The same in tree 0, from the rows of all trees.
-pub fn find_in_tree(rows: &[u32], n: usize, kind: usize, start: usize) -> Found
-    requires { ⌜ (3 * n ≤ length (now rows)) × (1 ≤ n) × (n < 2 ^ 16) ⌝ }
+// The same in tree 0, from the rows of all trees and the row of its root.
+pub fn find_in_tree(rows: &[u32], n: usize, root: usize, kind: usize, start: usize) -> Found
+    requires { ⌜ (3 * n ≤ length (now rows)) × (1 ≤ n) × (n < 2 ^ 16) × (root ≡ 1) ⌝ }
     ensures { λ r. ⌜ ((text : List ℕ) → r ≡ found (findRow (firstTree (firstRows text n (now (rows .entry)))) kind start)) ⌝ }
 {
-    let tree = subtree(rows, n, 1);
+    let tree = subtree(rows, n, root);
     find_alike(tree, kind, start)
 }

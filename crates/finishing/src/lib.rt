@@ -138,10 +138,11 @@ fn finish_tree(
     )
 }
 
-// The result as bytes, from the rows of all trees, the notes by their rows and the changed rows, as the run leaves them; or 13.
+// The result as bytes, from the rows of all trees, the row of tree 0's root, the notes by their rows and the changed rows, as the run leaves them; or 13.
 pub fn finish(
     rows: &[u32],
     n: usize,
+    root: usize,
     notes: &mut [u32],
     k: usize,
     changed: &mut [u32],
@@ -154,9 +155,10 @@ pub fn finish(
 ) -> Finished
     requires { ⌜ (3 * n ≤ length (now rows)) × (1 ≤ n) × (n < 2 ^ 16) × (n ≤ length (now starts) + 1) × (bytes (firstRows (now text) n (now rows)) < 2 ^ 32) ⌝ }
     requires { ⌜ (3 * k ≤ length (now notes)) × (k < 2 ^ 16) × (c ≤ length (now changed)) × (c < 2 ^ 16) × (discarded < 2 ^ 32) × (climbs < 2 ^ 32) ⌝ }
+    requires { ⌜ root ≡ 1 ⌝ }
     ensures { λ r. ⌜ ((marks : List ℕ) → Answered (now (result .entry)) (resultOf discarded climbs (stored (now (text .entry)) n (now (rows .entry)) marks (notesOf k (now (notes .entry))) (take c (now (changed .entry))))) (now (result .exit)) r) ⌝ }
 {
-    let tree = subtree(rows, n, 1);
+    let tree = subtree(rows, n, root);
     fill_starts(tree, starts);
     let m = tree.len() / 3;
     finish_tree(

@@ -80,9 +80,9 @@ module _ {b : List ℕ} {l : Layout} {t s changes running first : List ℕ} {c :
 
     pub steps-ended : (r : TreeState) → x ≡ Ran-through r → 3072 ≤ length notes
         → Performs b t s rows notes changed
-        (Done (record { text = l .text; elements = l .sizes .elements; rows = r .rows; notes = r .notes; changed = r .changed; discarded = c .discarded; climbs = c .climbs }))
+        (Done (record { text = l .text; elements = l .sizes .elements; root = r .root; rows = r .rows; notes = r .notes; changed = r .changed; discarded = c .discarded; climbs = c .climbs }))
     steps-ended r e ln =
-        let d : Ended = record { text = l .text; elements = l .sizes .elements; rows = r .rows; notes = r .notes; changed = r .changed; discarded = c .discarded; climbs = c .climbs } in
+        let d : Ended = record { text = l .text; elements = l .sizes .elements; root = r .root; rows = r .rows; notes = r .notes; changed = r .changed; discarded = c .discarded; climbs = c .climbs } in
         let v = L .leaves in
         record {
           refuses = λ k i. absurd (let z : _≡_ {A = ℕ} 0 1 = cc in omega arith);

@@ -33,6 +33,7 @@ pub record AtEnd (b rows notes changed : List ℕ) (d : Ended) : Type 0 where
   pub discarded : d .discarded ≡ length (keep (λ p. isDiscarded (p .fate)) (end .planned .changes))
   pub climbs : d .climbs ≡ end .planned .climbs
   -- and nothing is larger than its slice
+  pub place : d .root ≡ 1
   pub textWithin : d .text ≤ length b
   pub rowsWithin : 3 * d .rows ≤ length rows
   pub someRows : 1 ≤ d .rows

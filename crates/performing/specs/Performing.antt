@@ -144,7 +144,7 @@ module _ {b : List ℕ} {l : Layout} {t₀ s₀ t s : List ℕ} (v : Leaves b l 
 
     -- or what is held at the end is the definition's
     pub run-ended : (r : TreeState) → x ≡ Done r → 3072 ≤ length notes
-        → AtEnd b rows notes changed (record { text = l .text; elements = E; rows = r .rows; notes = r .notes; changed = r .changed; discarded = c .discarded; climbs = c .climbs })
+        → AtEnd b rows notes changed (record { text = l .text; elements = E; root = r .root; rows = r .rows; notes = r .notes; changed = r .changed; discarded = c .discarded; climbs = c .climbs })
     unfolding executedIn _>>=_ text store stored
     run-ended r e ln = go (ran a p) refl (sym (ap (executedIn text rows marks notes changed) e) ∙ ran-told)
       where
@@ -152,7 +152,7 @@ module _ {b : List ℕ} {l : Layout} {t₀ s₀ t s : List ℕ} (v : Leaves b l 
         S = R .standing r e
 
         go : (o : Answer World) → ran a p ≡ o → gives (heldIn text r rows marks notes changed) ≡ inRows o
-            → AtEnd b rows notes changed (record { text = l .text; elements = E; rows = r .rows; notes = r .notes; changed = r .changed; discarded = c .discarded; climbs = c .climbs })
+            → AtEnd b rows notes changed (record { text = l .text; elements = E; root = r .root; rows = r .rows; notes = r .notes; changed = r .changed; discarded = c .discarded; climbs = c .climbs })
         go (refused n) i j = refused-gives (sym j)
         go (gives w) i j =
             let K = ran-known b a p w (v .accepted) (m .plan) i in
@@ -165,6 +165,7 @@ module _ {b : List ℕ} {l : Layout} {t₀ s₀ t s : List ℕ} (v : Leaves b l 
               held = sym same;
               discarded = m .discarded;
               climbs = m .climbs;
+              place = S .place;
               textWithin = omega (arith, v .within .text);
               rowsWithin = S .long;
               someRows = omega (arith, rows-some S);

@@ -16,10 +16,11 @@ ghost use Rattle.planning.specs.declared.Planned.the-variants.{Made};
 ghost use Rattle.performing.specs.Beginning.{LaidOut};
 ghost use Rattle.performing.specs.AtEnd.{Performs, PerformsWith};
 
-// What a run leaves: where the batch's text starts, how many elements it has, the rows, notes and changed rows that are held, and two numbers of the result.
+// What a run leaves: where the batch's text starts, how many elements it has, where the root of tree 0 stands, the rows, notes and changed rows that are held, and two numbers of the result.
 pub struct Ended {
     pub text: usize,
     pub elements: usize,
+    pub root: usize,
     pub rows: usize,
     pub notes: usize,
     pub changed: usize,
@@ -82,6 +83,7 @@ fn run_steps(
         Executed::Done(t) => Performed::Done(Ended {
             text: l.text,
             elements: s.elements,
+            root: t.root,
             rows: t.rows,
             notes: t.notes,
             changed: t.changed,

@@ -139,6 +139,7 @@ module _ {s : TreeState} {rows marks notes changed : List ℕ} {g : Gap} {record
     apply-refused e = record {
       answer = λ text new i. rw (large-same above text new i, large-told (largeThen rows notes s g run c above text) _ (sym e ∙ v .answer text));
       measured = λ t q. let z : _≡_ {A = ℕ} 0 1 = cc in absurd (omega arith);
+      place = λ t q. let z : _≡_ {A = ℕ} 0 1 = cc in absurd (omega arith);
       most = λ t q. let z : _≡_ {A = ℕ} 0 1 = cc in absurd (omega arith);
       few = λ t q. let z : _≡_ {A = ℕ} 0 1 = cc in absurd (omega arith);
     }
@@ -154,6 +155,7 @@ module _ {s : TreeState} {rows marks notes changed : List ℕ} {g : Gap} {record
           let n = length-first text (s .rows) rows (m .long) in
           let x = size-told (largeThen rows notes s g run c above text) b _ (sym e ∙ v .answer text) .1 in
           rw (← z) (omega (arith, u .measured, ap bytes (u .told text), splice-bytes (firstRows text (s .rows) rows) (g .parent) (g .from) (g .to) (g .lost) (triples text run) (length sizes) (m .order) (omega (arith, m .high))));
+      place = λ t′ q. let z : t ≡ t′ = cc in rw (← z) (u .place);
       most = λ t′ q. let z : t ≡ t′ = cc in rw (← z) (u .most);
       few = λ t′ q. let z : t ≡ t′ = cc in rw (← z) (omega (arith, u .count, small-then e .0));
     }

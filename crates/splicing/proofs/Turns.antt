@@ -160,7 +160,7 @@ module _ {s : TreeState} {rows marks notes changed : List ℕ} {g : Gap} {record
 pub store-spliced : (s : TreeState) (rows marks notes changed : List ℕ) (g : Gap) (recorded : Bool) (run sizes incoming : List ℕ) (c bytes : ℕ) (rows′ marks′ notes′ changed′ : List ℕ) (r k l : ℕ)
     → SplicedMarks rows (s .rows) marks (g .parent) (g .from) (g .to) (g .lost) run (length sizes) rows′ marks′ r → NotesSpliced notes (s .notes) (g .from) (g .to) (length run / 3) incoming c notes′ k
     → ChangedSpliced changed (s .changed) (g .from) (g .to) (length run / 3) recorded sizes changed′ l
-    → StoreSpliced s rows marks notes changed g recorded run sizes incoming c bytes rows′ marks′ notes′ changed′ (record { rows = r; bytes = bytes; notes = k; changed = l })
+    → StoreSpliced s rows marks notes changed g recorded run sizes incoming c bytes rows′ marks′ notes′ changed′ (record { root = s .root; rows = r; bytes = bytes; notes = k; changed = l })
 unfolding splicedStore stored gapTold
 store-spliced s rows marks notes changed g recorded run sizes incoming c bytes rows′ marks′ notes′ changed′ r k l a b d = record {
   store = λ text new i.
@@ -174,6 +174,13 @@ store-spliced s rows marks notes changed g recorded run sizes incoming c bytes r
       (d .rows ∙ rw (m, z));
   told = a .told;
   measured = refl;
+  place = refl;
   most = d .most;
   count = a .count;
 }
+
+-- the root's place told anew is the same state
+pub store-replaced : {s : TreeState} {rows marks notes changed : List ℕ} {g : Gap} {recorded : Bool} {run sizes incoming : List ℕ} {c bytes : ℕ} {rows′ marks′ notes′ changed′ : List ℕ} {t : TreeState} → g .from ≡ s .root
+    → StoreSpliced s rows marks notes changed g recorded run sizes incoming c bytes rows′ marks′ notes′ changed′ t
+    → StoreSpliced s rows marks notes changed g recorded run sizes incoming c bytes rows′ marks′ notes′ changed′ (record { root = g .from; rows = t .rows; bytes = t .bytes; notes = t .notes; changed = t .changed })
+store-replaced e u = record { store = u .store; told = u .told; measured = u .measured; place = e; most = u .most; count = u .count }

@@ -28,5 +28,6 @@ pub record Applied (s : TreeState) (rows marks notes changed : List ℕ) (g : Ga
   pub answer : (text : List ℕ) (new : List Part) → Comes text new (g .from) run sizes incoming c
       → executedIn text rows′ marks′ notes′ changed′ r ≡ judgedStore above new (splicedStore (gapTold g) new recorded (heldIn text s rows marks notes changed))
   pub measured : (t : TreeState) → r ≡ Done t → (text : List ℕ) → t .bytes ≡ bytes (firstRows text (t .rows) rows′)
+  pub place : (t : TreeState) → r ≡ Done t → t .root ≡ s .root
   pub most : (t : TreeState) → r ≡ Done t → t .changed ≤ s .changed + cond recorded (length sizes) 0
   pub few : (t : TreeState) → r ≡ Done t → t .rows ≤ 4097

@@ -60,5 +60,6 @@ pub record StoreSpliced (s : TreeState) (rows marks notes changed : List ℕ) (g
   pub store : (text : List ℕ) (new : List Part) → Comes text new (g .from) run sizes incoming c → heldIn text r rows′ marks′ notes′ changed′ ≡ splicedStore (gapTold g) new recorded (heldIn text s rows marks notes changed)
   pub told : (text : List ℕ) → firstRows text (r .rows) rows′ ≡ spliceRows (firstRows text (s .rows) rows) (g .parent) (g .from) (g .to) (g .lost) (triples text run) (length sizes)
   pub measured : r .bytes ≡ bytes
+  pub place : r .root ≡ s .root
   pub most : r .changed ≤ s .changed + cond recorded (length sizes) 0
   pub count : r .rows ≡ s .rows - (g .to - g .from) + length run / 3

@@ -132,8 +132,9 @@ fn splice_changed(
 
 // ── All that is held ──
 
-// How much is held: rows, their text bytes, notes, changed rows.
+// Where the root of tree 0 stands, and how much is held: rows, their text bytes, notes, changed rows.
 pub struct TreeState {
+    pub root: usize,
     pub rows: usize,
     pub bytes: usize,
     pub notes: usize,
@@ -142,11 +143,11 @@ pub struct TreeState {
 
 // The rows of the gap give way to a run of parts of these sizes, with `c` notes that come in; what is held then has `bytes` text bytes.
 fn splice_store(
+    s: TreeState,
     rows: &mut [u32],
     marks: &mut [u32],
     notes: &mut [u32],
     changed: &mut [u32],
-    s: TreeState,
     g: Gap,
     recorded: bool,
     run: &[u32],
@@ -177,11 +178,260 @@ fn splice_store(
     let k = splice_notes(notes, s.notes, p, q, m, incoming, c);
     let l = splice_changed(changed, s.changed, p, q, m, recorded, sizes);
     TreeState {
+        root: s.root,
         rows: r,
         bytes,
         notes: k,
         changed: l,
     }
+}
+
+// The same of the root of tree 0: what comes in stands where it stood.
+fn replace_store(
+    s: TreeState,
+    rows: &mut [u32],
+    marks: &mut [u32],
+    notes: &mut [u32],
+    changed: &mut [u32],
+    g: Gap,
+    recorded: bool,
+    run: &[u32],
+    sizes: &[u32],
+    incoming: &[u32],
+    c: usize,
+    bytes: usize,
+) -> TreeState
+    requires { ⌜ Open s (now rows) (now marks) (now notes) (now changed) g recorded (length (now sizes)) ⌝ }
+    requires { ⌜ Coming (now run) (now sizes) (now incoming) c ⌝ }
+    requires { ⌜ (3 * (s .rows - (g .to - g .from)) + length (now run) ≤ length (now rows)) × (3 * (length (pick (movedNote (g .from) (g .to) (length (now run) / 3)) (notesOf (s .notes) (now notes))) + c) ≤ length (now notes)) ⌝ }
+    requires { ⌜ g .from ≡ s .root ⌝ }
+    ensures { λ r. ⌜ StoreSpliced s (now (rows .entry)) (now (marks .entry)) (now (notes .entry)) (now (changed .entry)) g recorded (now (run .entry)) (now (sizes .entry)) (now (incoming .entry)) c bytes (now (rows .exit)) (now (marks .exit)) (now (notes .exit)) (now (changed .exit)) r ⌝ }
+{
+    let t = splice_store(
+        s,
+        rows,
+        marks,
+        notes,
+        changed,
+        g,
+        recorded,
+        run,
+        sizes,
+        incoming,
+        c,
+        bytes,
+    );
+    TreeState {
+        root: g.from,
+        rows: t.rows,
+        bytes: t.bytes,
+        notes: t.notes,
+        changed: t.changed,
+    }
+}
+
+// ── The state, lent to each splice step ──
+
+// One splice step: the state is lent, and the covered function's answer is stored in it.
+fn splice_tree(
+    t: &mut TreeState,
+    rows: &mut [u32],
+    marks: &mut [u32],
+    notes: &mut [u32],
+    changed: &mut [u32],
+    g: Gap,
+    recorded: bool,
+    run: &[u32],
+    sizes: &[u32],
+    incoming: &[u32],
+    c: usize,
+    bytes: usize,
+)
+    requires { ⌜ Open (now t) (now rows) (now marks) (now notes) (now changed) g recorded (length (now sizes)) ⌝ }
+    requires { ⌜ Coming (now run) (now sizes) (now incoming) c ⌝ }
+    requires { ⌜ (3 * (now t .rows - (g .to - g .from)) + length (now run) ≤ length (now rows)) × (3 * (length (pick (movedNote (g .from) (g .to) (length (now run) / 3)) (notesOf (now t .notes) (now notes))) + c) ≤ length (now notes)) ⌝ }
+    ensures { λ _. ⌜ StoreSpliced (now (t .entry)) (now (rows .entry)) (now (marks .entry)) (now (notes .entry)) (now (changed .entry)) g recorded (now (run .entry)) (now (sizes .entry)) (now (incoming .entry)) c bytes (now (rows .exit)) (now (marks .exit)) (now (notes .exit)) (now (changed .exit)) (now (t .exit)) ⌝ }
+{
+    *t = splice_store(
+        *t,
+        rows,
+        marks,
+        notes,
+        changed,
+        g,
+        recorded,
+        run,
+        sizes,
+        incoming,
+        c,
+        bytes,
+    );
+}
+
+// The step that replaces the root of tree 0.
+fn replace_root(
+    t: &mut TreeState,
+    rows: &mut [u32],
+    marks: &mut [u32],
+    notes: &mut [u32],
+    changed: &mut [u32],
+    g: Gap,
+    recorded: bool,
+    run: &[u32],
+    sizes: &[u32],
+    incoming: &[u32],
+    c: usize,
+    bytes: usize,
+)
+    requires { ⌜ Open (now t) (now rows) (now marks) (now notes) (now changed) g recorded (length (now sizes)) ⌝ }
+    requires { ⌜ Coming (now run) (now sizes) (now incoming) c ⌝ }
+    requires { ⌜ (3 * (now t .rows - (g .to - g .from)) + length (now run) ≤ length (now rows)) × (3 * (length (pick (movedNote (g .from) (g .to) (length (now run) / 3)) (notesOf (now t .notes) (now notes))) + c) ≤ length (now notes)) ⌝ }
+    requires { ⌜ g .from ≡ now t .root ⌝ }
+    ensures { λ _. ⌜ StoreSpliced (now (t .entry)) (now (rows .entry)) (now (marks .entry)) (now (notes .entry)) (now (changed .entry)) g recorded (now (run .entry)) (now (sizes .entry)) (now (incoming .entry)) c bytes (now (rows .exit)) (now (marks .exit)) (now (notes .exit)) (now (changed .exit)) (now (t .exit)) ⌝ }
+{
+    *t = replace_store(
+        *t,
+        rows,
+        marks,
+        notes,
+        changed,
+        g,
+        recorded,
+        run,
+        sizes,
+        incoming,
+        c,
+        bytes,
+    );
+}
+
+// By value, for the run: a local state is lent to the step, and comes back.
+fn tree_spliced(
+    s: TreeState,
+    rows: &mut [u32],
+    marks: &mut [u32],
+    notes: &mut [u32],
+    changed: &mut [u32],
+    g: Gap,
+    recorded: bool,
+    run: &[u32],
+    sizes: &[u32],
+    incoming: &[u32],
+    c: usize,
+    bytes: usize,
+) -> TreeState
+    requires { ⌜ Open s (now rows) (now marks) (now notes) (now changed) g recorded (length (now sizes)) ⌝ }
+    requires { ⌜ Coming (now run) (now sizes) (now incoming) c ⌝ }
+    requires { ⌜ (3 * (s .rows - (g .to - g .from)) + length (now run) ≤ length (now rows)) × (3 * (length (pick (movedNote (g .from) (g .to) (length (now run) / 3)) (notesOf (s .notes) (now notes))) + c) ≤ length (now notes)) ⌝ }
+    ensures { λ r. ⌜ StoreSpliced s (now (rows .entry)) (now (marks .entry)) (now (notes .entry)) (now (changed .entry)) g recorded (now (run .entry)) (now (sizes .entry)) (now (incoming .entry)) c bytes (now (rows .exit)) (now (marks .exit)) (now (notes .exit)) (now (changed .exit)) r ⌝ }
+{
+    let mut t = s;
+    splice_tree(
+        &mut t,
+        rows,
+        marks,
+        notes,
+        changed,
+        g,
+        recorded,
+        run,
+        sizes,
+        incoming,
+        c,
+        bytes,
+    );
+    t
+}
+
+// The same of the step that replaces the root.
+fn root_replaced(
+    s: TreeState,
+    rows: &mut [u32],
+    marks: &mut [u32],
+    notes: &mut [u32],
+    changed: &mut [u32],
+    g: Gap,
+    recorded: bool,
+    run: &[u32],
+    sizes: &[u32],
+    incoming: &[u32],
+    c: usize,
+    bytes: usize,
+) -> TreeState
+    requires { ⌜ Open s (now rows) (now marks) (now notes) (now changed) g recorded (length (now sizes)) ⌝ }
+    requires { ⌜ Coming (now run) (now sizes) (now incoming) c ⌝ }
+    requires { ⌜ (3 * (s .rows - (g .to - g .from)) + length (now run) ≤ length (now rows)) × (3 * (length (pick (movedNote (g .from) (g .to) (length (now run) / 3)) (notesOf (s .notes) (now notes))) + c) ≤ length (now notes)) ⌝ }
+    requires { ⌜ g .from ≡ s .root ⌝ }
+    ensures { λ r. ⌜ StoreSpliced s (now (rows .entry)) (now (marks .entry)) (now (notes .entry)) (now (changed .entry)) g recorded (now (run .entry)) (now (sizes .entry)) (now (incoming .entry)) c bytes (now (rows .exit)) (now (marks .exit)) (now (notes .exit)) (now (changed .exit)) r ⌝ }
+{
+    let mut t = s;
+    replace_root(
+        &mut t,
+        rows,
+        marks,
+        notes,
+        changed,
+        g,
+        recorded,
+        run,
+        sizes,
+        incoming,
+        c,
+        bytes,
+    );
+    t
+}
+
+// One step of the run: the root of tree 0 is replaced, or another gap gives way.
+fn splice_held(
+    s: TreeState,
+    rows: &mut [u32],
+    marks: &mut [u32],
+    notes: &mut [u32],
+    changed: &mut [u32],
+    g: Gap,
+    recorded: bool,
+    run: &[u32],
+    sizes: &[u32],
+    incoming: &[u32],
+    c: usize,
+    bytes: usize,
+) -> TreeState
+    requires { ⌜ Open s (now rows) (now marks) (now notes) (now changed) g recorded (length (now sizes)) ⌝ }
+    requires { ⌜ Coming (now run) (now sizes) (now incoming) c ⌝ }
+    requires { ⌜ (3 * (s .rows - (g .to - g .from)) + length (now run) ≤ length (now rows)) × (3 * (length (pick (movedNote (g .from) (g .to) (length (now run) / 3)) (notesOf (s .notes) (now notes))) + c) ≤ length (now notes)) ⌝ }
+    ensures { λ r. ⌜ StoreSpliced s (now (rows .entry)) (now (marks .entry)) (now (notes .entry)) (now (changed .entry)) g recorded (now (run .entry)) (now (sizes .entry)) (now (incoming .entry)) c bytes (now (rows .exit)) (now (marks .exit)) (now (notes .exit)) (now (changed .exit)) r ⌝ }
+{
+    if g.from == s.root {
+        return root_replaced(
+            s,
+            rows,
+            marks,
+            notes,
+            changed,
+            g,
+            recorded,
+            run,
+            sizes,
+            incoming,
+            c,
+            bytes,
+        );
+    }
+    tree_spliced(
+        s,
+        rows,
+        marks,
+        notes,
+        changed,
+        g,
+        recorded,
+        run,
+        sizes,
+        incoming,
+        c,
+        bytes,
+    )
 }
 
 // ── Refusal 12 ──
@@ -262,12 +512,12 @@ pub fn apply(
     match size {
         Size::TooLarge => Executed::Refused(12),
         Size::Fits(bytes) => {
-            let t = splice_store(
+            let t = splice_held(
+                s,
                 rows,
                 marks,
                 notes,
                 changed,
-                s,
                 g,
                 recorded,
                 run,

@@ -106,5 +106,5 @@ module _ {s : TreeState} {rows marks notes changed : List ℕ} {g : Gap} {record
           answer = λ text.
               let z = (p .parts text [] (take (s .changed) changed)) .came m c refl in
               w .answer text (yieldsIn s rows marks notes changed source first a text (words count rest)) (record { told = z .rows; each = sizes-told count rest p text [] (take (s .changed) changed); noted = z .notes });
-          grown = λ t q. record { measured = w .measured t q; few = w .few t q; most = subst (λ (k : ℕ). t .changed ≤ s .changed + cond recorded k 0) n (w .most t q) };
+          grown = λ t q. record { place = w .place t q; measured = w .measured t q; few = w .few t q; most = subst (λ (k : ℕ). t .changed ≤ s .changed + cond recorded k 0) n (w .most t q) };
         }

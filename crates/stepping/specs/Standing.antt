@@ -149,6 +149,7 @@ module _ {n : ℕ} {lines source first : List ℕ} {a : ℕ} (b : Begun n lines 
 pub record Standing (n : ℕ) (lines source first : List ℕ) (a : ℕ) (s : TreeState) (rows marks notes changed : List ℕ) : Type 0 where
   pub begun : Begun n lines source first a
   pub now : Now (begun .trees) (heldIn (begun .text) s rows marks notes changed)
+  pub place : s .root ≡ 1
   pub long : 3 * s .rows ≤ length rows
   pub held : s .changed ≤ length changed
   pub measured : (text : List ℕ) → s .bytes ≡ bytes (firstRows text (s .rows) rows)

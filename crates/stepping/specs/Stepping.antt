@@ -34,8 +34,9 @@ pub record AboveBy (lines : List ℕ) (op x r : ℕ) : Type 0 where
 unfoldable pub recordsBy : ChangeRow → Bool
 recordsBy r = eqb r.fate 0 && eqb r.tree 0
 
--- how much is held after a step that is done: with its text bytes, no more rows than line 12 takes, and at most `gain` changed rows more
+-- how much is held after a step that is done: the root stands where it stood, with its text bytes, no more rows than line 12 takes, and at most `gain` changed rows more
 pub record Grown (s : TreeState) (gain : ℕ) (rows′ : List ℕ) (t : TreeState) : Type 0 where
+  pub place : t .root ≡ s .root
   pub measured : (text : List ℕ) → t .bytes ≡ bytes (firstRows text (t .rows) rows′)
   pub few : t .rows ≤ 4097
   pub most : t .changed ≤ s .changed + gain

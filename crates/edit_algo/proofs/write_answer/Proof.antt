@@ -16,7 +16,7 @@ part-text-end : tie.Need-part-text-end
 part-text-end c = search needs
 
 finish-requires : tie.Need-finish-requires
-finish-requires c κs = let v = c .before .before .before .before .before .before .before .before .before .before .before .pre in ((v .0 .rowsWithin, v .0 .someRows, omega (arith, v .0 .fewRows), omega (arith, v .0 .fewRows, v .1), v .0 .fewBytes _), (v .0 .notesWithin, v .0 .fewNotes, v .0 .changedWithin, v .0 .fewChanged, v .0 .fewDiscarded, v .0 .fewClimbs))
+finish-requires c κs = let v = c .before .before .before .before .before .before .before .before .before .before .before .pre in ((v .0 .rowsWithin, v .0 .someRows, omega (arith, v .0 .fewRows), omega (arith, v .0 .fewRows, v .1), v .0 .fewBytes _), ((v .0 .notesWithin, v .0 .fewNotes, v .0 .changedWithin, v .0 .fewChanged, v .0 .fewDiscarded, v .0 .fewClimbs), v .0 .place))
 
 enum-told : tie.Need-enum-told
 enum-told c = search needs

@@ -15,14 +15,14 @@ subtree-requires c κs = search needs
 fill-starts-requires : tie.Need-fill-starts-requires
 fill-starts-requires c κs =
     let s = c .before .before .before .before .before .before .before .before in
-    let long = tree-long (c .before .subtree .ensures) (s .pre .0 .0) (s .pre .0 .1) in
-    let few = tree-bytes (c .before .subtree .ensures) (s .args .text .now) (s .pre .0 .4) in
+    let long = tree-long (rw (s .pre .1 .1) at (c .before .subtree .ensures)) (s .pre .0 .0) (s .pre .0 .1) in
+    let few = tree-bytes (rw (s .pre .1 .1) at (c .before .subtree .ensures)) (s .args .text .now) (s .pre .0 .4) in
     search needs
 
 slice-reshare-prefix-finish-tree : tie.Need-slice-reshare-prefix-finish-tree
 slice-reshare-prefix-finish-tree c =
     let s = c .before .before .before .before .before .before .before .before .before .before .before in
-    let long = tree-long (c .before .before .before .before .subtree .ensures) (s .pre .0 .0) (s .pre .0 .1) in
+    let long = tree-long (rw (s .pre .1 .1) at (c .before .before .before .before .subtree .ensures)) (s .pre .0 .0) (s .pre .0 .1) in
     omega arith
 
 slice-aggregate-finish-tree : tie.Need-slice-aggregate-finish-tree
@@ -31,8 +31,8 @@ slice-aggregate-finish-tree c = sym (length-take-le _ _ (slice-reshare-prefix-fi
 finish-tree-requires : tie.Need-finish-tree-requires
 finish-tree-requires c κs =
     let s = c .before .before .before .before .before .before .before .before .before .before .before .before .before .before .before in
-    let long = tree-long (c .before .before .before .before .before .before .before .before .subtree .ensures) (s .pre .0 .0) (s .pre .0 .1) in
-    let few = tree-bytes (c .before .before .before .before .before .before .before .before .subtree .ensures) (s .args .text .now) (s .pre .0 .4) in
+    let long = tree-long (rw (s .pre .1 .1) at (c .before .before .before .before .before .before .before .before .subtree .ensures)) (s .pre .0 .0) (s .pre .0 .1) in
+    let few = tree-bytes (rw (s .pre .1 .1) at (c .before .before .before .before .before .before .before .before .subtree .ensures)) (s .args .text .now) (s .pre .0 .4) in
     search needs
 
 same-length : tie.Need-same-length
@@ -50,7 +50,7 @@ same-length-4 c = search needs
 returns : tie.Need-returns
 returns c =
     let s = c .before .before .before .before .before .before .before .before .before .before .before .before .before .before .before .before .before .before .before .before .before .before in
-    let p = c .before .before .before .before .before .before .before .before .before .before .before .before .before .before .before .subtree .ensures in
+    let p = rw (s .pre .1 .1) at (c .before .before .before .before .before .before .before .before .before .before .before .before .before .before .before .subtree .ensures) in
     let long = tree-long p (s .pre .0 .0) (s .pre .0 .1) in
     finish-answered p (s .args .result .now) (s .args .text .now) (s .args .starts .now) (s .args .notes .now) (s .args .changed .now) (s .args .k) (s .args .c) (s .args .discarded) (s .args .climbs) (omega (arith, s .pre .0 .3)) (c .before .before .before .before .before .before .before .before .before .before .before .before .before .fill-starts .ensures) (c .before .before .before .before .before .before .finish-tree .ensures)
 

@@ -14,8 +14,8 @@ enum-told c = search needs
 enum-known-size : tie.Need-enum-known-size
 enum-known-size c = search needs
 
-splice-store-requires : tie.Need-splice-store-requires
-splice-store-requires c κs = let p = c .before .before .before .before .before .before .before .before .before .before .before .before .before .before .before .before .before .pre in (p .0, (p .1 .0, apply-asks (p .0) (p .1 .0) (c .before .before .before .before .before .before .before .step-size .ensures) (c .before .before .before .before .before .size .given .1) (p .1 .1 .0)))
+splice-held-requires : tie.Need-splice-held-requires
+splice-held-requires c κs = let p = c .before .before .before .before .before .before .before .before .before .before .before .before .before .before .before .before .before .pre in (p .0, (p .1 .0, apply-asks (p .0) (p .1 .0) (c .before .before .before .before .before .before .before .step-size .ensures) (c .before .before .before .before .before .size .given .1) (p .1 .1 .0)))
 
 same-length : tie.Need-same-length
 same-length c = search needs
@@ -48,7 +48,7 @@ apply-spec =
     step-size-requires
     enum-told
     enum-known-size
-    splice-store-requires
+    splice-held-requires
     same-length
     same-length-2
     returns
