@@ -12,7 +12,7 @@ use Rattle.definition.specs.Answers.{edited}
 use Rattle.definition.specs.FindElement.{findElement}
 use Rattle.work.specs.Slices.{lengths, zeroed}
 use Rattle.work.specs.Promises.{leftIn, Edits, Finds}
-use Rattle.answer_numbers.specs.Numbered.{Numbered, edited-numbered, found-numbered}
+use Rattle.promised.specs.Refused.{edited-numbered, found-numbered}
 use Rattle.answer_numbers.specs.Bounded.{edited-short, found-short}
 
 -- ── The promises ────────────────────────────────────────────────────────────────────────────────────────────
@@ -64,8 +64,8 @@ module _ (b held : List ℕ) (work : List (List ℕ)) (a : Answer ℕ) (holds : 
   unfolding Small _>>=_
   edits-small h = rw (h .answer) (go (edited (lengths work) b (length held)) (edited-numbered (lengths work) b (length held)) (λ bytes. edited-short (lengths work) b bytes (length held)))
     where
-      go : (o : Answer (List ℕ)) → Numbered o → ((bytes : List ℕ) → o ≡ gives bytes → length bytes ≤ 61464) → Small (o >>= λ bytes. gives (length bytes))
-      go (refused n) h k = omega (arith, h .refusal .1)
+      go : (o : Answer (List ℕ)) → ((n : ℕ) → o ≡ refused n → (1 ≤ n) × (n ≤ 13)) → ((bytes : List ℕ) → o ≡ gives bytes → length bytes ≤ 61464) → Small (o >>= λ bytes. gives (length bytes))
+      go (refused n) h k = omega (arith, (h n refl) .1)
       go (gives bytes) h k = omega (arith, k bytes refl)
 
   pub edits-returned : Edits b held work a holds left → Returns b held work (numberOf a) holds left
@@ -81,8 +81,8 @@ module _ (b : List ℕ) (n : ℕ) (work : List (List ℕ)) (a : Answer (Option �
   unfolding SmallElement
   finds-small h = rw (h .element) (go (findElement (lengths work) b n) (found-numbered (lengths work) b n) (found-short (lengths work) b n))
     where
-      go : (o : Answer (Option ℕ)) → Numbered o → ((e : ℕ) → o ≡ gives (some e) → e < 4096) → SmallElement o
-      go (refused m) h k = omega (arith, h .refusal .1)
+      go : (o : Answer (Option ℕ)) → ((m : ℕ) → o ≡ refused m → (1 ≤ m) × (m ≤ 12)) → ((e : ℕ) → o ≡ gives (some e) → e < 4096) → SmallElement o
+      go (refused m) h k = omega (arith, (h m refl) .1)
       go (gives none) h k = tt
       go (gives (some e)) h k = omega (arith, k e refl)
 

@@ -17,6 +17,7 @@ use Rattle.laws.specs.Answers.{gives-inj, refused-gives, given, not-wrong}
 use Rattle.demand.specs.Answered.{edited-result}
 use Rattle.work.specs.Slices.{lengths, zeros, zeroed}
 use Rattle.work.specs.Promises.{leftIn, Edits, Finds}
+use Rattle.promised.specs.Refused.{refused-inj, edited-numbered, found-numbered}
 
 -- ── The result slice ────────────────────────────────────────────────────────────────────────────────────────
 
@@ -63,6 +64,8 @@ zeroed-zeros (s ∷ work) = (all-zero (length s), zeroed-zeros work)
 
 -- what demand 1 says of a call, for every content and length of what was lent
 pub record Demand1 (b held : List ℕ) (work : List (List ℕ)) (r : Answer ℕ) (holds : List ℕ) (left : List (List ℕ)) : Type 0 where
+  -- "A refusal returns its number only": one of document 01's lines
+  pub numbered : (k : ℕ) → r ≡ refused k → (1 ≤ k) × (k ≤ 13)
   -- "on refusal all that it held"
   pub untouched : (k : ℕ) → r ≡ refused k → holds ≡ held
   -- "The result slice holds the finished answer and beyond it what it held"
@@ -80,6 +83,7 @@ demand-1 b held work r holds left p = go (edited (lengths work) b (length held))
   where
     go : (want : Answer (List ℕ)) → edited (lengths work) b (length held) ≡ want → r ≡ (want >>= λ bytes. gives (length bytes)) → holds ≡ leftIn held want → Demand1 b held work r holds left
     go (refused m) e a h = record {
+      numbered = λ k q. edited-numbered (lengths work) b (length held) k (e ∙ ap {B = Answer (List ℕ)} refused (refused-inj (sym a ∙ q)));
       untouched = λ k q. h;
       finished = λ n q. refused-gives (sym a ∙ q);
       holdsLength = ap length h;
@@ -90,6 +94,7 @@ demand-1 b held work r holds left p = go (edited (lengths work) b (length held))
         let (R, y, same) = edited-result (lengths work) b (length held) out e in
         let fits = edited-fits (lengths work) b (length held) out e in
         record {
+          numbered = λ k q. refused-gives (sym q ∙ a);
           untouched = λ k q. refused-gives (sym q ∙ a);
           finished = λ n q.
               let long : length out ≡ n = gives-inj (sym a ∙ q) in
@@ -106,9 +111,19 @@ demand-1 b held work r holds left p = go (edited (lengths work) b (length held))
           zeros = rw (p .zeros) (zeroed-zeros work);
         }
 
--- So does every call of `find_element`, which is lent no result slice.
-pub demand-1-finds : (b : List ℕ) (n : ℕ) (work : List (List ℕ)) (r : Answer (Option ℕ)) (left : List (List ℕ)) → Finds b n work r left → (map length left ≡ map length work) × All (All (λ w. w ≡ 0)) left
-demand-1-finds b n work r left p = (ap (map length) (p .zeros) ∙ zeroed-lengths work, rw (p .zeros) (zeroed-zeros work))
+-- what demand 1 says of a call of `find_element`, which is lent no result slice
+pub record Demand1Finds (b : List ℕ) (n : ℕ) (work : List (List ℕ)) (r : Answer (Option ℕ)) (left : List (List ℕ)) : Type 0 where
+  pub numbered : (k : ℕ) → r ≡ refused k → (1 ≤ k) × (k ≤ 12)
+  pub leftLengths : map length left ≡ map length work
+  pub zeros : All (All (λ w. w ≡ 0)) left
+
+-- So does every call of `find_element`.
+pub demand-1-finds : (b : List ℕ) (n : ℕ) (work : List (List ℕ)) (r : Answer (Option ℕ)) (left : List (List ℕ)) → Finds b n work r left → Demand1Finds b n work r left
+demand-1-finds b n work r left p = record {
+  numbered = λ k q. found-numbered (lengths work) b n k (sym (p .element) ∙ q);
+  leftLengths = ap (map length) (p .zeros) ∙ zeroed-lengths work;
+  zeros = rw (p .zeros) (zeroed-zeros work);
+}
 
 -- ── Nothing is left free ────────────────────────────────────────────────────────────────────────────────────
 

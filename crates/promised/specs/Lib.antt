@@ -6,9 +6,11 @@
 --     Examples   THE EXAMPLES of document 01, as the calls answer them
 --     Demand1    DEMAND 1: what each lent slice holds then
 --     Demand3    DEMAND 3: an accepted batch whose splices are apart is answered with the one-go tree
+--     WrongEditors   the editors of the reviewer's checklist, each excluded by an example
 pub mod Refused
 pub mod Answered
 pub mod Printing
 pub mod Examples
 pub mod Demand1
 pub mod Demand3
+pub mod WrongEditors

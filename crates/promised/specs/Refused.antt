@@ -8,9 +8,10 @@ use Prim.Native.Nat.{ℕ, zero, suc, _≤_, _<_}
 use native.Mathlib.Omega.{arith}
 use lib.Dec.{ltb, eqb}
 use lib.ListN.{length, getD}
-use borrow.Author.Tests.{ltb-true}
+use borrow.Author.Tests.{ltb-true, ltb-false, eqb-true, not-false}
+use Rattle.orders.specs.ListLaws.{bool-absurd, either-false}
 use Rattle.orders.specs.Tree.{Path}
-use Rattle.definition.specs.Basics.{Answer, refused, gives, _>>=_, refuse, orRefuse, isSome, any}
+use Rattle.definition.specs.Basics.{Answer, refused, gives, _>>=_, refuse, orRefuse, isSome, any, among}
 use Rattle.definition.specs.Batch.{batch, sizes, beyond, whole}
 use Rattle.definition.specs.Elements.{Table, table, spelled, node?, parent, child, placeBelow, descend}
 use Rattle.definition.specs.Refusals.{calls, wrongCall, wrongMapping, wrongNote, Accepted, accepted}
@@ -19,184 +20,234 @@ use Rattle.definition.specs.Planning.{Fate, own, dependent, discarded, Planned,
 use Rattle.definition.specs.Rewriting.{mapping, replacement, mappedOr, climb, trail, land, moved, retarget, rewriteInto, rewriteOne, rewriting, rewritten, nearest, isParent, noteFrom, settle, settled}
 use Rattle.definition.specs.Running.{World, place, yield, news, spliced, tooLarge, records, step, steps}
 use Rattle.definition.specs.Finishing.{Result, encoded, fitting}
-use Rattle.definition.specs.Answers.{plan, performed, atFirst, ran, edit, edited, tooShort}
+use Rattle.definition.specs.Answers.{plan, performed, atFirst, ran, edit, edited, tooShort, withWork}
+use Rattle.definition.specs.FindElement.{findElement}
 use Rattle.laws.specs.Answers.{refused-gives}
 use Rattle.laws.specs.Limits.{encoded-within}
 use Rattle.work.specs.Slices.{lengths}
 use Rattle.work.specs.Promises.{Edits, Finds, applied, found, short-edited, long-edited, long-found}
 
--- ── A refusal out of a range ────────────────────────────────────────────────────────────────────────────────
+-- ── A refusal out of a list of numbers ──────────────────────────────────────────────────────────────────────
 
--- what is refused is refused by a number from lo to hi
-abbrev pub By : {A : Type 0} → ℕ → ℕ → Answer A → Type 0
-By lo hi (refused k) = (lo ≤ k) × (k ≤ hi)
-By lo hi (gives a) = Unit
+-- what is refused is refused by one of the numbers ns
+abbrev pub By : {A : Type 0} → List ℕ → Answer A → Type 0
+By ns (refused k) = among ns k ≡ true
+By ns (gives a) = Unit
+
+-- the numbers by which lines 2 to 7 refuse, then planning, then the steps
+abbrev pub batchLines : List ℕ
+batchLines = 2 ∷ 3 ∷ 4 ∷ 5 ∷ 6 ∷ 7 ∷ []
+
+abbrev pub planLines : List ℕ
+planLines = 8 ∷ 9 ∷ 10 ∷ []
+
+abbrev pub stepLines : List ℕ
+stepLines = 11 ∷ 12 ∷ []
+
+-- those of a batch's edit
+abbrev pub editLines : List ℕ
+editLines = batchLines ++ planLines ++ stepLines
+
+-- THE NUMBERS that each public call can give: 1 for a work slice, 13 for the result slice
+abbrev pub editNumbers : List ℕ
+editNumbers = 1 ∷ 13 ∷ editLines
+
+abbrev pub findNumbers : List ℕ
+findNumbers = 1 ∷ editLines
 
 pub refused-inj : {A : Type 0} {j k : ℕ} → _≡_ {A = Answer A} (refused j) (refused k) → j ≡ k
 refused-inj e = cc
 
-pub by-number : {A : Type 0} (lo hi k : ℕ) (o : Answer A) → By lo hi o → o ≡ refused k → (lo ≤ k) × (k ≤ hi)
-by-number lo hi k o h e = rw e at h
+-- one of the numbers has what none of them lacks
+one-of : (lacks : ℕ → Bool) (ns : List ℕ) (k : ℕ) → any lacks ns ≡ false → among ns k ≡ true → lacks k ≡ false
+unfolding among any
+one-of lacks [] k h e = bool-absurd e refl
+one-of lacks (n ∷ ns) k h e = let r = either-false (lacks n) (any lacks ns) h in go (eqb k n) refl e (r .0) (one-of lacks ns k (r .1))
+  where
+    go : (t : Bool) → eqb k n ≡ t → (t || any (eqb k) ns) ≡ true → lacks n ≡ false → (any (eqb k) ns ≡ true → lacks k ≡ false) → lacks k ≡ false
+    go true q e this later = rw (eqb-true k n q) this
+    go false q e this later = later e
 
--- a wider range
-by-more : {A : Type 0} (lo hi low high : ℕ) (o : Answer A) → low ≤ lo → hi ≤ high → By lo hi o → By low high o
-by-more lo hi low high (refused k) a b h = (omega (arith, h .0), omega (arith, h .1))
-by-more lo hi low high (gives x) a b h = tt
+-- a refusal's number is within the bounds of its list
+pub by-number : {A : Type 0} (ns : List ℕ) (lo hi k : ℕ) (o : Answer A) → any (λ n. ltb n lo || ltb hi n) ns ≡ false → By ns o → o ≡ refused k → (lo ≤ k) × (k ≤ hi)
+by-number ns lo hi k o w h e =
+    let r = either-false (ltb k lo) (ltb hi k) (one-of (λ n. ltb n lo || ltb hi n) ns k w (rw e at h)) in
+    (ltb-false k lo (r .0), ltb-false hi k (r .1))
 
-module _ (lo hi : ℕ) where
-  by-then : {A B : Type 0} (o : Answer A) (f : A → Answer B) → By lo hi o → ((a : A) → By lo hi (f a)) → By lo hi (o >>= f)
+-- a longer list
+by-more : {A : Type 0} (few more : List ℕ) (o : Answer A) → any (λ k. not (among more k)) few ≡ false → By few o → By more o
+by-more few more (refused k) w h = not-false (among more k) (one-of (λ k. not (among more k)) few k w h)
+by-more few more (gives x) w h = tt
+
+module _ (ns : List ℕ) where
+  by-then : {A B : Type 0} (o : Answer A) (f : A → Answer B) → By ns o → ((a : A) → By ns (f a)) → By ns (o >>= f)
   unfolding _>>=_
   by-then (refused k) f h k′ = h
   by-then (gives a) f h k′ = k′ a
 
-  by-refuse : (n : ℕ) (b : Bool) → lo ≤ n → n ≤ hi → By lo hi (refuse n b)
+  by-refuse : (n : ℕ) (b : Bool) → among ns n ≡ true → By ns (refuse n b)
   unfolding refuse
-  by-refuse n true h k = (h, k)
-  by-refuse n false h k = tt
+  by-refuse n true h = h
+  by-refuse n false h = tt
 
-  by-or : {A : Type 0} (n : ℕ) (o : Option A) → lo ≤ n → n ≤ hi → By lo hi (orRefuse n o)
+  by-or : {A : Type 0} (n : ℕ) (o : Option A) → among ns n ≡ true → By ns (orRefuse n o)
   unfolding orRefuse
-  by-or n none h k = (h, k)
-  by-or n (some a) h k = tt
+  by-or n none h = h
+  by-or n (some a) h = tt
 
 -- ── Lines 2 to 7 ────────────────────────────────────────────────────────────────────────────────────────────
 
 -- Lines 2 to 7 refuse by 2 to 7.
-pub accepted-by : (b : List ℕ) → By 2 7 (accepted b)
-unfolding accepted batch
+pub accepted-by : (b : List ℕ) → By batchLines (accepted b)
+unfolding accepted batch among any
 accepted-by b =
-    by-then 2 7 (batch b) _
-    (by-then 2 7 (refuse 2 (ltb (length b) 28)) _ (by-refuse 2 7 2 _ (omega arith) (omega arith)) λ u.
-    by-then 2 7 (refuse 3 (beyond (sizes b))) _ (by-refuse 2 7 3 _ (omega arith) (omega arith)) λ u.
-    by-then 2 7 (refuse 4 (not (eqb (length b) (whole (sizes b))))) _ (by-refuse 2 7 4 _ (omega arith) (omega arith)) λ u. tt)
+    by-then batchLines (batch b) _
+    (by-then batchLines (refuse 2 (ltb (length b) 28)) _ (by-refuse batchLines 2 _ refl) λ u.
+    by-then batchLines (refuse 3 (beyond (sizes b))) _ (by-refuse batchLines 3 _ refl) λ u.
+    by-then batchLines (refuse 4 (not (eqb (length b) (whole (sizes b))))) _ (by-refuse batchLines 4 _ refl) λ u. tt)
     λ B.
-    by-then 2 7 (orRefuse 5 (spelled B)) _ (by-or 2 7 5 _ (omega arith) (omega arith)) λ ts.
-    by-then 2 7 (orRefuse 6 (calls (zip B.calls B.targets) B.listed)) _ (by-or 2 7 6 _ (omega arith) (omega arith)) λ cs.
-    by-then 2 7 (refuse 6 (any (wrongCall (table 0 0 ts)) cs)) _ (by-refuse 2 7 6 _ (omega arith) (omega arith)) λ u.
-    by-then 2 7 (refuse 7 (any (wrongMapping (table 0 0 ts)) (zip B.inputs B.outputs) || any (wrongNote (table 0 0 ts)) (zip B.noted B.numbers))) _ (by-refuse 2 7 7 _ (omega arith) (omega arith)) λ u. tt
+    by-then batchLines (orRefuse 5 (spelled B)) _ (by-or batchLines 5 _ refl) λ ts.
+    by-then batchLines (orRefuse 6 (calls (zip B.calls B.targets) B.listed)) _ (by-or batchLines 6 _ refl) λ cs.
+    by-then batchLines (refuse 6 (any (wrongCall (table 0 0 ts)) cs)) _ (by-refuse batchLines 6 _ refl) λ u.
+    by-then batchLines (refuse 7 (any (wrongMapping (table 0 0 ts)) (zip B.inputs B.outputs) || any (wrongNote (table 0 0 ts)) (zip B.noted B.numbers))) _ (by-refuse batchLines 7 _ refl) λ u. tt
 
 -- ── Lines 8 to 10 ───────────────────────────────────────────────────────────────────────────────────────────
 
-either : {A : Type 0} (b : Bool) (a later : Answer A) → By 8 10 a → By 8 10 later → By {A = A} 8 10 (elim b as (λ b. Answer A) [ true ↦ a | false ↦ later ])
+either : {A : Type 0} (b : Bool) (a later : Answer A) → By planLines a → By planLines later → By {A = A} planLines (elim b as (λ b. Answer A) [ true ↦ a | false ↦ later ])
 either true a later h k = h
 either false a later h k = k
 
 module _ (T : Table) (mapped : ℕ → Option ℕ) where
-  climb-by : (n r x : ℕ) (p : Path) → By 8 10 (climb T mapped n r x p)
-  unfolding climb
+  climb-by : (n r x : ℕ) (p : Path) → By planLines (climb T mapped n r x p)
+  unfolding climb among any
   climb-by zero r x p = go (parent T x)
     where
-      go : (o : Option ℕ) → By {A = Path} 8 10 (elim o as (λ o. Answer Path) [ none ↦ refused 9 | some q ↦ refused 10 ])
-      go none = (omega arith, omega arith)
-      go (some q) = (omega arith, omega arith)
+      go : (o : Option ℕ) → By {A = Path} planLines (elim o as (λ o. Answer Path) [ none ↦ refused 9 | some q ↦ refused 10 ])
+      go none = refl
+      go (some q) = refl
   climb-by (suc n) r x p = go (parent T x) (λ y. climb-by n r y (child T y ∷ p))
     where
-      go : (o : Option ℕ) → ((y : ℕ) → By 8 10 (climb T mapped n r y (child T y ∷ p))) →
-          By {A = Path} 8 10 (elim o as (λ o. Answer Path) [
+      go : (o : Option ℕ) → ((y : ℕ) → By planLines (climb T mapped n r y (child T y ∷ p))) →
+          By {A = Path} planLines (elim o as (λ o. Answer Path) [
             | none ↦ refused 9
             | some q ↦ elim (eqb q r) as (λ b. Answer Path) [ true ↦ gives p | false ↦ climb T mapped n r (mappedOr T mapped q) (child T (mappedOr T mapped q) ∷ p) ]
           ])
-      go none h = (omega arith, omega arith)
+      go none h = refl
       go (some q) h = either (eqb q r) (gives p) (climb T mapped n r (mappedOr T mapped q) (child T (mappedOr T mapped q) ∷ p)) tt (h (mappedOr T mapped q))
 
-  trail-by : (x r : ℕ) → By 8 10 (trail T mapped x r)
+  trail-by : (x r : ℕ) → By planLines (trail T mapped x r)
   unfolding trail
   trail-by x r =
       let y = mappedOr T mapped x in
       either (eqb x r) (gives []) (climb T mapped (length T) r y (child T y ∷ [])) tt (climb-by (length T) r y (child T y ∷ []))
 
-  land-by : (e r : ℕ) (p : Path) → By 8 10 (land T mapped e r p)
-  unfolding land
+  land-by : (e r : ℕ) (p : Path) → By planLines (land T mapped e r p)
+  unfolding land among any
   land-by e r p =
-      by-then 8 10 (orRefuse 9 (descend T r p)) _ (by-or 8 10 9 _ (omega arith) (omega arith)) λ to.
-      by-then 8 10 (refuse 9 (node? T e && not (node? T to))) _ (by-refuse 8 10 9 _ (omega arith) (omega arith)) λ u. tt
+      by-then planLines (orRefuse 9 (descend T r p)) _ (by-or planLines 9 _ refl) λ to.
+      by-then planLines (refuse 9 (node? T e && not (node? T to))) _ (by-refuse planLines 9 _ refl) λ u. tt
 
-  moved-by : (x r e : ℕ) → By 8 10 (moved T mapped x r e)
-  unfolding moved
+  moved-by : (x r e : ℕ) → By planLines (moved T mapped x r e)
+  unfolding moved among any
   moved-by x r e =
-      by-then 8 10 (orRefuse 9 (placeBelow T x e)) _ (by-or 8 10 9 _ (omega arith) (omega arith)) λ p.
-      by-then 8 10 (trail T mapped x r) _ (trail-by x r) λ q.
-      by-then 8 10 (land T mapped e r (q ++ p)) _ (land-by e r (q ++ p)) λ to. tt
+      by-then planLines (orRefuse 9 (placeBelow T x e)) _ (by-or planLines 9 _ refl) λ p.
+      by-then planLines (trail T mapped x r) _ (trail-by x r) λ q.
+      by-then planLines (land T mapped e r (q ++ p)) _ (land-by e r (q ++ p)) λ to. tt
 
-  retarget-by : (f : ℕ → Answer (ℕ × ℕ)) → ((e : ℕ) → By 8 10 (f e)) → (c : Change) → By 8 10 (retarget T mapped f c)
+  retarget-by : (f : ℕ → Answer (ℕ × ℕ)) → ((e : ℕ) → By planLines (f e)) → (c : Change) → By planLines (retarget T mapped f c)
   unfolding retarget
-  retarget-by f h (insert p x l) = by-then 8 10 (f x) _ (h x) λ m. tt
-  retarget-by f h (replace x y) = by-then 8 10 (f x) _ (h x) λ m. tt
-  retarget-by f h (delete x) = by-then 8 10 (f x) _ (h x) λ m. tt
-  retarget-by f h (replaceWithMany x l) = by-then 8 10 (f x) _ (h x) λ m. tt
-  retarget-by f h (replaceAll x y l) = by-then 8 10 (f x) _ (h x) λ m. by-then 8 10 (f y) _ (h y) λ k. tt
+  retarget-by f h (insert p x l) = by-then planLines (f x) _ (h x) λ m. tt
+  retarget-by f h (replace x y) = by-then planLines (f x) _ (h x) λ m. tt
+  retarget-by f h (delete x) = by-then planLines (f x) _ (h x) λ m. tt
+  retarget-by f h (replaceWithMany x l) = by-then planLines (f x) _ (h x) λ m. tt
+  retarget-by f h (replaceAll x y l) = by-then planLines (f x) _ (h x) λ m. by-then planLines (f y) _ (h y) λ k. tt
 
-  rewriteOne-by : (cs : List Change) (f : Fate) (c : Change) → By 8 10 (rewriteOne T mapped cs f c)
-  unfolding rewriteOne rewriteInto
+  rewriteOne-by : (cs : List Change) (f : Fate) (c : Change) → By planLines (rewriteOne T mapped cs f c)
+  unfolding rewriteOne rewriteInto among any
   rewriteOne-by cs own c = tt
   rewriteOne-by cs (dependent k) c =
       let owner = getD cs k (delete 0) in
       let f = moved T mapped (target owner) (replacement owner) in
-      by-then 8 10 (retarget T mapped f c) _ (retarget-by f (λ e. moved-by (target owner) (replacement owner) e) c) λ m.
-      by-then 8 10 (refuse 9 (wrongCall T (call (m .0)))) _ (by-refuse 8 10 9 _ (omega arith) (omega arith)) λ u. tt
+      by-then planLines (retarget T mapped f c) _ (retarget-by f (λ e. moved-by (target owner) (replacement owner) e) c) λ m.
+      by-then planLines (refuse 9 (wrongCall T (call (m .0)))) _ (by-refuse planLines 9 _ refl) λ u. tt
   rewriteOne-by cs (discarded k) c = tt
 
-  rewriting-by : (cs : List Change) (ps : List Planned) → By 8 10 (rewriting T mapped cs ps)
+  rewriting-by : (cs : List Change) (ps : List Planned) → By planLines (rewriting T mapped cs ps)
   unfolding rewriting
   rewriting-by cs [] = tt
-  rewriting-by cs (p ∷ ps) = by-then 8 10 (rewriting T mapped cs ps) _ (rewriting-by cs ps) λ later. by-then 8 10 (rewriteOne T mapped cs p.fate p.change) _ (rewriteOne-by cs p.fate p.change) λ m. tt
+  rewriting-by cs (p ∷ ps) = by-then planLines (rewriting T mapped cs ps) _ (rewriting-by cs ps) λ later. by-then planLines (rewriteOne T mapped cs p.fate p.change) _ (rewriteOne-by cs p.fate p.change) λ m. tt
 
-  noteFrom-by : (a e : ℕ) → By 8 10 (noteFrom T mapped a e)
-  unfolding noteFrom
+  noteFrom-by : (a e : ℕ) → By planLines (noteFrom T mapped a e)
+  unfolding noteFrom among any
   noteFrom-by a e =
-      by-then 8 10 (refuse 10 (isParent T mapped a (mappedOr T mapped a))) _ (by-refuse 8 10 10 _ (omega arith) (omega arith)) λ u.
-      by-then 8 10 (orRefuse 9 (placeBelow T a e)) _ (by-or 8 10 9 _ (omega arith) (omega arith)) λ p. land-by e (mappedOr T mapped a) p
+      by-then planLines (refuse 10 (isParent T mapped a (mappedOr T mapped a))) _ (by-refuse planLines 10 _ refl) λ u.
+      by-then planLines (orRefuse 9 (placeBelow T a e)) _ (by-or planLines 9 _ refl) λ p. land-by e (mappedOr T mapped a) p
 
-  settle-by : (n e : ℕ) → By 8 10 (settle T mapped n e)
-  unfolding settle
+  settle-by : (n e : ℕ) → By planLines (settle T mapped n e)
+  unfolding settle among any
   settle-by zero e = go (nearest T mapped e)
     where
-      go : (o : Option ℕ) → By {A = ℕ} 8 10 (elim o as (λ o. Answer ℕ) [ none ↦ gives e | some a ↦ refused 10 ])
+      go : (o : Option ℕ) → By {A = ℕ} planLines (elim o as (λ o. Answer ℕ) [ none ↦ gives e | some a ↦ refused 10 ])
       go none = tt
-      go (some a) = (omega arith, omega arith)
+      go (some a) = refl
   settle-by (suc n) e = go (nearest T mapped e) (λ to. settle-by n to)
     where
-      go : (o : Option ℕ) → ((to : ℕ) → By 8 10 (settle T mapped n to)) → By {A = ℕ} 8 10 (elim o as (λ o. Answer ℕ) [ none ↦ gives e | some a ↦ noteFrom T mapped a e >>= λ to. settle T mapped n to ])
+      go : (o : Option ℕ) → ((to : ℕ) → By planLines (settle T mapped n to)) → By {A = ℕ} planLines (elim o as (λ o. Answer ℕ) [ none ↦ gives e | some a ↦ noteFrom T mapped a e >>= λ to. settle T mapped n to ])
       go none h = tt
-      go (some a) h = by-then 8 10 (noteFrom T mapped a e) _ (noteFrom-by a e) h
+      go (some a) h = by-then planLines (noteFrom T mapped a e) _ (noteFrom-by a e) h
 
-  settled-by : (i : ℕ) (ns : List (ℕ × ℕ)) → By 8 10 (settled T mapped i ns)
+  settled-by : (i : ℕ) (ns : List (ℕ × ℕ)) → By planLines (settled T mapped i ns)
   unfolding settled
   settled-by i [] = tt
-  settled-by i (n ∷ ns) = by-then 8 10 (settle T mapped (length T) (n .0)) _ (settle-by (length T) (n .0)) λ e. by-then 8 10 (settled T mapped (suc i) ns) _ (settled-by (suc i) ns) λ rest. tt
+  settled-by i (n ∷ ns) = by-then planLines (settle T mapped (length T) (n .0)) _ (settle-by (length T) (n .0)) λ e. by-then planLines (settled T mapped (suc i) ns) _ (settled-by (suc i) ns) λ rest. tt
 
 -- Planning refuses by 8 to 10.
-pub plan-by : (a : Accepted) → By 8 10 (plan a)
-unfolding plan rewritten
+pub plan-by : (a : Accepted) → By planLines (plan a)
+unfolding plan rewritten among any
 plan-by a =
     let T = a .table in
     let cs = sorted T (recorded a.calls) in
     let mapped = mapping a.mappings in
-    by-then 8 10 (refuse 8 (isSome (overlap T cs))) _ (by-refuse 8 10 8 _ (omega arith) (omega arith)) λ u.
-    by-then 8 10 (rewritten T mapped (planned T cs)) _ (rewriting-by T mapped (map (λ p. p .change) (planned T cs)) (planned T cs)) λ ps.
-    by-then 8 10 (settled T mapped 0 a.notes) _ (settled-by T mapped 0 a.notes) λ notes. tt
+    by-then planLines (refuse 8 (isSome (overlap T cs))) _ (by-refuse planLines 8 _ refl) λ u.
+    by-then planLines (rewritten T mapped (planned T cs)) _ (rewriting-by T mapped (map (λ p. p .change) (planned T cs)) (planned T cs)) λ ps.
+    by-then planLines (settled T mapped 0 a.notes) _ (settled-by T mapped 0 a.notes) λ notes. tt
 
 -- ── Lines 11 and 12 ─────────────────────────────────────────────────────────────────────────────────────────
 
 -- Steps refuse by 11 and 12.
-pub steps-by : (T : Table) (first w : World) (ps : List Planned) → By 11 12 (steps T first w ps)
-unfolding steps step
+pub steps-by : (T : Table) (first w : World) (ps : List Planned) → By stepLines (steps T first w ps)
+unfolding steps step among any
 steps-by T first w [] = tt
 steps-by T first w (p ∷ ps) =
-    by-then 11 12 (step T first w p) _
-    (by-then 11 12 (orRefuse 11 (place T w p.change)) _ (by-or 11 12 11 _ (omega arith) (omega arith)) λ r.
-    by-then 11 12 (refuse 12 (tooLarge (spliced r (map (yield first w) (news p.change)) (records T p) w))) _ (by-refuse 11 12 12 _ (omega arith) (omega arith)) λ u. tt)
+    by-then stepLines (step T first w p) _
+    (by-then stepLines (orRefuse 11 (place T w p.change)) _ (by-or stepLines 11 _ refl) λ r.
+    by-then stepLines (refuse 12 (tooLarge (spliced r (map (yield first w) (news p.change)) (records T p) w))) _ (by-refuse stepLines 12 _ refl) λ u. tt)
     λ next. steps-by T first next ps
 
 -- ── The edit ────────────────────────────────────────────────────────────────────────────────────────────────
 
 -- The edit of a batch refuses by 2 to 12.
-pub edit-by : (b : List ℕ) → By 2 12 (edit b)
-unfolding edit ran
+pub edit-by : (b : List ℕ) → By editLines (edit b)
+unfolding edit ran among any
 edit-by b =
-    by-then 2 12 (accepted b) _ (by-more 2 7 2 12 (accepted b) (omega arith) (omega arith) (accepted-by b)) λ a.
-    by-then 2 12 (plan a) _ (by-more 8 10 2 12 (plan a) (omega arith) (omega arith) (plan-by a)) λ p.
-    by-then 2 12 (ran a p) _ (by-more 11 12 2 12 (ran a p) (omega arith) (omega arith) (steps-by a.table (atFirst a p) (atFirst a p) (performed a p))) λ w. tt
+    by-then editLines (accepted b) _ (by-more batchLines editLines (accepted b) refl (accepted-by b)) λ a.
+    by-then editLines (plan a) _ (by-more planLines editLines (plan a) refl (plan-by a)) λ p.
+    by-then editLines (ran a p) _ (by-more stepLines editLines (ran a p) refl (steps-by a.table (atFirst a p) (atFirst a p) (performed a p))) λ w. tt
+
+-- ── The public calls ────────────────────────────────────────────────────────────────────────────────────────
+
+-- What `edit` wants is refused by one of its numbers.
+pub edited-by : (work : List (ℕ × ℕ)) (b : List ℕ) (room : ℕ) → By editNumbers (edited work b room)
+unfolding edited withWork fitting among any
+edited-by work b room =
+    by-then editNumbers (refuse 1 (tooShort work)) _ (by-refuse editNumbers 1 _ refl) λ u.
+    by-then editNumbers (edit b) _ (by-more editLines editNumbers (edit b) refl (edit-by b)) λ r.
+    by-then editNumbers (fitting room r) _ (by-then editNumbers (refuse 13 (ltb room (length (encoded r)))) _ (by-refuse editNumbers 13 _ refl) λ u. tt) λ r. tt
+
+-- So they are from 1 to 13.
+pub edited-numbered : (work : List (ℕ × ℕ)) (b : List ℕ) (room k : ℕ) → edited work b room ≡ refused k → (1 ≤ k) × (k ≤ 13)
+unfolding any
+edited-numbered work b room k e = by-number editNumbers 1 13 k (edited work b room) refl (edited-by work b room) e
 
 -- ── `find_element` ──────────────────────────────────────────────────────────────────────────────────────────
 
@@ -217,6 +268,20 @@ pub found-alike : (b : List ℕ) (n : ℕ) → Alike (found b n) (edit b)
 unfolding found edit
 found-alike b n = alike-then (accepted b) _ _ λ a. alike-then (plan a) _ _ λ p. alike-then (ran a p) _ _ λ w. tt
 
+-- What `find_element` finds is refused by one of its numbers.
+pub found-by : (work : List (ℕ × ℕ)) (b : List ℕ) (n : ℕ) → By findNumbers (findElement work b n)
+unfolding findElement withWork ran among any
+found-by work b n =
+    by-then findNumbers (refuse 1 (tooShort work)) _ (by-refuse findNumbers 1 _ refl) λ u.
+    by-then findNumbers (accepted b) _ (by-more batchLines findNumbers (accepted b) refl (accepted-by b)) λ a.
+    by-then findNumbers (plan a) _ (by-more planLines findNumbers (plan a) refl (plan-by a)) λ p.
+    by-then findNumbers (ran a p) _ (by-more stepLines findNumbers (ran a p) refl (steps-by a.table (atFirst a p) (atFirst a p) (performed a p))) λ w. tt
+
+-- So they are from 1 to 12.
+pub found-numbered : (work : List (ℕ × ℕ)) (b : List ℕ) (n k : ℕ) → findElement work b n ≡ refused k → (1 ≤ k) × (k ≤ 12)
+unfolding any
+found-numbered work b n k e = by-number findNumbers 1 12 k (findElement work b n) refl (found-by work b n) e
+
 -- ── The calls ───────────────────────────────────────────────────────────────────────────────────────────────
 
 -- why a call is refused: for a work slice, for the batch, or for the result slice
@@ -227,7 +292,7 @@ pub data Why (b held : List ℕ) (work : List (List ℕ)) : ℕ → Type 0 where
 
 -- A call that keeps its promise and refuses has one of these reasons.
 pub refused-why : (b held : List ℕ) (work : List (List ℕ)) (r : Answer ℕ) (holds : List ℕ) (left : List (List ℕ)) → Edits b held work r holds left → (k : ℕ) → r ≡ refused k → Why b held work k
-unfolding applied fitting refuse _>>=_
+unfolding applied fitting refuse any _>>=_
 refused-why b held work r holds left p k e = go (tooShort (lengths work)) refl
   where
     -- the number, from the bytes that are wanted
@@ -244,7 +309,7 @@ refused-why b held work r holds left p k e = go (tooShort (lengths work)) refl
     answer : (o : Answer Result) → edit b ≡ o → edited (lengths work) b (length held) ≡ (o >>= fit) → Why b held work k
     answer (refused j) x q =
         let z : edit b ≡ refused k = x ∙ ap {B = Answer Result} refused (refused-inj (number (refused j) q)) in
-        let (low, high) = by-number 2 12 k (edit b) (edit-by b) z in
+        let (low, high) = by-number editLines 2 12 k (edit b) refl (edit-by b) z in
         wrong low high z
     answer (gives R) x q = room R x q (ltb (length held) (length (encoded R))) refl
 
