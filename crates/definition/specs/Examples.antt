@@ -51,15 +51,15 @@ inBytes b =
     ++ text
 
 -- a node of this kind
-abbrev nodeOf : ℕ → List (Tree ℕ) → Tree ℕ
+abbrev pub nodeOf : ℕ → List (Tree ℕ) → Tree ℕ
 nodeOf kind children = node (2147483648 + kind) (forest children)
 
 -- a token of this kind and text
-abbrev tokenOf : ℕ → String → Tree ℕ
+abbrev pub tokenOf : ℕ → String → Tree ℕ
 tokenOf kind text = token kind (ascii text)
 
 -- a call: operation, target, listed elements
-abbrev call : ℕ → ℕ → List ℕ → Call
+abbrev pub call : ℕ → ℕ → List ℕ → Call
 call op x listed = record { operation = op; target = x; listed = listed }
 
 -- ── Printed case ────────────────────────────────────────────────────────────────────────────────────────────
@@ -79,18 +79,40 @@ printedLines = "ok 4 3 1 1 0 0\nn 1 3\nt 2 1\nt 4 1\nt 3 1\ntext 616362\nchanged
 
 -- ── The marked examples ─────────────────────────────────────────────────────────────────────────────────────
 
+-- "one-letter tokens"
+abbrev a : Tree ℕ
+a = tokenOf 3 "a"
+
+abbrev b : Tree ℕ
+b = tokenOf 4 "b"
+
+abbrev c : Tree ℕ
+c = tokenOf 6 "c"
+
+abbrev d : Tree ℕ
+d = tokenOf 6 "d"
+
+-- a root, a node of the kind of X and X′, and one of the kind of R, with these children
+abbrev root : List (Tree ℕ) → Tree ℕ
+root = nodeOf 1
+
+abbrev X : List (Tree ℕ) → Tree ℕ
+X = nodeOf 2
+
+abbrev R : List (Tree ℕ) → Tree ℕ
+R = nodeOf 7
+
+-- a tree of which an element is taken
+abbrev other : List (Tree ℕ) → Tree ℕ
+other = nodeOf 5
+
 -- "S is root(X(a), b), one-letter tokens; c, d are tokens of other trees." One more tree is R(X′(a)).
 -- The root is element 0, X 1, a 2, b 3; c 5 in tree 1, whose root is 4; d 7 in tree 2; R 8, X′ 9.
 abbrev S : List (Tree ℕ)
-S =
-    nodeOf 1 (nodeOf 2 (tokenOf 3 "a" ∷ []) ∷ tokenOf 4 "b" ∷ [])
-    ∷ nodeOf 5 (tokenOf 6 "c" ∷ [])
-    ∷ nodeOf 5 (tokenOf 6 "d" ∷ [])
-    ∷ nodeOf 7 (nodeOf 2 (tokenOf 3 "a" ∷ []) ∷ [])
-    ∷ []
+S = root (X (a ∷ []) ∷ b ∷ []) ∷ other (c ∷ []) ∷ other (d ∷ []) ∷ R (X (a ∷ []) ∷ []) ∷ []
 
 -- calls on S
-abbrev onS : List Call → Told
+abbrev pub onS : List Call → Told
 onS calls = record { trees = S; calls = calls; mappings = []; notes = [] }
 
 -- the same with X mapped to X′
@@ -100,46 +122,50 @@ onMappedS calls = record { trees = S; calls = calls; mappings = (1, 9) ∷ []; n
 -- "Root(Z, b), Z empty": Z is 1, b 2; c is 4
 abbrev onZ : List Call → Told
 onZ calls = record {
-  trees = nodeOf 1 (nodeOf 2 [] ∷ tokenOf 4 "b" ∷ []) ∷ nodeOf 5 (tokenOf 6 "c" ∷ []) ∷ [];
+  trees = root (X [] ∷ b ∷ []) ∷ other (c ∷ []) ∷ [];
   calls = calls;
   mappings = [];
   notes = [];
 }
 
--- what the examples tell of an answer: the new text, the changed elements, and how many changes are discarded
+-- what the examples tell of a result: the new tree by its kind words, measures and text, the changed elements, and how many changes are discarded
+abbrev pub Summary : Type 0
+Summary = (List ℕ × List ℕ × List ℕ) × List ℕ × ℕ
+
+-- the same of an answer
 abbrev pub Short : Type 0
-Short = Answer (List ℕ × List ℕ × ℕ)
+Short = Answer Summary
 
 -- that much of an answer
 unfoldable pub short : Answer Result → Short
-short answer = answer >>= λ r. gives (r .text, r .changed, r .discarded)
+short answer = answer >>= λ r. gives ((r .kinds, r .measures, r .text), r .changed, r .discarded)
 
--- the answer that an example tells
-abbrev becomes : String → List ℕ → ℕ → Short
-becomes new changed lost = gives (ascii new, changed, lost)
+-- the answer that an example tells. "Trees are equal .. if kind words, measures and text agree in preorder"
+abbrev becomes : Tree ℕ → List ℕ → ℕ → Short
+becomes new changed lost = gives ((map label (preorder new), map measure (preorder new), text new), changed, lost)
 
 -- each marked example, and what is told of it
 abbrev pub marked : List (Told × Short)
 marked =
     -- c after X, then d after X: adcb
-    (onS (call 1 1 (5 ∷ []) ∷ call 1 1 (7 ∷ []) ∷ []), becomes "adcb" (3 ∷ 4 ∷ []) 0)
+    (onS (call 1 1 (5 ∷ []) ∷ call 1 1 (7 ∷ []) ∷ []), becomes (root (X (a ∷ []) ∷ d ∷ c ∷ b ∷ [])) (3 ∷ 4 ∷ []) 0)
     -- Delete X, c after X: b, 1 discarded
-    ∷ (onS (call 3 1 [] ∷ call 1 1 (5 ∷ []) ∷ []), becomes "b" [] 1)
+    ∷ (onS (call 3 1 [] ∷ call 1 1 (5 ∷ []) ∷ []), becomes (root (b ∷ [])) [] 1)
     -- Delete token a, c after a: cb
-    ∷ (onS (call 3 2 [] ∷ call 1 2 (5 ∷ []) ∷ []), becomes "cb" (2 ∷ []) 0)
+    ∷ (onS (call 3 2 [] ∷ call 1 2 (5 ∷ []) ∷ []), becomes (root (X (c ∷ []) ∷ b ∷ [])) (2 ∷ []) 0)
     -- Delete X, c after b: bc
-    ∷ (onS (call 3 1 [] ∷ call 1 3 (5 ∷ []) ∷ []), becomes "bc" (2 ∷ []) 0)
+    ∷ (onS (call 3 1 [] ∷ call 1 3 (5 ∷ []) ∷ []), becomes (root (b ∷ c ∷ [])) (2 ∷ []) 0)
     -- Replace X by c, delete X: b. The reverse: b
-    ∷ (onS (call 2 1 (5 ∷ []) ∷ call 3 1 [] ∷ []), becomes "b" [] 0)
-    ∷ (onS (call 3 1 [] ∷ call 2 1 (5 ∷ []) ∷ []), becomes "b" [] 0)
+    ∷ (onS (call 2 1 (5 ∷ []) ∷ call 3 1 [] ∷ []), becomes (root (b ∷ [])) [] 0)
+    ∷ (onS (call 3 1 [] ∷ call 2 1 (5 ∷ []) ∷ []), becomes (root (b ∷ [])) [] 0)
     -- X by many (d), a by c: db, 1 discarded
-    ∷ (onS (call 4 1 (7 ∷ []) ∷ call 2 2 (5 ∷ []) ∷ []), becomes "db" (1 ∷ []) 1)
+    ∷ (onS (call 4 1 (7 ∷ []) ∷ call 2 2 (5 ∷ []) ∷ []), becomes (root (d ∷ b ∷ [])) (1 ∷ []) 1)
     -- Run X to b, and b replaced: 8
     ∷ (onS (call 5 1 (3 ∷ []) ∷ call 2 3 (5 ∷ []) ∷ []), refused 8)
     -- Root replaced and X replaced: 8
     ∷ (onS (call 2 0 (4 ∷ []) ∷ call 2 1 (5 ∷ []) ∷ []), refused 8)
     -- X by R(X′(a)), X mapped to X′, c after a: acb; only R changed. Unmapped: 9
-    ∷ (onMappedS (call 2 1 (8 ∷ []) ∷ call 1 2 (5 ∷ []) ∷ []), becomes "acb" (1 ∷ []) 0)
+    ∷ (onMappedS (call 2 1 (8 ∷ []) ∷ call 1 2 (5 ∷ []) ∷ []), becomes (root (R (X (a ∷ c ∷ []) ∷ []) ∷ b ∷ [])) (1 ∷ []) 0)
     ∷ (onS (call 2 1 (8 ∷ []) ∷ call 1 2 (5 ∷ []) ∷ []), refused 9)
     -- Root(Z, b), Z empty: delete Z, c after Z: 11
     ∷ (onZ (call 3 1 [] ∷ call 1 1 (4 ∷ []) ∷ []), refused 11)
@@ -158,7 +184,7 @@ onSWith mappings calls = record { trees = S; calls = calls; mappings = mappings;
 -- calls on root(P(z), Q(a)), z an empty node: P is 1, z 2, Q 3, a 4; c is 6
 abbrev onP : List Call → Told
 onP calls = record {
-  trees = nodeOf 1 (nodeOf 2 (nodeOf 3 [] ∷ []) ∷ nodeOf 2 (tokenOf 3 "a" ∷ []) ∷ []) ∷ nodeOf 5 (tokenOf 6 "c" ∷ []) ∷ [];
+  trees = root (X (nodeOf 3 [] ∷ []) ∷ X (a ∷ []) ∷ []) ∷ other (c ∷ []) ∷ [];
   calls = calls;
   mappings = [];
   notes = [];
@@ -167,7 +193,7 @@ onP calls = record {
 -- calls on root(X(Y(a)), b): X is 1, Y 2, a 3, b 4; c is 6, its root 5
 abbrev onY : List Call → Told
 onY calls = record {
-  trees = nodeOf 1 (nodeOf 2 (nodeOf 3 (tokenOf 3 "a" ∷ []) ∷ []) ∷ tokenOf 4 "b" ∷ []) ∷ nodeOf 5 (tokenOf 6 "c" ∷ []) ∷ [];
+  trees = root (X (nodeOf 3 (a ∷ []) ∷ []) ∷ b ∷ []) ∷ other (c ∷ []) ∷ [];
   calls = calls;
   mappings = [];
   notes = [];
@@ -176,8 +202,7 @@ onY calls = record {
 -- X by Q and c after a, on root(X(a), Q(X′(a))) with X mapped to X′: X is 1, a 2, Q 3, X′ 4; c is 7
 abbrev intoQ : Told
 intoQ = record {
-  trees =
-      nodeOf 1 (nodeOf 2 (tokenOf 3 "a" ∷ []) ∷ nodeOf 7 (nodeOf 2 (tokenOf 3 "a" ∷ []) ∷ []) ∷ []) ∷ nodeOf 5 (tokenOf 6 "c" ∷ []) ∷ [];
+  trees = root (X (a ∷ []) ∷ R (X (a ∷ []) ∷ []) ∷ []) ∷ other (c ∷ []) ∷ [];
   calls = call 2 1 (3 ∷ []) ∷ call 1 2 (7 ∷ []) ∷ [];
   mappings = (1, 4) ∷ [];
   notes = [];
@@ -191,24 +216,24 @@ further =
     -- replace X by c, a further editor deletes X: queues are not merged
     ∷ (onS (call 2 1 (5 ∷ []) ∷ furtherEditor ∷ call 3 1 [] ∷ []), refused 8)
     -- run a to a by c, d after a: recorded as 4, which adds no region on a token
-    ∷ (onS (call 5 2 (2 ∷ 5 ∷ []) ∷ call 1 2 (7 ∷ []) ∷ []), becomes "cdb" (2 ∷ 3 ∷ []) 0)
+    ∷ (onS (call 5 2 (2 ∷ 5 ∷ []) ∷ call 1 2 (7 ∷ []) ∷ []), becomes (root (X (c ∷ d ∷ []) ∷ b ∷ [])) (2 ∷ 3 ∷ []) 0)
     -- c as first child of X
-    ∷ (onS (call 0 1 (5 ∷ []) ∷ []), becomes "cab" (2 ∷ []) 0)
+    ∷ (onS (call 0 1 (5 ∷ []) ∷ []), becomes (root (X (c ∷ a ∷ []) ∷ b ∷ [])) (2 ∷ []) 0)
     -- delete X, c as first child of X: the target parent is X, so the delete sorts first and discards
-    ∷ (onS (call 3 1 [] ∷ call 0 1 (5 ∷ []) ∷ []), becomes "b" [] 1)
+    ∷ (onS (call 3 1 [] ∷ call 0 1 (5 ∷ []) ∷ []), becomes (root (b ∷ [])) [] 1)
     -- a by c, delete z: peers by depth, not by parent, and the end of a exceeds the start of z. In the other order: no overlap
     ∷ (onP (call 2 4 (6 ∷ []) ∷ call 3 2 [] ∷ []), refused 8)
-    ∷ (onP (call 3 2 [] ∷ call 2 4 (6 ∷ []) ∷ []), becomes "c" (3 ∷ []) 0)
+    ∷ (onP (call 3 2 [] ∷ call 2 4 (6 ∷ []) ∷ []), becomes (root (X [] ∷ X (c ∷ []) ∷ [])) (3 ∷ []) 0)
     -- delete X, Y by a node, c after a: a discarded replacement discards too
-    ∷ (onY (call 3 1 [] ∷ call 2 2 (5 ∷ []) ∷ call 1 3 (6 ∷ []) ∷ []), becomes "b" [] 2)
+    ∷ (onY (call 3 1 [] ∷ call 2 2 (5 ∷ []) ∷ call 1 3 (6 ∷ []) ∷ []), becomes (root (b ∷ [])) [] 2)
     -- X by R, c after a, X mapped to itself and then to X′: the later mapping wins
-    ∷ (onSWith ((1, 1) ∷ (1, 9) ∷ []) (call 2 1 (8 ∷ []) ∷ call 1 2 (5 ∷ []) ∷ []), becomes "acb" (1 ∷ []) 0)
+    ∷ (onSWith ((1, 1) ∷ (1, 9) ∷ []) (call 2 1 (8 ∷ []) ∷ call 1 2 (5 ∷ []) ∷ []), becomes (root (R (X (a ∷ c ∷ []) ∷ []) ∷ b ∷ [])) (1 ∷ []) 0)
     -- the same, X mapped to X′ and R to X: the climb stops at R before R's mapping is looked at
-    ∷ (onSWith ((1, 9) ∷ (8, 1) ∷ []) (call 2 1 (8 ∷ []) ∷ call 1 2 (5 ∷ []) ∷ []), becomes "acb" (1 ∷ []) 0)
+    ∷ (onSWith ((1, 9) ∷ (8, 1) ∷ []) (call 2 1 (8 ∷ []) ∷ call 1 2 (5 ∷ []) ∷ []), becomes (root (R (X (a ∷ c ∷ []) ∷ []) ∷ b ∷ [])) (1 ∷ []) 0)
     -- c goes into Q, which stands in tree 0: a dependent change is not recorded
-    ∷ (intoQ, becomes "acac" (1 ∷ []) 0)
+    ∷ (intoQ, becomes (root (R (X (a ∷ c ∷ []) ∷ []) ∷ R (X (a ∷ c ∷ []) ∷ []) ∷ [])) (1 ∷ []) 0)
     -- delete b, b as first child of X: its path is lost, so it yields its original
-    ∷ (onS (call 3 3 [] ∷ call 0 1 (3 ∷ []) ∷ []), becomes "ba" (2 ∷ []) 0)
+    ∷ (onS (call 3 3 [] ∷ call 0 1 (3 ∷ []) ∷ []), becomes (root (X (b ∷ a ∷ []) ∷ [])) (2 ∷ []) 0)
     ∷ []
 
 -- X by R, X mapped to X′, c after a; notes 2 on a, 1 on b, 2 on X: one climb step, and the notes of X and a move into R
@@ -233,14 +258,14 @@ abbrev nested : Told
 nested = onY (call 3 1 [] ∷ call 3 2 [] ∷ call 1 3 (6 ∷ []) ∷ [])
 
 -- c after X, then d after X
-abbrev twoAfterX : Told
+abbrev pub twoAfterX : Told
 twoAfterX = onS (call 1 1 (5 ∷ []) ∷ call 1 1 (7 ∷ []) ∷ [])
 
 -- its splices: both at the empty run before child 1 of the root, numbered as performed
 abbrev twoSplices : List (Splice ℕ)
 twoSplices =
-    record { number = 0; parent = []; from = 1; to = 1; prepared = tokenOf 6 "c" ∷ [] }
-    ∷ record { number = 1; parent = []; from = 1; to = 1; prepared = tokenOf 6 "d" ∷ [] }
+    record { number = 0; parent = []; from = 1; to = 1; prepared = c ∷ [] }
+    ∷ record { number = 1; parent = []; from = 1; to = 1; prepared = d ∷ [] }
     ∷ []
 
 -- ── The table ───────────────────────────────────────────────────────────────────────────────────────────────

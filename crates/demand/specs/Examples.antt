@@ -3,9 +3,8 @@
 use mathlib.Core.Path.{_≡_, refl}
 use mathlib.Core.Bool.{Bool, true, false}
 use mathlib.Core.List.{List, [], _∷_, _++_, flatMap}
-use Prim.Native.Nat.{ℕ, _+_}
-use Prim.Native.String.{String}
-use Rattle.orders.specs.Tree.{Tree, node, token, forest, text}
+use Prim.Native.Nat.{ℕ}
+use Rattle.orders.specs.Tree.{text}
 use Rattle.orders.specs.Splices
 use Rattle.orders.specs.Check
 use Rattle.definition.specs.Basics.{Answer, gives, _>>=_}
@@ -13,21 +12,9 @@ use Rattle.definition.specs.Refusals.{Call}
 use Rattle.definition.specs.Answers.{edit}
 use Rattle.definition.specs.Printed.{ascii}
 use Rattle.definition.specs.Computing.{computed}
-use Rattle.definition.specs.Examples.{Told, inBytes}
+use Rattle.definition.specs.Examples.{Told, inBytes, nodeOf, tokenOf, call}
 use Rattle.demand.specs.Aims.{replacesRoot}
 use Rattle.demand.specs.Answered.{apartIn?, apartPlan?, apartBatch?, oneGoOf}
-
--- a node of this kind
-abbrev nodeOf : ℕ → List (Tree ℕ) → Tree ℕ
-nodeOf kind children = node (2147483648 + kind) (forest children)
-
--- a token of this kind and text
-abbrev tokenOf : ℕ → String → Tree ℕ
-tokenOf kind text = token kind (ascii text)
-
--- a call: operation, target, listed elements
-abbrev call : ℕ → ℕ → List ℕ → Call
-call op x listed = record { operation = op; target = x; listed = listed }
 
 -- calls on root(P(a, z), b), z an empty node, beside a tree of c, d and e: P is 1, a 2, z 3, b 4; c is 6, d 7, e 8, their root 5
 abbrev onP : List Call → Told

@@ -17,7 +17,7 @@ use Rattle.definition.specs.Answers.{edit, tooShort}
 use Rattle.definition.specs.FindElement.{findElement}
 use Rattle.definition.specs.Printed.{ascii, print, printed}
 use Rattle.definition.specs.Computing.{computed}
-use Rattle.definition.specs.Examples.{Told, inBytes, Short, short, marked, further, told, answered, printedCase, printedLines, withNotes, withNotesLines, examples}
+use Rattle.definition.specs.Examples.{Told, inBytes, Summary, Short, short, marked, further, told, answered, printedCase, printedLines, withNotes, withNotesLines, examples}
 use Rattle.laws.specs.Answers.{gives-inj, refused-gives}
 use Rattle.result_words.specs.Worded.{Bytes, take-bytes, tested-bytes}
 use Rattle.result_words.specs.Decoded.{decoded}
@@ -30,7 +30,7 @@ use Rattle.promised.specs.Printing.{printed-run}
 -- ── What a call leaves of what is told ──────────────────────────────────────────────────────────────────────
 
 -- a result of which s is told is read at the front of the slice, in its bytes, and beyond them stands what was held
-pub record ReadAs (s : List ℕ × List ℕ × ℕ) (held : List ℕ) (r : Answer ℕ) (holds : List ℕ) : Type 0 where
+pub record ReadAs (s : Summary) (held : List ℕ) (r : Answer ℕ) (holds : List ℕ) : Type 0 where
   pub size : ℕ
   pub answer : r ≡ gives size
   pub told : short (gives (decoded holds)) ≡ gives s

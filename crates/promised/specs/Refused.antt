@@ -19,9 +19,9 @@ use Rattle.definition.specs.Recording.{Change, insert, replace, delete, replace
 use Rattle.definition.specs.Planning.{Fate, own, dependent, discarded, Planned, target, sorted, overlap, planned}
 use Rattle.definition.specs.Rewriting.{mapping, replacement, mappedOr, climb, trail, land, moved, retarget, rewriteInto, rewriteOne, rewriting, rewritten, nearest, isParent, noteFrom, settle, settled}
 use Rattle.definition.specs.Running.{World, place, yield, news, spliced, tooLarge, records, step, steps}
-use Rattle.definition.specs.Finishing.{Result, encoded, fitting}
-use Rattle.definition.specs.Answers.{plan, performed, atFirst, ran, edit, edited, tooShort, withWork}
-use Rattle.definition.specs.FindElement.{findElement}
+use Rattle.definition.specs.Finishing.{Result, result, encoded, fitting}
+use Rattle.definition.specs.Answers.{Plan, plan, performed, atFirst, ran, edit, edited, tooShort, withWork}
+use Rattle.definition.specs.FindElement.{findIn, findElement}
 use Rattle.laws.specs.Answers.{refused-gives}
 use Rattle.laws.specs.Limits.{encoded-within}
 use Rattle.work.specs.Slices.{lengths}
@@ -226,28 +226,18 @@ steps-by T first w (p ∷ ps) =
 
 -- ── The edit ────────────────────────────────────────────────────────────────────────────────────────────────
 
--- The edit of a batch refuses by 2 to 12.
-pub edit-by : (b : List ℕ) → By editLines (edit b)
-unfolding edit ran among any
-edit-by b =
+-- Whatever is told of what a batch's run leaves: the batch is refused by 2 to 12.
+stages-by : {A : Type 0} (b : List ℕ) (tell : Accepted → Plan → World → A) → By editLines (accepted b >>= λ a. plan a >>= λ p. ran a p >>= λ w. gives (tell a p w))
+unfolding ran among any
+stages-by b tell =
     by-then editLines (accepted b) _ (by-more batchLines editLines (accepted b) refl (accepted-by b)) λ a.
     by-then editLines (plan a) _ (by-more planLines editLines (plan a) refl (plan-by a)) λ p.
     by-then editLines (ran a p) _ (by-more stepLines editLines (ran a p) refl (steps-by a.table (atFirst a p) (atFirst a p) (performed a p))) λ w. tt
 
--- ── The public calls ────────────────────────────────────────────────────────────────────────────────────────
-
--- What `edit` wants is refused by one of its numbers.
-pub edited-by : (work : List (ℕ × ℕ)) (b : List ℕ) (room : ℕ) → By editNumbers (edited work b room)
-unfolding edited withWork fitting among any
-edited-by work b room =
-    by-then editNumbers (refuse 1 (tooShort work)) _ (by-refuse editNumbers 1 _ refl) λ u.
-    by-then editNumbers (edit b) _ (by-more editLines editNumbers (edit b) refl (edit-by b)) λ r.
-    by-then editNumbers (fitting room r) _ (by-then editNumbers (refuse 13 (ltb room (length (encoded r)))) _ (by-refuse editNumbers 13 _ refl) λ u. tt) λ r. tt
-
--- So they are from 1 to 13.
-pub edited-numbered : (work : List (ℕ × ℕ)) (b : List ℕ) (room k : ℕ) → edited work b room ≡ refused k → (1 ≤ k) × (k ≤ 13)
-unfolding any
-edited-numbered work b room k e = by-number editNumbers 1 13 k (edited work b room) refl (edited-by work b room) e
+-- The edit of a batch refuses by 2 to 12.
+pub edit-by : (b : List ℕ) → By editLines (edit b)
+unfolding edit
+edit-by b = stages-by b (λ a p w. result p.changes p.climbs w)
 
 -- ── `find_element` ──────────────────────────────────────────────────────────────────────────────────────────
 
@@ -268,21 +258,32 @@ pub found-alike : (b : List ℕ) (n : ℕ) → Alike (found b n) (edit b)
 unfolding found edit
 found-alike b n = alike-then (accepted b) _ _ λ a. alike-then (plan a) _ _ λ p. alike-then (ran a p) _ _ λ w. tt
 
--- What `find_element` finds is refused by one of its numbers.
+-- ── The public calls ────────────────────────────────────────────────────────────────────────────────────────
+
+-- `edit` refuses by one of its numbers.
+pub edited-by : (work : List (ℕ × ℕ)) (b : List ℕ) (room : ℕ) → By editNumbers (edited work b room)
+unfolding edited withWork fitting among any
+edited-by work b room =
+    by-then editNumbers (refuse 1 (tooShort work)) _ (by-refuse editNumbers 1 _ refl) λ u.
+    by-then editNumbers (edit b) _ (by-more editLines editNumbers (edit b) refl (edit-by b)) λ r.
+    by-then editNumbers (fitting room r) _ (by-then editNumbers (refuse 13 (ltb room (length (encoded r)))) _ (by-refuse editNumbers 13 _ refl) λ u. tt) λ r. tt
+
+-- So they are from 1 to 13.
+pub edited-numbered : (work : List (ℕ × ℕ)) (b : List ℕ) (room k : ℕ) → edited work b room ≡ refused k → (1 ≤ k) × (k ≤ 13)
+unfolding any
+edited-numbered work b room k e = by-number editNumbers 1 13 k (edited work b room) refl (edited-by work b room) e
+
+-- `find_element` refuses by one of its numbers.
 pub found-by : (work : List (ℕ × ℕ)) (b : List ℕ) (n : ℕ) → By findNumbers (findElement work b n)
-unfolding findElement withWork ran among any
+unfolding findElement withWork found among any
 found-by work b n =
     by-then findNumbers (refuse 1 (tooShort work)) _ (by-refuse findNumbers 1 _ refl) λ u.
-    by-then findNumbers (accepted b) _ (by-more batchLines findNumbers (accepted b) refl (accepted-by b)) λ a.
-    by-then findNumbers (plan a) _ (by-more planLines findNumbers (plan a) refl (plan-by a)) λ p.
-    by-then findNumbers (ran a p) _ (by-more stepLines findNumbers (ran a p) refl (steps-by a.table (atFirst a p) (atFirst a p) (performed a p))) λ w. tt
+    by-more editLines findNumbers (found b n) refl (stages-by b (λ a p w. findIn a.table w n))
 
 -- So they are from 1 to 12.
 pub found-numbered : (work : List (ℕ × ℕ)) (b : List ℕ) (n k : ℕ) → findElement work b n ≡ refused k → (1 ≤ k) × (k ≤ 12)
 unfolding any
 found-numbered work b n k e = by-number findNumbers 1 12 k (findElement work b n) refl (found-by work b n) e
-
--- ── The calls ───────────────────────────────────────────────────────────────────────────────────────────────
 
 -- why a call is refused: for a work slice, for the batch, or for the result slice
 pub data Why (b held : List ℕ) (work : List (List ℕ)) : ℕ → Type 0 where

@@ -14,12 +14,12 @@ use Rattle.orders.specs.Tree.{Tree, text}
 use Rattle.orders.specs.Splices
 use Rattle.orders.specs.Check
 use Rattle.definition.specs.Basics.{Answer, refused, gives, _>>=_}
-use Rattle.definition.specs.Refusals.{Call, accepted}
-use Rattle.definition.specs.Running.{World, steps}
+use Rattle.definition.specs.Refusals.{accepted}
+use Rattle.definition.specs.Running.{steps}
 use Rattle.definition.specs.Finishing.{Result, result, encoded}
 use Rattle.definition.specs.Answers.{plan, performed, atFirst, ran, edit}
 use Rattle.definition.specs.Computing.{computed}
-use Rattle.definition.specs.Examples.{Told, inBytes, printedCase, withNotes}
+use Rattle.definition.specs.Examples.{Told, inBytes, call, onS, twoAfterX, withNotes}
 use Rattle.demand.specs.Aims.{replacesRoot}
 use Rattle.demand.specs.Answered.{apartIn?, apartPlan?, apartBatch?, oneGoOf}
 use Rattle.result_words.specs.Worded.{tested-bytes}
@@ -43,6 +43,15 @@ excluded number b e y d held work r holds left p l q =
     let z = edit-answered (inBytes b) held work r holds left p (tested-bytes (inBytes b) y) l in
     eqb-false (number (e (inBytes b))) (number (edit (inBytes b))) d (ap number (sym q ∙ z .read))
 
+-- An editor of which one number is told on two batches is excluded on one of them, where the definition's numbers differ.
+pub either-excluded : (number : Answer Result → ℕ) (b c : Told) (e : Editor) → any (leb 256) (inBytes b) ≡ false → any (leb 256) (inBytes c) ≡ false → number (e (inBytes b)) ≡ number (e (inBytes c))
+    → eqb (number (edit (inBytes b))) (number (edit (inBytes c))) ≡ false → Excluded b e ⊎ Excluded c e
+either-excluded number b c e y z one d = go (eqb (number (e (inBytes b))) (number (edit (inBytes b)))) refl
+  where
+    go : (t : Bool) → eqb (number (e (inBytes b))) (number (edit (inBytes b))) ≡ t → Excluded b e ⊎ Excluded c e
+    go false q = inl (excluded number b e y q)
+    go true q = inr (excluded number c e z (rw (← one, eqb-true (number (e (inBytes b))) (number (edit (inBytes b))) q) d))
+
 -- a refusal's number, 0 of a result
 unfoldable pub refusal : Answer Result → ℕ
 refusal (refused k) = k
@@ -55,19 +64,11 @@ ofResult f (gives r) = f r
 
 -- ── The batches ─────────────────────────────────────────────────────────────────────────────────────────────
 
--- calls on S of document 01: root(X(a), b), whose X is 1, a 2, b 3; c is 5, d 7, in other trees
-abbrev onS : List Call → Told
-onS calls = record { trees = withNotes .trees; calls = calls; mappings = []; notes = [] }
-
--- c after X, then d after X: two steps, nothing discarded, no climb
-abbrev pub twoSteps : Told
-twoSteps = onS (record { operation = 1; target = 1; listed = 5 ∷ [] } ∷ record { operation = 1; target = 1; listed = 7 ∷ [] } ∷ [])
+-- Of `twoAfterX` (c after X, then d after X) two steps are performed, nothing is discarded and no climb taken; in `withNotes` one climb step is taken.
 
 -- delete X, c after X: the second is discarded
 abbrev pub oneDiscarded : Told
-oneDiscarded = onS (record { operation = 3; target = 1; listed = [] } ∷ record { operation = 1; target = 1; listed = 5 ∷ [] } ∷ [])
-
--- in `withNotes` one climb step is taken
+oneDiscarded = onS (call 3 1 [] ∷ call 1 1 (5 ∷ []) ∷ [])
 
 -- ── The editors ─────────────────────────────────────────────────────────────────────────────────────────────
 
@@ -78,9 +79,9 @@ untouched bytes = do
   p ← plan a
   gives (result p.changes p.climbs (atFirst a p))
 
-pub untouched-excluded : Excluded twoSteps untouched
+pub untouched-excluded : Excluded twoAfterX untouched
 unfolding computed inBytes untouched ofResult
-untouched-excluded = excluded (ofResult (λ r. length r.text)) twoSteps untouched refl refl
+untouched-excluded = excluded (ofResult (λ r. length r.text)) twoAfterX untouched refl refl
 
 -- the bytes of text of the first of these trees
 unfoldable textOfFirst : Answer (List (Tree ℕ)) → ℕ
@@ -89,14 +90,14 @@ textOfFirst (gives []) = 0
 textOfFirst (gives (t ∷ ts)) = length (text t)
 
 -- ".. and 3's one-go tree": by demand 3 alone, a result slice that shows tree 0 as it was is excluded.
-pub untouched-one-go-excluded : (held : List ℕ) (work : List (List ℕ)) (r : Answer ℕ) (holds : List ℕ) (left : List (List ℕ)) → Edits (inBytes twoSteps) held work r holds left
-    → (n : ℕ) → r ≡ gives n → (old : Tree ℕ) → take 1 (twoSteps .trees) ≡ old ∷ [] → Shown old n holds → ⊥
+pub untouched-one-go-excluded : (held : List ℕ) (work : List (List ℕ)) (r : Answer ℕ) (holds : List ℕ) (left : List (List ℕ)) → Edits (inBytes twoAfterX) held work r holds left
+    → (n : ℕ) → r ≡ gives n → (old : Tree ℕ) → take 1 (twoAfterX .trees) ≡ old ∷ [] → Shown old n holds → ⊥
 unfolding
     computed inBytes textOfFirst replacesRoot apartIn? apartPlan? apartBatch? oneGoOf
     Check.each Check.pairs Check.enters? Check.run? Check.fits? Check.apart? Check.allApart?
     Splices.samePath Splices.leftOf Splices.under Splices.fromRoot Splices.fromChild Splices.atRoot Splices.below Splices.insertByLeft Splices.leftToRight Splices.newChildren Splices.oneGo Splices.oneGoAll
 untouched-one-go-excluded held work r holds left p n e old first h =
-    let (t, o, s) = demand-3-tested (inBytes twoSteps) held work r holds left p (tested-bytes (inBytes twoSteps) refl) n e refl in
+    let (t, o, s) = demand-3-tested (inBytes twoAfterX) held work r holds left p (tested-bytes (inBytes twoAfterX) refl) n e refl in
     let two : 2 ≡ length (text old) = ap (λ ts. textOfFirst (gives ts)) first in
     let four : 4 ≡ length (text t) = ap textOfFirst o in
     absurd (omega (arith, two, four, h .size, s .size))
@@ -110,9 +111,9 @@ firstStepOnly bytes = do
   all ← ran a p
   gives (result p.changes p.climbs (record { trees = one .trees; paths = one .paths; notes = one .notes; changed = all .changed }))
 
-pub first-step-excluded : Excluded twoSteps firstStepOnly
+pub first-step-excluded : Excluded twoAfterX firstStepOnly
 unfolding computed inBytes firstStepOnly ofResult
-first-step-excluded = excluded (ofResult (λ r. length r.text)) twoSteps firstStepOnly refl refl
+first-step-excluded = excluded (ofResult (λ r. length r.text)) twoAfterX firstStepOnly refl refl
 
 -- the result with these counts
 abbrev withCounts : Result → ℕ → ℕ → Result
@@ -122,25 +123,17 @@ withCounts r discarded climbs = record { kinds = r .kinds; measures = r .measure
 unfoldable pub discardsMadeUp : ℕ → Editor
 discardsMadeUp n bytes = edit bytes >>= λ r. gives (withCounts r n r.climbs)
 
-pub discards-excluded : (n : ℕ) → Excluded twoSteps (discardsMadeUp n) ⊎ Excluded oneDiscarded (discardsMadeUp n)
+pub discards-excluded : (n : ℕ) → Excluded twoAfterX (discardsMadeUp n) ⊎ Excluded oneDiscarded (discardsMadeUp n)
 unfolding computed inBytes discardsMadeUp ofResult
-discards-excluded n = go (eqb n 0) refl
-  where
-    go : (t : Bool) → eqb n 0 ≡ t → Excluded twoSteps (discardsMadeUp n) ⊎ Excluded oneDiscarded (discardsMadeUp n)
-    go false q = inl (excluded (ofResult (λ r. r .discarded)) twoSteps (discardsMadeUp n) refl q)
-    go true q = inr (excluded (ofResult (λ r. r .discarded)) oneDiscarded (discardsMadeUp n) refl (rw (eqb-true n 0 q) refl))
+discards-excluded n = either-excluded (ofResult (λ r. r .discarded)) twoAfterX oneDiscarded (discardsMadeUp n) refl refl refl refl
 
 -- ".. or climb count": always n
 unfoldable pub climbsMadeUp : ℕ → Editor
 climbsMadeUp n bytes = edit bytes >>= λ r. gives (withCounts r r.discarded n)
 
-pub climbs-excluded : (n : ℕ) → Excluded twoSteps (climbsMadeUp n) ⊎ Excluded withNotes (climbsMadeUp n)
+pub climbs-excluded : (n : ℕ) → Excluded twoAfterX (climbsMadeUp n) ⊎ Excluded withNotes (climbsMadeUp n)
 unfolding computed inBytes climbsMadeUp ofResult
-climbs-excluded n = go (eqb n 0) refl
-  where
-    go : (t : Bool) → eqb n 0 ≡ t → Excluded twoSteps (climbsMadeUp n) ⊎ Excluded withNotes (climbsMadeUp n)
-    go false q = inl (excluded (ofResult (λ r. r .climbs)) twoSteps (climbsMadeUp n) refl q)
-    go true q = inr (excluded (ofResult (λ r. r .climbs)) withNotes (climbsMadeUp n) refl (rw (eqb-true n 0 q) refl))
+climbs-excluded n = either-excluded (ofResult (λ r. r .climbs)) twoAfterX withNotes (climbsMadeUp n) refl refl refl refl
 
 -- "says "gone" or "too large" before the step": k is 11 or 12, whatever is planned; and "always overlaps": 8, whatever lines 2 to 7 accept
 unfoldable pub beforeTheStep : ℕ → Editor
@@ -154,35 +147,28 @@ alwaysOverlaps bytes = do
   a ← accepted bytes
   refused 8
 
-pub refusals-excluded : Excluded twoSteps (beforeTheStep 11) × Excluded twoSteps (beforeTheStep 12) × Excluded twoSteps alwaysOverlaps
+pub refusals-excluded : Excluded twoAfterX (beforeTheStep 11) × Excluded twoAfterX (beforeTheStep 12) × Excluded twoAfterX alwaysOverlaps
 unfolding computed inBytes beforeTheStep alwaysOverlaps refusal
-refusals-excluded = (excluded refusal twoSteps (beforeTheStep 11) refl refl, excluded refusal twoSteps (beforeTheStep 12) refl refl, excluded refusal twoSteps alwaysOverlaps refl refl)
+refusals-excluded = (excluded refusal twoAfterX (beforeTheStep 11) refl refl, excluded refusal twoAfterX (beforeTheStep 12) refl refl, excluded refusal twoAfterX alwaysOverlaps refl refl)
 
 -- "always one tree": one answer to every batch
 unfoldable pub always : Answer Result → Editor
 always a bytes = a
 
-pub one-tree-excluded : (a : Answer Result) → Excluded twoSteps (always a) ⊎ Excluded oneDiscarded (always a)
+pub one-tree-excluded : (a : Answer Result) → Excluded twoAfterX (always a) ⊎ Excluded oneDiscarded (always a)
 unfolding computed inBytes always ofResult
-one-tree-excluded a = go (eqb (size a) 4) refl
-  where
-    size : Answer Result → ℕ
-    size = ofResult (λ r. length r.text)
-
-    go : (t : Bool) → eqb (size a) 4 ≡ t → Excluded twoSteps (always a) ⊎ Excluded oneDiscarded (always a)
-    go false q = inl (excluded size twoSteps (always a) refl q)
-    go true q = inr (excluded size oneDiscarded (always a) refl (rw (eqb-true (size a) 4 q) refl))
+one-tree-excluded a = either-excluded (ofResult (λ r. length r.text)) twoAfterX oneDiscarded (always a) refl refl refl refl
 
 -- ── Writes nothing ──────────────────────────────────────────────────────────────────────────────────────────
 
--- "writes nothing": the result slice is as it was, whatever is answered. The answer to `twoSteps` begins with 6, its number of elements; so a slice that does
+-- "writes nothing": the result slice is as it was, whatever is answered. The answer to `twoAfterX` begins with 6, its number of elements; so a slice that does
 -- not is never left as it was.
-pub nothing-written-excluded : (held : List ℕ) (work : List (List ℕ)) (r : Answer ℕ) (holds : List ℕ) (left : List (List ℕ)) → Edits (inBytes twoSteps) held work r holds left → Lent (inBytes twoSteps) held work
+pub nothing-written-excluded : (held : List ℕ) (work : List (List ℕ)) (r : Answer ℕ) (holds : List ℕ) (left : List (List ℕ)) → Edits (inBytes twoAfterX) held work r holds left → Lent (inBytes twoAfterX) held work
     → eqb (getD held 0 0) 6 ≡ false → holds ≡ held → ⊥
 unfolding computed inBytes ofResult
 nothing-written-excluded held work r holds left p l d q =
-    let z = edit-answered (inBytes twoSteps) held work r holds left p (tested-bytes (inBytes twoSteps) refl) l in
-    eqb-false (getD held 0 0) 6 d (go (edit (inBytes twoSteps)) refl (z .leaves))
+    let z = edit-answered (inBytes twoAfterX) held work r holds left p (tested-bytes (inBytes twoAfterX) refl) l in
+    eqb-false (getD held 0 0) 6 d (go (edit (inBytes twoAfterX)) refl (z .leaves))
   where
     begins : (bytes rest : List ℕ) → getD bytes 0 0 ≡ 6 → getD (bytes ++ rest) 0 0 ≡ 6
     begins [] rest e = absurd (omega (arith, e))
