@@ -46,7 +46,7 @@ zeros-length : (s : List ℕ) → length (zeros s) ≡ length s
 unfolding zeros
 zeros-length s = length-replicate (length s) 0
 
-pub zeroed-lengths : (work : List (List ℕ)) → map length (zeroed work) ≡ map length work
+zeroed-lengths : (work : List (List ℕ)) → map length (zeroed work) ≡ map length work
 unfolding zeroed
 zeroed-lengths [] = refl
 zeroed-lengths (s ∷ work) = rw zeros-length (ap (λ (l : List ℕ). length s ∷ l) (zeroed-lengths work))
@@ -55,26 +55,32 @@ all-zero : (n : ℕ) → All (λ (w : ℕ). w ≡ 0) (replicate n 0)
 all-zero zero = tt
 all-zero (suc n) = (refl, all-zero n)
 
-pub zeroed-zeros : (work : List (List ℕ)) → All (All (λ w. w ≡ 0)) (zeroed work)
+zeroed-zeros : (work : List (List ℕ)) → All (All (λ w. w ≡ 0)) (zeroed work)
 unfolding zeroed zeros
 zeroed-zeros [] = tt
 zeroed-zeros (s ∷ work) = (all-zero (length s), zeroed-zeros work)
+
+-- the work slices as they end: as long as they were, and of zeros
+pub record Cleared (work left : List (List ℕ)) : Type 0 where
+  pub lengths : map length left ≡ map length work
+  pub zeros : All (All (λ w. w ≡ 0)) left
+
+zeroed-cleared : (work left : List (List ℕ)) → left ≡ zeroed work → Cleared work left
+zeroed-cleared work left e = record { lengths = ap (map length) e ∙ zeroed-lengths work; zeros = rw e (zeroed-zeros work) }
 
 -- ── The demand ──────────────────────────────────────────────────────────────────────────────────────────────
 
 -- what demand 1 says of a call, for every content and length of what was lent
 pub record Demand1 (b held : List ℕ) (work : List (List ℕ)) (r : Answer ℕ) (holds : List ℕ) (left : List (List ℕ)) : Type 0 where
-  -- "A refusal returns its number only": one of document 01's lines
+  -- a refusal's number is that of one of document 01's thirteen lines
   pub numbered : (k : ℕ) → r ≡ refused k → (1 ≤ k) × (k ≤ 13)
   -- "on refusal all that it held"
   pub untouched : (k : ℕ) → r ≡ refused k → holds ≡ held
   -- "The result slice holds the finished answer and beyond it what it held"
   pub finished : (n : ℕ) → r ≡ gives n → Finished b held n holds
-  -- no slice grows or shrinks
+  -- no slice grows or shrinks; "Work slices end as zeros."
   pub holdsLength : length holds ≡ length held
-  pub leftLengths : map length left ≡ map length work
-  -- "Work slices end as zeros."
-  pub zeros : All (All (λ w. w ≡ 0)) left
+  pub cleared : Cleared work left
 
 -- Every call that keeps its promise meets demand 1.
 pub demand-1 : (b held : List ℕ) (work : List (List ℕ)) (r : Answer ℕ) (holds : List ℕ) (left : List (List ℕ)) → Edits b held work r holds left → Demand1 b held work r holds left
@@ -87,8 +93,7 @@ demand-1 b held work r holds left p = go (edited (lengths work) b (length held))
       untouched = λ k q. h;
       finished = λ n q. refused-gives (sym a ∙ q);
       holdsLength = ap length h;
-      leftLengths = ap (map length) (p .zeros) ∙ zeroed-lengths work;
-      zeros = rw (p .zeros) (zeroed-zeros work);
+      cleared = zeroed-cleared work left (p .zeros);
     }
     go (gives out) e a h =
         let (R, y, same) = edited-result (lengths work) b (length held) out e in
@@ -107,22 +112,19 @@ demand-1 b held work r holds left p = go (edited (lengths work) b (length held))
                 beyond = ap (drop n) h ∙ (drop-at out (drop (length out) held) n long ∙ ap (λ (k : ℕ). drop k held) long);
               };
           holdsLength = ap length h ∙ (length-append out (drop (length out) held) ∙ omega (arith, length-drop (length out) held));
-          leftLengths = ap (map length) (p .zeros) ∙ zeroed-lengths work;
-          zeros = rw (p .zeros) (zeroed-zeros work);
+          cleared = zeroed-cleared work left (p .zeros);
         }
 
 -- what demand 1 says of a call of `find_element`, which is lent no result slice
 pub record Demand1Finds (b : List ℕ) (n : ℕ) (work : List (List ℕ)) (r : Answer (Option ℕ)) (left : List (List ℕ)) : Type 0 where
   pub numbered : (k : ℕ) → r ≡ refused k → (1 ≤ k) × (k ≤ 12)
-  pub leftLengths : map length left ≡ map length work
-  pub zeros : All (All (λ w. w ≡ 0)) left
+  pub cleared : Cleared work left
 
 -- So does every call of `find_element`.
 pub demand-1-finds : (b : List ℕ) (n : ℕ) (work : List (List ℕ)) (r : Answer (Option ℕ)) (left : List (List ℕ)) → Finds b n work r left → Demand1Finds b n work r left
 demand-1-finds b n work r left p = record {
   numbered = λ k q. found-numbered (lengths work) b n k (sym (p .element) ∙ q);
-  leftLengths = ap (map length) (p .zeros) ∙ zeroed-lengths work;
-  zeros = rw (p .zeros) (zeroed-zeros work);
+  cleared = zeroed-cleared work left (p .zeros);
 }
 
 -- ── Nothing is left free ────────────────────────────────────────────────────────────────────────────────────
