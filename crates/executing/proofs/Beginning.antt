@@ -17,9 +17,9 @@ use Rattle.mapping.specs.Mapped.{wordsAt}
 use Rattle.syntax_editor.specs.ChangeRowLaws.{rowAt}
 use Rattle.annotations.specs.Notes.{notesOf, notes-same}
 use Rattle.tree_store.specs.Stored.{stored, storedFirst}
-use Rattle.splicing.specs.Store.{heldIn}
-use Rattle.splicing.specs.declared.TreeState.{TreeState}
-use Rattle.splicing.specs.declared.Executed.{Executed}
+use Rattle.tree_state.specs.Store.{heldIn}
+use Rattle.tree_state.specs.declared.TreeState.{TreeState}
+use Rattle.tree_state.specs.declared.Executed.{Executed}
 use Rattle.stepping.specs.Standing.{Begun, up-long, Now, now-first, Standing}
 use Rattle.stepping.specs.Stepping.{Performs}
 use Rattle.executing.specs.Running.{plansIn, listsAll, RanSteps, Began, Ran, marks-many}

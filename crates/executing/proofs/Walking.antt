@@ -18,11 +18,11 @@ use Rattle.syntax_editor.specs.ChangeRowLaws.{rowAt}
 use Rattle.change_row.specs.Stated.{planOf}
 use Rattle.annotations.specs.Notes.{notesOf}
 use Rattle.tree_store.specs.Stored.{storedFirst}
-use Rattle.splicing.specs.Store.{heldIn}
-use Rattle.splicing.specs.Applied.{executedIn}
-use Rattle.splicing.specs.declared.TreeState.{TreeState}
-use Rattle.splicing.specs.declared.Executed.{Executed}
-use Rattle.splicing.specs.declared.Executed.the-variants.{Refused, Done}
+use Rattle.tree_state.specs.Store.{heldIn}
+use Rattle.tree_state.specs.Applied.{executedIn}
+use Rattle.tree_state.specs.declared.TreeState.{TreeState}
+use Rattle.tree_state.specs.declared.Executed.{Executed}
+use Rattle.tree_state.specs.declared.Executed.the-variants.{Refused, Done}
 use Rattle.stepping.specs.Standing.{Standing}
 use Rattle.stepping.specs.Stepping.{Performs, listsIn, Stepped}
 use Rattle.executing.specs.Running.{plansIn, listsAll, RanSteps, marks-many, standing-next}

@@ -19,11 +19,11 @@ use Rattle.rows.specs.Row.{firstRows, bytes}
 use Rattle.rows.specs.Place.{markOf}
 use Rattle.annotations.specs.Notes.{notesOf}
 use Rattle.tree_store.specs.Stored.{stored, storedFirst}
-use Rattle.splicing.specs.Store.{heldIn}
-use Rattle.splicing.specs.Applied.{executedIn}
-use Rattle.splicing.specs.declared.TreeState.{TreeState}
-use Rattle.splicing.specs.declared.Executed.{Executed}
-use Rattle.splicing.specs.declared.Executed.the-variants.{Done}
+use Rattle.tree_state.specs.Store.{heldIn}
+use Rattle.tree_state.specs.Applied.{executedIn}
+use Rattle.tree_state.specs.declared.TreeState.{TreeState}
+use Rattle.tree_state.specs.declared.Executed.{Executed}
+use Rattle.tree_state.specs.declared.Executed.the-variants.{Done}
 use Rattle.stepping.specs.Standing.{now-next, Standing}
 use Rattle.stepping.specs.Stepping.{Performs, listsIn, Stepped}
 

@@ -9,10 +9,10 @@ ghost use Rattle.syntax_editor.specs.ChangeRowLaws.{rowAt};
 ghost use Rattle.stepping.specs.Standing.{Begun, Standing};
 ghost use Rattle.stepping.specs.Stepping.{Performs};
 ghost use Rattle.executing.specs.Running.{listsAll, RanSteps, Began, Ran};
-use splicing::Executed;
-use splicing::TreeState;
 use stepping::step;
 use syntax_node::text_bytes;
+use tree_state::Executed;
+use tree_state::TreeState;
 use words::copy_in;
 use words::word;
 

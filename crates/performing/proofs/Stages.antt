@@ -22,9 +22,9 @@ use Rattle.planning.specs.Left.{plan-refused}
 use Rattle.planning.specs.declared.Counts.{Counts}
 use Rattle.planning.specs.declared.Planned.{Planned}
 use Rattle.planning.specs.declared.Planned.the-variants.{Refused as Unplanned, Made}
-use Rattle.splicing.specs.declared.TreeState.{TreeState}
-use Rattle.splicing.specs.declared.Executed.{Executed}
-use Rattle.splicing.specs.declared.Executed.the-variants.{Refused as Stopped, Done as Ran-through}
+use Rattle.tree_state.specs.declared.TreeState.{TreeState}
+use Rattle.tree_state.specs.declared.Executed.{Executed}
+use Rattle.tree_state.specs.declared.Executed.the-variants.{Refused as Stopped, Done as Ran-through}
 use Rattle.executing.specs.Standing.{Begun}
 use Rattle.executing.specs.Stepping.{Performs as RowPerforms}
 use Rattle.executing.specs.Running.{listsAll, Ran}

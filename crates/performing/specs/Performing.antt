@@ -38,11 +38,11 @@ use Rattle.planning.specs.Answers.{PlanMade}
 use Rattle.planning.specs.Left.{TellsPlan, plan-told}
 use Rattle.planning.specs.declared.Counts.{Counts}
 use Rattle.planning.specs.declared.Planned.the-variants.{Made as PlanIs}
-use Rattle.splicing.specs.Applied.{executedIn}
-use Rattle.splicing.specs.Store.{heldIn}
-use Rattle.splicing.specs.declared.TreeState.{TreeState}
-use Rattle.splicing.specs.declared.Executed.{Executed}
-use Rattle.splicing.specs.declared.Executed.the-variants.{Refused, Done}
+use Rattle.tree_state.specs.Applied.{executedIn}
+use Rattle.tree_state.specs.Store.{heldIn}
+use Rattle.tree_state.specs.declared.TreeState.{TreeState}
+use Rattle.tree_state.specs.declared.Executed.{Executed}
+use Rattle.tree_state.specs.declared.Executed.the-variants.{Refused, Done}
 use Rattle.executing.specs.Standing.{Begun, first-told, Standing}
 use Rattle.executing.specs.Opening.{rows-some, rows-few, notes-few, bytes-few}
 use Rattle.executing.specs.Stepping.{Performs}

@@ -6,7 +6,7 @@ use layout::Layout;
 use planning::Counts;
 use planning::Planned;
 use planning::plan;
-use splicing::Executed;
+use tree_state::Executed;
 ghost use mathlib.Core.Path.{_≡_};
 ghost use mathlib.Core.List.{_∷_, []};
 ghost use Prim.Native.Nat.{_≤_};

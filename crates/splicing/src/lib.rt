@@ -1,26 +1,17 @@
-// One splice of what is held: rows, marks, notes and changed rows move together; and whether it makes too much, told before anything is written.
+// One splice of what is held, slice by slice: rows and marks, notes, changed rows.
 ghost use mathlib.Core.Path.{_≡_};
 ghost use mathlib.Core.Bool.{cond};
-ghost use mathlib.Core.List.{List};
-ghost use Prim.Native.Nat.{ℕ, _+_, _-_, _*_, _%_, _/_, _^_, _≤_, _<_};
+ghost use Prim.Native.Nat.{_+_, _-_, _*_, _%_, _^_, _≤_, _<_};
 ghost use lib.ListN.{length, getD, take};
 ghost use Rattle.orders.specs.Lists.{All, pick};
 ghost use Rattle.annotations.specs.Notes.{notesOf};
 ghost use Rattle.annotations.specs.Promises.{movedNote};
 ghost use Rattle.splicing.specs.Promises.{SplicedMarks, Left, NotesLeft, NotesSpliced, Recorded, ChangedSpliced};
-ghost use Rattle.rows.specs.Row.{firstRows, bytes as bytesOf};
-ghost use Rattle.splicing.specs.Store.{Open, Coming, StoreSpliced};
-ghost use Rattle.splicing.specs.Sizes.{BytesBetween, StepSize};
-ghost use Rattle.splicing.specs.Applied.{Applied};
 use annotations::add_changed;
 use annotations::move_changed;
 use annotations::move_notes;
-use syntax_node::height;
 use syntax_node::shift_marks;
 use syntax_node::splice_rows;
-use syntax_node::text_bytes;
-use tree_store::Gap;
-use tree_store::too_large;
 use words::copy_in;
 use words::word;
 
@@ -65,7 +56,7 @@ fn count_left(r: usize, x: usize, p: usize, q: usize) -> usize
 }
 
 // How many of the first `k` notes are at none of the rows `p` up to `q`.
-fn notes_left(notes: &[u32], k: usize, p: usize, q: usize) -> usize
+pub fn notes_left(notes: &[u32], k: usize, p: usize, q: usize) -> usize
     requires { ⌜ (3 * k ≤ length (now notes)) × (k < 2 ^ 16) × (p ≤ q) ⌝ }
     ensures { λ r. ⌜ NotesLeft (now (notes .entry)) k p q r ⌝ }
 {
@@ -80,7 +71,7 @@ fn notes_left(notes: &[u32], k: usize, p: usize, q: usize) -> usize
 }
 
 // The first `k` notes where the rows `p` up to `q` give way to `m` others, and behind them `c` that come in. The new number of notes.
-fn splice_notes(
+pub fn splice_notes(
     notes: &mut [u32],
     k: usize,
     p: usize,
@@ -113,7 +104,7 @@ fn record_changed(changed: &mut [u32], k: usize, at: usize, recorded: bool, size
 }
 
 // The first `k` changed rows where the rows `p` up to `q` give way to `m` others, and behind them the rows of the parts if the change records.
-fn splice_changed(
+pub fn splice_changed(
     changed: &mut [u32],
     k: usize,
     p: usize,
@@ -128,405 +119,4 @@ fn splice_changed(
 {
     let r = move_changed(changed, k, p, q, m);
     record_changed(changed, r, p, recorded, sizes)
-}
-
-// ── All that is held ──
-
-// Where the root of tree 0 stands, and how much is held: rows, their text bytes, notes, changed rows.
-pub struct TreeState {
-    pub root: usize,
-    pub rows: usize,
-    pub bytes: usize,
-    pub notes: usize,
-    pub changed: usize,
-}
-
-// The rows of the gap give way to a run of parts of these sizes, with `c` notes that come in; what is held then has `bytes` text bytes.
-fn splice_store(
-    s: TreeState,
-    rows: &mut [u32],
-    marks: &mut [u32],
-    notes: &mut [u32],
-    changed: &mut [u32],
-    g: Gap,
-    recorded: bool,
-    run: &[u32],
-    sizes: &[u32],
-    incoming: &[u32],
-    c: usize,
-    bytes: usize,
-) -> TreeState
-    requires { ⌜ Open s (now rows) (now marks) (now notes) (now changed) g recorded (length (now sizes)) ⌝ }
-    requires { ⌜ Coming (now run) (now sizes) (now incoming) c ⌝ }
-    requires { ⌜ (3 * (s .rows - (g .to - g .from)) + length (now run) ≤ length (now rows)) × (3 * (length (pick (movedNote (g .from) (g .to) (length (now run) / 3)) (notesOf (s .notes) (now notes))) + c) ≤ length (now notes)) ⌝ }
-    ensures { λ r. ⌜ StoreSpliced s (now (rows .entry)) (now (marks .entry)) (now (notes .entry)) (now (changed .entry)) g recorded (now (run .entry)) (now (sizes .entry)) (now (incoming .entry)) c bytes (now (rows .exit)) (now (marks .exit)) (now (notes .exit)) (now (changed .exit)) r ⌝ }
-{
-    let p = g.from;
-    let q = g.to;
-    let m = run.len() / 3;
-    let r = splice(
-        rows,
-        s.rows,
-        marks,
-        g.parent,
-        p,
-        q,
-        g.lost,
-        run,
-        sizes.len(),
-    );
-    let k = splice_notes(notes, s.notes, p, q, m, incoming, c);
-    let l = splice_changed(changed, s.changed, p, q, m, recorded, sizes);
-    TreeState {
-        root: s.root,
-        rows: r,
-        bytes,
-        notes: k,
-        changed: l,
-    }
-}
-
-// The same of the root of tree 0: what comes in stands where it stood.
-fn replace_store(
-    s: TreeState,
-    rows: &mut [u32],
-    marks: &mut [u32],
-    notes: &mut [u32],
-    changed: &mut [u32],
-    g: Gap,
-    recorded: bool,
-    run: &[u32],
-    sizes: &[u32],
-    incoming: &[u32],
-    c: usize,
-    bytes: usize,
-) -> TreeState
-    requires { ⌜ Open s (now rows) (now marks) (now notes) (now changed) g recorded (length (now sizes)) ⌝ }
-    requires { ⌜ Coming (now run) (now sizes) (now incoming) c ⌝ }
-    requires { ⌜ (3 * (s .rows - (g .to - g .from)) + length (now run) ≤ length (now rows)) × (3 * (length (pick (movedNote (g .from) (g .to) (length (now run) / 3)) (notesOf (s .notes) (now notes))) + c) ≤ length (now notes)) ⌝ }
-    requires { ⌜ g .from ≡ s .root ⌝ }
-    ensures { λ r. ⌜ StoreSpliced s (now (rows .entry)) (now (marks .entry)) (now (notes .entry)) (now (changed .entry)) g recorded (now (run .entry)) (now (sizes .entry)) (now (incoming .entry)) c bytes (now (rows .exit)) (now (marks .exit)) (now (notes .exit)) (now (changed .exit)) r ⌝ }
-{
-    let t = splice_store(
-        s,
-        rows,
-        marks,
-        notes,
-        changed,
-        g,
-        recorded,
-        run,
-        sizes,
-        incoming,
-        c,
-        bytes,
-    );
-    TreeState {
-        root: g.from,
-        rows: t.rows,
-        bytes: t.bytes,
-        notes: t.notes,
-        changed: t.changed,
-    }
-}
-
-// ── The state, lent to each splice step ──
-
-// One splice step: the state is lent, and the covered function's answer is stored in it.
-fn splice_tree(
-    t: &mut TreeState,
-    rows: &mut [u32],
-    marks: &mut [u32],
-    notes: &mut [u32],
-    changed: &mut [u32],
-    g: Gap,
-    recorded: bool,
-    run: &[u32],
-    sizes: &[u32],
-    incoming: &[u32],
-    c: usize,
-    bytes: usize,
-)
-    requires { ⌜ Open (now t) (now rows) (now marks) (now notes) (now changed) g recorded (length (now sizes)) ⌝ }
-    requires { ⌜ Coming (now run) (now sizes) (now incoming) c ⌝ }
-    requires { ⌜ (3 * (now t .rows - (g .to - g .from)) + length (now run) ≤ length (now rows)) × (3 * (length (pick (movedNote (g .from) (g .to) (length (now run) / 3)) (notesOf (now t .notes) (now notes))) + c) ≤ length (now notes)) ⌝ }
-    ensures { λ _. ⌜ StoreSpliced (now (t .entry)) (now (rows .entry)) (now (marks .entry)) (now (notes .entry)) (now (changed .entry)) g recorded (now (run .entry)) (now (sizes .entry)) (now (incoming .entry)) c bytes (now (rows .exit)) (now (marks .exit)) (now (notes .exit)) (now (changed .exit)) (now (t .exit)) ⌝ }
-{
-    *t = splice_store(
-        *t,
-        rows,
-        marks,
-        notes,
-        changed,
-        g,
-        recorded,
-        run,
-        sizes,
-        incoming,
-        c,
-        bytes,
-    );
-}
-
-// The step that replaces the root of tree 0.
-fn replace_root(
-    t: &mut TreeState,
-    rows: &mut [u32],
-    marks: &mut [u32],
-    notes: &mut [u32],
-    changed: &mut [u32],
-    g: Gap,
-    recorded: bool,
-    run: &[u32],
-    sizes: &[u32],
-    incoming: &[u32],
-    c: usize,
-    bytes: usize,
-)
-    requires { ⌜ Open (now t) (now rows) (now marks) (now notes) (now changed) g recorded (length (now sizes)) ⌝ }
-    requires { ⌜ Coming (now run) (now sizes) (now incoming) c ⌝ }
-    requires { ⌜ (3 * (now t .rows - (g .to - g .from)) + length (now run) ≤ length (now rows)) × (3 * (length (pick (movedNote (g .from) (g .to) (length (now run) / 3)) (notesOf (now t .notes) (now notes))) + c) ≤ length (now notes)) ⌝ }
-    requires { ⌜ g .from ≡ now t .root ⌝ }
-    ensures { λ _. ⌜ StoreSpliced (now (t .entry)) (now (rows .entry)) (now (marks .entry)) (now (notes .entry)) (now (changed .entry)) g recorded (now (run .entry)) (now (sizes .entry)) (now (incoming .entry)) c bytes (now (rows .exit)) (now (marks .exit)) (now (notes .exit)) (now (changed .exit)) (now (t .exit)) ⌝ }
-{
-    *t = replace_store(
-        *t,
-        rows,
-        marks,
-        notes,
-        changed,
-        g,
-        recorded,
-        run,
-        sizes,
-        incoming,
-        c,
-        bytes,
-    );
-}
-
-// By value, for the run: a local state is lent to the step, and comes back.
-fn tree_spliced(
-    s: TreeState,
-    rows: &mut [u32],
-    marks: &mut [u32],
-    notes: &mut [u32],
-    changed: &mut [u32],
-    g: Gap,
-    recorded: bool,
-    run: &[u32],
-    sizes: &[u32],
-    incoming: &[u32],
-    c: usize,
-    bytes: usize,
-) -> TreeState
-    requires { ⌜ Open s (now rows) (now marks) (now notes) (now changed) g recorded (length (now sizes)) ⌝ }
-    requires { ⌜ Coming (now run) (now sizes) (now incoming) c ⌝ }
-    requires { ⌜ (3 * (s .rows - (g .to - g .from)) + length (now run) ≤ length (now rows)) × (3 * (length (pick (movedNote (g .from) (g .to) (length (now run) / 3)) (notesOf (s .notes) (now notes))) + c) ≤ length (now notes)) ⌝ }
-    ensures { λ r. ⌜ StoreSpliced s (now (rows .entry)) (now (marks .entry)) (now (notes .entry)) (now (changed .entry)) g recorded (now (run .entry)) (now (sizes .entry)) (now (incoming .entry)) c bytes (now (rows .exit)) (now (marks .exit)) (now (notes .exit)) (now (changed .exit)) r ⌝ }
-{
-    let mut t = s;
-    splice_tree(
-        &mut t,
-        rows,
-        marks,
-        notes,
-        changed,
-        g,
-        recorded,
-        run,
-        sizes,
-        incoming,
-        c,
-        bytes,
-    );
-    t
-}
-
-// The same of the step that replaces the root.
-fn root_replaced(
-    s: TreeState,
-    rows: &mut [u32],
-    marks: &mut [u32],
-    notes: &mut [u32],
-    changed: &mut [u32],
-    g: Gap,
-    recorded: bool,
-    run: &[u32],
-    sizes: &[u32],
-    incoming: &[u32],
-    c: usize,
-    bytes: usize,
-) -> TreeState
-    requires { ⌜ Open s (now rows) (now marks) (now notes) (now changed) g recorded (length (now sizes)) ⌝ }
-    requires { ⌜ Coming (now run) (now sizes) (now incoming) c ⌝ }
-    requires { ⌜ (3 * (s .rows - (g .to - g .from)) + length (now run) ≤ length (now rows)) × (3 * (length (pick (movedNote (g .from) (g .to) (length (now run) / 3)) (notesOf (s .notes) (now notes))) + c) ≤ length (now notes)) ⌝ }
-    requires { ⌜ g .from ≡ s .root ⌝ }
-    ensures { λ r. ⌜ StoreSpliced s (now (rows .entry)) (now (marks .entry)) (now (notes .entry)) (now (changed .entry)) g recorded (now (run .entry)) (now (sizes .entry)) (now (incoming .entry)) c bytes (now (rows .exit)) (now (marks .exit)) (now (notes .exit)) (now (changed .exit)) r ⌝ }
-{
-    let mut t = s;
-    replace_root(
-        &mut t,
-        rows,
-        marks,
-        notes,
-        changed,
-        g,
-        recorded,
-        run,
-        sizes,
-        incoming,
-        c,
-        bytes,
-    );
-    t
-}
-
-// One step of the run: the root of tree 0 is replaced, or another gap gives way.
-fn splice_held(
-    s: TreeState,
-    rows: &mut [u32],
-    marks: &mut [u32],
-    notes: &mut [u32],
-    changed: &mut [u32],
-    g: Gap,
-    recorded: bool,
-    run: &[u32],
-    sizes: &[u32],
-    incoming: &[u32],
-    c: usize,
-    bytes: usize,
-) -> TreeState
-    requires { ⌜ Open s (now rows) (now marks) (now notes) (now changed) g recorded (length (now sizes)) ⌝ }
-    requires { ⌜ Coming (now run) (now sizes) (now incoming) c ⌝ }
-    requires { ⌜ (3 * (s .rows - (g .to - g .from)) + length (now run) ≤ length (now rows)) × (3 * (length (pick (movedNote (g .from) (g .to) (length (now run) / 3)) (notesOf (s .notes) (now notes))) + c) ≤ length (now notes)) ⌝ }
-    ensures { λ r. ⌜ StoreSpliced s (now (rows .entry)) (now (marks .entry)) (now (notes .entry)) (now (changed .entry)) g recorded (now (run .entry)) (now (sizes .entry)) (now (incoming .entry)) c bytes (now (rows .exit)) (now (marks .exit)) (now (notes .exit)) (now (changed .exit)) r ⌝ }
-{
-    if g.from == s.root {
-        return root_replaced(
-            s,
-            rows,
-            marks,
-            notes,
-            changed,
-            g,
-            recorded,
-            run,
-            sizes,
-            incoming,
-            c,
-            bytes,
-        );
-    }
-    tree_spliced(
-        s,
-        rows,
-        marks,
-        notes,
-        changed,
-        g,
-        recorded,
-        run,
-        sizes,
-        incoming,
-        c,
-        bytes,
-    )
-}
-
-// ── Refusal 12 ──
-
-// The text bytes of the rows `p` up to `q`.
-fn bytes_between(rows: &[u32], n: usize, p: usize, q: usize) -> usize
-    requires { ⌜ (3 * n ≤ length (now rows)) × (n < 2 ^ 16) × (p ≤ q) × (q ≤ n) ⌝ }
-    ensures { λ r. ⌜ BytesBetween (now (rows .entry)) n p q r ⌝ }
-{
-    let from = 3 * p;
-    let to = 3 * q;
-    text_bytes(&rows[from..to])
-}
-
-// What a step makes is too large, or has so many text bytes.
-pub enum Size {
-    TooLarge,
-    Fits(usize),
-}
-
-// How large a step makes what is held, told before it: the gap gives way to the run below a node at depth `above`, and `c` notes come in.
-fn step_size(
-    rows: &[u32],
-    notes: &[u32],
-    s: TreeState,
-    g: Gap,
-    run: &[u32],
-    c: usize,
-    above: usize,
-) -> Size
-    requires { ⌜ (3 * s .rows ≤ length (now rows)) × (s .rows ≤ 4097) × (g .from ≤ g .to) × (g .to ≤ s .rows) ⌝ }
-    requires { ⌜ (3 * s .notes ≤ length (now notes)) × (s .notes ≤ 1024) × (length (now run) ≤ 12288) × (c ≤ 1024) × (above ≤ 64) ⌝ }
-    requires { ⌜ (s .bytes ≤ 16384) × ((text : List ℕ) → s .bytes ≡ bytesOf (firstRows text (s .rows) (now rows))) ⌝ }
-    ensures { λ r. ⌜ StepSize (now (rows .entry)) (now (notes .entry)) s g (now (run .entry)) c above r ⌝ }
-{
-    let p = g.from;
-    let q = g.to;
-    let lost = bytes_between(rows, s.rows, p, q);
-    let left = notes_left(notes, s.notes, p, q);
-    let bytes = s.bytes + text_bytes(run) - lost;
-    let n = s.rows - (q - p) + run.len() / 3;
-    if too_large(n, bytes, left + c, above + height(run)) {
-        return Size::TooLarge;
-    }
-    Size::Fits(bytes)
-}
-
-// ── One step, where its gap and its parts are known ──
-
-// A refusal by its number, or how much is held at the end.
-pub enum Executed {
-    Refused(usize),
-    Done(TreeState),
-}
-
-// The gap below a node at depth `above` gives way to what comes in: 12 before anything is written, or what is held then.
-pub fn apply(
-    rows: &mut [u32],
-    marks: &mut [u32],
-    notes: &mut [u32],
-    changed: &mut [u32],
-    s: TreeState,
-    g: Gap,
-    above: usize,
-    recorded: bool,
-    run: &[u32],
-    sizes: &[u32],
-    incoming: &[u32],
-    c: usize,
-) -> Executed
-    requires { ⌜ Open s (now rows) (now marks) (now notes) (now changed) g recorded (length (now sizes)) ⌝ }
-    requires { ⌜ Coming (now run) (now sizes) (now incoming) c ⌝ }
-    requires { ⌜ (12291 ≤ length (now rows)) × (3072 ≤ length (now notes)) × (above ≤ 64) ⌝ }
-    requires { ⌜ (s .bytes ≤ 16384) × ((text : List ℕ) → s .bytes ≡ bytesOf (firstRows text (s .rows) (now rows))) ⌝ }
-    ensures { λ r. ⌜ Applied s (now (rows .entry)) (now (marks .entry)) (now (notes .entry)) (now (changed .entry)) g above recorded (now (run .entry)) (now (sizes .entry)) (now (incoming .entry)) c (now (rows .exit)) (now (marks .exit)) (now (notes .exit)) (now (changed .exit)) r ⌝ }
-{
-    let size = step_size(rows, notes, s, g, run, c, above);
-    match size {
-        Size::TooLarge => Executed::Refused(12),
-        Size::Fits(bytes) => {
-            let t = splice_held(
-                s,
-                rows,
-                marks,
-                notes,
-                changed,
-                g,
-                recorded,
-                run,
-                sizes,
-                incoming,
-                c,
-                bytes,
-            );
-            Executed::Done(t)
-        }
-    }
 }

@@ -37,11 +37,11 @@ use Rattle.tree_store.specs.Promises.{SiteAt}
 use Rattle.tree_store.specs.declared.Gap.{Gap}
 use Rattle.tree_store.specs.declared.Site.{Site}
 use Rattle.tree_store.specs.declared.Site.the-variants.{Gone, At}
-use Rattle.splicing.specs.Store.{heldIn, gapTold, Open}
-use Rattle.splicing.specs.Applied.{executedIn, judgedStore}
-use Rattle.splicing.specs.declared.TreeState.{TreeState}
-use Rattle.splicing.specs.declared.Executed.{Executed}
-use Rattle.splicing.specs.declared.Executed.the-variants.{Refused}
+use Rattle.tree_state.specs.Store.{heldIn, gapTold, Open}
+use Rattle.tree_state.specs.Applied.{executedIn, judgedStore}
+use Rattle.tree_state.specs.declared.TreeState.{TreeState}
+use Rattle.tree_state.specs.declared.Executed.{Executed}
+use Rattle.tree_state.specs.declared.Executed.the-variants.{Refused}
 use Rattle.preparing.specs.Listed.{part-listed, news-listed}
 use Rattle.stepping.specs.Standing.{Standing}
 use Rattle.stepping.specs.Opening.{rows-some, rows-few, marks-below, gap-room}

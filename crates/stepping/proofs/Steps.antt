@@ -16,11 +16,11 @@ use Rattle.rows.specs.Words.{length-first}
 use Rattle.store_model.specs.Sums.{Within}
 use Rattle.tree_store.specs.Stored.{stored}
 use Rattle.tree_store.specs.declared.Gap.{Gap}
-use Rattle.splicing.specs.Store.{gapTold, Open, Coming}
-use Rattle.splicing.specs.Applied.{executedIn, judgedStore, Applied}
-use Rattle.splicing.specs.declared.TreeState.{TreeState}
-use Rattle.splicing.specs.declared.Executed.{Executed}
-use Rattle.splicing.specs.declared.Executed.the-variants.{Refused}
+use Rattle.tree_state.specs.Store.{gapTold, Open, Coming}
+use Rattle.tree_state.specs.Applied.{executedIn, judgedStore, Applied}
+use Rattle.tree_state.specs.declared.TreeState.{TreeState}
+use Rattle.tree_state.specs.declared.Executed.{Executed}
+use Rattle.tree_state.specs.declared.Executed.the-variants.{Refused}
 use Rattle.preparing.specs.Yields.{newNotes, partSizes}
 use Rattle.preparing.specs.Promises.{ElementsPrepared}
 use Rattle.preparing.specs.Bounds.{sizes-told, sizes-small}

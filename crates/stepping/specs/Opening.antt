@@ -30,8 +30,8 @@ use Rattle.element_table.specs.View.{view}
 use Rattle.annotations.specs.Notes.{notesOf, length-notesOf}
 use Rattle.tree_store.specs.Stored.{stored}
 use Rattle.tree_store.specs.Gaps.{held}
-use Rattle.splicing.specs.Store.{heldIn, Open}
-use Rattle.splicing.specs.declared.TreeState.{TreeState}
+use Rattle.tree_state.specs.Store.{heldIn, Open}
+use Rattle.tree_state.specs.declared.TreeState.{TreeState}
 use Rattle.stepping.specs.Standing.{Standing}
 
 -- the root of all has no text of its own

@@ -36,8 +36,8 @@ use Rattle.element_table.specs.Told.{length-view}
 use Rattle.element_table.specs.Wellformed.{Lines}
 use Rattle.annotations.specs.Notes.{notesOf, length-notesOf}
 use Rattle.tree_store.specs.Stored.{stored, storedFirst}
-use Rattle.splicing.specs.Store.{heldIn}
-use Rattle.splicing.specs.declared.TreeState.{TreeState}
+use Rattle.tree_state.specs.Store.{heldIn}
+use Rattle.tree_state.specs.declared.TreeState.{TreeState}
 
 -- ── The batch ───────────────────────────────────────────────────────────────────────────────────────────────
 

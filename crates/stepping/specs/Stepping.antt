@@ -18,11 +18,11 @@ use Rattle.rewriting.specs.Kept.{Kept}
 use Rattle.tree_store.specs.Stored.{storedFirst}
 use Rattle.syntax_editor.specs.ChangeRow.{ChangeRow}
 use Rattle.tree_store.specs.declared.Gap.{Gap}
-use Rattle.splicing.specs.Store.{heldIn, gapTold}
-use Rattle.splicing.specs.Applied.{executedIn, judgedStore}
-use Rattle.splicing.specs.declared.TreeState.{TreeState}
-use Rattle.splicing.specs.declared.Executed.{Executed}
-use Rattle.splicing.specs.declared.Executed.the-variants.{Done}
+use Rattle.tree_state.specs.Store.{heldIn, gapTold}
+use Rattle.tree_state.specs.Applied.{executedIn, judgedStore}
+use Rattle.tree_state.specs.declared.TreeState.{TreeState}
+use Rattle.tree_state.specs.declared.Executed.{Executed}
+use Rattle.tree_state.specs.declared.Executed.the-variants.{Done}
 use Rattle.preparing.specs.Yields.{partIn}
 
 -- the depth of the node below which a change of this operation and target goes, by the table's word

@@ -3,9 +3,9 @@
 use native.Mathlib.Omega.{arith}
 use Prim.Native.Nat.{_≤_}
 use borrow.Author.Needs.{needs}
-use Rattle.splicing.proofs.Sizing.{bytes-enough, height-most, size-fits, size-large}
-use Rattle.splicing.proofs.step_size.Statement.{statement}
-use Rattle.splicing.proofs.step_size.Tie as tie
+use Rattle.tree_state.proofs.Sizing.{bytes-enough, height-most, size-fits, size-large}
+use Rattle.tree_state.proofs.step_size.Statement.{statement}
+use Rattle.tree_state.proofs.step_size.Tie as tie
 
 bytes-between-requires : tie.Need-bytes-between-requires
 bytes-between-requires c κs = search needs

@@ -1,9 +1,9 @@
 -- `apply` meets its contract.
 -- Assumes nothing.
 use borrow.Author.Needs.{needs}
-use Rattle.splicing.proofs.Sizing.{apply-done, apply-refused, apply-asks}
-use Rattle.splicing.proofs.apply.Statement.{statement}
-use Rattle.splicing.proofs.apply.Tie as tie
+use Rattle.tree_state.proofs.Sizing.{apply-done, apply-refused, apply-asks}
+use Rattle.tree_state.proofs.apply.Statement.{statement}
+use Rattle.tree_state.proofs.apply.Tie as tie
 
 step-size-requires : tie.Need-step-size-requires
 step-size-requires c κs = search needs

@@ -1,9 +1,9 @@
 -- `bytes_between` meets its contract.
 -- Assumes nothing.
 use borrow.Author.Needs.{needs}
-use Rattle.splicing.proofs.Sizing.{bytes-between}
-use Rattle.splicing.proofs.bytes_between.Statement.{statement}
-use Rattle.splicing.proofs.bytes_between.Tie as tie
+use Rattle.tree_state.proofs.Sizing.{bytes-between}
+use Rattle.tree_state.proofs.bytes_between.Statement.{statement}
+use Rattle.tree_state.proofs.bytes_between.Tie as tie
 
 mul-from : tie.Need-mul-from
 mul-from c = search needs

@@ -23,9 +23,9 @@ use denote.Struct.Steps.{spelt}
 use denote.Struct.Laws as LL
 use Rattle.tree_store.specs.declared.Gap.{Gap}
 use Rattle.tree_store.proofs.Gap.Laws as G′
-use Rattle.splicing.specs.declared.TreeState.{TreeState}
-use Rattle.splicing.proofs.TreeState as T
-use Rattle.splicing.proofs.TreeState.Laws as T′
+use Rattle.tree_state.specs.declared.TreeState.{TreeState}
+use Rattle.tree_state.proofs.TreeState as T
+use Rattle.tree_state.proofs.TreeState.Laws as T′
 
 -- the rest: all but the state
 abbrev pub Rest : Type 0

@@ -1,9 +1,9 @@
 -- `replace_store` meets its contract.
 -- Assumes nothing.
 use borrow.Author.Needs.{needs}
-use Rattle.splicing.proofs.Turns.{store-replaced}
-use Rattle.splicing.proofs.replace_store.Statement.{statement}
-use Rattle.splicing.proofs.replace_store.Tie as tie
+use Rattle.tree_state.proofs.Held.{store-replaced}
+use Rattle.tree_state.proofs.replace_store.Statement.{statement}
+use Rattle.tree_state.proofs.replace_store.Tie as tie
 
 splice-store-requires : tie.Need-splice-store-requires
 splice-store-requires c κs = let p = c .before .before .before .before .before .before .before .before .before .before .before .pre in (p .0, (p .1 .0, p .1 .1 .0))

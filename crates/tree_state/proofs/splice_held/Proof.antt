@@ -1,8 +1,8 @@
 -- `splice_held` meets its contract.
 -- Assumes nothing.
 use borrow.Author.Needs.{needs}
-use Rattle.splicing.proofs.splice_held.Statement.{statement}
-use Rattle.splicing.proofs.splice_held.Tie as tie
+use Rattle.tree_state.proofs.splice_held.Statement.{statement}
+use Rattle.tree_state.proofs.splice_held.Tie as tie
 
 root-replaced-requires : tie.Need-root-replaced-requires
 root-replaced-requires c κs = let p = c .before .before .before .before .before .before .before .before .before .before .before .before .before .before .pre in (p .0, (p .1 .0, (p .1 .1, search needs)))
@@ -22,8 +22,8 @@ same-length-4 c = search needs
 returns : tie.Need-returns
 returns c = search needs
 
-tree-spliced-requires : tie.Need-tree-spliced-requires
-tree-spliced-requires c κs = search needs
+spliced-requires : tie.Need-spliced-requires
+spliced-requires c κs = search needs
 
 same-length-5 : tie.Need-same-length-5
 same-length-5 c = search needs
@@ -50,7 +50,7 @@ splice-held-spec =
     same-length-3
     same-length-4
     returns
-    tree-spliced-requires
+    spliced-requires
     same-length-5
     same-length-6
     same-length-7

@@ -12,9 +12,9 @@ use Rattle.store_model.specs.Sums.{tooLargeBy}
 use Rattle.annotations.specs.Notes.{notesOf}
 use Rattle.annotations.specs.Promises.{movedNote}
 use Rattle.tree_store.specs.declared.Gap.{Gap}
-use Rattle.splicing.specs.declared.TreeState.{TreeState}
-use Rattle.splicing.specs.declared.Size.{Size}
-use Rattle.splicing.specs.declared.Size.the-variants.{TooLarge, Fits}
+use Rattle.tree_state.specs.declared.TreeState.{TreeState}
+use Rattle.tree_state.specs.declared.Size.{Size}
+use Rattle.tree_state.specs.declared.Size.the-variants.{TooLarge, Fits}
 
 -- the text bytes of the rows p up to q
 pub record BytesBetween (rows : List ℕ) (n p q r : ℕ) : Type 0 where

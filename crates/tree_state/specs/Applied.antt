@@ -9,10 +9,10 @@ use Rattle.definition.specs.Basics.{Answer, refused, gives, _>>=_, refuse}
 use Rattle.rows.specs.Row.{firstRows, bytes}
 use Rattle.store_model.specs.Store.{Store, Part, splicedStore, storeTooLarge}
 use Rattle.tree_store.specs.declared.Gap.{Gap}
-use Rattle.splicing.specs.Store.{heldIn, gapTold, Comes}
-use Rattle.splicing.specs.declared.TreeState.{TreeState}
-use Rattle.splicing.specs.declared.Executed.{Executed}
-use Rattle.splicing.specs.declared.Executed.the-variants.{Refused, Done}
+use Rattle.tree_state.specs.Store.{heldIn, gapTold, Comes}
+use Rattle.tree_state.specs.declared.TreeState.{TreeState}
+use Rattle.tree_state.specs.declared.Executed.{Executed}
+use Rattle.tree_state.specs.declared.Executed.the-variants.{Refused, Done}
 
 -- the answer that the words tell
 unfoldable pub executedIn : List ℕ → List ℕ → List ℕ → List ℕ → List ℕ → Executed → Answer Store

@@ -1,9 +1,9 @@
 -- `splice_store` meets its contract.
 -- Assumes nothing.
 use borrow.Author.Needs.{needs}
-use Rattle.splicing.proofs.Turns.{asks-changed, asks-notes, asks-rows, store-spliced}
-use Rattle.splicing.proofs.splice_store.Statement.{statement}
-use Rattle.splicing.proofs.splice_store.Tie as tie
+use Rattle.tree_state.proofs.Held.{asks-changed, asks-notes, asks-rows, store-spliced}
+use Rattle.tree_state.proofs.splice_store.Statement.{statement}
+use Rattle.tree_state.proofs.splice_store.Tie as tie
 
 splice-requires : tie.Need-splice-requires
 splice-requires c κs = let p = c .before .before .before .before .before .before .before .before .before .pre in let a = asks-rows (p .0) (p .1 .0) (p .1 .1) in search needs

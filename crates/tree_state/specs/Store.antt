@@ -13,7 +13,7 @@ use Rattle.store_model.specs.Store.{Store, withRow, Part, newRows, placedParts,
 use Rattle.annotations.specs.Notes.{notesOf}
 use Rattle.tree_store.specs.Stored.{stored}
 use Rattle.tree_store.specs.declared.Gap.{Gap}
-use Rattle.splicing.specs.declared.TreeState.{TreeState}
+use Rattle.tree_state.specs.declared.TreeState.{TreeState}
 
 -- the store that the words tell
 abbrev pub heldIn : List ℕ → TreeState → List ℕ → List ℕ → List ℕ → List ℕ → Store

@@ -1,4 +1,4 @@
--- `splicing::tree_spliced` meets its contract: a walk of its MIR by hand. The state lies in a local, which is lent to `splice_tree` for a lifetime of the call and comes back at its last value; all the rest is passed on.
+-- `tree_state::spliced` meets its contract: a walk of its MIR by hand. The state lies in a local, which is lent to `splice` for a lifetime of the call and comes back at its last value; all the rest is passed on.
 -- Assumes nothing.
 use mathlib.Core.Path.{refl, sym, ap, subst}
 use Prim.Native.Nat.{ℕ}
@@ -41,70 +41,70 @@ use denote.Triple.Call.{calls-at}
 use denote.Triple.Clauses.{Lasts, atExit, ensured, lasts}
 use denote.Triple.Table.{entered, cited}
 use denote.Triple.Walked.{Stays, walkOf, Walks, ends-at, walked, walk-meets}
-use Rattle.splicing.specs.declared.TreeState.{TreeState}
+use Rattle.tree_state.specs.declared.TreeState.{TreeState}
 use Rattle.tree_store.proofs.Gap as G
 use Rattle.tree_store.proofs.Gap.Laws as G′
-use Rattle.splicing.proofs.Last.{stays-last, all-fit, all-go}
-use Rattle.splicing.proofs.Lent.{Rest, rest-vals, state-in, state-out}
-use Rattle.splicing.proofs.TreeState as T
-use Rattle.splicing.proofs.TreeState.Laws as T′
-use Rattle.splicing.proofs.splice_tree as splice-tree
-use Rattle.splicing.proofs.splice_tree.Symbol as splice-tree-def
-use Rattle.splicing.proofs.splice_tree.Symbol.{name as #splicing·splice-tree}
-use Rattle.splicing.proofs.splice_tree.Met as splice-tree-thm
-use Rattle.splicing.proofs.tree_spliced.Key.{name as #splicing·tree-spliced}
-use Rattle.splicing.proofs.tree_spliced as tree-spliced
-use Rattle.splicing.proofs.tree_spliced.Statement as stated
-use Rattle.splicing.proofs.tree_spliced.Code as code
+use Rattle.tree_state.proofs.Last.{stays-last, all-fit, all-go}
+use Rattle.tree_state.proofs.Lent.{Rest, rest-vals, state-in, state-out}
+use Rattle.tree_state.proofs.TreeState as T
+use Rattle.tree_state.proofs.TreeState.Laws as T′
+use Rattle.tree_state.proofs.splice as splice
+use Rattle.tree_state.proofs.splice.Symbol as splice-def
+use Rattle.tree_state.proofs.splice.Symbol.{name as #tree-state·splice}
+use Rattle.tree_state.proofs.splice.Met as splice-thm
+use Rattle.tree_state.proofs.spliced.Key.{name as #tree-state·spliced}
+use Rattle.tree_state.proofs.spliced as spliced
+use Rattle.tree_state.proofs.spliced.Statement as stated
+use Rattle.tree_state.proofs.spliced.Code as code
 
-abbrev stayed : Stays (tree-spliced.ended .signature .params) (tree-spliced.ended .kept)
-stayed = stays-last (tree-spliced.ended .signature .params) (tree-spliced.ended .kept)
+abbrev stayed : Stays (spliced.ended .signature .params) (spliced.ended .kept)
+stayed = stays-last (spliced.ended .signature .params) (spliced.ended .kept)
 
 -- the contract that the proof cites
-abbrev SpliceTree : {M : Type 1} (𝓤 : URA M) (H : Heap 𝓤) (A : Atoms 𝓤) (mem : Memory → SProp 𝓤) (run : Routine → Fun 𝓤) → Contract 𝓤
-SpliceTree 𝓤 H A mem run = tripleOf 𝓤 H A splice-tree.signature (splice-tree.spec 𝓤 H A mem run)
+abbrev Splice : {M : Type 1} (𝓤 : URA M) (H : Heap 𝓤) (A : Atoms 𝓤) (mem : Memory → SProp 𝓤) (run : Routine → Fun 𝓤) → Contract 𝓤
+Splice 𝓤 H A mem run = tripleOf 𝓤 H A splice.signature (splice.spec 𝓤 H A mem run)
 
 module _ {M : Type 1} (𝓤 : URA M) (H : Heap 𝓤) (A : Atoms 𝓤) (W : Given 𝓤 H A) (at-mem : Memory → SProp 𝓤) (run : Routine → Fun 𝓤) (κs : Lfts 7) (qs : Shares 7) (h : TreeState) (a : Rest) where
   abbrev x : TreeState × Rest
   x = (h, a)
 
-  abbrev at : Vals tree-spliced.signature κs
+  abbrev at : Vals spliced.signature κs
   at = (T′.lowered h ∷ [], rest-vals a)
 
   -- the tokens of the rest, and what is asked
   abbrev alive′ : SProp 𝓤
-  alive′ = alive 𝓤 H A tree-spliced.signature κs qs
+  alive′ = alive 𝓤 H A spliced.signature κs qs
 
   abbrev asked : SProp 𝓤
-  asked = tree-spliced.clauses 𝓤 H A at-mem run κs x .requires tt
+  asked = spliced.clauses 𝓤 H A at-mem run κs x .requires tt
 
   -- the local at (b, 0), lent under the name δ
   abbrev lent : ℕ → GName → RefT TreeState
   lent b δ = record { ptr = (b, 0); name = δ; now = h }
 
-  abbrev to-splice-tree : ℕ → ℕ → GName → SpliceTree 𝓤 H A at-mem run .Ghost
-  to-splice-tree α b δ = (((α ∷ [], κs), (fullShare, qs), tt, (lent b δ, a), (vptr b 0 ∷ [], rest-vals a)), tt)
+  abbrev to-splice : ℕ → ℕ → GName → Splice 𝓤 H A at-mem run .Ghost
+  to-splice α b δ = (((α ∷ [], κs), (fullShare, qs), tt, (lent b δ, a), (vptr b 0 ∷ [], rest-vals a)), tt)
 
   -- what the call says of its last values
-  abbrev said : (α b : ℕ) (δ : GName) → Lasts splice-tree.ended (α ∷ [], κs) (lent b δ, a) → SProp 𝓤
-  said α b δ ws = splice-tree.clauses 𝓤 H A at-mem run (α ∷ [], κs) (lent b δ, a) .ensures tt tt (atExit splice-tree.ended (α ∷ [], κs) (lent b δ, a) ws)
+  abbrev said : (α b : ℕ) (δ : GName) → Lasts splice.ended (α ∷ [], κs) (lent b δ, a) → SProp 𝓤
+  said α b δ ws = splice.clauses 𝓤 H A at-mem run (α ∷ [], κs) (lent b δ, a) .ensures tt tt (atExit splice.ended (α ∷ [], κs) (lent b δ, a) ws)
 
   abbrev Post : Val → SProp 𝓤
-  Post = walkOf 𝓤 H A tree-spliced.ended stayed (tree-spliced.clauses 𝓤 H A at-mem run) .post ((κs, qs, tt, x, at), tt)
+  Post = walkOf 𝓤 H A spliced.ended stayed (spliced.clauses 𝓤 H A at-mem run) .post ((κs, qs, tt, x, at), tt)
 
-  exits : (α b : ℕ) (δ : GName) (ws : Lasts splice-tree.ended (α ∷ [], κs) (lent b δ, a)) (v : Val)
-      → ent 𝓤 (sep 𝓤 (sem 𝓤 H A (T.the-row .own (ws .0) (v ∷ []))) (sep 𝓤 (sem 𝓤 H A (lasts tree-spliced.ended κs x (tt, ws .1))) (sep 𝓤 (said α b δ ws) alive′))) (Post v)
+  exits : (α b : ℕ) (δ : GName) (ws : Lasts splice.ended (α ∷ [], κs) (lent b δ, a)) (v : Val)
+      → ent 𝓤 (sep 𝓤 (sem 𝓤 H A (T.the-row .own (ws .0) (v ∷ []))) (sep 𝓤 (sem 𝓤 H A (lasts spliced.ended κs x (tt, ws .1))) (sep 𝓤 (said α b δ ws) alive′))) (Post v)
   exits α b δ ws v =
-      qed W (‵ (T.the-row .own (ws .0) (v ∷ [])) ∷ ‵ (lasts tree-spliced.ended κs x (tt, ws .1)) ∷ raw (said α b δ ws) ∷ raw alive′ ∷ []) ∵
-      suffices ! _ (ends-at 𝓤 H A tree-spliced.ended stayed (tree-spliced.clauses 𝓤 H A at-mem run) W ((κs, qs, tt, x, at), tt) v (ws .0) (tt, ws .1) (all-fit κs (tree-spliced.signature .params) (tree-spliced.ended .kept) x (tt, ws .1))) $
+      qed W (‵ (T.the-row .own (ws .0) (v ∷ [])) ∷ ‵ (lasts spliced.ended κs x (tt, ws .1)) ∷ raw (said α b δ ws) ∷ raw alive′ ∷ []) ∵
+      suffices ! _ (ends-at 𝓤 H A spliced.ended stayed (spliced.clauses 𝓤 H A at-mem run) W ((κs, qs, tt, x, at), tt) v (ws .0) (tt, ws .1) (all-fit κs (spliced.signature .params) (spliced.ended .kept) x (tt, ws .1))) $
       move ! (1 ∷ 0 ∷ []) $ join ! $ move ! (2 ∷ 0 ∷ []) $ join ! $ done !
 
-  module _ (C₀ : Calls 𝓤 H) (Λ : Loops 𝓤 H) (fm : FmC 𝓤 H (W .laws) C₀) (known : Triple 𝓤 (C₀ #splicing·splice-tree) (SpliceTree 𝓤 H A at-mem run)) (are : Are (typesAt (tree-spliced.signature .params) κs) (Ises (typesAt (tree-spliced.signature .params) κs)) x at) where
-    walk : ent 𝓤 (sep 𝓤 (onEntry 𝓤 H A tree-spliced.signature κs qs x at) asked) (WpFn 𝓤 H C₀ Λ code.function (flat (typesAt (tree-spliced.signature .params) κs) at) Post)
+  module _ (C₀ : Calls 𝓤 H) (Λ : Loops 𝓤 H) (fm : FmC 𝓤 H (W .laws) C₀) (known : Triple 𝓤 (C₀ #tree-state·splice) (Splice 𝓤 H A at-mem run)) (are : Are (typesAt (spliced.signature .params) κs) (Ises (typesAt (spliced.signature .params) κs)) x at) where
+    walk : ent 𝓤 (sep 𝓤 (onEntry 𝓤 H A spliced.signature κs qs x at) asked) (WpFn 𝓤 H C₀ Λ code.function (flat (typesAt (spliced.signature .params) κs) at) Post)
     walk =
-        qed W ((raw alive′ ⊛ ‵ (owns (typesAt (tree-spliced.signature .params) κs) x at)) ∷ raw asked ∷ []) ∵ split ! $ move ! (1 ∷ []) $ fsplit ! $ drop ! $
+        qed W ((raw alive′ ⊛ ‵ (owns (typesAt (spliced.signature .params) κs) x at)) ∷ raw asked ∷ []) ∵ split ! $ move ! (1 ∷ []) $ fsplit ! $ drop ! $
         -- [what the rest owns; the rest's tokens; what is asked]
-        enter ! C₀ Λ code.function (flat (typesAt (tree-spliced.signature .params) κs) at) _ $
+        enter ! C₀ Λ code.function (flat (typesAt (spliced.signature .params) κs) at) _ $
         alloc1 ! (λ l₀. alloc1 ! (λ l₁. alloc1 ! (λ l₂. alloc1 ! (λ l₃. alloc1 ! (λ l₄. alloc1 ! (λ l₅. alloc1 ! (λ l₆. alloc1 ! (λ l₇. alloc1 ! (λ l₈. alloc1 ! (λ l₉. alloc1 ! (λ l₁₀. alloc1 ! (λ l₁₁. alloc1 ! (λ l₁₂. alloc1 ! (λ l₁₃. alloc1 ! (λ l₁₄. alloc1 ! (λ l₁₅. alloc1 ! (λ l₁₆. alloc1 ! (λ l₁₇. alloc1 ! (λ l₁₈. alloc1 ! (λ l₁₉. alloc1 ! (λ l₂₀. alloc1 ! (λ l₂₁. alloc1 ! (λ l₂₂. alloc1 ! (λ l₂₃. alloc0 ! $ params1 ! $
         pass1 ! (init ! 44 refl (LL.lawful T.the-type T′.the-laws 𝓤 H A W .typed h _ (are .0) .0)) $
         pass1 ! (init ! 42 refl (tt, (tt, (record { fits = are .1 .0 .0 .1 .0 }, tt)))) $
@@ -136,11 +136,11 @@ module _ {M : Type 1} (𝓤 : URA M) (H : Heap 𝓤) (A : Atoms 𝓤) (W : Given
         use1 W (later (some (λ (δ : GName). ‵ (MutRef (named 0) (α ∷ []) T.the-row .own (lent l₁₃ δ) (vptr l₁₃ 0 ∷ [])) ⊛ ‵ (flent (α ∷ []) (Body (mem T.the-row) l₁₃ 0 δ))))) (lends-ref 𝓤 H A W T.the-row (named 0) (α ∷ []) h l₁₃ 0) $
         await ! tt $ pick ! (λ δ. split ! $
         -- [the loan 0; the lender's part 1; its token 2; the locals but _13; the rest 50; its tokens 51; what is asked 52]
-        move ! (0 ∷ 50 ∷ []) $ fjoin ! $ move ! (2 ∷ 50 ∷ 0 ∷ 51 ∷ []) $ join ! $ join ! $ join ! $ use1 W (raw (SpliceTree 𝓤 H A at-mem run .pre (to-splice-tree α l₁₃ δ))) (id⊢ 𝓤 _) $
+        move ! (0 ∷ 50 ∷ []) $ fjoin ! $ move ! (2 ∷ 50 ∷ 0 ∷ 51 ∷ []) $ join ! $ join ! $ join ! $ use1 W (raw (Splice 𝓤 H A at-mem run .pre (to-splice α l₁₃ δ))) (id⊢ 𝓤 _) $
         -- [pre 0; the lender's part 1; the locals but _13]
-        calls-at ! fm (SpliceTree 𝓤 H A at-mem run) known (to-splice-tree α l₁₃ δ) (and-then ! (load ! (from ! (stop !)) (look ! 18 refl)) (and-then ! (load ! (from ! (stop !)) (look ! 14 refl)) (and-then ! (load ! (from ! (stop !)) (look ! 10 refl)) (and-then ! (load ! (from ! (stop !)) (look ! 6 refl)) (and-then ! (load ! (from ! (stop !)) (look ! 2 refl)) (and-then ! (load ! (from ! (stop !)) (look ! 35 refl)) (and-then ! (load ! (from ! (stop !)) (look ! 33 refl)) (and-then ! (load ! (from ! (stop !)) (look ! 31 refl)) (and-then ! (load ! (from ! (stop !)) (look ! 29 refl)) (and-then ! (load ! (from ! (stop !)) (look ! 27 refl)) (and-then ! (load ! (from ! (stop !)) (look ! 25 refl)) (and-then ! (load ! (from ! (stop !)) (look ! 23 refl)) (no-more !))))))))))))) (λ v.
-        use1 W (later (some (λ (r : Unit {0}). ((‵ (flft (α ∷ []) fullShare) ⊛ raw alive′) ⊛ ‵ (Nothing .own r (v ∷ []))) ⊛ raw (ensured 𝓤 H A splice-tree.ended (splice-tree.clauses 𝓤 H A at-mem run) (α ∷ [], κs) (lent l₁₃ δ, a) tt r)))) (id⊢ 𝓤 _) $ await ! tt $ pick ! (λ r.
-        split ! $ split ! $ split ! $ move ! (3 ∷ []) $ use1 W (some (λ (ws : Lasts splice-tree.ended (α ∷ [], κs) (lent l₁₃ δ, a)). ‵ (lasts splice-tree.ended (α ∷ [], κs) (lent l₁₃ δ, a) ws) ⊛ raw (said α l₁₃ δ ws))) (id⊢ 𝓤 _) $ pick ! (λ ws.
+        calls-at ! fm (Splice 𝓤 H A at-mem run) known (to-splice α l₁₃ δ) (and-then ! (load ! (from ! (stop !)) (look ! 18 refl)) (and-then ! (load ! (from ! (stop !)) (look ! 14 refl)) (and-then ! (load ! (from ! (stop !)) (look ! 10 refl)) (and-then ! (load ! (from ! (stop !)) (look ! 6 refl)) (and-then ! (load ! (from ! (stop !)) (look ! 2 refl)) (and-then ! (load ! (from ! (stop !)) (look ! 35 refl)) (and-then ! (load ! (from ! (stop !)) (look ! 33 refl)) (and-then ! (load ! (from ! (stop !)) (look ! 31 refl)) (and-then ! (load ! (from ! (stop !)) (look ! 29 refl)) (and-then ! (load ! (from ! (stop !)) (look ! 27 refl)) (and-then ! (load ! (from ! (stop !)) (look ! 25 refl)) (and-then ! (load ! (from ! (stop !)) (look ! 23 refl)) (no-more !))))))))))))) (λ v.
+        use1 W (later (some (λ (r : Unit {0}). ((‵ (flft (α ∷ []) fullShare) ⊛ raw alive′) ⊛ ‵ (Nothing .own r (v ∷ []))) ⊛ raw (ensured 𝓤 H A splice.ended (splice.clauses 𝓤 H A at-mem run) (α ∷ [], κs) (lent l₁₃ δ, a) tt r)))) (id⊢ 𝓤 _) $ await ! tt $ pick ! (λ r.
+        split ! $ split ! $ split ! $ move ! (3 ∷ []) $ use1 W (some (λ (ws : Lasts splice.ended (α ∷ [], κs) (lent l₁₃ δ, a)). ‵ (lasts splice.ended (α ∷ [], κs) (lent l₁₃ δ, a) ws) ⊛ raw (said α l₁₃ δ ws))) (id⊢ 𝓤 _) $ pick ! (λ ws.
         split ! $ fsplit ! $ move ! (5 ∷ []) $ feqL ! (λ ev.
         -- [the state's last value 0; the rest's 1; what is said 2; the loan's token 3; the rest's tokens 4; the lender's part 5; the locals but _13]
         land ! (from ! (stop !)) (init ! 24 refl (subst (λ (y : Val). Holds (hasTy tyUnit y) × WT y) (sym (ap only ev)) (tt, tt))) $
@@ -154,20 +154,20 @@ module _ {M : Type 1} (𝓤 : URA M) (H : Heap 𝓤) (A : Atoms 𝓤) (W : Given
         move ! (1 ∷ []) $ nothing ! $ fjoin ! $ keep ! (1 ∷ 0 ∷ 2 ∷ 3 ∷ []) $ by ! (exits α l₁₃ δ ws (T′.lowered (ws .0))))))))))))))))))))))))))))))))))
 
 module _ {M : Type 1} (𝓤 : URA M) (H : Heap 𝓤) (A : Atoms 𝓤) (W : Given 𝓤 H A) (at-mem : Memory → SProp 𝓤) (run : Routine → Fun 𝓤) where
-  tree-spliced-walks : (C₀ : Calls 𝓤 H) (Λ : Loops 𝓤 H) → FmC 𝓤 H (W .laws) C₀ → Triple 𝓤 (C₀ #splicing·splice-tree) (SpliceTree 𝓤 H A at-mem run) → Walks 𝓤 H A tree-spliced.ended stayed (WpFn 𝓤 H C₀ Λ code.function) (tree-spliced.clauses 𝓤 H A at-mem run)
-  tree-spliced-walks C₀ Λ fm known = walked 𝓤 H A tree-spliced.ended stayed (tree-spliced.clauses 𝓤 H A at-mem run) (WpFn 𝓤 H C₀ Λ code.function)
+  spliced-walks : (C₀ : Calls 𝓤 H) (Λ : Loops 𝓤 H) → FmC 𝓤 H (W .laws) C₀ → Triple 𝓤 (C₀ #tree-state·splice) (Splice 𝓤 H A at-mem run) → Walks 𝓤 H A spliced.ended stayed (WpFn 𝓤 H C₀ Λ code.function) (spliced.clauses 𝓤 H A at-mem run)
+  spliced-walks C₀ Λ fm known = walked 𝓤 H A spliced.ended stayed (spliced.clauses 𝓤 H A at-mem run) (WpFn 𝓤 H C₀ Λ code.function)
       (λ κs. (LL.vals T.the-type T′.the-laws, (slice-vals, (slice-vals, (slice-vals, (slice-vals, (LL.vals G.the-type G′.the-laws, (bool-vals, (slice-vals, (slice-vals, (slice-vals, (uint-vals w64, (uint-vals w64, tt)))))))))))))
       (λ κs. (LL.tells T.the-type T′.the-laws, (mut-slice-tells (named 0) (κs .0) u32, (mut-slice-tells (named 1) (κs .1 .0) u32, (mut-slice-tells (named 2) (κs .1 .1 .0) u32, (mut-slice-tells (named 3) (κs .1 .1 .1 .0) u32, (LL.tells G.the-type G′.the-laws, (bool-tells, (shr-slice-tells (named 4) (κs .1 .1 .1 .1 .0) u32, (shr-slice-tells (named 5) (κs .1 .1 .1 .1 .1 .0) u32, (shr-slice-tells (named 6) (κs .1 .1 .1 .1 .1 .1 .0) u32, (uint-tells w64, (uint-tells w64, tt)))))))))))))
       (λ κs qs bounds a g are. walk 𝓤 H A W at-mem run κs qs (a .0) (a .1) C₀ Λ fm known are)
 
-tree-spliced-meets : {M : Type 1} (𝓤 : URA M) (H : Heap 𝓤) (A : Atoms 𝓤) → Given 𝓤 H A → (at-mem : Memory → SProp 𝓤) (run : Routine → Fun 𝓤) (𝓣 : Tables 𝓤 H) → Triple 𝓤 (𝓣 .C #splicing·splice-tree) (SpliceTree 𝓤 H A at-mem run)
-    → Meets 𝓤 H A tree-spliced.signature (WpFn 𝓤 H (𝓣 .C) (𝓣 .Λ) code.function) (tree-spliced.spec 𝓤 H A at-mem run)
-tree-spliced-meets 𝓤 H A W at-mem run 𝓣 known = walk-meets 𝓤 H A tree-spliced.ended stayed W (all-go 𝓤 H A W 7 (tree-spliced.signature .params) (tree-spliced.ended .kept)) (tree-spliced.clauses 𝓤 H A at-mem run) (WpFn 𝓤 H (𝓣 .C) (𝓣 .Λ) code.function) (WpFn-mono 𝓤 H (W .laws) 𝓣 code.function) (tree-spliced-walks 𝓤 H A W at-mem run (𝓣 .C) (𝓣 .Λ) (fmOf 𝓤 H (W .laws) 𝓣) known)
+spliced-meets : {M : Type 1} (𝓤 : URA M) (H : Heap 𝓤) (A : Atoms 𝓤) → Given 𝓤 H A → (at-mem : Memory → SProp 𝓤) (run : Routine → Fun 𝓤) (𝓣 : Tables 𝓤 H) → Triple 𝓤 (𝓣 .C #tree-state·splice) (Splice 𝓤 H A at-mem run)
+    → Meets 𝓤 H A spliced.signature (WpFn 𝓤 H (𝓣 .C) (𝓣 .Λ) code.function) (spliced.spec 𝓤 H A at-mem run)
+spliced-meets 𝓤 H A W at-mem run 𝓣 known = walk-meets 𝓤 H A spliced.ended stayed W (all-go 𝓤 H A W 7 (spliced.signature .params) (spliced.ended .kept)) (spliced.clauses 𝓤 H A at-mem run) (WpFn 𝓤 H (𝓣 .C) (𝓣 .Λ) code.function) (WpFn-mono 𝓤 H (W .laws) 𝓣 code.function) (spliced-walks 𝓤 H A W at-mem run (𝓣 .C) (𝓣 .Λ) (fmOf 𝓤 H (W .laws) 𝓣) known)
 
-pub tree-spliced-spec : {M : Type 1} → stated.statement M
+pub spliced-spec : {M : Type 1} → stated.statement M
 unfolding code.routine tablesOf
-tree-spliced-spec 𝓤 H 𝓜 𝓖 𝓡 =
-    entered 𝓤 H (tripleOf 𝓤 H (𝓖 .A) tree-spliced.signature (tree-spliced.spec 𝓤 H (𝓖 .A) (𝓜 .mem) (𝓡 .run)))
-    (tables 𝓤 H 𝓜 𝓡 code.env .C) (tables 𝓤 H 𝓜 𝓡 code.env .Λ) #splicing·tree-spliced code.function (code.unfolded 𝓤 H 𝓜 𝓡)
-    (tree-spliced-meets 𝓤 H (𝓖 .A) (givenOf 𝓤 H 𝓜 𝓖) (𝓜 .mem) (𝓡 .run) (tablesOf 𝓤 H 𝓜 (tables 𝓤 H 𝓜 𝓡 code.env))
-    (cited 𝓤 H (SpliceTree 𝓤 H (𝓖 .A) (𝓜 .mem) (𝓡 .run)) 𝓜 𝓡 code.env #splicing·splice-tree splice-tree-def.routine code.calls-splicing·splice-tree (splice-tree-thm.met 𝓤 H 𝓜 𝓖 𝓡)))
+spliced-spec 𝓤 H 𝓜 𝓖 𝓡 =
+    entered 𝓤 H (tripleOf 𝓤 H (𝓖 .A) spliced.signature (spliced.spec 𝓤 H (𝓖 .A) (𝓜 .mem) (𝓡 .run)))
+    (tables 𝓤 H 𝓜 𝓡 code.env .C) (tables 𝓤 H 𝓜 𝓡 code.env .Λ) #tree-state·spliced code.function (code.unfolded 𝓤 H 𝓜 𝓡)
+    (spliced-meets 𝓤 H (𝓖 .A) (givenOf 𝓤 H 𝓜 𝓖) (𝓜 .mem) (𝓡 .run) (tablesOf 𝓤 H 𝓜 (tables 𝓤 H 𝓜 𝓡 code.env))
+    (cited 𝓤 H (Splice 𝓤 H (𝓖 .A) (𝓜 .mem) (𝓡 .run)) 𝓜 𝓡 code.env #tree-state·splice splice-def.routine code.calls-tree-state·splice (splice-thm.met 𝓤 H 𝓜 𝓖 𝓡)))

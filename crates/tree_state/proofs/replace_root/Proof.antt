@@ -1,4 +1,4 @@
--- `splicing::replace_root` meets its contract: a walk of its MIR by hand. The borrow of the state is opened, the state is copied out, `replace_store` is called with all the rest as it was passed, its answer is stored, and the borrow is closed at it.
+-- `tree_state::replace_root` meets its contract: a walk of its MIR by hand. The borrow of the state is opened, the state is copied out, `replace_store` is called with all the rest as it was passed, its answer is stored, and the borrow is closed at it.
 -- Assumes nothing.
 use mathlib.Core.Path.{refl}
 use Prim.Native.Nat.{ℕ}
@@ -38,21 +38,21 @@ use denote.Triple.Call.{calls-at}
 use denote.Triple.Clauses.{Lasts, atExit, ensured, lasts}
 use denote.Triple.Table.{entered, cited}
 use denote.Triple.Walked.{Stays, walkOf, Walks, ends-at, walked, walk-meets}
-use Rattle.splicing.specs.declared.TreeState.{TreeState}
+use Rattle.tree_state.specs.declared.TreeState.{TreeState}
 use Rattle.tree_store.proofs.Gap as G
 use Rattle.tree_store.proofs.Gap.Laws as G′
-use Rattle.splicing.proofs.Last.{stays-last, all-fit, all-go}
-use Rattle.splicing.proofs.Lent.{Rest, rest-vals}
-use Rattle.splicing.proofs.TreeState as T
-use Rattle.splicing.proofs.TreeState.Laws as T′
-use Rattle.splicing.proofs.replace_store as replace-store
-use Rattle.splicing.proofs.replace_store.Symbol as replace-store-def
-use Rattle.splicing.proofs.replace_store.Symbol.{name as #splicing·replace-store}
-use Rattle.splicing.proofs.replace_store.Met as replace-store-thm
-use Rattle.splicing.proofs.replace_root.Key.{name as #splicing·replace-root}
-use Rattle.splicing.proofs.replace_root as replace-root
-use Rattle.splicing.proofs.replace_root.Statement as stated
-use Rattle.splicing.proofs.replace_root.Code as code
+use Rattle.tree_state.proofs.Last.{stays-last, all-fit, all-go}
+use Rattle.tree_state.proofs.Lent.{Rest, rest-vals}
+use Rattle.tree_state.proofs.TreeState as T
+use Rattle.tree_state.proofs.TreeState.Laws as T′
+use Rattle.tree_state.proofs.replace_store as replace-store
+use Rattle.tree_state.proofs.replace_store.Symbol as replace-store-def
+use Rattle.tree_state.proofs.replace_store.Symbol.{name as #tree-state·replace-store}
+use Rattle.tree_state.proofs.replace_store.Met as replace-store-thm
+use Rattle.tree_state.proofs.replace_root.Key.{name as #tree-state·replace-root}
+use Rattle.tree_state.proofs.replace_root as replace-root
+use Rattle.tree_state.proofs.replace_root.Statement as stated
+use Rattle.tree_state.proofs.replace_root.Code as code
 
 abbrev stayed : Stays (replace-root.ended .signature .params) (replace-root.ended .kept)
 stayed = stays-last (replace-root.ended .signature .params) (replace-root.ended .kept)
@@ -96,7 +96,7 @@ module _ {M : Type 1} (𝓤 : URA M) (H : Heap 𝓤) (A : Atoms 𝓤) (W : Given
   abbrev to-replace-store : ReplaceStore 𝓤 H A at-mem run .Ghost
   to-replace-store = ((κs, qs, tt, (h, a), (mach ∷ [], rest-vals a)), tt)
 
-  module _ (C₀ : Calls 𝓤 H) (Λ : Loops 𝓤 H) (fm : FmC 𝓤 H (W .laws) C₀) (known : Triple 𝓤 (C₀ #splicing·replace-store) (ReplaceStore 𝓤 H A at-mem run)) (are : Are (typesAt (replace-root.signature .params) (κ, κs)) (Ises (typesAt (replace-root.signature .params) (κ, κs))) x at) where
+  module _ (C₀ : Calls 𝓤 H) (Λ : Loops 𝓤 H) (fm : FmC 𝓤 H (W .laws) C₀) (known : Triple 𝓤 (C₀ #tree-state·replace-store) (ReplaceStore 𝓤 H A at-mem run)) (are : Are (typesAt (replace-root.signature .params) (κ, κs)) (Ises (typesAt (replace-root.signature .params) (κ, κs))) x at) where
     walk : ent 𝓤 (sep 𝓤 (onEntry 𝓤 H A replace-root.signature (κ, κs) (q, qs) x at) asked) (WpFn 𝓤 H C₀ Λ code.function (flat (typesAt (replace-root.signature .params) (κ, κs)) at) Post)
     walk =
         qed W (((‵ (flft κ q) ⊛ raw alive′) ⊛ ‵ (owns (typesAt (replace-root.signature .params) (κ, κs)) x at)) ∷ raw asked ∷ []) ∵ split ! $ split ! $ move ! (2 ∷ []) $ fsplit ! $ fsplit3 ! $ drop ! $ move ! (0 ∷ 1 ∷ 3 ∷ []) $
@@ -147,13 +147,13 @@ module _ {M : Type 1} (𝓤 : URA M) (H : Heap 𝓤) (A : Atoms 𝓤) (W : Given
         keep ! (0 ∷ 2 ∷ 5 ∷ 3 ∷ 4 ∷ []) $ by ! (exits r ws))))))))))))))))))))))))))))))
 
 module _ {M : Type 1} (𝓤 : URA M) (H : Heap 𝓤) (A : Atoms 𝓤) (W : Given 𝓤 H A) (at-mem : Memory → SProp 𝓤) (run : Routine → Fun 𝓤) where
-  replace-root-walks : (C₀ : Calls 𝓤 H) (Λ : Loops 𝓤 H) → FmC 𝓤 H (W .laws) C₀ → Triple 𝓤 (C₀ #splicing·replace-store) (ReplaceStore 𝓤 H A at-mem run) → Walks 𝓤 H A replace-root.ended stayed (WpFn 𝓤 H C₀ Λ code.function) (replace-root.clauses 𝓤 H A at-mem run)
+  replace-root-walks : (C₀ : Calls 𝓤 H) (Λ : Loops 𝓤 H) → FmC 𝓤 H (W .laws) C₀ → Triple 𝓤 (C₀ #tree-state·replace-store) (ReplaceStore 𝓤 H A at-mem run) → Walks 𝓤 H A replace-root.ended stayed (WpFn 𝓤 H C₀ Λ code.function) (replace-root.clauses 𝓤 H A at-mem run)
   replace-root-walks C₀ Λ fm known = walked 𝓤 H A replace-root.ended stayed (replace-root.clauses 𝓤 H A at-mem run) (WpFn 𝓤 H C₀ Λ code.function)
       (λ κs. (ptr-vals, (slice-vals, (slice-vals, (slice-vals, (slice-vals, (LL.vals G.the-type G′.the-laws, (bool-vals, (slice-vals, (slice-vals, (slice-vals, (uint-vals w64, (uint-vals w64, tt)))))))))))))
       (λ κs. (mut-tells (named 0) (κs .0) T.the-row, (mut-slice-tells (named 1) (κs .1 .0) u32, (mut-slice-tells (named 2) (κs .1 .1 .0) u32, (mut-slice-tells (named 3) (κs .1 .1 .1 .0) u32, (mut-slice-tells (named 4) (κs .1 .1 .1 .1 .0) u32, (LL.tells G.the-type G′.the-laws, (bool-tells, (shr-slice-tells (named 5) (κs .1 .1 .1 .1 .1 .0) u32, (shr-slice-tells (named 6) (κs .1 .1 .1 .1 .1 .1 .0) u32, (shr-slice-tells (named 7) (κs .1 .1 .1 .1 .1 .1 .1 .0) u32, (uint-tells w64, (uint-tells w64, tt)))))))))))))
       (λ κs qs bounds a g are. walk 𝓤 H A W at-mem run (κs .0) (κs .1) (qs .0) (qs .1) (a .0 .ptr .0) (a .0 .ptr .1) (a .0 .name) (a .0 .now) (a .1) C₀ Λ fm known are)
 
-replace-root-meets : {M : Type 1} (𝓤 : URA M) (H : Heap 𝓤) (A : Atoms 𝓤) → Given 𝓤 H A → (at-mem : Memory → SProp 𝓤) (run : Routine → Fun 𝓤) (𝓣 : Tables 𝓤 H) → Triple 𝓤 (𝓣 .C #splicing·replace-store) (ReplaceStore 𝓤 H A at-mem run)
+replace-root-meets : {M : Type 1} (𝓤 : URA M) (H : Heap 𝓤) (A : Atoms 𝓤) → Given 𝓤 H A → (at-mem : Memory → SProp 𝓤) (run : Routine → Fun 𝓤) (𝓣 : Tables 𝓤 H) → Triple 𝓤 (𝓣 .C #tree-state·replace-store) (ReplaceStore 𝓤 H A at-mem run)
     → Meets 𝓤 H A replace-root.signature (WpFn 𝓤 H (𝓣 .C) (𝓣 .Λ) code.function) (replace-root.spec 𝓤 H A at-mem run)
 replace-root-meets 𝓤 H A W at-mem run 𝓣 known = walk-meets 𝓤 H A replace-root.ended stayed W (all-go 𝓤 H A W 8 (replace-root.signature .params) (replace-root.ended .kept)) (replace-root.clauses 𝓤 H A at-mem run) (WpFn 𝓤 H (𝓣 .C) (𝓣 .Λ) code.function) (WpFn-mono 𝓤 H (W .laws) 𝓣 code.function) (replace-root-walks 𝓤 H A W at-mem run (𝓣 .C) (𝓣 .Λ) (fmOf 𝓤 H (W .laws) 𝓣) known)
 
@@ -161,6 +161,6 @@ pub replace-root-spec : {M : Type 1} → stated.statement M
 unfolding code.routine tablesOf
 replace-root-spec 𝓤 H 𝓜 𝓖 𝓡 =
     entered 𝓤 H (tripleOf 𝓤 H (𝓖 .A) replace-root.signature (replace-root.spec 𝓤 H (𝓖 .A) (𝓜 .mem) (𝓡 .run)))
-    (tables 𝓤 H 𝓜 𝓡 code.env .C) (tables 𝓤 H 𝓜 𝓡 code.env .Λ) #splicing·replace-root code.function (code.unfolded 𝓤 H 𝓜 𝓡)
+    (tables 𝓤 H 𝓜 𝓡 code.env .C) (tables 𝓤 H 𝓜 𝓡 code.env .Λ) #tree-state·replace-root code.function (code.unfolded 𝓤 H 𝓜 𝓡)
     (replace-root-meets 𝓤 H (𝓖 .A) (givenOf 𝓤 H 𝓜 𝓖) (𝓜 .mem) (𝓡 .run) (tablesOf 𝓤 H 𝓜 (tables 𝓤 H 𝓜 𝓡 code.env))
-    (cited 𝓤 H (ReplaceStore 𝓤 H (𝓖 .A) (𝓜 .mem) (𝓡 .run)) 𝓜 𝓡 code.env #splicing·replace-store replace-store-def.routine code.calls-splicing·replace-store (replace-store-thm.met 𝓤 H 𝓜 𝓖 𝓡)))
+    (cited 𝓤 H (ReplaceStore 𝓤 H (𝓖 .A) (𝓜 .mem) (𝓡 .run)) 𝓜 𝓡 code.env #tree-state·replace-store replace-store-def.routine code.calls-tree-state·replace-store (replace-store-thm.met 𝓤 H 𝓜 𝓖 𝓡)))

@@ -1,4 +1,4 @@
--- `splicing::splice_tree` meets its contract: a walk of its MIR by hand. The borrow of the state is opened, the state is copied out, `splice_store` is called with all the rest as it was passed, its answer is stored, and the borrow is closed at it.
+-- `tree_state::splice` meets its contract: a walk of its MIR by hand. The borrow of the state is opened, the state is copied out, `splice_store` is called with all the rest as it was passed, its answer is stored, and the borrow is closed at it.
 -- Assumes nothing.
 use mathlib.Core.Path.{refl}
 use Prim.Native.Nat.{ℕ}
@@ -38,24 +38,24 @@ use denote.Triple.Call.{calls-at}
 use denote.Triple.Clauses.{Lasts, atExit, ensured, lasts}
 use denote.Triple.Table.{entered, cited}
 use denote.Triple.Walked.{Stays, walkOf, Walks, ends-at, walked, walk-meets}
-use Rattle.splicing.specs.declared.TreeState.{TreeState}
+use Rattle.tree_state.specs.declared.TreeState.{TreeState}
 use Rattle.tree_store.proofs.Gap as G
 use Rattle.tree_store.proofs.Gap.Laws as G′
-use Rattle.splicing.proofs.Last.{stays-last, all-fit, all-go}
-use Rattle.splicing.proofs.Lent.{Rest, rest-vals}
-use Rattle.splicing.proofs.TreeState as T
-use Rattle.splicing.proofs.TreeState.Laws as T′
-use Rattle.splicing.proofs.splice_store as splice-store
-use Rattle.splicing.proofs.splice_store.Symbol as splice-store-def
-use Rattle.splicing.proofs.splice_store.Symbol.{name as #splicing·splice-store}
-use Rattle.splicing.proofs.splice_store.Met as splice-store-thm
-use Rattle.splicing.proofs.splice_tree.Key.{name as #splicing·splice-tree}
-use Rattle.splicing.proofs.splice_tree as splice-tree
-use Rattle.splicing.proofs.splice_tree.Statement as stated
-use Rattle.splicing.proofs.splice_tree.Code as code
+use Rattle.tree_state.proofs.Last.{stays-last, all-fit, all-go}
+use Rattle.tree_state.proofs.Lent.{Rest, rest-vals}
+use Rattle.tree_state.proofs.TreeState as T
+use Rattle.tree_state.proofs.TreeState.Laws as T′
+use Rattle.tree_state.proofs.splice_store as splice-store
+use Rattle.tree_state.proofs.splice_store.Symbol as splice-store-def
+use Rattle.tree_state.proofs.splice_store.Symbol.{name as #tree-state·splice-store}
+use Rattle.tree_state.proofs.splice_store.Met as splice-store-thm
+use Rattle.tree_state.proofs.splice.Key.{name as #tree-state·splice}
+use Rattle.tree_state.proofs.splice as splice
+use Rattle.tree_state.proofs.splice.Statement as stated
+use Rattle.tree_state.proofs.splice.Code as code
 
-abbrev stayed : Stays (splice-tree.ended .signature .params) (splice-tree.ended .kept)
-stayed = stays-last (splice-tree.ended .signature .params) (splice-tree.ended .kept)
+abbrev stayed : Stays (splice.ended .signature .params) (splice.ended .kept)
+stayed = stays-last (splice.ended .signature .params) (splice.ended .kept)
 
 -- the contract that the proof cites
 abbrev SpliceStore : {M : Type 1} (𝓤 : URA M) (H : Heap 𝓤) (A : Atoms 𝓤) (mem : Memory → SProp 𝓤) (run : Routine → Fun 𝓤) → Contract 𝓤
@@ -65,7 +65,7 @@ module _ {M : Type 1} (𝓤 : URA M) (H : Heap 𝓤) (A : Atoms 𝓤) (W : Given
   abbrev x : RefT TreeState × Rest
   x = (record { ptr = (b, o); name = γ; now = h }, a)
 
-  abbrev at : Vals splice-tree.signature (κ, κs)
+  abbrev at : Vals splice.signature (κ, κs)
   at = (vptr b o ∷ [], rest-vals a)
 
   abbrev mach : Val
@@ -76,19 +76,19 @@ module _ {M : Type 1} (𝓤 : URA M) (H : Heap 𝓤) (A : Atoms 𝓤) (W : Given
   alive′ = alive 𝓤 H A splice-store.signature κs qs
 
   abbrev asked : SProp 𝓤
-  asked = splice-tree.clauses 𝓤 H A at-mem run (κ, κs) x .requires tt
+  asked = splice.clauses 𝓤 H A at-mem run (κ, κs) x .requires tt
 
   abbrev said : (r : TreeState) → Lasts splice-store.ended κs (h, a) → SProp 𝓤
   said r ws = splice-store.clauses 𝓤 H A at-mem run κs (h, a) .ensures tt r (atExit splice-store.ended κs (h, a) ws)
 
   abbrev Post : Val → SProp 𝓤
-  Post = walkOf 𝓤 H A splice-tree.ended stayed (splice-tree.clauses 𝓤 H A at-mem run) .post (((κ, κs), (q, qs), tt, x, at), tt)
+  Post = walkOf 𝓤 H A splice.ended stayed (splice.clauses 𝓤 H A at-mem run) .post (((κ, κs), (q, qs), tt, x, at), tt)
 
   exits : (r : TreeState) (ws : Lasts splice-store.ended κs (h, a))
       → ent 𝓤 (sep 𝓤 (A .obs γ (T.the-row .coded .code r)) (sep 𝓤 (A .lft κ q) (sep 𝓤 alive′ (sep 𝓤 (sem 𝓤 H A (lasts splice-store.ended κs (h, a) ws)) (said r ws))))) (Post vunit)
   exits r ws =
       qed W (‵ (fobs γ (T.the-row .coded .code r)) ∷ ‵ (flft κ q) ∷ raw alive′ ∷ ‵ (lasts splice-store.ended κs (h, a) ws) ∷ raw (said r ws) ∷ []) ∵
-      suffices ! _ (ends-at 𝓤 H A splice-tree.ended stayed (splice-tree.clauses 𝓤 H A at-mem run) W (((κ, κs), (q, qs), tt, x, at), tt) vunit tt (r, ws .1) (all-fit (κ, κs) (splice-tree.signature .params) (splice-tree.ended .kept) x (r, ws .1))) $
+      suffices ! _ (ends-at 𝓤 H A splice.ended stayed (splice.clauses 𝓤 H A at-mem run) W (((κ, κs), (q, qs), tt, x, at), tt) vunit tt (r, ws .1) (all-fit (κ, κs) (splice.signature .params) (splice.ended .kept) x (r, ws .1))) $
       use1 W (‵ (fres γ (T.the-row .coded .code r))) (W .names .obs-res γ (T.the-row .coded .code r)) $ move ! (3 ∷ []) $ fsplit ! $ drop ! $ move ! (1 ∷ 0 ∷ []) $ fjoin ! $
       -- [what is said of the last values; the token; the rest's tokens; what the contract says]
       feqI ! (List Val) (vunit ∷ []) (vunit ∷ []) refl $ move ! (1 ∷ 0 ∷ []) $ join ! $ move ! (1 ∷ 2 ∷ []) $ join ! $ join ! $ done !
@@ -96,12 +96,12 @@ module _ {M : Type 1} (𝓤 : URA M) (H : Heap 𝓤) (A : Atoms 𝓤) (W : Given
   abbrev to-splice-store : SpliceStore 𝓤 H A at-mem run .Ghost
   to-splice-store = ((κs, qs, tt, (h, a), (mach ∷ [], rest-vals a)), tt)
 
-  module _ (C₀ : Calls 𝓤 H) (Λ : Loops 𝓤 H) (fm : FmC 𝓤 H (W .laws) C₀) (known : Triple 𝓤 (C₀ #splicing·splice-store) (SpliceStore 𝓤 H A at-mem run)) (are : Are (typesAt (splice-tree.signature .params) (κ, κs)) (Ises (typesAt (splice-tree.signature .params) (κ, κs))) x at) where
-    walk : ent 𝓤 (sep 𝓤 (onEntry 𝓤 H A splice-tree.signature (κ, κs) (q, qs) x at) asked) (WpFn 𝓤 H C₀ Λ code.function (flat (typesAt (splice-tree.signature .params) (κ, κs)) at) Post)
+  module _ (C₀ : Calls 𝓤 H) (Λ : Loops 𝓤 H) (fm : FmC 𝓤 H (W .laws) C₀) (known : Triple 𝓤 (C₀ #tree-state·splice-store) (SpliceStore 𝓤 H A at-mem run)) (are : Are (typesAt (splice.signature .params) (κ, κs)) (Ises (typesAt (splice.signature .params) (κ, κs))) x at) where
+    walk : ent 𝓤 (sep 𝓤 (onEntry 𝓤 H A splice.signature (κ, κs) (q, qs) x at) asked) (WpFn 𝓤 H C₀ Λ code.function (flat (typesAt (splice.signature .params) (κ, κs)) at) Post)
     walk =
-        qed W (((‵ (flft κ q) ⊛ raw alive′) ⊛ ‵ (owns (typesAt (splice-tree.signature .params) (κ, κs)) x at)) ∷ raw asked ∷ []) ∵ split ! $ split ! $ move ! (2 ∷ []) $ fsplit ! $ fsplit3 ! $ drop ! $ move ! (0 ∷ 1 ∷ 3 ∷ []) $
+        qed W (((‵ (flft κ q) ⊛ raw alive′) ⊛ ‵ (owns (typesAt (splice.signature .params) (κ, κs)) x at)) ∷ raw asked ∷ []) ∵ split ! $ split ! $ move ! (2 ∷ []) $ fsplit ! $ fsplit3 ! $ drop ! $ move ! (0 ∷ 1 ∷ 3 ∷ []) $
         -- [obs; the borrow; the token; what the rest owns; the rest's tokens; what is asked]
-        enter ! C₀ Λ code.function (flat (typesAt (splice-tree.signature .params) (κ, κs)) at) _ $
+        enter ! C₀ Λ code.function (flat (typesAt (splice.signature .params) (κ, κs)) at) _ $
         alloc1 ! (λ l₀. alloc1 ! (λ l₁. alloc1 ! (λ l₂. alloc1 ! (λ l₃. alloc1 ! (λ l₄. alloc1 ! (λ l₅. alloc1 ! (λ l₆. alloc1 ! (λ l₇. alloc1 ! (λ l₈. alloc1 ! (λ l₉. alloc1 ! (λ l₁₀. alloc1 ! (λ l₁₁. alloc1 ! (λ l₁₂. alloc1 ! (λ l₁₃. alloc1 ! (λ l₁₄. alloc1 ! (λ l₁₅. alloc1 ! (λ l₁₆. alloc1 ! (λ l₁₇. alloc1 ! (λ l₁₈. alloc1 ! (λ l₁₉. alloc1 ! (λ l₂₀. alloc1 ! (λ l₂₁. alloc1 ! (λ l₂₂. alloc0 ! $ params1 ! $
         pass1 ! (init ! 42 refl (tt, tt)) $
         pass1 ! (init ! 40 refl (tt, (tt, (record { fits = are .1 .0 .0 .1 .0 }, tt)))) $
@@ -147,20 +147,20 @@ module _ {M : Type 1} (𝓤 : URA M) (H : Heap 𝓤) (A : Atoms 𝓤) (W : Given
         keep ! (0 ∷ 2 ∷ 5 ∷ 3 ∷ 4 ∷ []) $ by ! (exits r ws))))))))))))))))))))))))))))))
 
 module _ {M : Type 1} (𝓤 : URA M) (H : Heap 𝓤) (A : Atoms 𝓤) (W : Given 𝓤 H A) (at-mem : Memory → SProp 𝓤) (run : Routine → Fun 𝓤) where
-  splice-tree-walks : (C₀ : Calls 𝓤 H) (Λ : Loops 𝓤 H) → FmC 𝓤 H (W .laws) C₀ → Triple 𝓤 (C₀ #splicing·splice-store) (SpliceStore 𝓤 H A at-mem run) → Walks 𝓤 H A splice-tree.ended stayed (WpFn 𝓤 H C₀ Λ code.function) (splice-tree.clauses 𝓤 H A at-mem run)
-  splice-tree-walks C₀ Λ fm known = walked 𝓤 H A splice-tree.ended stayed (splice-tree.clauses 𝓤 H A at-mem run) (WpFn 𝓤 H C₀ Λ code.function)
+  splice-walks : (C₀ : Calls 𝓤 H) (Λ : Loops 𝓤 H) → FmC 𝓤 H (W .laws) C₀ → Triple 𝓤 (C₀ #tree-state·splice-store) (SpliceStore 𝓤 H A at-mem run) → Walks 𝓤 H A splice.ended stayed (WpFn 𝓤 H C₀ Λ code.function) (splice.clauses 𝓤 H A at-mem run)
+  splice-walks C₀ Λ fm known = walked 𝓤 H A splice.ended stayed (splice.clauses 𝓤 H A at-mem run) (WpFn 𝓤 H C₀ Λ code.function)
       (λ κs. (ptr-vals, (slice-vals, (slice-vals, (slice-vals, (slice-vals, (LL.vals G.the-type G′.the-laws, (bool-vals, (slice-vals, (slice-vals, (slice-vals, (uint-vals w64, (uint-vals w64, tt)))))))))))))
       (λ κs. (mut-tells (named 0) (κs .0) T.the-row, (mut-slice-tells (named 1) (κs .1 .0) u32, (mut-slice-tells (named 2) (κs .1 .1 .0) u32, (mut-slice-tells (named 3) (κs .1 .1 .1 .0) u32, (mut-slice-tells (named 4) (κs .1 .1 .1 .1 .0) u32, (LL.tells G.the-type G′.the-laws, (bool-tells, (shr-slice-tells (named 5) (κs .1 .1 .1 .1 .1 .0) u32, (shr-slice-tells (named 6) (κs .1 .1 .1 .1 .1 .1 .0) u32, (shr-slice-tells (named 7) (κs .1 .1 .1 .1 .1 .1 .1 .0) u32, (uint-tells w64, (uint-tells w64, tt)))))))))))))
       (λ κs qs bounds a g are. walk 𝓤 H A W at-mem run (κs .0) (κs .1) (qs .0) (qs .1) (a .0 .ptr .0) (a .0 .ptr .1) (a .0 .name) (a .0 .now) (a .1) C₀ Λ fm known are)
 
-splice-tree-meets : {M : Type 1} (𝓤 : URA M) (H : Heap 𝓤) (A : Atoms 𝓤) → Given 𝓤 H A → (at-mem : Memory → SProp 𝓤) (run : Routine → Fun 𝓤) (𝓣 : Tables 𝓤 H) → Triple 𝓤 (𝓣 .C #splicing·splice-store) (SpliceStore 𝓤 H A at-mem run)
-    → Meets 𝓤 H A splice-tree.signature (WpFn 𝓤 H (𝓣 .C) (𝓣 .Λ) code.function) (splice-tree.spec 𝓤 H A at-mem run)
-splice-tree-meets 𝓤 H A W at-mem run 𝓣 known = walk-meets 𝓤 H A splice-tree.ended stayed W (all-go 𝓤 H A W 8 (splice-tree.signature .params) (splice-tree.ended .kept)) (splice-tree.clauses 𝓤 H A at-mem run) (WpFn 𝓤 H (𝓣 .C) (𝓣 .Λ) code.function) (WpFn-mono 𝓤 H (W .laws) 𝓣 code.function) (splice-tree-walks 𝓤 H A W at-mem run (𝓣 .C) (𝓣 .Λ) (fmOf 𝓤 H (W .laws) 𝓣) known)
+splice-meets : {M : Type 1} (𝓤 : URA M) (H : Heap 𝓤) (A : Atoms 𝓤) → Given 𝓤 H A → (at-mem : Memory → SProp 𝓤) (run : Routine → Fun 𝓤) (𝓣 : Tables 𝓤 H) → Triple 𝓤 (𝓣 .C #tree-state·splice-store) (SpliceStore 𝓤 H A at-mem run)
+    → Meets 𝓤 H A splice.signature (WpFn 𝓤 H (𝓣 .C) (𝓣 .Λ) code.function) (splice.spec 𝓤 H A at-mem run)
+splice-meets 𝓤 H A W at-mem run 𝓣 known = walk-meets 𝓤 H A splice.ended stayed W (all-go 𝓤 H A W 8 (splice.signature .params) (splice.ended .kept)) (splice.clauses 𝓤 H A at-mem run) (WpFn 𝓤 H (𝓣 .C) (𝓣 .Λ) code.function) (WpFn-mono 𝓤 H (W .laws) 𝓣 code.function) (splice-walks 𝓤 H A W at-mem run (𝓣 .C) (𝓣 .Λ) (fmOf 𝓤 H (W .laws) 𝓣) known)
 
-pub splice-tree-spec : {M : Type 1} → stated.statement M
+pub splice-spec : {M : Type 1} → stated.statement M
 unfolding code.routine tablesOf
-splice-tree-spec 𝓤 H 𝓜 𝓖 𝓡 =
-    entered 𝓤 H (tripleOf 𝓤 H (𝓖 .A) splice-tree.signature (splice-tree.spec 𝓤 H (𝓖 .A) (𝓜 .mem) (𝓡 .run)))
-    (tables 𝓤 H 𝓜 𝓡 code.env .C) (tables 𝓤 H 𝓜 𝓡 code.env .Λ) #splicing·splice-tree code.function (code.unfolded 𝓤 H 𝓜 𝓡)
-    (splice-tree-meets 𝓤 H (𝓖 .A) (givenOf 𝓤 H 𝓜 𝓖) (𝓜 .mem) (𝓡 .run) (tablesOf 𝓤 H 𝓜 (tables 𝓤 H 𝓜 𝓡 code.env))
-    (cited 𝓤 H (SpliceStore 𝓤 H (𝓖 .A) (𝓜 .mem) (𝓡 .run)) 𝓜 𝓡 code.env #splicing·splice-store splice-store-def.routine code.calls-splicing·splice-store (splice-store-thm.met 𝓤 H 𝓜 𝓖 𝓡)))
+splice-spec 𝓤 H 𝓜 𝓖 𝓡 =
+    entered 𝓤 H (tripleOf 𝓤 H (𝓖 .A) splice.signature (splice.spec 𝓤 H (𝓖 .A) (𝓜 .mem) (𝓡 .run)))
+    (tables 𝓤 H 𝓜 𝓡 code.env .C) (tables 𝓤 H 𝓜 𝓡 code.env .Λ) #tree-state·splice code.function (code.unfolded 𝓤 H 𝓜 𝓡)
+    (splice-meets 𝓤 H (𝓖 .A) (givenOf 𝓤 H 𝓜 𝓖) (𝓜 .mem) (𝓡 .run) (tablesOf 𝓤 H 𝓜 (tables 𝓤 H 𝓜 𝓡 code.env))
+    (cited 𝓤 H (SpliceStore 𝓤 H (𝓖 .A) (𝓜 .mem) (𝓡 .run)) 𝓜 𝓡 code.env #tree-state·splice-store splice-store-def.routine code.calls-tree-state·splice-store (splice-store-thm.met 𝓤 H 𝓜 𝓖 𝓡)))

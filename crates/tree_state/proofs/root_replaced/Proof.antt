@@ -1,4 +1,4 @@
--- `splicing::root_replaced` meets its contract: a walk of its MIR by hand. The state lies in a local, which is lent to `replace_root` for a lifetime of the call and comes back at its last value; all the rest is passed on.
+-- `tree_state::root_replaced` meets its contract: a walk of its MIR by hand. The state lies in a local, which is lent to `replace_root` for a lifetime of the call and comes back at its last value; all the rest is passed on.
 -- Assumes nothing.
 use mathlib.Core.Path.{refl, sym, ap, subst}
 use Prim.Native.Nat.{ℕ}
@@ -41,21 +41,21 @@ use denote.Triple.Call.{calls-at}
 use denote.Triple.Clauses.{Lasts, atExit, ensured, lasts}
 use denote.Triple.Table.{entered, cited}
 use denote.Triple.Walked.{Stays, walkOf, Walks, ends-at, walked, walk-meets}
-use Rattle.splicing.specs.declared.TreeState.{TreeState}
+use Rattle.tree_state.specs.declared.TreeState.{TreeState}
 use Rattle.tree_store.proofs.Gap as G
 use Rattle.tree_store.proofs.Gap.Laws as G′
-use Rattle.splicing.proofs.Last.{stays-last, all-fit, all-go}
-use Rattle.splicing.proofs.Lent.{Rest, rest-vals, state-in, state-out}
-use Rattle.splicing.proofs.TreeState as T
-use Rattle.splicing.proofs.TreeState.Laws as T′
-use Rattle.splicing.proofs.replace_root as replace-root
-use Rattle.splicing.proofs.replace_root.Symbol as replace-root-def
-use Rattle.splicing.proofs.replace_root.Symbol.{name as #splicing·replace-root}
-use Rattle.splicing.proofs.replace_root.Met as replace-root-thm
-use Rattle.splicing.proofs.root_replaced.Key.{name as #splicing·root-replaced}
-use Rattle.splicing.proofs.root_replaced as root-replaced
-use Rattle.splicing.proofs.root_replaced.Statement as stated
-use Rattle.splicing.proofs.root_replaced.Code as code
+use Rattle.tree_state.proofs.Last.{stays-last, all-fit, all-go}
+use Rattle.tree_state.proofs.Lent.{Rest, rest-vals, state-in, state-out}
+use Rattle.tree_state.proofs.TreeState as T
+use Rattle.tree_state.proofs.TreeState.Laws as T′
+use Rattle.tree_state.proofs.replace_root as replace-root
+use Rattle.tree_state.proofs.replace_root.Symbol as replace-root-def
+use Rattle.tree_state.proofs.replace_root.Symbol.{name as #tree-state·replace-root}
+use Rattle.tree_state.proofs.replace_root.Met as replace-root-thm
+use Rattle.tree_state.proofs.root_replaced.Key.{name as #tree-state·root-replaced}
+use Rattle.tree_state.proofs.root_replaced as root-replaced
+use Rattle.tree_state.proofs.root_replaced.Statement as stated
+use Rattle.tree_state.proofs.root_replaced.Code as code
 
 abbrev stayed : Stays (root-replaced.ended .signature .params) (root-replaced.ended .kept)
 stayed = stays-last (root-replaced.ended .signature .params) (root-replaced.ended .kept)
@@ -99,7 +99,7 @@ module _ {M : Type 1} (𝓤 : URA M) (H : Heap 𝓤) (A : Atoms 𝓤) (W : Given
       suffices ! _ (ends-at 𝓤 H A root-replaced.ended stayed (root-replaced.clauses 𝓤 H A at-mem run) W ((κs, qs, tt, x, at), tt) v (ws .0) (tt, ws .1) (all-fit κs (root-replaced.signature .params) (root-replaced.ended .kept) x (tt, ws .1))) $
       move ! (1 ∷ 0 ∷ []) $ join ! $ move ! (2 ∷ 0 ∷ []) $ join ! $ done !
 
-  module _ (C₀ : Calls 𝓤 H) (Λ : Loops 𝓤 H) (fm : FmC 𝓤 H (W .laws) C₀) (known : Triple 𝓤 (C₀ #splicing·replace-root) (ReplaceRoot 𝓤 H A at-mem run)) (are : Are (typesAt (root-replaced.signature .params) κs) (Ises (typesAt (root-replaced.signature .params) κs)) x at) where
+  module _ (C₀ : Calls 𝓤 H) (Λ : Loops 𝓤 H) (fm : FmC 𝓤 H (W .laws) C₀) (known : Triple 𝓤 (C₀ #tree-state·replace-root) (ReplaceRoot 𝓤 H A at-mem run)) (are : Are (typesAt (root-replaced.signature .params) κs) (Ises (typesAt (root-replaced.signature .params) κs)) x at) where
     walk : ent 𝓤 (sep 𝓤 (onEntry 𝓤 H A root-replaced.signature κs qs x at) asked) (WpFn 𝓤 H C₀ Λ code.function (flat (typesAt (root-replaced.signature .params) κs) at) Post)
     walk =
         qed W ((raw alive′ ⊛ ‵ (owns (typesAt (root-replaced.signature .params) κs) x at)) ∷ raw asked ∷ []) ∵ split ! $ move ! (1 ∷ []) $ fsplit ! $ drop ! $
@@ -154,13 +154,13 @@ module _ {M : Type 1} (𝓤 : URA M) (H : Heap 𝓤) (A : Atoms 𝓤) (W : Given
         move ! (1 ∷ []) $ nothing ! $ fjoin ! $ keep ! (1 ∷ 0 ∷ 2 ∷ 3 ∷ []) $ by ! (exits α l₁₃ δ ws (T′.lowered (ws .0))))))))))))))))))))))))))))))))))
 
 module _ {M : Type 1} (𝓤 : URA M) (H : Heap 𝓤) (A : Atoms 𝓤) (W : Given 𝓤 H A) (at-mem : Memory → SProp 𝓤) (run : Routine → Fun 𝓤) where
-  root-replaced-walks : (C₀ : Calls 𝓤 H) (Λ : Loops 𝓤 H) → FmC 𝓤 H (W .laws) C₀ → Triple 𝓤 (C₀ #splicing·replace-root) (ReplaceRoot 𝓤 H A at-mem run) → Walks 𝓤 H A root-replaced.ended stayed (WpFn 𝓤 H C₀ Λ code.function) (root-replaced.clauses 𝓤 H A at-mem run)
+  root-replaced-walks : (C₀ : Calls 𝓤 H) (Λ : Loops 𝓤 H) → FmC 𝓤 H (W .laws) C₀ → Triple 𝓤 (C₀ #tree-state·replace-root) (ReplaceRoot 𝓤 H A at-mem run) → Walks 𝓤 H A root-replaced.ended stayed (WpFn 𝓤 H C₀ Λ code.function) (root-replaced.clauses 𝓤 H A at-mem run)
   root-replaced-walks C₀ Λ fm known = walked 𝓤 H A root-replaced.ended stayed (root-replaced.clauses 𝓤 H A at-mem run) (WpFn 𝓤 H C₀ Λ code.function)
       (λ κs. (LL.vals T.the-type T′.the-laws, (slice-vals, (slice-vals, (slice-vals, (slice-vals, (LL.vals G.the-type G′.the-laws, (bool-vals, (slice-vals, (slice-vals, (slice-vals, (uint-vals w64, (uint-vals w64, tt)))))))))))))
       (λ κs. (LL.tells T.the-type T′.the-laws, (mut-slice-tells (named 0) (κs .0) u32, (mut-slice-tells (named 1) (κs .1 .0) u32, (mut-slice-tells (named 2) (κs .1 .1 .0) u32, (mut-slice-tells (named 3) (κs .1 .1 .1 .0) u32, (LL.tells G.the-type G′.the-laws, (bool-tells, (shr-slice-tells (named 4) (κs .1 .1 .1 .1 .0) u32, (shr-slice-tells (named 5) (κs .1 .1 .1 .1 .1 .0) u32, (shr-slice-tells (named 6) (κs .1 .1 .1 .1 .1 .1 .0) u32, (uint-tells w64, (uint-tells w64, tt)))))))))))))
       (λ κs qs bounds a g are. walk 𝓤 H A W at-mem run κs qs (a .0) (a .1) C₀ Λ fm known are)
 
-root-replaced-meets : {M : Type 1} (𝓤 : URA M) (H : Heap 𝓤) (A : Atoms 𝓤) → Given 𝓤 H A → (at-mem : Memory → SProp 𝓤) (run : Routine → Fun 𝓤) (𝓣 : Tables 𝓤 H) → Triple 𝓤 (𝓣 .C #splicing·replace-root) (ReplaceRoot 𝓤 H A at-mem run)
+root-replaced-meets : {M : Type 1} (𝓤 : URA M) (H : Heap 𝓤) (A : Atoms 𝓤) → Given 𝓤 H A → (at-mem : Memory → SProp 𝓤) (run : Routine → Fun 𝓤) (𝓣 : Tables 𝓤 H) → Triple 𝓤 (𝓣 .C #tree-state·replace-root) (ReplaceRoot 𝓤 H A at-mem run)
     → Meets 𝓤 H A root-replaced.signature (WpFn 𝓤 H (𝓣 .C) (𝓣 .Λ) code.function) (root-replaced.spec 𝓤 H A at-mem run)
 root-replaced-meets 𝓤 H A W at-mem run 𝓣 known = walk-meets 𝓤 H A root-replaced.ended stayed W (all-go 𝓤 H A W 7 (root-replaced.signature .params) (root-replaced.ended .kept)) (root-replaced.clauses 𝓤 H A at-mem run) (WpFn 𝓤 H (𝓣 .C) (𝓣 .Λ) code.function) (WpFn-mono 𝓤 H (W .laws) 𝓣 code.function) (root-replaced-walks 𝓤 H A W at-mem run (𝓣 .C) (𝓣 .Λ) (fmOf 𝓤 H (W .laws) 𝓣) known)
 
@@ -168,6 +168,6 @@ pub root-replaced-spec : {M : Type 1} → stated.statement M
 unfolding code.routine tablesOf
 root-replaced-spec 𝓤 H 𝓜 𝓖 𝓡 =
     entered 𝓤 H (tripleOf 𝓤 H (𝓖 .A) root-replaced.signature (root-replaced.spec 𝓤 H (𝓖 .A) (𝓜 .mem) (𝓡 .run)))
-    (tables 𝓤 H 𝓜 𝓡 code.env .C) (tables 𝓤 H 𝓜 𝓡 code.env .Λ) #splicing·root-replaced code.function (code.unfolded 𝓤 H 𝓜 𝓡)
+    (tables 𝓤 H 𝓜 𝓡 code.env .C) (tables 𝓤 H 𝓜 𝓡 code.env .Λ) #tree-state·root-replaced code.function (code.unfolded 𝓤 H 𝓜 𝓡)
     (root-replaced-meets 𝓤 H (𝓖 .A) (givenOf 𝓤 H 𝓜 𝓖) (𝓜 .mem) (𝓡 .run) (tablesOf 𝓤 H 𝓜 (tables 𝓤 H 𝓜 𝓡 code.env))
-    (cited 𝓤 H (ReplaceRoot 𝓤 H (𝓖 .A) (𝓜 .mem) (𝓡 .run)) 𝓜 𝓡 code.env #splicing·replace-root replace-root-def.routine code.calls-splicing·replace-root (replace-root-thm.met 𝓤 H 𝓜 𝓖 𝓡)))
+    (cited 𝓤 H (ReplaceRoot 𝓤 H (𝓖 .A) (𝓜 .mem) (𝓡 .run)) 𝓜 𝓡 code.env #tree-state·replace-root replace-root-def.routine code.calls-tree-state·replace-root (replace-root-thm.met 𝓤 H 𝓜 𝓖 𝓡)))

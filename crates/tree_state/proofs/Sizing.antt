@@ -20,14 +20,14 @@ use Rattle.annotations.specs.Notes.{notesOf, length-notesOf}
 use Rattle.annotations.specs.Promises.{movedNote}
 use Rattle.tree_store.specs.Stored.{stored}
 use Rattle.tree_store.specs.declared.Gap.{Gap}
 use Rattle.splicing.specs.Promises.{NotesLeft}
-use Rattle.splicing.specs.Store.{heldIn, gapTold, Comes, Open, Coming, StoreSpliced}
-use Rattle.splicing.specs.Sizes.{BytesBetween, sizeBy, rowsThen, bytesThen, notesThen, largeThen, StepSize}
-use Rattle.splicing.specs.Applied.{executedIn, judgedStore, Applied}
-use Rattle.splicing.specs.declared.TreeState.{TreeState}
-use Rattle.splicing.specs.declared.Size.{Size}
-use Rattle.splicing.specs.declared.Size.the-variants.{TooLarge, Fits}
-use Rattle.splicing.specs.declared.Executed.the-variants.{Refused, Done}
+use Rattle.tree_state.specs.Store.{heldIn, gapTold, Comes, Open, Coming, StoreSpliced}
+use Rattle.tree_state.specs.Sizes.{BytesBetween, sizeBy, rowsThen, bytesThen, notesThen, largeThen, StepSize}
+use Rattle.tree_state.specs.Applied.{executedIn, judgedStore, Applied}
+use Rattle.tree_state.specs.declared.TreeState.{TreeState}
+use Rattle.tree_state.specs.declared.Size.{Size}
+use Rattle.tree_state.specs.declared.Size.the-variants.{TooLarge, Fits}
+use Rattle.tree_state.specs.declared.Executed.the-variants.{Refused, Done}
 
 -- ── Sums ────────────────────────────────────────────────────────────────────────────────────────────────────
 
