@@ -1,10 +1,10 @@
 use lib.ListN.{length}
-use Rattle.edit.specs.Told.{refused-room, edited-counted, edited-printable, refused-told, edited-told}
+use Rattle.edit_program.specs.Told.{refused-room, edited-counted, edited-printable, refused-told, edited-told}
 use borrow.Author.Needs.{needs}
-use Rattle.edit.proofs.show.Statement.{statement}
-use Rattle.edit.proofs.show.Tie as tie
-use Rattle.edit.proofs.show.Reads as reads
-use Rattle.edit.proofs.show.Lts as lts
+use Rattle.edit_program.proofs.show.Statement.{statement}
+use Rattle.edit_program.proofs.show.Tie as tie
+use Rattle.edit_program.proofs.show.Reads as reads
+use Rattle.edit_program.proofs.show.Lts as lts
 use Rattle.printing.proofs.print_refusal.Reads as print-refusal-reads
 use Rattle.printing.proofs.print_result.Reads as print-result-reads
 

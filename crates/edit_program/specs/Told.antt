@@ -87,13 +87,20 @@ module _ {r : Answer} (result : List ℕ) where
   pub edited-told : {n : ℕ} {d l : List ℕ} {to : ℕ} → r ≡ Edited n → Put d 0 (print (gives (decoded (take n result)))) l to → Put d 0 (told r result) l to
   edited-told e p = rw e p
 
--- where the slices are long enough, what is shown of the answer is what the definition prints of the batch
-pub edit-printed : (b held : List ℕ) (work : List (List ℕ)) (holds : List ℕ) (left : List (List ℕ)) (r : Answer) {d l : List ℕ} {to : ℕ} → Edits b held work (answerOf r) holds left → Put d 0 (told r holds) l to
-    → 65536 ≡ length held → tooShort (lengths work) ≡ false → length b ≤ 65536 → Bytes b → Put d 0 (printed b) l to
-edit-printed b held work holds left r p q e s n v =
+-- an answer, with its result at the front of the slice, tells what the definition prints of the batch
+pub record Tells (b : List ℕ) (r : Answer) (result : List ℕ) : Type 0 where
+  pub showable : (room : ℕ) → 180000 ≤ room → Showable r result room
+  pub tells : told r result ≡ printed b
+
+-- where the slices are long enough, so does every answer that keeps its promise
+pub edit-tells : {b held : List ℕ} {work : List (List ℕ)} {holds : List ℕ} {left : List (List ℕ)} {r : Answer} → Edits b held work (answerOf r) holds left → 65536 ≡ length held → tooShort (lengths work) ≡ false
+    → length b ≤ 65536 → Bytes b → Tells b r holds
+edit-tells {b} {held} {work} {holds} {left} {r} p e s n v =
     let whole = take-all 65536 b n in
-    let run : print (answerIn (answerOf r) holds) ≡ printed b = printed-run b held work (answerOf r) holds left (rw whole p) (rw whole v) s (sym e) in
-    rw (← run, ← edit-told b held work holds left r v p) q
+    record {
+      showable = λ room h. edit-showable b held work holds left r room h p;
+      tells = edit-told b held work holds left r v p ∙ printed-run b held work (answerOf r) holds left (rw whole p) (rw whole v) s (sym e);
+    }
 
 -- slices of the lengths of docs/WORK.md are long enough
 pub lengths-suffice : (a b c d e f g h i j k l : List ℕ) → 16384 ≡ length a → 6147 ≡ length b → 3328 ≡ length c → 256 ≡ length d → 768 ≡ length e → 3072 ≡ length f → 3072 ≡ length g → 1024 ≡ length h → 2048 ≡ length i

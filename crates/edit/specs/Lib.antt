@@ -1,2 +1,0 @@
--- What the program prints of an answer.
-pub mod Told

@@ -1,0 +1,90 @@
+// The edit program: reads a batch on standard input and prints its answer.
+use edit_algo::Answer;
+ghost use mathlib.Core.Path.{_≡_};
+ghost use Prim.Native.Nat.{_≤_};
+ghost use lib.ListN.{length};
+ghost use Rattle.printing.specs.Lines.{Put};
+ghost use Rattle.edit_program.specs.Told.{Showable, told, Tells};
+ghost use Rattle.edit_program.specs.Responds.{Responds};
+
+// The answer to a batch, its result at the front of `result`. The work slices are made here, of the lengths of docs/WORK.md.
+fn edit_batch(batch: &[u8], result: &mut [u8]) -> Answer
+    requires { ⌜ (length (now batch) ≤ 65536) × (65536 ≡ length (now result)) ⌝ }
+    ensures { λ r. ⌜ Tells (now (batch .entry)) r (now (result .exit)) ⌝ }
+{
+    let mut table = [0u32; 16384];
+    let mut source = [0u32; 6147];
+    let mut changes = [0u32; 3328];
+    let mut running = [0u32; 256];
+    let mut first = [0u32; 768];
+    let mut notes = [0u32; 3072];
+    let mut incoming = [0u32; 3072];
+    let mut changed = [0u32; 1024];
+    let mut marks = [0u32; 2048];
+    let mut rows = [0u32; 12291];
+    let mut prepared = [0u32; 12288];
+    let mut sizes = [0u32; 1024];
+    edit_algo::edit(
+        batch,
+        result,
+        &mut table,
+        &mut source,
+        &mut changes,
+        &mut running,
+        &mut first,
+        &mut notes,
+        &mut incoming,
+        &mut changed,
+        &mut marks,
+        &mut rows,
+        &mut prepared,
+        &mut sizes,
+    )
+}
+
+// What is printed of an answer is written at the front of `out`.
+fn show(answer: Answer, result: &[u8], out: &mut [u8]) -> usize
+    requires { ⌜ Showable answer (now result) (length (now out)) ⌝ }
+    ensures { λ r. ⌜ Put (now (out .entry)) 0 (told answer (now (result .entry))) (now (out .exit)) r ⌝ }
+{
+    match answer {
+        Answer::Refused(number) => printing::print_refusal(out, number),
+        Answer::Edited(n) => printing::print_result(out, &result[..n]),
+    }
+}
+
+// What is printed of the batch in the first `read` bytes is written at the front of `out`.
+fn answer(batch: &[u8], read: usize, out: &mut [u8]) -> usize
+    requires { ⌜ (65536 ≡ length (now batch)) × (read ≤ length (now batch)) × (180000 ≤ length (now out)) ⌝ }
+    ensures { λ r. ⌜ Responds (now (batch .entry)) read (now (out .exit)) r ⌝ }
+{
+    let mut result = io::large_buffer();
+    let answer = edit_batch(&batch[..read], &mut result);
+    show(answer, &result, out)
+}
+
+// How many bytes of the batch were read, and how many of the output are to be printed.
+pub struct Response {
+    pub read: usize,
+    pub written: usize,
+}
+
+// Reads a batch and writes what is printed of it at the front of `out`. The bytes judged are the first `read` of the batch's buffer, as reading left it; that
+// these are the bytes that came on standard input is not promised (`batch_input::read_batch`).
+pub fn respond(batch: &mut [u8], out: &mut [u8]) -> Response
+    requires { ⌜ (65536 ≡ length (now batch)) × (180000 ≤ length (now out)) ⌝ }
+    ensures { λ r. ⌜ Responds (now (batch .exit)) (r .read) (now (out .exit)) (r .written) ⌝ }
+{
+    let read = batch_input::read_batch(batch);
+    let written = answer(batch, read, out);
+    Response { read, written }
+}
+
+// The whole program: the first `written` bytes of the output are printed. How many of them the operating system takes is not promised.
+pub fn run() {
+    let mut batch = io::large_buffer();
+    let mut out = [0u8; 180000];
+    let response = respond(&mut batch, &mut out);
+    let written = response.written;
+    io::write_all(1, &out[..written]);
+}
