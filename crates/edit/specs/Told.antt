@@ -89,14 +89,14 @@ module _ {r : Answer} (result : List ℕ) where
 
 -- where the slices are long enough, what is shown of the answer is what the definition prints of the batch
 pub edit-printed : (b held : List ℕ) (work : List (List ℕ)) (holds : List ℕ) (left : List (List ℕ)) (r : Answer) {d l : List ℕ} {to : ℕ} → Edits b held work (answerOf r) holds left → Put d 0 (told r holds) l to
-    → 65536 ≡ length held → tooShort (lengths work) ≡ false → length b ≤ 65536 → Bytes b → Put d 0 (printed b) l to
+    → 65536 ≡ length held → tooShort (lengths needed work) ≡ false → length b ≤ 65536 → Bytes b → Put d 0 (printed b) l to
 edit-printed b held work holds left r p q e s n v =
     let whole = take-all 65536 b n in
     let run : print (answerIn (answerOf r) holds) ≡ printed b = printed-run b held work (answerOf r) holds left (rw whole p) (rw whole v) s (sym e) in
     rw (← run, ← edit-told b held work holds left r v p) q
 
 -- slices of the lengths of docs/WORK.md are long enough
-pub lengths-suffice : (a b c d e f g h i j k l : List ℕ) → 16384 ≡ length a → 6147 ≡ length b → 3328 ≡ length c → 256 ≡ length d → 768 ≡ length e → 3072 ≡ length f → 3072 ≡ length g → 1024 ≡ length h → 2048 ≡ length i
-    → 12291 ≡ length j → 12288 ≡ length k → 1024 ≡ length l → tooShort (lengths (a ∷ b ∷ c ∷ d ∷ e ∷ f ∷ g ∷ h ∷ i ∷ j ∷ k ∷ l ∷ [])) ≡ false
+pub lengths-suffice : (a b c d e f g h i : List ℕ) → 16384 ≡ length a → 6147 ≡ length b → 3328 ≡ length c → 3072 ≡ length d → 3072 ≡ length e → 1024 ≡ length f → 2048 ≡ length g
+    → 12291 ≡ length h → 12288 ≡ length i → tooShort (lengths needed (a ∷ b ∷ c ∷ d ∷ e ∷ f ∷ g ∷ h ∷ i ∷ [])) ≡ false
 unfolding tooShort lengths needed zip any
-lengths-suffice a b c d e f g h i j k l p₁ p₂ p₃ p₄ p₅ p₆ p₇ p₈ p₉ q₁ q₂ q₃ = rw (← p₁, ← p₂, ← p₃, ← p₄, ← p₅, ← p₆, ← p₇, ← p₈, ← p₉, ← q₁, ← q₂, ← q₃)
+lengths-suffice a b c d e f g h i p₁ p₂ p₃ p₄ p₅ p₆ p₇ p₈ p₉ = rw (← p₁, ← p₂, ← p₃, ← p₄, ← p₅, ← p₆, ← p₇, ← p₈, ← p₉)

@@ -7,7 +7,7 @@ ghost use Prim.Native.Nat.{_≤_};
 ghost use lib.ListN.{length};
 ghost use Rattle.definition.specs.Answers.{tooShort};
 ghost use Rattle.definition.specs.Printed.{printed};
-ghost use Rattle.work.specs.Slices.{lengths};
+ghost use Rattle.work.specs.Slices.{needed, lengths};
 ghost use Rattle.printing.specs.Lines.{Put};
 ghost use Rattle.edit.specs.Told.{Showable, told};
 
@@ -30,17 +30,14 @@ fn respond(
     table: &mut [u32],
     source: &mut [u32],
     changes: &mut [u32],
-    running: &mut [u32],
-    first: &mut [u32],
     notes: &mut [u32],
     incoming: &mut [u32],
     changed: &mut [u32],
     marks: &mut [u32],
     rows: &mut [u32],
     prepared: &mut [u32],
-    sizes: &mut [u32],
 ) -> usize
-    requires { ⌜ (180000 ≤ length (now out)) × (length (now batch) ≤ 65536) × (65536 ≡ length (now result)) × (tooShort (lengths (now table ∷ now source ∷ now changes ∷ now running ∷ now first ∷ now notes ∷ now incoming ∷ now changed ∷ now marks ∷ now rows ∷ now prepared ∷ now sizes ∷ [])) ≡ false) ⌝ }
+    requires { ⌜ (180000 ≤ length (now out)) × (length (now batch) ≤ 65536) × (65536 ≡ length (now result)) × (tooShort (lengths needed (now table ∷ now source ∷ now changes ∷ now notes ∷ now incoming ∷ now changed ∷ now marks ∷ now rows ∷ now prepared ∷ [])) ≡ false) ⌝ }
     ensures { λ r. ⌜ Put (now (out .entry)) 0 (printed (now (batch .entry))) (now (out .exit)) r ⌝ }
 {
     let answer = edit_algo::edit(
@@ -49,15 +46,12 @@ fn respond(
         table,
         source,
         changes,
-        running,
-        first,
         notes,
         incoming,
         changed,
         marks,
         rows,
         prepared,
-        sizes,
     );
     show(answer, result, out)
 }
@@ -78,15 +72,12 @@ fn answer(batch: &[u8], out: &mut [u8]) -> usize
     let mut table = [0u32; 16384];
     let mut source = [0u32; 6147];
     let mut changes = [0u32; 3328];
-    let mut running = [0u32; 256];
-    let mut first = [0u32; 768];
     let mut notes = [0u32; 3072];
     let mut incoming = [0u32; 3072];
     let mut changed = [0u32; 1024];
     let mut marks = [0u32; 2048];
     let mut rows = [0u32; 12291];
     let mut prepared = [0u32; 12288];
-    let mut sizes = [0u32; 1024];
     respond(
         batch,
         out,
@@ -94,15 +85,12 @@ fn answer(batch: &[u8], out: &mut [u8]) -> usize
         &mut table,
         &mut source,
         &mut changes,
-        &mut running,
-        &mut first,
         &mut notes,
         &mut incoming,
         &mut changed,
         &mut marks,
         &mut rows,
         &mut prepared,
-        &mut sizes,
     )
 }
 

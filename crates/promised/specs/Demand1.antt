@@ -15,7 +15,7 @@ use Rattle.definition.specs.Finishing.{Result, encoded, fitting}
 use Rattle.definition.specs.Answers.{edit, edited, tooShort, withWork}
 use Rattle.laws.specs.Answers.{gives-inj, refused-gives, given, not-wrong}
 use Rattle.demand.specs.Answered.{edited-result}
-use Rattle.work.specs.Slices.{lengths, zeros, zeroed}
+use Rattle.work.specs.Slices.{needed, lengths, zeros, zeroed}
 use Rattle.work.specs.Promises.{leftIn, Edits, Finds}
 
 -- ── The result slice ────────────────────────────────────────────────────────────────────────────────────────
@@ -76,9 +76,9 @@ pub record Demand1 (b held : List ℕ) (work : List (List ℕ)) (r : Answer ℕ)
 -- Every call that keeps its promise meets demand 1.
 pub demand-1 : (b held : List ℕ) (work : List (List ℕ)) (r : Answer ℕ) (holds : List ℕ) (left : List (List ℕ)) → Edits b held work r holds left → Demand1 b held work r holds left
 unfolding leftIn _>>=_
-demand-1 b held work r holds left p = go (edited (lengths work) b (length held)) refl (p .answer) (p .result)
+demand-1 b held work r holds left p = go (edited (lengths needed work) b (length held)) refl (p .answer) (p .result)
   where
-    go : (want : Answer (List ℕ)) → edited (lengths work) b (length held) ≡ want → r ≡ (want >>= λ bytes. gives (length bytes)) → holds ≡ leftIn held want → Demand1 b held work r holds left
+    go : (want : Answer (List ℕ)) → edited (lengths needed work) b (length held) ≡ want → r ≡ (want >>= λ bytes. gives (length bytes)) → holds ≡ leftIn held want → Demand1 b held work r holds left
     go (refused m) e a h = record {
       untouched = λ k q. h;
       finished = λ n q. refused-gives (sym a ∙ q);
@@ -87,8 +87,8 @@ demand-1 b held work r holds left p = go (edited (lengths work) b (length held))
       zeros = rw (p .zeros) (zeroed-zeros work);
     }
     go (gives out) e a h =
-        let (R, y, same) = edited-result (lengths work) b (length held) out e in
-        let fits = edited-fits (lengths work) b (length held) out e in
+        let (R, y, same) = edited-result (lengths needed work) b (length held) out e in
+        let fits = edited-fits (lengths needed work) b (length held) out e in
         record {
           untouched = λ k q. refused-gives (sym q ∙ a);
           finished = λ n q.

@@ -1,11 +1,9 @@
+-- `answer` meets its contract: every slice has its length.
+-- Assumes nothing.
 use Rattle.edit.specs.Told.{lengths-suffice}
 use borrow.Author.Needs.{needs}
 use Rattle.edit.proofs.answer.Statement.{statement}
 use Rattle.edit.proofs.answer.Tie as tie
-use Rattle.edit.proofs.answer.Reads as reads
-use Rattle.edit.proofs.answer.Lts as lts
-use Rattle.edit.proofs.respond.Reads as respond-reads
-use Rattle.io.proofs.large_buffer.Reads as large-buffer-reads
 
 large-buffer-requires : tie.Need-large-buffer-requires
 large-buffer-requires c κs = search needs
@@ -40,23 +38,14 @@ slice-aggregate-respond-9 c = search needs
 slice-aggregate-respond-10 : tie.Need-slice-aggregate-respond-10
 slice-aggregate-respond-10 c = search needs
 
-slice-aggregate-respond-11 : tie.Need-slice-aggregate-respond-11
-slice-aggregate-respond-11 c = search needs
-
-slice-aggregate-respond-12 : tie.Need-slice-aggregate-respond-12
-slice-aggregate-respond-12 c = search needs
-
-slice-aggregate-respond-13 : tie.Need-slice-aggregate-respond-13
-slice-aggregate-respond-13 c = search needs
-
 respond-requires : tie.Need-respond-requires
 respond-requires c κs = (search needs, search needs, search needs, search (lengths-suffice, needs))
 
 same-length : tie.Need-same-length
-same-length c = search needs
+same-length c = c .before .before .before .before .before .before .before .before .before .before .before .out .given
 
 returns : tie.Need-returns
-returns c = search needs
+returns c = c .before .before .before .before .before .before .before .before .before .before .before .before .respond .ensures
 
 pub answer-spec : {M : Type 1} → statement M
 answer-spec =
@@ -73,9 +62,6 @@ answer-spec =
     slice-aggregate-respond-8
     slice-aggregate-respond-9
     slice-aggregate-respond-10
-    slice-aggregate-respond-11
-    slice-aggregate-respond-12
-    slice-aggregate-respond-13
     respond-requires
     same-length
     returns)
