@@ -98,7 +98,7 @@ fn times(case: &Case) -> Times {
     Times { ours: ours(&case.batch), finish, whole, trees }
 }
 
-/// The twelve work slices set to zero, which each of our calls does: no call of ours takes less.
+/// The nine work slices set to zero, which each of our calls does: no call of ours takes less.
 fn floor() -> f64 {
     let mut work = raw::LENGTHS.map(|length| vec![0u32; length]);
     median(|clock| {

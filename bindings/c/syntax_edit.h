@@ -29,15 +29,12 @@ enum {
     SYNTAX_TABLE = 16384,
     SYNTAX_SOURCE = 6147,
     SYNTAX_CHANGES = 3328,
-    SYNTAX_RUNNING = 256,
-    SYNTAX_FIRST = 768,
     SYNTAX_NOTES = 3072,
     SYNTAX_INCOMING = 3072,
     SYNTAX_CHANGED = 1024,
     SYNTAX_MARKS = 2048,
     SYNTAX_ROWS = 12291,
-    SYNTAX_PREPARED = 12288,
-    SYNTAX_SIZES = 1024
+    SYNTAX_PREPARED = 12288
 };
 
 /* The most bytes of an answer: a result buffer of this length is never too short. */
@@ -70,15 +67,12 @@ int64_t syntax_edit(
     uint32_t *table, size_t table_length,
     uint32_t *source, size_t source_length,
     uint32_t *changes, size_t changes_length,
-    uint32_t *running, size_t running_length,
-    uint32_t *first, size_t first_length,
     uint32_t *notes, size_t notes_length,
     uint32_t *incoming, size_t incoming_length,
     uint32_t *changed, size_t changed_length,
     uint32_t *marks, size_t marks_length,
     uint32_t *rows, size_t rows_length,
-    uint32_t *prepared, size_t prepared_length,
-    uint32_t *sizes, size_t sizes_length);
+    uint32_t *prepared, size_t prepared_length);
 
 /* The first node of the new tree with the kind and the text start of node `number` of tree 0: its number, SYNTAX_NONE, or a refusal with a minus. */
 int64_t syntax_find_element(
@@ -87,45 +81,39 @@ int64_t syntax_find_element(
     uint32_t *table, size_t table_length,
     uint32_t *source, size_t source_length,
     uint32_t *changes, size_t changes_length,
-    uint32_t *running, size_t running_length,
-    uint32_t *first, size_t first_length,
     uint32_t *notes, size_t notes_length,
     uint32_t *incoming, size_t incoming_length,
     uint32_t *changed, size_t changed_length,
     uint32_t *marks, size_t marks_length,
     uint32_t *rows, size_t rows_length,
-    uint32_t *prepared, size_t prepared_length,
-    uint32_t *sizes, size_t sizes_length);
+    uint32_t *prepared, size_t prepared_length);
 
-/* All work memory, 241 KiB; static or on the heap, and one for each thread that edits at the same time. It need not be cleared. */
+/* All work memory, 233 KiB; static or on the heap, and one for each thread that edits at the same time. It need not be cleared. */
 typedef struct syntax_work {
     uint32_t table[SYNTAX_TABLE];
     uint32_t source[SYNTAX_SOURCE];
     uint32_t changes[SYNTAX_CHANGES];
-    uint32_t running[SYNTAX_RUNNING];
-    uint32_t first[SYNTAX_FIRST];
     uint32_t notes[SYNTAX_NOTES];
     uint32_t incoming[SYNTAX_INCOMING];
     uint32_t changed[SYNTAX_CHANGED];
     uint32_t marks[SYNTAX_MARKS];
     uint32_t rows[SYNTAX_ROWS];
     uint32_t prepared[SYNTAX_PREPARED];
-    uint32_t sizes[SYNTAX_SIZES];
 } syntax_work;
 
 /* The two calls over one struct of work memory. */
 static inline int64_t syntax_edit_with(syntax_work *w, const uint8_t *batch, size_t batch_length, uint8_t *result, size_t result_length)
 {
     return syntax_edit(batch, batch_length, result, result_length, w->table, SYNTAX_TABLE, w->source, SYNTAX_SOURCE, w->changes, SYNTAX_CHANGES,
-        w->running, SYNTAX_RUNNING, w->first, SYNTAX_FIRST, w->notes, SYNTAX_NOTES, w->incoming, SYNTAX_INCOMING, w->changed, SYNTAX_CHANGED,
-        w->marks, SYNTAX_MARKS, w->rows, SYNTAX_ROWS, w->prepared, SYNTAX_PREPARED, w->sizes, SYNTAX_SIZES);
+        w->notes, SYNTAX_NOTES, w->incoming, SYNTAX_INCOMING, w->changed, SYNTAX_CHANGED, w->marks, SYNTAX_MARKS, w->rows, SYNTAX_ROWS,
+        w->prepared, SYNTAX_PREPARED);
 }
 
 static inline int64_t syntax_find_element_with(syntax_work *w, const uint8_t *batch, size_t batch_length, uint64_t number)
 {
     return syntax_find_element(batch, batch_length, number, w->table, SYNTAX_TABLE, w->source, SYNTAX_SOURCE, w->changes, SYNTAX_CHANGES,
-        w->running, SYNTAX_RUNNING, w->first, SYNTAX_FIRST, w->notes, SYNTAX_NOTES, w->incoming, SYNTAX_INCOMING, w->changed, SYNTAX_CHANGED,
-        w->marks, SYNTAX_MARKS, w->rows, SYNTAX_ROWS, w->prepared, SYNTAX_PREPARED, w->sizes, SYNTAX_SIZES);
+        w->notes, SYNTAX_NOTES, w->incoming, SYNTAX_INCOMING, w->changed, SYNTAX_CHANGED, w->marks, SYNTAX_MARKS, w->rows, SYNTAX_ROWS,
+        w->prepared, SYNTAX_PREPARED);
 }
 
 #ifdef __cplusplus

@@ -72,8 +72,8 @@ struct Fire {
 
 impl Fire {
     /// The work slices: mostly of the lengths needed, sometimes longer, seldom one too short.
-    fn work(&mut self, pattern: u32) -> [Buffer<u32>; 12] {
-        let (longer, short) = (self.random.one_in(8), self.random.one_in(40).then(|| self.random.below(12)));
+    fn work(&mut self, pattern: u32) -> [Buffer<u32>; 9] {
+        let (longer, short) = (self.random.one_in(8), self.random.one_in(40).then(|| self.random.below(raw::LENGTHS.len())));
         std::array::from_fn(|i| {
             let least = raw::LENGTHS[i];
             let length = match short {

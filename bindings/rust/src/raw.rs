@@ -4,16 +4,16 @@
 //! on refusal, all that it held; every work slice ends as zeros of its own length, whatever it held and however long it is.
 
 /// The lengths in words that the work slices need, in the order in which they are lent.
-pub const LENGTHS: [usize; 12] = [16_384, 6_147, 3_328, 256, 768, 3_072, 3_072, 1_024, 2_048, 12_291, 12_288, 1_024];
+pub const LENGTHS: [usize; 9] = [16_384, 6_147, 3_328, 3_072, 3_072, 1_024, 2_048, 12_291, 12_288];
 
 /// What [`find_element`] answers if there is no such element.
 pub const NONE: i64 = -1000;
 
 /// The work slices, each a reference to a part of memory of its own.
-pub type Slices<'a> = [&'a mut [u32]; 12];
+pub type Slices<'a> = [&'a mut [u32]; 9];
 
 /// Work memory of the lengths that are needed.
-pub struct Work([Vec<u32>; 12]);
+pub struct Work([Vec<u32>; 9]);
 
 impl Default for Work {
     fn default() -> Self {
@@ -40,15 +40,12 @@ mod library {
             table: *mut u32, table_length: usize,
             source: *mut u32, source_length: usize,
             changes: *mut u32, changes_length: usize,
-            running: *mut u32, running_length: usize,
-            first: *mut u32, first_length: usize,
             notes: *mut u32, notes_length: usize,
             incoming: *mut u32, incoming_length: usize,
             changed: *mut u32, changed_length: usize,
             marks: *mut u32, marks_length: usize,
             rows: *mut u32, rows_length: usize,
             prepared: *mut u32, prepared_length: usize,
-            sizes: *mut u32, sizes_length: usize,
         ) -> i64;
 
         pub fn syntax_find_element(
@@ -57,15 +54,12 @@ mod library {
             table: *mut u32, table_length: usize,
             source: *mut u32, source_length: usize,
             changes: *mut u32, changes_length: usize,
-            running: *mut u32, running_length: usize,
-            first: *mut u32, first_length: usize,
             notes: *mut u32, notes_length: usize,
             incoming: *mut u32, incoming_length: usize,
             changed: *mut u32, changed_length: usize,
             marks: *mut u32, marks_length: usize,
             rows: *mut u32, rows_length: usize,
             prepared: *mut u32, prepared_length: usize,
-            sizes: *mut u32, sizes_length: usize,
         ) -> i64;
     }
 }
@@ -73,7 +67,7 @@ mod library {
 /// The length of the answer that now stands at the start of `result`, or a refusal's number with a minus.
 #[rustfmt::skip]
 pub fn edit(batch: &[u8], result: &mut [u8], work: Slices<'_>) -> i64 {
-    let [table, source, changes, running, first, notes, incoming, changed, marks, rows, prepared, sizes] = work;
+    let [table, source, changes, notes, incoming, changed, marks, rows, prepared] = work;
     // Safety: each pointer comes with the length of the slice that it starts, and no two of the slices overlap, since all but the batch are unique
     // references. The library reads and writes nothing else, and keeps none of them.
     unsafe {
@@ -83,15 +77,12 @@ pub fn edit(batch: &[u8], result: &mut [u8], work: Slices<'_>) -> i64 {
             table.as_mut_ptr(), table.len(),
             source.as_mut_ptr(), source.len(),
             changes.as_mut_ptr(), changes.len(),
-            running.as_mut_ptr(), running.len(),
-            first.as_mut_ptr(), first.len(),
             notes.as_mut_ptr(), notes.len(),
             incoming.as_mut_ptr(), incoming.len(),
             changed.as_mut_ptr(), changed.len(),
             marks.as_mut_ptr(), marks.len(),
             rows.as_mut_ptr(), rows.len(),
             prepared.as_mut_ptr(), prepared.len(),
-            sizes.as_mut_ptr(), sizes.len(),
         )
     }
 }
@@ -99,7 +90,7 @@ pub fn edit(batch: &[u8], result: &mut [u8], work: Slices<'_>) -> i64 {
 /// The number of the element found, [`NONE`], or a refusal's number with a minus.
 #[rustfmt::skip]
 pub fn find_element(batch: &[u8], number: u64, work: Slices<'_>) -> i64 {
-    let [table, source, changes, running, first, notes, incoming, changed, marks, rows, prepared, sizes] = work;
+    let [table, source, changes, notes, incoming, changed, marks, rows, prepared] = work;
     // Safety: as in `edit`.
     unsafe {
         library::syntax_find_element(
@@ -108,15 +99,12 @@ pub fn find_element(batch: &[u8], number: u64, work: Slices<'_>) -> i64 {
             table.as_mut_ptr(), table.len(),
             source.as_mut_ptr(), source.len(),
             changes.as_mut_ptr(), changes.len(),
-            running.as_mut_ptr(), running.len(),
-            first.as_mut_ptr(), first.len(),
             notes.as_mut_ptr(), notes.len(),
             incoming.as_mut_ptr(), incoming.len(),
             changed.as_mut_ptr(), changed.len(),
             marks.as_mut_ptr(), marks.len(),
             rows.as_mut_ptr(), rows.len(),
             prepared.as_mut_ptr(), prepared.len(),
-            sizes.as_mut_ptr(), sizes.len(),
         )
     }
 }

@@ -7,15 +7,15 @@ const DOSING: &[u8] = include_bytes!("../../../examples/dosing.batch");
 const OVERLAP: &[u8] = include_bytes!("../../../examples/overlap.batch");
 
 /// Work memory full of a pattern, in which some slices have other lengths.
-fn work(length: impl Fn(usize, usize) -> usize) -> [Vec<u32>; 12] {
+fn work(length: impl Fn(usize, usize) -> usize) -> [Vec<u32>; 9] {
     std::array::from_fn(|i| vec![0xdead_beef; length(i, raw::LENGTHS[i])])
 }
 
-fn lent(work: &mut [Vec<u32>; 12]) -> raw::Slices<'_> {
+fn lent(work: &mut [Vec<u32>; 9]) -> raw::Slices<'_> {
     work.each_mut().map(Vec::as_mut_slice)
 }
 
-fn assert_zeros(work: &[Vec<u32>; 12]) {
+fn assert_zeros(work: &[Vec<u32>; 9]) {
     assert!(work.iter().flatten().all(|&it| it == 0));
 }
 
@@ -54,7 +54,7 @@ fn a_refusal_leaves_the_result() {
 
 #[test]
 fn a_short_work_slice_is_refused_and_cleared() {
-    for short in 0..12 {
+    for short in 0..raw::LENGTHS.len() {
         for length in [0, 1, raw::LENGTHS[short] - 1] {
             let mut memory = work(|i, least| if i == short { length } else { least });
             let mut result = vec![0xa5; 1_000];

@@ -1,52 +1,40 @@
--- An answer's number, case by case.
+-- An outcome's number, case by case.
 -- Assumes nothing.
-use mathlib.Core.Path.{_≡_, refl}
+use mathlib.Core.Path.{_≡_, refl, subst}
 use Prim.Native.Nat.{ℕ, _≤_}
 use lib.IntN.{ℤ, pos, negsuc, negℤ}
 use mir.Syntax.{w64}
 use mir.Val.{toZ, ofZ}
-use Rattle.edit_algo.specs.declared.Answer.{Answer}
-use Rattle.edit_algo.specs.declared.Answer.the-variants.{Refused, Edited}
-use Rattle.edit_algo.specs.declared.Element.{Element}
-use Rattle.edit_algo.specs.declared.Element.the-variants.{Refused as NoElement, Nothing, At}
-use Rattle.edit_algo.specs.Numbers.{answerOf, elementOf}
-use Rattle.answer_numbers.specs.Returned.{Small, SmallElement, numberOf, returnedElement}
+use Rattle.work.specs.declared.Outcome.{Outcome}
+use Rattle.work.specs.declared.Outcome.the-variants.{Refused, Bytes, Nothing, At}
+use Rattle.answer_numbers.specs.Told.{Small, numberOf}
 use Rattle.answer_numbers.specs.Negated.{neg-told, pos-told}
 
-module _ (a : Answer) (n : ℕ) where
-  pub small-refused : a ≡ Refused n → Small (answerOf a) → n ≤ 65536
-  unfolding Small answerOf
-  small-refused e h = rw e at h
+module _ (a : Outcome) (n : ℕ) where
+  pub small-refused : a ≡ Refused n → Small a → n ≤ 65536
+  unfolding Small
+  small-refused e h = subst Small e h
 
-  pub small-edited : a ≡ Edited n → Small (answerOf a) → n ≤ 65536
-  unfolding Small answerOf
-  small-edited e h = rw e at h
+  pub small-bytes : a ≡ Bytes n → Small a → n ≤ 65536
+  unfolding Small
+  small-bytes e h = subst Small e h
 
-  pub tells-refused : (z : ℤ) → a ≡ Refused n → Small (answerOf a) → z ≡ negℤ (pos n) → toZ w64 (ofZ w64 z) ≡ numberOf (answerOf a)
-  unfolding numberOf answerOf
+  pub small-at : a ≡ At n → Small a → n ≤ 65536
+  unfolding Small
+  small-at e h = subst Small e h
+
+  pub tells-refused : (z : ℤ) → a ≡ Refused n → Small a → z ≡ negℤ (pos n) → toZ w64 (ofZ w64 z) ≡ numberOf a
+  unfolding numberOf
   tells-refused z e h q = rw (e, q) (neg-told n (small-refused e h))
 
-  pub tells-edited : (z : ℤ) → a ≡ Edited n → Small (answerOf a) → z ≡ pos n → toZ w64 (ofZ w64 z) ≡ numberOf (answerOf a)
-  unfolding numberOf answerOf
-  tells-edited z e h q = rw (e, q) (pos-told n (small-edited e h))
+  pub tells-bytes : (z : ℤ) → a ≡ Bytes n → Small a → z ≡ pos n → toZ w64 (ofZ w64 z) ≡ numberOf a
+  unfolding numberOf
+  tells-bytes z e h q = rw (e, q) (pos-told n (small-bytes e h))
 
-module _ (a : Element) where
-  pub small-none : (n : ℕ) → a ≡ NoElement n → SmallElement (elementOf a) → n ≤ 65536
-  unfolding SmallElement elementOf
-  small-none n e h = rw e at h
+  pub tells-at : (z : ℤ) → a ≡ At n → Small a → z ≡ pos n → toZ w64 (ofZ w64 z) ≡ numberOf a
+  unfolding numberOf
+  tells-at z e h q = rw (e, q) (pos-told n (small-at e h))
 
-  pub small-at : (n : ℕ) → a ≡ At n → SmallElement (elementOf a) → n ≤ 65536
-  unfolding SmallElement elementOf
-  small-at n e h = rw e at h
-
-  pub tells-none : (n : ℕ) (z : ℤ) → a ≡ NoElement n → SmallElement (elementOf a) → z ≡ negℤ (pos n) → toZ w64 (ofZ w64 z) ≡ returnedElement (elementOf a)
-  unfolding returnedElement elementOf
-  tells-none n z e h q = rw (e, q) (neg-told n (small-none n e h))
-
-  pub tells-nothing : a ≡ Nothing → negsuc 999 ≡ returnedElement (elementOf a)
-  unfolding returnedElement elementOf
-  tells-nothing e = rw e refl
-
-  pub tells-at : (n : ℕ) (z : ℤ) → a ≡ At n → SmallElement (elementOf a) → z ≡ pos n → toZ w64 (ofZ w64 z) ≡ returnedElement (elementOf a)
-  unfolding returnedElement elementOf
-  tells-at n z e h q = rw (e, q) (pos-told n (small-at n e h))
+pub tells-nothing : (a : Outcome) → a ≡ Nothing → negsuc 999 ≡ numberOf a
+unfolding numberOf
+tells-nothing a e = rw e refl

@@ -1,9 +1,9 @@
--- The answers of the public calls as one number.
+-- The outcomes of the public calls as one number.
 --     Bounded    the bytes of an answer, and the element that is found, are few
---     Returned   what the calls for C return, and what they promise
 --     Negated    small numbers in an i64, with a minus and without
---     Told       a number that is returned is read as it was meant
+--     Told       an outcome as one number, read as it was meant
+--     Returned   what the calls for C return, and what they promise
 pub mod Bounded
-pub mod Returned
 pub mod Negated
 pub mod Told
+pub mod Returned

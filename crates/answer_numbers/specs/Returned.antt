@@ -7,13 +7,19 @@ use Prim.Native.Nat.{ℕ, _≤_, _<_}
 use native.Mathlib.Omega.{arith}
 use lib.IntN.{ℤ, pos, negℤ}
 use lib.ListN.{length}
+use mir.Syntax.{w64}
+use mir.Val.{toZ, ofZ}
 use Rattle.definition.specs.Basics.{Answer, refused, gives, _>>=_}
 use Rattle.definition.specs.Answers.{edited}
 use Rattle.definition.specs.FindElement.{findElement}
-use Rattle.work.specs.Slices.{lengths, zeroed}
-use Rattle.work.specs.Promises.{leftIn, Edits, Finds}
+use Rattle.work.specs.Slices.{needed, lengths, zeroed}
+use Rattle.work.specs.Promises.{leftIn}
+use Rattle.work.specs.Serving.{place, ofLength, ofPlace, Serves, serves-edits, serves-finds}
+use Rattle.work.specs.declared.Job.the-variants.{Edit, Find}
+use Rattle.work.specs.declared.Outcome.{Outcome}
 use Rattle.promised.specs.Refused.{edited-numbered, found-numbered}
 use Rattle.answer_numbers.specs.Bounded.{edited-short, found-short}
+use Rattle.answer_numbers.specs.Told.{numberOf, Small, number-read}
 
 -- ── The promises ────────────────────────────────────────────────────────────────────────────────────────────
 
@@ -30,61 +36,69 @@ returnedElement (gives (some e)) = pos e
 
 -- THE PROMISE of `syntax_edit`, from the batch b, the result slice and the work slices as they were lent
 pub record Returns (b held : List ℕ) (work : List (List ℕ)) (r : ℤ) (holds : List ℕ) (left : List (List ℕ)) : Type 0 where
-  pub answer : r ≡ returned (edited (lengths work) b (length held))
+  pub answer : r ≡ returned (edited (lengths needed work) b (length held))
   -- "The result slice holds the finished answer and beyond it what it held, or on refusal all that it held."
-  pub result : holds ≡ leftIn held (edited (lengths work) b (length held))
+  pub result : holds ≡ leftIn held (edited (lengths needed work) b (length held))
   -- "Work slices end as zeros."
   pub zeros : left ≡ zeroed work
 
 -- THE PROMISE of `syntax_find_element`, from the batch b, the number n and the work slices as they were lent
 pub record ReturnsElement (b : List ℕ) (n : ℕ) (work : List (List ℕ)) (r : ℤ) (left : List (List ℕ)) : Type 0 where
-  pub element : r ≡ returnedElement (findElement (lengths work) b n)
+  pub element : r ≡ returnedElement (findElement (lengths needed work) b n)
   pub zeros : left ≡ zeroed work
 
--- ── The number of an answer ─────────────────────────────────────────────────────────────────────────────────
+-- ── From what is served ─────────────────────────────────────────────────────────────────────────────────────
 
--- the number that tells an answer
-unfoldable pub numberOf : Answer ℕ → ℤ
-numberOf (refused n) = negℤ (pos n)
-numberOf (gives k) = pos k
+module _ {b held holds : List ℕ} {work left : List (List ℕ)} {r : Outcome} (s : Serves Edit b held work r holds left) where
+  abbrev x : Answer (List ℕ)
+  x = edited (lengths needed work) b (length held)
 
--- what an answer tells is small
-unfoldable pub Small : Answer ℕ → Type 0
-Small (refused n) = n ≤ 65536
-Small (gives k) = k ≤ 65536
+  length-told : r ≡ ofLength (x >>= λ bytes. gives (length bytes))
+  length-told = let (a, e, k) = serves-edits s in e ∙ ap ofLength (k .answer)
 
--- what an answer tells of an element is small
-unfoldable pub SmallElement : Answer (Option ℕ) → Type 0
-SmallElement (refused n) = n ≤ 65536
-SmallElement (gives none) = Unit {0}
-SmallElement (gives (some e)) = e ≤ 65536
-
-module _ (b held : List ℕ) (work : List (List ℕ)) (a : Answer ℕ) (holds : List ℕ) (left : List (List ℕ)) where
-  pub edits-small : Edits b held work a holds left → Small a
-  unfolding Small _>>=_
-  edits-small h = rw (h .answer) (go (edited (lengths work) b (length held)) (edited-numbered (lengths work) b (length held)) (λ bytes. edited-short (lengths work) b bytes (length held)))
+  -- what an edit tells is small
+  pub edit-small : Small r
+  unfolding Small ofLength _>>=_
+  edit-small = rw length-told (go x (edited-numbered (lengths needed work) b (length held)) (λ bytes. edited-short (lengths needed work) b bytes (length held)))
     where
-      go : (o : Answer (List ℕ)) → ((n : ℕ) → o ≡ refused n → (1 ≤ n) × (n ≤ 13)) → ((bytes : List ℕ) → o ≡ gives bytes → length bytes ≤ 61464) → Small (o >>= λ bytes. gives (length bytes))
+      go : (o : Answer (List ℕ)) → ((n : ℕ) → o ≡ refused n → (1 ≤ n) × (n ≤ 13)) → ((bytes : List ℕ) → o ≡ gives bytes → length bytes ≤ 61464) → Small (ofLength (o >>= λ bytes. gives (length bytes)))
       go (refused n) h k = omega (arith, (h n refl) .1)
       go (gives bytes) h k = omega (arith, k bytes refl)
 
-  pub edits-returned : Edits b held work a holds left → Returns b held work (numberOf a) holds left
-  unfolding numberOf returned _>>=_
-  edits-returned h = record { answer = ap numberOf (h .answer) ∙ go (edited (lengths work) b (length held)); result = h .result; zeros = h .zeros }
+  -- and its number is what is promised
+  pub edit-returned : (z : ℤ) → z ≡ numberOf r → Returns b held work (toZ w64 (ofZ w64 z)) holds left
+  unfolding numberOf ofLength returned _>>=_
+  edit-returned z q =
+      let (a, e, k) = serves-edits s in
+      record { answer = ap (λ (y : ℤ). toZ w64 (ofZ w64 y)) q ∙ (number-read r edit-small ∙ (ap numberOf length-told ∙ go x)); result = k .result; zeros = k .zeros }
     where
-      go : (o : Answer (List ℕ)) → numberOf (o >>= λ bytes. gives (length bytes)) ≡ returned o
+      go : (o : Answer (List ℕ)) → numberOf (ofLength (o >>= λ bytes. gives (length bytes))) ≡ returned o
       go (refused n) = refl
       go (gives bytes) = refl
 
-module _ (b : List ℕ) (n : ℕ) (work : List (List ℕ)) (a : Answer (Option ℕ)) (left : List (List ℕ)) where
-  pub finds-small : Finds b n work a left → SmallElement a
-  unfolding SmallElement
-  finds-small h = rw (h .element) (go (findElement (lengths work) b n) (found-numbered (lengths work) b n) (found-short (lengths work) b n))
+module _ {b held holds : List ℕ} {n : ℕ} {work left : List (List ℕ)} {r : Outcome} (s : Serves (Find n) b held work r holds left) where
+  abbrev y : Answer (Option ℕ)
+  y = findElement (lengths needed work) b n
+
+  place-told : r ≡ ofPlace y
+  place-told = let (a, e, k) = serves-finds s in e ∙ ap ofPlace (k .element)
+
+  -- what is told of an element is small
+  pub find-small : Small r
+  unfolding Small ofPlace place
+  find-small = rw place-told (go y (found-numbered (lengths needed work) b n) (found-short (lengths needed work) b n))
     where
-      go : (o : Answer (Option ℕ)) → ((m : ℕ) → o ≡ refused m → (1 ≤ m) × (m ≤ 12)) → ((e : ℕ) → o ≡ gives (some e) → e < 4096) → SmallElement o
+      go : (o : Answer (Option ℕ)) → ((m : ℕ) → o ≡ refused m → (1 ≤ m) × (m ≤ 12)) → ((e : ℕ) → o ≡ gives (some e) → e < 4096) → Small (ofPlace o)
       go (refused m) h k = omega (arith, (h m refl) .1)
       go (gives none) h k = tt
       go (gives (some e)) h k = omega (arith, k e refl)
 
-  pub finds-returned : Finds b n work a left → ReturnsElement b n work (returnedElement a) left
-  finds-returned h = record { element = ap returnedElement (h .element); zeros = h .zeros }
+  -- and its number is what is promised
+  pub find-returned : (z : ℤ) → z ≡ numberOf r → ReturnsElement b n work (toZ w64 (ofZ w64 z)) left
+  unfolding numberOf ofPlace place returnedElement
+  find-returned z q = record { element = ap (λ (y : ℤ). toZ w64 (ofZ w64 y)) q ∙ (number-read r find-small ∙ (ap numberOf place-told ∙ go y)); zeros = s .zeros }
+    where
+      go : (o : Answer (Option ℕ)) → numberOf (ofPlace o) ≡ returnedElement o
+      go (refused m) = refl
+      go (gives none) = refl
+      go (gives (some e)) = refl

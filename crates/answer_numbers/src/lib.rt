@@ -1,11 +1,9 @@
-// An answer as one number, for callers in C and Rust.
-use edit_algo::Answer;
-use edit_algo::Element;
+// An outcome as one number, for callers in C and Rust.
+use work::Outcome;
 ghost use mathlib.Core.Path.{_≡_};
 ghost use Prim.Native.Nat.{_≤_};
 ghost use lib.IntN.{pos, negℤ};
-ghost use Rattle.edit_algo.specs.Numbers.{answerOf, elementOf};
-ghost use Rattle.answer_numbers.specs.Returned.{Small, SmallElement, numberOf, returnedElement};
+ghost use Rattle.answer_numbers.specs.Told.{Small, numberOf};
 
 // A refusal's number, with a minus.
 fn negative(n: usize) -> i64
@@ -24,25 +22,15 @@ fn positive(n: usize) -> i64
     n as i64
 }
 
-// The number of an answer.
-pub fn number_of(a: Answer) -> i64
-    requires { ⌜ Small (answerOf a) ⌝ }
-    ensures { λ r. ⌜ r ≡ numberOf (answerOf a) ⌝ }
+// The number of an outcome.
+pub fn number_of(told: Outcome) -> i64
+    requires { ⌜ Small told ⌝ }
+    ensures { λ r. ⌜ r ≡ numberOf told ⌝ }
 {
-    match a {
-        Answer::Refused(n) => negative(n),
-        Answer::Edited(n) => positive(n),
-    }
-}
-
-// The number of an answer on an element.
-pub fn place_of(a: Element) -> i64
-    requires { ⌜ SmallElement (elementOf a) ⌝ }
-    ensures { λ r. ⌜ r ≡ returnedElement (elementOf a) ⌝ }
-{
-    match a {
-        Element::Refused(n) => negative(n),
-        Element::Nothing => -1000,
-        Element::At(n) => positive(n),
+    match told {
+        Outcome::Refused(n) => negative(n),
+        Outcome::Bytes(n) => positive(n),
+        Outcome::Nothing => -1000,
+        Outcome::At(n) => positive(n),
     }
 }

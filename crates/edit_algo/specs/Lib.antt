@@ -1,5 +1,2 @@
--- What the answers of the public calls mean; what is promised is told in `Promises` of work.
---     Numbers   the answers as document 01 numbers them
---     AtEnd     from what a run leaves to the answers
+-- The answers of the public calls as document 01 numbers them; what is promised is told in `Promises` and `Serving` of work.
 pub mod Numbers
-pub mod AtEnd

@@ -1,9 +1,12 @@
 -- The answers as document 01 numbers them.
 -- Assumes nothing.
+use mathlib.Core.Path.{_≡_}
 use mathlib.Core.Option.{Option, none, some}
 use Prim.Native.Nat.{ℕ}
 use Rattle.definition.specs.Basics as basics
 use Rattle.definition.specs.Basics.{gives, refused}
+use Rattle.work.specs.Serving.{ofLength, ofPlace}
+use Rattle.work.specs.declared.Outcome.{Outcome}
 use Rattle.edit_algo.specs.declared.Answer.{Answer}
 use Rattle.edit_algo.specs.declared.Answer.the-variants.{Refused, Edited}
 use Rattle.edit_algo.specs.declared.Element.{Element}
@@ -19,3 +22,11 @@ unfoldable pub elementOf : Element → basics.Answer (Option ℕ)
 elementOf (NoElement n) = refused n
 elementOf Nothing = gives none
 elementOf (At e) = gives (some e)
+
+-- an outcome that tells an answer of an edit is that answer
+abbrev pub TellsLength : Outcome → Answer → Type 0
+TellsLength told r = (a : basics.Answer ℕ) → told ≡ ofLength a → answerOf r ≡ a
+
+-- and one that tells an answer on an element
+abbrev pub TellsPlace : Outcome → Element → Type 0
+TellsPlace told r = (a : basics.Answer (Option ℕ)) → told ≡ ofPlace a → elementOf r ≡ a

@@ -93,7 +93,7 @@ pub record Tells (b : List ℕ) (r : Answer) (result : List ℕ) : Type 0 where
   pub tells : told r result ≡ printed b
 
 -- where the slices are long enough, so does every answer that keeps its promise
-pub edit-tells : {b held : List ℕ} {work : List (List ℕ)} {holds : List ℕ} {left : List (List ℕ)} {r : Answer} → Edits b held work (answerOf r) holds left → 65536 ≡ length held → tooShort (lengths work) ≡ false
+pub edit-tells : {b held : List ℕ} {work : List (List ℕ)} {holds : List ℕ} {left : List (List ℕ)} {r : Answer} → Edits b held work (answerOf r) holds left → 65536 ≡ length held → tooShort (lengths needed work) ≡ false
     → length b ≤ 65536 → Bytes b → Tells b r holds
 edit-tells {b} {held} {work} {holds} {left} {r} p e s n v =
     let whole = take-all 65536 b n in
@@ -103,7 +103,7 @@ edit-tells {b} {held} {work} {holds} {left} {r} p e s n v =
     }
 
 -- slices of the lengths of docs/WORK.md are long enough
-pub lengths-suffice : (a b c d e f g h i j k l : List ℕ) → 16384 ≡ length a → 6147 ≡ length b → 3328 ≡ length c → 256 ≡ length d → 768 ≡ length e → 3072 ≡ length f → 3072 ≡ length g → 1024 ≡ length h → 2048 ≡ length i
-    → 12291 ≡ length j → 12288 ≡ length k → 1024 ≡ length l → tooShort (lengths (a ∷ b ∷ c ∷ d ∷ e ∷ f ∷ g ∷ h ∷ i ∷ j ∷ k ∷ l ∷ [])) ≡ false
+pub lengths-suffice : (a b c d e f g h i : List ℕ) → 16384 ≡ length a → 6147 ≡ length b → 3328 ≡ length c → 3072 ≡ length d → 3072 ≡ length e → 1024 ≡ length f → 2048 ≡ length g
+    → 12291 ≡ length h → 12288 ≡ length i → tooShort (lengths needed (a ∷ b ∷ c ∷ d ∷ e ∷ f ∷ g ∷ h ∷ i ∷ [])) ≡ false
 unfolding tooShort lengths needed zip any
-lengths-suffice a b c d e f g h i j k l p₁ p₂ p₃ p₄ p₅ p₆ p₇ p₈ p₉ q₁ q₂ q₃ = rw (← p₁, ← p₂, ← p₃, ← p₄, ← p₅, ← p₆, ← p₇, ← p₈, ← p₉, ← q₁, ← q₂, ← q₃)
+lengths-suffice a b c d e f g h i p₁ p₂ p₃ p₄ p₅ p₆ p₇ p₈ p₉ = rw (← p₁, ← p₂, ← p₃, ← p₄, ← p₅, ← p₆, ← p₇, ← p₈, ← p₉)

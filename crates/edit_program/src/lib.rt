@@ -15,30 +15,24 @@ fn edit_batch(batch: &[u8], result: &mut [u8]) -> Answer
     let mut table = [0u32; 16384];
     let mut source = [0u32; 6147];
     let mut changes = [0u32; 3328];
-    let mut running = [0u32; 256];
-    let mut first = [0u32; 768];
     let mut notes = [0u32; 3072];
     let mut incoming = [0u32; 3072];
     let mut changed = [0u32; 1024];
     let mut marks = [0u32; 2048];
     let mut rows = [0u32; 12291];
     let mut prepared = [0u32; 12288];
-    let mut sizes = [0u32; 1024];
     edit_algo::edit(
         batch,
         result,
         &mut table,
         &mut source,
         &mut changes,
-        &mut running,
-        &mut first,
         &mut notes,
         &mut incoming,
         &mut changed,
         &mut marks,
         &mut rows,
         &mut prepared,
-        &mut sizes,
     )
 }
 

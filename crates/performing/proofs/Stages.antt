@@ -1,11 +1,11 @@
 -- The ways from stage to stage, and out.
 -- Assumes nothing.
 use mathlib.Core.Path.{_≡_, refl, sym, ap, subst, _∙_}
-use mathlib.Core.List.{List}
+use mathlib.Core.List.{List, _++_}
 use Prim.Native.Nat.{ℕ, _+_, _-_, _*_, _≤_, _<_}
 use native.Mathlib.Omega.{arith}
-use lib.ListN.{length, take}
-use lib.Seq.{length-take-le}
+use lib.ListN.{length, take, length-append}
+use lib.Seq.{length-take-le, take-append-le}
 use Rattle.orders.specs.Lists.{All}
 use Rattle.definition.specs.Basics.{refused, _>>=_}
 use Rattle.element_table.specs.View.{view}
@@ -30,18 +30,20 @@ use Rattle.executing.specs.Stepping.{Performs as RowPerforms}
 use Rattle.executing.specs.Running.{listsAll, Ran}
 use Rattle.performing.specs.Ending.{ending}
 use Rattle.performing.specs.Beginning.{LaidOut}
-use Rattle.performing.specs.AtEnd.{AtEnd, Told, Performs}
-use Rattle.performing.specs.Performing.{begins, all-perform, room-recorded, all-elements, run-refused, run-ended}
+use Rattle.performing.specs.AtEnd.{AtEnd, Told, Marked, Performs}
+use Rattle.performing.specs.Performing.{begins, all-perform, room-recorded, all-elements, run-refused, run-ended, run-marked}
 use Rattle.performing.specs.declared.Ended.{Ended}
+use Rattle.performing.specs.declared.Performed.{Performed}
 use Rattle.performing.specs.declared.Performed.the-variants.{Refused, Done}
 
 -- ── Refused ─────────────────────────────────────────────────────────────────────────────────────────────────
 
-performs-refused : {b t s rows notes changed : List ℕ} (k : ℕ) → ending b ≡ refused k → Performs b t s rows notes changed (Refused k)
+performs-refused : {b t s rows notes changed marks : List ℕ} (k : ℕ) → ending b ≡ refused k → Performs b t s rows notes changed marks (Refused k)
 performs-refused {b} k e = record {
   refuses = λ j i. let same : k ≡ j = cc in e ∙ ap refused same;
   ends = λ d i. absurd (let z : _≡_ {A = ℕ} 0 1 = cc in omega arith);
   tells = λ d i. absurd (let z : _≡_ {A = ℕ} 0 1 = cc in omega arith);
+  marked = λ d i. absurd (let z : _≡_ {A = ℕ} 0 1 = cc in omega arith);
 }
 
 -- a part of n words from the front
@@ -75,11 +77,11 @@ module _ {b : List ℕ} {l : Layout} {t s changes running first : List ℕ} {c :
     same : Ran (l .sizes .elements) t s first (l .sizes .notes) (wordsAt b (l .list) (l .sizes .listed)) changes (take (c .runs) running) rows marks notes changed x
     same = subst (λ (k : ℕ). Ran k t s first (l .sizes .notes) (wordsAt b (l .list) (l .sizes .listed)) changes (take (c .runs) running) rows marks notes changed x) q R
 
-    pub steps-refused : (k : ℕ) → x ≡ Stopped k → Performs b t s rows notes changed (Refused k)
+    pub steps-refused : (k : ℕ) → x ≡ Stopped k → Performs b t s rows notes changed marks (Refused k)
     steps-refused k e = performs-refused k (run-refused (L .leaves) P (L .long) (L .longRows) ls lf same k e)
 
     pub steps-ended : (r : TreeState) → x ≡ Ran-through r → 3072 ≤ length notes
-        → Performs b t s rows notes changed
+        → Performs b t s rows notes changed marks
         (Done (record { text = l .text; elements = l .sizes .elements; root = r .root; rows = r .rows; notes = r .notes; changed = r .changed; discarded = c .discarded; climbs = c .climbs }))
     steps-ended r e ln =
         let d : Ended = record { text = l .text; elements = l .sizes .elements; root = r .root; rows = r .rows; notes = r .notes; changed = r .changed; discarded = c .discarded; climbs = c .climbs } in
@@ -90,12 +92,22 @@ module _ {b : List ℕ} {l : Layout} {t s changes running first : List ℕ} {c :
           tells = λ y i.
               let same-end : d ≡ y = cc in
               subst (λ (z : Ended). Told b t s (z .elements)) same-end (record { batch = v .what; accepts = v .accepted; table = v .told; formed = v .formed });
+          marked = λ y i. let same-end : d ≡ y = cc in run-marked v P (L .long) (L .longRows) ls lf same r e y (ap (λ (z : Ended). z .elements) (sym same-end));
         }
+
+-- what stands behind the marks of the batch's elements says nothing
+pub marks-behind : {b t s rows notes changed marks : List ℕ} {r : Performed} (behind : List ℕ) → Performs b t s rows notes changed marks r → Performs b t s rows notes changed (marks ++ behind) r
+marks-behind {marks = marks} behind h = record {
+  refuses = h .refuses;
+  ends = h .ends;
+  tells = h .tells;
+  marked = λ d i. let m = h .marked d i in record { end = m .end; ends = m .ends; long = omega (arith, m .long, length-append marks behind); told = take-append-le (d .elements) marks behind (m .long) ∙ m .told };
+}
 
 -- ── Refused before them ─────────────────────────────────────────────────────────────────────────────────────
 
 module _ {b : List ℕ} {l : Layout} {t s changes running first : List ℕ} {r : Planned} (P : PlanMade b l t s changes running first r) where
-  pub plan-stops : {rows notes changed : List ℕ} → LaidOut b l t s → (k : ℕ) → r ≡ Unplanned k → Performs b t s rows notes changed (Refused k)
+  pub plan-stops : {rows notes changed marks : List ℕ} → LaidOut b l t s → (k : ℕ) → r ≡ Unplanned k → Performs b t s rows notes changed marks (Refused k)
   unfolding ending _>>=_
   plan-stops L k e =
       let Q : PlanMade b l t s changes running first (Unplanned k) = subst (PlanMade b l t s changes running first) e P in
@@ -105,7 +117,7 @@ module _ {b : List ℕ} {l : Layout} {t s changes running first : List ℕ} {r :
   plan-made c e = subst (PlanMade b l t s changes running first) e P
 
 module _ {b t₀ s₀ t s : List ℕ} {r : Laid} (J : Judged b t₀ s₀ t s r) where
-  pub judged-stops : {rows notes changed : List ℕ} (k : ℕ) → r ≡ Unlaid k → Performs b t s rows notes changed (Refused k)
+  pub judged-stops : {rows notes changed marks : List ℕ} (k : ℕ) → r ≡ Unlaid k → Performs b t s rows notes changed marks (Refused k)
   unfolding ending laidOf _>>=_
   judged-stops k e = performs-refused k (rw (judged-refuses b k (sym (J .answer) ∙ ap laidOf e)) refl)
 

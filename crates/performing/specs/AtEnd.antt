@@ -2,7 +2,7 @@
 -- Assumes nothing.
 use mathlib.Core.Path.{_≡_}
 use mathlib.Core.Bool.{true, false}
-use mathlib.Core.List.{List}
+use mathlib.Core.List.{List, map}
 use Prim.Native.Nat.{ℕ, _*_, _^_, _≤_, _<_}
 use lib.ListN.{length, take, drop}
 use Rattle.definition.specs.Basics.{refused, gives, keep}
@@ -13,10 +13,11 @@ use Rattle.laws.specs.Held.{Holds}
 use Rattle.element_table.specs.View.{view}
 use Rattle.element_table.specs.Wellformed.{Wellformed}
 use Rattle.rows.specs.Row.{firstRows, bytes}
+use Rattle.rows.specs.Place.{markOf}
 use Rattle.annotations.specs.Notes.{notesOf}
 use Rattle.store_model.specs.Store.{store}
 use Rattle.tree_store.specs.Stored.{stored}
-use Rattle.work.specs.Slices.{lengths}
+use Rattle.work.specs.Slices.{needed, lengths}
 use Rattle.performing.specs.Ending.{End, ending}
 use Rattle.performing.specs.declared.Ended.{Ended}
 use Rattle.performing.specs.declared.Performed.{Performed}
@@ -53,13 +54,21 @@ pub record Told (b t s : List ℕ) (n : ℕ) : Type 0 where
   pub table : view n t s ≡ batch .table
   pub formed : Wellformed n t s
 
+-- the run of the batch b has ended, and the marks are the rows where its elements stand
+pub record Marked (b marks : List ℕ) (d : Ended) : Type 0 where
+  pub end : End
+  pub ends : ending b ≡ gives end
+  pub long : d .elements ≤ length marks
+  pub told : take (d .elements) marks ≡ map (markOf (end .world .trees)) (end .world .paths)
+
 -- a run of the batch b: refused by the definition's number, or at the end of the run
-pub record Performs (b t s rows notes changed : List ℕ) (r : Performed) : Type 0 where
+pub record Performs (b t s rows notes changed marks : List ℕ) (r : Performed) : Type 0 where
   pub refuses : (k : ℕ) → r ≡ Refused k → ending b ≡ refused k
   pub ends : (d : Ended) → r ≡ Done d → AtEnd b rows notes changed d
   pub tells : (d : Ended) → r ≡ Done d → Told b t s (d .elements)
+  pub marked : (d : Ended) → r ≡ Done d → Marked b marks d
 
 -- THE PROMISE of performing with the work slices `work`: 1 where one of them is too short, or what a run answers
-pub data PerformsWith (work : List (List ℕ)) (b t s rows notes changed : List ℕ) (r : Performed) : Type 0 where
-  short : tooShort (lengths work) ≡ true → r ≡ Refused 1 → PerformsWith work b t s rows notes changed r
-  long : tooShort (lengths work) ≡ false → Performs b t s rows notes changed r → PerformsWith work b t s rows notes changed r
+pub data PerformsWith (work : List (List ℕ)) (b t s rows notes changed marks : List ℕ) (r : Performed) : Type 0 where
+  short : tooShort (lengths needed work) ≡ true → r ≡ Refused 1 → PerformsWith work b t s rows notes changed marks r
+  long : tooShort (lengths needed work) ≡ false → Performs b t s rows notes changed marks r → PerformsWith work b t s rows notes changed marks r

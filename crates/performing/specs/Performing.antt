@@ -5,7 +5,7 @@ use mathlib.Core.List.{List, []}
 use Prim.Native.Nat.{ℕ, _≤_, _<_}
 use native.Mathlib.Omega.{arith}
 use lib.ListN.{length, take, drop, length-map}
-use lib.Seq.{length-take-le}
+use lib.Seq.{length-take-le, take-all}
 use Rattle.orders.specs.Lists.{All}
 use Rattle.orders.specs.ListLaws.{All-map₂}
 use Rattle.definition.specs.Basics.{Answer, refused, gives, _>>=_}
@@ -46,10 +46,11 @@ use Rattle.tree_state.specs.declared.Executed.the-variants.{Refused, Done}
 use Rattle.executing.specs.Standing.{Begun, first-told, Standing}
 use Rattle.executing.specs.Opening.{rows-some, rows-few, notes-few, bytes-few}
 use Rattle.executing.specs.Stepping.{Performs}
-use Rattle.executing.specs.Running.{plansIn, listsAll, lists-total, Ran}
+use Rattle.executing.specs.Running.{plansIn, listsAll, lists-total, Ran, marks-many}
 use Rattle.performing.specs.Ending.{ending}
 use Rattle.performing.specs.Beginning.{known, planned, begun}
-use Rattle.performing.specs.AtEnd.{AtEnd}
+use Rattle.performing.specs.AtEnd.{AtEnd, Marked}
+use Rattle.performing.specs.declared.Ended.{Ended}
 
 module _ {b : List ℕ} {l : Layout} {t₀ s₀ t s : List ℕ} (v : Leaves b l t₀ s₀ t s) {changes running first : List ℕ} {c : Counts} (P : PlanMade b l t s changes running first (PlanIs c)) where
   abbrev a : Accepted
@@ -182,3 +183,17 @@ module _ {b : List ℕ} {l : Layout} {t₀ s₀ t s : List ℕ} (v : Leaves b l 
             changed-few : (w : World) → heldIn text r rows marks notes changed ≡ store w → ran a p ≡ gives w → r .changed ≤ 1024
             changed-few w same i =
                 omega (arith, length-take-le (r .changed) changed (S .held), ap (λ (y : Store). length (y .changed)) same, length-map (w .changed) (λ q. place q (w .trees)), ran-changed b a p w (known v) (planned v p (m .plan)) i)
+
+    -- and the marks are where the elements stand
+    pub run-marked : (r : TreeState) → x ≡ Done r → (d : Ended) → d .elements ≡ E → Marked b marks d
+    unfolding executedIn _>>=_ text store stored
+    run-marked r e d q = go (ran a p) refl (sym (ap (executedIn text rows marks notes changed) e) ∙ ran-told)
+      where
+        go : (o : Answer World) → ran a p ≡ o → gives (heldIn text r rows marks notes changed) ≡ inRows o → Marked b marks d
+        go (refused n) i j = refused-gives (sym j)
+        go (gives w) i j = record {
+          end = record { batch = a; planned = p; world = w };
+          ends = ended-by (gives w) i;
+          long = omega (arith, marks-many (R .standing r e));
+          told = take-all (d .elements) marks (omega (arith, marks-many (R .standing r e))) ∙ ap (λ (y : Store). y .marks) (gives-inj j);
+        }

@@ -35,7 +35,7 @@ pub enum Performed {
 }
 
 // The steps of the plan, over marks for just the batch's elements.
-fn run_steps(
+fn run_plan(
     b: &[u8],
     l: Layout,
     c: Counts,
@@ -50,14 +50,14 @@ fn run_steps(
     marks: &mut [u32],
     rows: &mut [u32],
     prepared: &mut [u32],
-    sizes: &mut [u32],
 ) -> Performed
     requires { ⌜ LaidOut (now b) l (now table) (now source) ⌝ }
     requires { ⌜ PlanMade (now b) l (now table) (now source) (now changes) (now running) (now first) (Made c) ⌝ }
     requires { ⌜ (6147 ≤ length (now source)) × (256 ≤ length (now running)) × (768 ≤ length (now first)) ⌝ }
-    requires { ⌜ (length (now marks) ≡ l .sizes .elements) × (3072 ≤ length (now notes)) × (3072 ≤ length (now incoming)) × (1024 ≤ length (now changed)) × (12291 ≤ length (now rows)) × (12288 ≤ length (now prepared)) × (1024 ≤ length (now sizes)) ⌝ }
-    ensures { λ r. ⌜ Performs (now (b .entry)) (now (table .entry)) (now (source .entry)) (now (rows .exit)) (now (notes .exit)) (now (changed .exit)) r ⌝ }
+    requires { ⌜ (length (now marks) ≡ l .sizes .elements) × (3072 ≤ length (now notes)) × (3072 ≤ length (now incoming)) × (1024 ≤ length (now changed)) × (12291 ≤ length (now rows)) × (12288 ≤ length (now prepared)) ⌝ }
+    ensures { λ r. ⌜ Performs (now (b .entry)) (now (table .entry)) (now (source .entry)) (now (rows .exit)) (now (notes .exit)) (now (changed .exit)) (now (marks .exit)) r ⌝ }
 {
+    let mut sizes = [0u32; 1024];
     let s = l.sizes;
     let done = execute(
         rows,
@@ -65,7 +65,7 @@ fn run_steps(
         notes,
         changed,
         prepared,
-        sizes,
+        &mut sizes,
         incoming,
         table,
         source,
@@ -93,51 +93,6 @@ fn run_steps(
     }
 }
 
-// The steps of the plan.
-fn run_plan(
-    b: &[u8],
-    l: Layout,
-    c: Counts,
-    table: &[u32],
-    source: &[u32],
-    changes: &[u32],
-    running: &[u32],
-    first: &[u32],
-    notes: &mut [u32],
-    incoming: &mut [u32],
-    changed: &mut [u32],
-    marks: &mut [u32],
-    rows: &mut [u32],
-    prepared: &mut [u32],
-    sizes: &mut [u32],
-) -> Performed
-    requires { ⌜ LaidOut (now b) l (now table) (now source) ⌝ }
-    requires { ⌜ PlanMade (now b) l (now table) (now source) (now changes) (now running) (now first) (Made c) ⌝ }
-    requires { ⌜ (6147 ≤ length (now source)) × (256 ≤ length (now running)) × (768 ≤ length (now first)) ⌝ }
-    requires { ⌜ (2048 ≤ length (now marks)) × (3072 ≤ length (now notes)) × (3072 ≤ length (now incoming)) × (1024 ≤ length (now changed)) × (12291 ≤ length (now rows)) × (12288 ≤ length (now prepared)) × (1024 ≤ length (now sizes)) ⌝ }
-    ensures { λ r. ⌜ Performs (now (b .entry)) (now (table .entry)) (now (source .entry)) (now (rows .exit)) (now (notes .exit)) (now (changed .exit)) r ⌝ }
-{
-    let s = l.sizes;
-    let n = s.elements;
-    run_steps(
-        b,
-        l,
-        c,
-        table,
-        source,
-        changes,
-        running,
-        first,
-        notes,
-        incoming,
-        changed,
-        &mut marks[0..n],
-        rows,
-        prepared,
-        sizes,
-    )
-}
-
 // The plan of an accepted batch, and its steps. Before the first step the rows, the prepared rows, the changed rows and the marks serve planning.
 fn plan_and_run(
     b: &[u8],
@@ -145,21 +100,22 @@ fn plan_and_run(
     table: &[u32],
     source: &[u32],
     changes: &mut [u32],
-    running: &mut [u32],
-    first: &mut [u32],
     notes: &mut [u32],
     incoming: &mut [u32],
     changed: &mut [u32],
     marks: &mut [u32],
     rows: &mut [u32],
     prepared: &mut [u32],
-    sizes: &mut [u32],
 ) -> Performed
     requires { ⌜ LaidOut (now b) l (now table) (now source) ⌝ }
-    requires { ⌜ (6147 ≤ length (now source)) × (3328 ≤ length (now changes)) × (256 ≤ length (now running)) × (768 ≤ length (now first)) ⌝ }
-    requires { ⌜ (2048 ≤ length (now marks)) × (3072 ≤ length (now notes)) × (3072 ≤ length (now incoming)) × (1024 ≤ length (now changed)) × (12291 ≤ length (now rows)) × (12288 ≤ length (now prepared)) × (1024 ≤ length (now sizes)) ⌝ }
-    ensures { λ r. ⌜ Performs (now (b .entry)) (now (table .entry)) (now (source .entry)) (now (rows .exit)) (now (notes .exit)) (now (changed .exit)) r ⌝ }
+    requires { ⌜ (6147 ≤ length (now source)) × (3328 ≤ length (now changes)) ⌝ }
+    requires { ⌜ (2048 ≤ length (now marks)) × (3072 ≤ length (now notes)) × (3072 ≤ length (now incoming)) × (1024 ≤ length (now changed)) × (12291 ≤ length (now rows)) × (12288 ≤ length (now prepared)) ⌝ }
+    ensures { λ r. ⌜ Performs (now (b .entry)) (now (table .entry)) (now (source .entry)) (now (rows .exit)) (now (notes .exit)) (now (changed .exit)) (now (marks .exit)) r ⌝ }
 {
+    let mut running = [0u32; 256];
+    let mut first = [0u32; 768];
+    let s = l.sizes;
+    let n = s.elements;
     let planned = plan(
         b,
         l,
@@ -169,9 +125,9 @@ fn plan_and_run(
         prepared,
         changes,
         changed,
-        running,
+        &mut running,
         marks,
-        first,
+        &mut first,
     );
     match planned {
         Planned::Refused(n) => Performed::Refused(n),
@@ -182,15 +138,14 @@ fn plan_and_run(
             table,
             source,
             changes,
-            running,
-            first,
+            &running,
+            &first,
             notes,
             incoming,
             changed,
-            marks,
+            &mut marks[0..n],
             rows,
             prepared,
-            sizes,
         ),
     }
 }
@@ -201,31 +156,25 @@ pub fn perform(
     table: &mut [u32],
     source: &mut [u32],
     changes: &mut [u32],
-    running: &mut [u32],
-    first: &mut [u32],
     notes: &mut [u32],
     incoming: &mut [u32],
     changed: &mut [u32],
     marks: &mut [u32],
     rows: &mut [u32],
     prepared: &mut [u32],
-    sizes: &mut [u32],
 ) -> Performed
-    ensures { λ r. ⌜ PerformsWith (now (table .entry) ∷ now (source .entry) ∷ now (changes .entry) ∷ now (running .entry) ∷ now (first .entry) ∷ now (notes .entry) ∷ now (incoming .entry) ∷ now (changed .entry) ∷ now (marks .entry) ∷ now (rows .entry) ∷ now (prepared .entry) ∷ now (sizes .entry) ∷ []) (now (b .entry)) (now (table .exit)) (now (source .exit)) (now (rows .exit)) (now (notes .exit)) (now (changed .exit)) r ⌝ }
+    ensures { λ r. ⌜ PerformsWith (now (table .entry) ∷ now (source .entry) ∷ now (changes .entry) ∷ now (notes .entry) ∷ now (incoming .entry) ∷ now (changed .entry) ∷ now (marks .entry) ∷ now (rows .entry) ∷ now (prepared .entry) ∷ []) (now (b .entry)) (now (table .exit)) (now (source .exit)) (now (rows .exit)) (now (notes .exit)) (now (changed .exit)) (now (marks .exit)) r ⌝ }
 {
     if work::too_short(
         table,
         source,
         changes,
-        running,
-        first,
         notes,
         incoming,
         changed,
         marks,
         rows,
         prepared,
-        sizes,
     ) {
         return Performed::Refused(1);
     }
@@ -238,15 +187,12 @@ pub fn perform(
             table,
             source,
             changes,
-            running,
-            first,
             notes,
             incoming,
             changed,
             marks,
             rows,
             prepared,
-            sizes,
         ),
     }
 }

@@ -16,16 +16,16 @@ use Rattle.laws.specs.Limits.{edit-within, encoded-within}
 use Rattle.result_words.specs.Worded.{Bytes, edit-worded}
 use Rattle.result_words.specs.Decoded.{decoded}
 use Rattle.result_words.specs.Encoded.{decoded-encoded}
-use Rattle.work.specs.Slices.{lengths}
+use Rattle.work.specs.Slices.{needed, lengths}
 use Rattle.work.specs.Promises.{leftIn, Edits, Finds, applied, found, long-edited, long-found}
 
 -- what is lent suffices: each work slice has its length, and the result slice has room for the answer
 pub record Lent (b held : List ℕ) (work : List (List ℕ)) : Type 0 where
-  pub works : tooShort (lengths work) ≡ false
+  pub works : tooShort (lengths needed work) ≡ false
   pub room : (R : Result) → edit b ≡ gives R → length (encoded R) ≤ length held
 
 -- 61,464 bytes are room for every answer.
-pub lent-most : (b held : List ℕ) (work : List (List ℕ)) → tooShort (lengths work) ≡ false → 61464 ≤ length held → Lent b held work
+pub lent-most : (b held : List ℕ) (work : List (List ℕ)) → tooShort (lengths needed work) ≡ false → 61464 ≤ length held → Lent b held work
 lent-most b held work h k = record { works = h; room = λ R e. omega (arith, encoded-within b R e) }
 
 -- what an answer leaves: its refusal, and all that was held; or the number of its bytes, and these with what was held beyond them
@@ -40,13 +40,13 @@ edit-leaves b held work r holds left p l = go (edit b) refl long
     fit : Result → Answer (List ℕ)
     fit R = fitting (length held) R >>= λ S. gives (encoded S)
 
-    long : edited (lengths work) b (length held) ≡ (edit b >>= fit)
+    long : edited (lengths needed work) b (length held) ≡ (edit b >>= fit)
     long = long-edited work b (length held) (l .works)
 
-    go : (o : Answer Result) → edit b ≡ o → edited (lengths work) b (length held) ≡ (o >>= fit) → Leaves o held r holds
+    go : (o : Answer Result) → edit b ≡ o → edited (lengths needed work) b (length held) ≡ (o >>= fit) → Leaves o held r holds
     go (refused k) e w = (p .answer ∙ ap (λ x. x >>= λ bytes. gives (length bytes)) w, p .result ∙ ap (leftIn held) w)
     go (gives R) e w =
-        let z : edited (lengths work) b (length held) ≡ gives (encoded R) = w ∙ rw (le-ltb (length held) (length (encoded R)) (l .room R e)) refl in
+        let z : edited (lengths needed work) b (length held) ≡ gives (encoded R) = w ∙ rw (le-ltb (length held) (length (encoded R)) (l .room R e)) refl in
         (p .answer ∙ ap (λ x. x >>= λ bytes. gives (length bytes)) z, p .result ∙ ap (leftIn held) z)
 
 -- the answer that stands in the slice: a refusal, or the result read there
@@ -76,6 +76,6 @@ edit-answered b held work r holds left p h l =
     record { leaves = z; read = leaves-read b held r holds h z }
 
 -- Every call of `find_element` that keeps its promise finds what the definition finds.
-pub find-answered : (b : List ℕ) (n : ℕ) (work : List (List ℕ)) (r : Answer (Option ℕ)) (left : List (List ℕ)) → Finds b n work r left → tooShort (lengths work) ≡ false → r ≡ findElement [] b n
+pub find-answered : (b : List ℕ) (n : ℕ) (work : List (List ℕ)) (r : Answer (Option ℕ)) (left : List (List ℕ)) → Finds b n work r left → tooShort (lengths needed work) ≡ false → r ≡ findElement [] b n
 unfolding findElement withWork tooShort any refuse found _>>=_
 find-answered b n work r left p h = p .element ∙ long-found work b n h

@@ -15,7 +15,7 @@ use Rattle.definition.specs.Finishing.{Result, encoded, fitting}
 use Rattle.definition.specs.Answers.{edit, edited, tooShort, withWork}
 use Rattle.laws.specs.Answers.{gives-inj, refused-gives, given, not-wrong}
 use Rattle.demand.specs.Answered.{edited-result}
-use Rattle.work.specs.Slices.{lengths, zeros, zeroed}
+use Rattle.work.specs.Slices.{needed, lengths, zeros, zeroed}
 use Rattle.work.specs.Promises.{leftIn, Edits, Finds}
 use Rattle.promised.specs.Refused.{refused-inj, edited-numbered, found-numbered}
 
@@ -85,19 +85,19 @@ pub record Demand1 (b held : List ℕ) (work : List (List ℕ)) (r : Answer ℕ)
 -- Every call that keeps its promise meets demand 1.
 pub demand-1 : (b held : List ℕ) (work : List (List ℕ)) (r : Answer ℕ) (holds : List ℕ) (left : List (List ℕ)) → Edits b held work r holds left → Demand1 b held work r holds left
 unfolding leftIn _>>=_
-demand-1 b held work r holds left p = go (edited (lengths work) b (length held)) refl (p .answer) (p .result)
+demand-1 b held work r holds left p = go (edited (lengths needed work) b (length held)) refl (p .answer) (p .result)
   where
-    go : (want : Answer (List ℕ)) → edited (lengths work) b (length held) ≡ want → r ≡ (want >>= λ bytes. gives (length bytes)) → holds ≡ leftIn held want → Demand1 b held work r holds left
+    go : (want : Answer (List ℕ)) → edited (lengths needed work) b (length held) ≡ want → r ≡ (want >>= λ bytes. gives (length bytes)) → holds ≡ leftIn held want → Demand1 b held work r holds left
     go (refused m) e a h = record {
-      numbered = λ k q. edited-numbered (lengths work) b (length held) k (e ∙ ap {B = Answer (List ℕ)} refused (refused-inj (sym a ∙ q)));
+      numbered = λ k q. edited-numbered (lengths needed work) b (length held) k (e ∙ ap {B = Answer (List ℕ)} refused (refused-inj (sym a ∙ q)));
       untouched = λ k q. h;
       finished = λ n q. refused-gives (sym a ∙ q);
       holdsLength = ap length h;
       cleared = zeroed-cleared work left (p .zeros);
     }
     go (gives out) e a h =
-        let (R, y, same) = edited-result (lengths work) b (length held) out e in
-        let fits = edited-fits (lengths work) b (length held) out e in
+        let (R, y, same) = edited-result (lengths needed work) b (length held) out e in
+        let fits = edited-fits (lengths needed work) b (length held) out e in
         record {
           numbered = λ k q. refused-gives (sym q ∙ a);
           untouched = λ k q. refused-gives (sym q ∙ a);
@@ -123,7 +123,7 @@ pub record Demand1Finds (b : List ℕ) (n : ℕ) (work : List (List ℕ)) (r : A
 -- So does every call of `find_element`.
 pub demand-1-finds : (b : List ℕ) (n : ℕ) (work : List (List ℕ)) (r : Answer (Option ℕ)) (left : List (List ℕ)) → Finds b n work r left → Demand1Finds b n work r left
 demand-1-finds b n work r left p = record {
-  numbered = λ k q. found-numbered (lengths work) b n k (sym (p .element) ∙ q);
+  numbered = λ k q. found-numbered (lengths needed work) b n k (sym (p .element) ∙ q);
   cleared = zeroed-cleared work left (p .zeros);
 }
 

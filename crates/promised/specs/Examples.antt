@@ -21,7 +21,7 @@ use Rattle.definition.specs.Examples.{Told, inBytes, Summary, Short, short, mar
 use Rattle.laws.specs.Answers.{gives-inj, refused-gives}
 use Rattle.result_words.specs.Worded.{Bytes, take-bytes, tested-bytes}
 use Rattle.result_words.specs.Decoded.{decoded}
-use Rattle.work.specs.Slices.{lengths}
+use Rattle.work.specs.Slices.{needed, lengths}
 use Rattle.work.specs.Promises.{Edits, Finds}
 use Rattle.promised.specs.Refused.{refused-inj}
 use Rattle.promised.specs.Answered.{Lent, Leaves, answerIn, edit-answered, find-answered}
@@ -87,7 +87,7 @@ table-run es b e = go es (none-passes (λ m. any (leb 256) (inBytes (m .0))) es 
 -- every call on this input that keeps its promise, with a result slice of 65,536 bytes: what it leaves prints these lines
 abbrev pub Prints : Told × String → Type 0
 Prints m =
-    (held : List ℕ) (work : List (List ℕ)) (r : Answer ℕ) (holds : List ℕ) (left : List (List ℕ)) → Edits (take 65536 (inBytes (m .0))) held work r holds left → tooShort (lengths work) ≡ false → length held ≡ 65536
+    (held : List ℕ) (work : List (List ℕ)) (r : Answer ℕ) (holds : List ℕ) (left : List (List ℕ)) → Edits (take 65536 (inBytes (m .0))) held work r holds left → tooShort (lengths needed work) ≡ false → length held ≡ 65536
     → print (answerIn r holds) ≡ ascii (m .1)
 
 -- what the definition prints
@@ -98,7 +98,7 @@ lines-run b lines h e held work r holds left p k l =
 
 -- every call of `find_element` on this batch that keeps its promise finds as told
 abbrev pub FindsTold : List ℕ → ℕ × Answer (Option ℕ) → Type 0
-FindsTold b m = (work : List (List ℕ)) (r : Answer (Option ℕ)) (left : List (List ℕ)) → Finds b (m .0) work r left → tooShort (lengths work) ≡ false → r ≡ m .1
+FindsTold b m = (work : List (List ℕ)) (r : Answer (Option ℕ)) (left : List (List ℕ)) → Finds b (m .0) work r left → tooShort (lengths needed work) ≡ false → r ≡ m .1
 
 -- what the definition finds
 pub finds-run : (b : List ℕ) (ms : List (ℕ × Answer (Option ℕ))) → map (findElement [] b) (map (λ m. m .0) ms) ≡ map (λ m. m .1) ms → All (FindsTold b) ms

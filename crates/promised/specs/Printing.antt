@@ -11,13 +11,13 @@ use Rattle.definition.specs.Answers.{tooShort}
 use Rattle.definition.specs.Printed.{print, printed}
 use Rattle.laws.specs.Limits.{room-suffices}
 use Rattle.result_words.specs.Worded.{Bytes}
-use Rattle.work.specs.Slices.{lengths}
+use Rattle.work.specs.Slices.{needed, lengths}
 use Rattle.work.specs.Promises.{Edits}
 use Rattle.promised.specs.Answered.{lent-most, answerIn, edit-answered}
 
 -- "Its batch and result buffers have 65,536 bytes each; of a longer input it judges the first 65,536": what is read in the result slice prints what the definition prints of the input.
 pub printed-run : (input held : List ℕ) (work : List (List ℕ)) (r : Answer ℕ) (holds : List ℕ) (left : List (List ℕ)) → Edits (take 65536 input) held work r holds left → Bytes (take 65536 input)
-    → tooShort (lengths work) ≡ false → length held ≡ 65536 → print (answerIn r holds) ≡ printed input
+    → tooShort (lengths needed work) ≡ false → length held ≡ 65536 → print (answerIn r holds) ≡ printed input
 unfolding printed
 printed-run input held work r holds left p b h k =
     let z = edit-answered (take 65536 input) held work r holds left p b (lent-most (take 65536 input) held work h (omega arith)) in

@@ -24,7 +24,7 @@ use Rattle.definition.specs.Answers.{Plan, plan, performed, atFirst, ran, edit,
 use Rattle.definition.specs.FindElement.{findIn, findElement}
 use Rattle.laws.specs.Answers.{refused-gives}
 use Rattle.laws.specs.Limits.{encoded-within}
-use Rattle.work.specs.Slices.{lengths}
+use Rattle.work.specs.Slices.{needed, lengths}
 use Rattle.work.specs.Promises.{Edits, Finds, applied, found, short-edited, long-edited, long-found}
 
 -- ── A refusal out of a list of numbers ──────────────────────────────────────────────────────────────────────
@@ -287,34 +287,34 @@ found-numbered work b n k e = by-number findNumbers 1 12 k (findElement work b n
 
 -- why a call is refused: for a work slice, for the batch, or for the result slice
 pub data Why (b held : List ℕ) (work : List (List ℕ)) : ℕ → Type 0 where
-  workShort : tooShort (lengths work) ≡ true → Why b held work 1
+  workShort : tooShort (lengths needed work) ≡ true → Why b held work 1
   wrong : {k : ℕ} → 2 ≤ k → k ≤ 12 → edit b ≡ refused k → Why b held work k
   resultShort : (R : Result) → edit b ≡ gives R → length held < length (encoded R) → Why b held work 13
 
 -- A call that keeps its promise and refuses has one of these reasons.
 pub refused-why : (b held : List ℕ) (work : List (List ℕ)) (r : Answer ℕ) (holds : List ℕ) (left : List (List ℕ)) → Edits b held work r holds left → (k : ℕ) → r ≡ refused k → Why b held work k
 unfolding applied fitting refuse any _>>=_
-refused-why b held work r holds left p k e = go (tooShort (lengths work)) refl
+refused-why b held work r holds left p k e = go (tooShort (lengths needed work)) refl
   where
     -- the number, from the bytes that are wanted
-    number : (want : Answer (List ℕ)) → edited (lengths work) b (length held) ≡ want → (want >>= λ bytes. gives (length bytes)) ≡ refused k
+    number : (want : Answer (List ℕ)) → edited (lengths needed work) b (length held) ≡ want → (want >>= λ bytes. gives (length bytes)) ≡ refused k
     number want q = ap (λ x. x >>= λ bytes. gives (length bytes)) (sym q) ∙ (sym (p .answer) ∙ e)
 
     fit : Result → Answer (List ℕ)
     fit R = fitting (length held) R >>= λ S. gives (encoded S)
 
-    room : (R : Result) → edit b ≡ gives R → edited (lengths work) b (length held) ≡ fit R → (t : Bool) → ltb (length held) (length (encoded R)) ≡ t → Why b held work k
+    room : (R : Result) → edit b ≡ gives R → edited (lengths needed work) b (length held) ≡ fit R → (t : Bool) → ltb (length held) (length (encoded R)) ≡ t → Why b held work k
     room R x q true t = rw (← refused-inj (number (refused 13) (q ∙ rw t refl))) (resultShort R x (ltb-true (length held) (length (encoded R)) t))
     room R x q false t = refused-gives (sym (number (gives (encoded R)) (q ∙ rw t refl)))
 
-    answer : (o : Answer Result) → edit b ≡ o → edited (lengths work) b (length held) ≡ (o >>= fit) → Why b held work k
+    answer : (o : Answer Result) → edit b ≡ o → edited (lengths needed work) b (length held) ≡ (o >>= fit) → Why b held work k
     answer (refused j) x q =
         let z : edit b ≡ refused k = x ∙ ap {B = Answer Result} refused (refused-inj (number (refused j) q)) in
         let (low, high) = by-number editLines 2 12 k (edit b) refl (edit-by b) z in
         wrong low high z
     answer (gives R) x q = room R x q (ltb (length held) (length (encoded R))) refl
 
-    go : (t : Bool) → tooShort (lengths work) ≡ t → Why b held work k
+    go : (t : Bool) → tooShort (lengths needed work) ≡ t → Why b held work k
     go true t = rw (← refused-inj (number (refused 1) (short-edited work b (length held) t))) (workShort t)
     go false t = answer (edit b) refl (long-edited work b (length held) t)
 
@@ -328,5 +328,5 @@ never-13 b held work r holds left p h e = go 13 refl (refused-why b held work r 
     go k z (resultShort R x l) = omega (arith, encoded-within b R x)
 
 -- So every call of `find_element` that keeps its promise, with no work slice too short, is refused just where the edit of the batch is.
-pub find-refused : (b : List ℕ) (n : ℕ) (work : List (List ℕ)) (r : Answer (Option ℕ)) (left : List (List ℕ)) → Finds b n work r left → tooShort (lengths work) ≡ false → Alike r (edit b)
+pub find-refused : (b : List ℕ) (n : ℕ) (work : List (List ℕ)) (r : Answer (Option ℕ)) (left : List (List ℕ)) → Finds b n work r left → tooShort (lengths needed work) ≡ false → Alike r (edit b)
 find-refused b n work r left p h = rw (p .element, long-found work b n h) (found-alike b n)

@@ -60,24 +60,15 @@ fn is_zero(s: &[u32]) -> bool {
     true
 }
 
-// Whether every word of six slices is 0.
-fn are_zero(a: &[u32], b: &[u32], c: &[u32], d: &[u32], e: &[u32], f: &[u32]) -> bool {
+// Whether every word of three slices is 0.
+fn are_zero(a: &[u32], b: &[u32], c: &[u32]) -> bool {
     if !is_zero(a) {
         return false;
     }
     if !is_zero(b) {
         return false;
     }
-    if !is_zero(c) {
-        return false;
-    }
-    if !is_zero(d) {
-        return false;
-    }
-    if !is_zero(e) {
-        return false;
-    }
-    is_zero(f)
+    is_zero(c)
 }
 
 // What a result slice is to hold at `i`: the recorded result, and beyond it what it held.
@@ -132,38 +123,35 @@ fn edit_agrees(batch: &[u8], refusal: usize, expected: &[u8]) -> bool {
     let mut table = [WORD; 16384];
     let mut source = [WORD; 6147];
     let mut changes = [WORD; 3328];
-    let mut running = [WORD; 256];
-    let mut first = [WORD; 768];
     let mut notes = [WORD; 3072];
     let mut incoming = [WORD; 3072];
     let mut changed = [WORD; 1024];
     let mut marks = [WORD; 2048];
     let mut rows = [WORD; 12291];
     let mut prepared = [WORD; 12288];
-    let mut sizes = [WORD; 1024];
     let answer = edit_algo::edit(
         batch,
         &mut result,
         &mut table,
         &mut source,
         &mut changes,
-        &mut running,
-        &mut first,
         &mut notes,
         &mut incoming,
         &mut changed,
         &mut marks,
         &mut rows,
         &mut prepared,
-        &mut sizes,
     );
     if !is_recorded(answer, &result, refusal, expected) {
         return false;
     }
-    if !are_zero(&table, &source, &changes, &running, &first, &notes) {
+    if !are_zero(&table, &source, &changes) {
         return false;
     }
-    are_zero(&incoming, &changed, &marks, &rows, &prepared, &sizes)
+    if !are_zero(&notes, &incoming, &changed) {
+        return false;
+    }
+    are_zero(&marks, &rows, &prepared)
 }
 
 // Whether an element is found where it was recorded.
@@ -171,38 +159,35 @@ fn find_agrees(batch: &[u8], number: usize, refusal: usize, found: usize) -> boo
     let mut table = [WORD; 16384];
     let mut source = [WORD; 6147];
     let mut changes = [WORD; 3328];
-    let mut running = [WORD; 256];
-    let mut first = [WORD; 768];
     let mut notes = [WORD; 3072];
     let mut incoming = [WORD; 3072];
     let mut changed = [WORD; 1024];
     let mut marks = [WORD; 2048];
     let mut rows = [WORD; 12291];
     let mut prepared = [WORD; 12288];
-    let mut sizes = [WORD; 1024];
     let element = edit_algo::find_element(
         batch,
         number,
         &mut table,
         &mut source,
         &mut changes,
-        &mut running,
-        &mut first,
         &mut notes,
         &mut incoming,
         &mut changed,
         &mut marks,
         &mut rows,
         &mut prepared,
-        &mut sizes,
     );
     if !is_element(element, refusal, found) {
         return false;
     }
-    if !are_zero(&table, &source, &changes, &running, &first, &notes) {
+    if !are_zero(&table, &source, &changes) {
         return false;
     }
-    are_zero(&incoming, &changed, &marks, &rows, &prepared, &sizes)
+    if !are_zero(&notes, &incoming, &changed) {
+        return false;
+    }
+    are_zero(&marks, &rows, &prepared)
 }
 
 // The next element to find and where it was found: whether it is.

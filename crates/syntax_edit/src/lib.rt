@@ -1,9 +1,11 @@
-// The public calls for C and Rust: a slice is a pointer and a length, an answer is one number.
+// The public calls for C and Rust: a slice is a pointer and a length, an outcome is one number.
+use edit_algo::serve;
+use work::Job;
 ghost use mathlib.Core.List.{_∷_, []};
 ghost use Rattle.answer_numbers.specs.Returned.{Returns, ReturnsElement};
 
 // THE EDIT of a batch: the length of the answer, which stands at the front of `result`, or a refusal's number with a minus.
-// The twelve others are work slices, which end as zeros.
+// The nine others are work slices, which end as zeros.
 #[no_mangle]
 pub extern "C" fn syntax_edit(
     batch: &[u8],
@@ -11,39 +13,34 @@ pub extern "C" fn syntax_edit(
     table: &mut [u32],
     source: &mut [u32],
     changes: &mut [u32],
-    running: &mut [u32],
-    first: &mut [u32],
     notes: &mut [u32],
     incoming: &mut [u32],
     changed: &mut [u32],
     marks: &mut [u32],
     rows: &mut [u32],
     prepared: &mut [u32],
-    sizes: &mut [u32],
 ) -> i64
-    ensures { λ r. ⌜ Returns (now (batch .entry)) (now (result .entry)) (now (table .entry) ∷ now (source .entry) ∷ now (changes .entry) ∷ now (running .entry) ∷ now (first .entry) ∷ now (notes .entry) ∷ now (incoming .entry) ∷ now (changed .entry) ∷ now (marks .entry) ∷ now (rows .entry) ∷ now (prepared .entry) ∷ now (sizes .entry) ∷ []) r (now (result .exit)) (now (table .exit) ∷ now (source .exit) ∷ now (changes .exit) ∷ now (running .exit) ∷ now (first .exit) ∷ now (notes .exit) ∷ now (incoming .exit) ∷ now (changed .exit) ∷ now (marks .exit) ∷ now (rows .exit) ∷ now (prepared .exit) ∷ now (sizes .exit) ∷ []) ⌝ }
+    ensures { λ r. ⌜ Returns (now (batch .entry)) (now (result .entry)) (now (table .entry) ∷ now (source .entry) ∷ now (changes .entry) ∷ now (notes .entry) ∷ now (incoming .entry) ∷ now (changed .entry) ∷ now (marks .entry) ∷ now (rows .entry) ∷ now (prepared .entry) ∷ []) r (now (result .exit)) (now (table .exit) ∷ now (source .exit) ∷ now (changes .exit) ∷ now (notes .exit) ∷ now (incoming .exit) ∷ now (changed .exit) ∷ now (marks .exit) ∷ now (rows .exit) ∷ now (prepared .exit) ∷ []) ⌝ }
 {
-    let answer = edit_algo::edit(
+    let told = serve(
+        Job::Edit,
         batch,
         result,
         table,
         source,
         changes,
-        running,
-        first,
         notes,
         incoming,
         changed,
         marks,
         rows,
         prepared,
-        sizes,
     );
-    answer_numbers::number_of(answer)
+    answer_numbers::number_of(told)
 }
 
 // The first node of the new tree with the kind and the text start of the old tree's node `number`: its number, −1000 if there is none, or a
-// refusal's number with a minus. The twelve others are work slices, which end as zeros.
+// refusal's number with a minus. The nine others are work slices, which end as zeros.
 #[no_mangle]
 pub extern "C" fn syntax_find_element(
     batch: &[u8],
@@ -51,33 +48,29 @@ pub extern "C" fn syntax_find_element(
     table: &mut [u32],
     source: &mut [u32],
     changes: &mut [u32],
-    running: &mut [u32],
-    first: &mut [u32],
     notes: &mut [u32],
     incoming: &mut [u32],
     changed: &mut [u32],
     marks: &mut [u32],
     rows: &mut [u32],
     prepared: &mut [u32],
-    sizes: &mut [u32],
 ) -> i64
-    ensures { λ r. ⌜ ReturnsElement (now (batch .entry)) number (now (table .entry) ∷ now (source .entry) ∷ now (changes .entry) ∷ now (running .entry) ∷ now (first .entry) ∷ now (notes .entry) ∷ now (incoming .entry) ∷ now (changed .entry) ∷ now (marks .entry) ∷ now (rows .entry) ∷ now (prepared .entry) ∷ now (sizes .entry) ∷ []) r (now (table .exit) ∷ now (source .exit) ∷ now (changes .exit) ∷ now (running .exit) ∷ now (first .exit) ∷ now (notes .exit) ∷ now (incoming .exit) ∷ now (changed .exit) ∷ now (marks .exit) ∷ now (rows .exit) ∷ now (prepared .exit) ∷ now (sizes .exit) ∷ []) ⌝ }
+    ensures { λ r. ⌜ ReturnsElement (now (batch .entry)) number (now (table .entry) ∷ now (source .entry) ∷ now (changes .entry) ∷ now (notes .entry) ∷ now (incoming .entry) ∷ now (changed .entry) ∷ now (marks .entry) ∷ now (rows .entry) ∷ now (prepared .entry) ∷ []) r (now (table .exit) ∷ now (source .exit) ∷ now (changes .exit) ∷ now (notes .exit) ∷ now (incoming .exit) ∷ now (changed .exit) ∷ now (marks .exit) ∷ now (rows .exit) ∷ now (prepared .exit) ∷ []) ⌝ }
 {
-    let element = edit_algo::find_element(
+    let mut none = [0u8; 0];
+    let told = serve(
+        Job::Find(number),
         batch,
-        number,
+        &mut none,
         table,
         source,
         changes,
-        running,
-        first,
         notes,
         incoming,
         changed,
         marks,
         rows,
         prepared,
-        sizes,
     );
-    answer_numbers::place_of(element)
+    answer_numbers::number_of(told)
 }

@@ -11,7 +11,7 @@ use Rattle.definition.specs.Refusals.{accepted}
 use Rattle.definition.specs.Answers.{plan, ran, edit, edited, withWork, tooShort}
 use Rattle.definition.specs.FindElement.{findIn, findElement}
 use Rattle.definition.specs.Finishing.{fitting, encoded}
-use Rattle.work.specs.Slices.{lengths, zeroed}
+use Rattle.work.specs.Slices.{needed, lengths, zeroed}
 
 -- ── The edit ────────────────────────────────────────────────────────────────────────────────────────────────
 
@@ -20,23 +20,18 @@ unfoldable pub leftIn : List ℕ → Answer (List ℕ) → List ℕ
 leftIn held (refused n) = held
 leftIn held (gives bytes) = bytes ++ drop (length bytes) held
 
--- the answer and the result slice, which held `held` and holds `holds`, where the bytes of the result are wanted
-pub record Answers (want : Answer (List ℕ)) (held : List ℕ) (r : Answer ℕ) (holds : List ℕ) : Type 0 where
-  pub answer : r ≡ (want >>= λ bytes. gives (length bytes))
-  pub result : holds ≡ leftIn held want
-
 -- THE PROMISE of `edit`, from the batch b, the result slice and the work slices as they were lent
 pub record Edits (b held : List ℕ) (work : List (List ℕ)) (r : Answer ℕ) (holds : List ℕ) (left : List (List ℕ)) : Type 0 where
   -- the answer is the definition's
-  pub answer : r ≡ (edited (lengths work) b (length held) >>= λ bytes. gives (length bytes))
+  pub answer : r ≡ (edited (lengths needed work) b (length held) >>= λ bytes. gives (length bytes))
   -- "The result slice holds the finished answer and beyond it what it held, or on refusal all that it held."
-  pub result : holds ≡ leftIn held (edited (lengths work) b (length held))
+  pub result : holds ≡ leftIn held (edited (lengths needed work) b (length held))
   -- "Work slices end as zeros."
   pub zeros : left ≡ zeroed work
 
 -- THE PROMISE of `find_element`, from the batch b, the number n and the work slices as they were lent
 pub record Finds (b : List ℕ) (n : ℕ) (work : List (List ℕ)) (r : Answer (Option ℕ)) (left : List (List ℕ)) : Type 0 where
-  pub element : r ≡ findElement (lengths work) b n
+  pub element : r ≡ findElement (lengths needed work) b n
   pub zeros : left ≡ zeroed work
 
 -- ── Refusal 1 ───────────────────────────────────────────────────────────────────────────────────────────────
@@ -48,11 +43,11 @@ applied b room = do
   r ← fitting room r
   gives (encoded r)
 
-pub short-edited : (work : List (List ℕ)) (b : List ℕ) (room : ℕ) → tooShort (lengths work) ≡ true → edited (lengths work) b room ≡ refused 1
+pub short-edited : (work : List (List ℕ)) (b : List ℕ) (room : ℕ) → tooShort (lengths needed work) ≡ true → edited (lengths needed work) b room ≡ refused 1
 unfolding edited withWork _>>=_ refuse
 short-edited work b room h = rw h refl
 
-pub long-edited : (work : List (List ℕ)) (b : List ℕ) (room : ℕ) → tooShort (lengths work) ≡ false → edited (lengths work) b room ≡ applied b room
+pub long-edited : (work : List (List ℕ)) (b : List ℕ) (room : ℕ) → tooShort (lengths needed work) ≡ false → edited (lengths needed work) b room ≡ applied b room
 unfolding edited withWork applied _>>=_ refuse
 long-edited work b room h = rw h refl
 
@@ -64,10 +59,10 @@ found b n = do
   w ← ran a p
   gives (findIn a.table w n)
 
-pub short-found : (work : List (List ℕ)) (b : List ℕ) (n : ℕ) → tooShort (lengths work) ≡ true → findElement (lengths work) b n ≡ refused 1
+pub short-found : (work : List (List ℕ)) (b : List ℕ) (n : ℕ) → tooShort (lengths needed work) ≡ true → findElement (lengths needed work) b n ≡ refused 1
 unfolding findElement withWork _>>=_ refuse
 short-found work b n h = rw h refl
 
-pub long-found : (work : List (List ℕ)) (b : List ℕ) (n : ℕ) → tooShort (lengths work) ≡ false → findElement (lengths work) b n ≡ found b n
+pub long-found : (work : List (List ℕ)) (b : List ℕ) (n : ℕ) → tooShort (lengths needed work) ≡ false → findElement (lengths needed work) b n ≡ found b n
 unfolding findElement withWork found _>>=_ refuse
 long-found work b n h = rw h refl

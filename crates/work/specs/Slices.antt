@@ -11,13 +11,13 @@ use borrow.Author.Tests.{ltb-false}
 use Rattle.definition.specs.Basics.{any}
 use Rattle.definition.specs.Answers.{tooShort}
 
--- "its length in docs/": table, source, changes, running, first, notes, incoming, changed, marks, rows, prepared, sizes
+-- "its length in docs/": table, source, changes, notes, incoming, changed, marks, rows, prepared
 unfoldable pub needed : List ℕ
-needed = 16384 ∷ 6147 ∷ 3328 ∷ 256 ∷ 768 ∷ 3072 ∷ 3072 ∷ 1024 ∷ 2048 ∷ 12291 ∷ 12288 ∷ 1024 ∷ []
+needed = 16384 ∷ 6147 ∷ 3328 ∷ 3072 ∷ 3072 ∷ 1024 ∷ 2048 ∷ 12291 ∷ 12288 ∷ []
 
--- each work slice as its length and the length that it needs
-unfoldable pub lengths : List (List ℕ) → List (ℕ × ℕ)
-lengths work = zip (map length work) needed
+-- each slice as its length and the length that it needs
+unfoldable pub lengths : List ℕ → List (List ℕ) → List (ℕ × ℕ)
+lengths needs work = zip (map length work) needs
 
 -- as many zeros
 unfoldable pub zeros : List ℕ → List ℕ
@@ -39,10 +39,10 @@ unfolding tooShort any
 short-first n m l e = let h = either-false (ltb n m) (any (λ s. ltb (s .0) (s .1)) l) e in (ltb-false n m (h .0), h .1)
 
 -- each work slice has the length that it needs
-module _ (a b c d e f g h i j k l : List ℕ) where
-  pub long-enough : tooShort (lengths (a ∷ b ∷ c ∷ d ∷ e ∷ f ∷ g ∷ h ∷ i ∷ j ∷ k ∷ l ∷ [])) ≡ false
-      → ((16384 ≤ length a) × (6147 ≤ length b) × (3328 ≤ length c) × (256 ≤ length d) × (768 ≤ length e))
-      × ((2048 ≤ length i) × (3072 ≤ length f) × (3072 ≤ length g) × (1024 ≤ length h) × (12291 ≤ length j) × (12288 ≤ length k) × (1024 ≤ length l))
+module _ (a b c d e f g h i : List ℕ) where
+  pub long-enough : tooShort (lengths needed (a ∷ b ∷ c ∷ d ∷ e ∷ f ∷ g ∷ h ∷ i ∷ [])) ≡ false
+      → ((16384 ≤ length a) × (6147 ≤ length b) × (3328 ≤ length c))
+      × ((2048 ≤ length g) × (3072 ≤ length d) × (3072 ≤ length e) × (1024 ≤ length f) × (12291 ≤ length h) × (12288 ≤ length i))
   unfolding lengths needed zip zipWith
   long-enough q =
       let (a₁, q) = short-first _ _ _ q in
@@ -54,7 +54,4 @@ module _ (a b c d e f g h i j k l : List ℕ) where
       let (g₁, q) = short-first _ _ _ q in
       let (h₁, q) = short-first _ _ _ q in
       let (i₁, q) = short-first _ _ _ q in
-      let (j₁, q) = short-first _ _ _ q in
-      let (k₁, q) = short-first _ _ _ q in
-      let (l₁, q) = short-first _ _ _ q in
-      ((a₁, b₁, c₁, d₁, e₁), (i₁, f₁, g₁, h₁, j₁, k₁, l₁))
+      ((a₁, b₁, c₁), (g₁, d₁, e₁, f₁, h₁, i₁))

@@ -1,10 +1,24 @@
-// The work slices: whether one is too short, and all of them cleared.
+// What is asked for and answered; the work slices: whether one is too short, and all of them cleared.
 ghost use mathlib.Core.Path.{_≡_};
 ghost use mathlib.Core.List.{_∷_, []};
 ghost use lib.ListN.{length};
 ghost use lib.Dec.{ltb};
 ghost use Rattle.definition.specs.Answers.{tooShort};
-ghost use Rattle.work.specs.Slices.{asked, lengths, zeros, zeroed};
+ghost use Rattle.work.specs.Slices.{asked, needed, lengths, zeros, zeroed};
+
+// What is asked of a batch: its edit, or where a node of tree 0 stands then.
+pub enum Job {
+    Edit,
+    Find(usize),
+}
+
+// A refusal's number; how many bytes the result has; no element; or an element's number.
+pub enum Outcome {
+    Refused(usize),
+    Bytes(usize),
+    Nothing,
+    At(usize),
+}
 
 // Whether a slice has less than `n` words.
 fn is_short(s: &[u32], n: usize) -> bool
@@ -13,18 +27,9 @@ fn is_short(s: &[u32], n: usize) -> bool
     s.len() < n
 }
 
-// Whether one of four slices is too short.
-fn short_of_four(
-    a: &[u32],
-    i: usize,
-    b: &[u32],
-    j: usize,
-    c: &[u32],
-    k: usize,
-    d: &[u32],
-    l: usize,
-) -> bool
-    ensures { λ r. ⌜ r ≡ tooShort (asked (now (a .entry)) i ∷ asked (now (b .entry)) j ∷ asked (now (c .entry)) k ∷ asked (now (d .entry)) l ∷ []) ⌝ }
+// Whether one of three slices is too short.
+fn short_of_three(a: &[u32], i: usize, b: &[u32], j: usize, c: &[u32], k: usize) -> bool
+    ensures { λ r. ⌜ r ≡ tooShort (asked (now (a .entry)) i ∷ asked (now (b .entry)) j ∷ asked (now (c .entry)) k ∷ []) ⌝ }
 {
     if is_short(a, i) {
         return true;
@@ -32,10 +37,7 @@ fn short_of_four(
     if is_short(b, j) {
         return true;
     }
-    if is_short(c, k) {
-        return true;
-    }
-    is_short(d, l)
+    is_short(c, k)
 }
 
 // Whether a work slice is shorter than its length in docs/WORK.md.
@@ -43,35 +45,31 @@ pub fn too_short(
     table: &[u32],
     source: &[u32],
     changes: &[u32],
-    running: &[u32],
-    first: &[u32],
     notes: &[u32],
     incoming: &[u32],
     changed: &[u32],
     marks: &[u32],
     rows: &[u32],
     prepared: &[u32],
-    sizes: &[u32],
 ) -> bool
-    ensures { λ r. ⌜ r ≡ tooShort (lengths (now (table .entry) ∷ now (source .entry) ∷ now (changes .entry) ∷ now (running .entry) ∷ now (first .entry) ∷ now (notes .entry) ∷ now (incoming .entry) ∷ now (changed .entry) ∷ now (marks .entry) ∷ now (rows .entry) ∷ now (prepared .entry) ∷ now (sizes .entry) ∷ [])) ⌝ }
+    ensures { λ r. ⌜ r ≡ tooShort (lengths needed (now (table .entry) ∷ now (source .entry) ∷ now (changes .entry) ∷ now (notes .entry) ∷ now (incoming .entry) ∷ now (changed .entry) ∷ now (marks .entry) ∷ now (rows .entry) ∷ now (prepared .entry) ∷ [])) ⌝ }
 {
-    if short_of_four(table, 16384, source, 6147, changes, 3328, running, 256) {
+    if short_of_three(table, 16384, source, 6147, changes, 3328) {
         return true;
     }
-    if short_of_four(first, 768, notes, 3072, incoming, 3072, changed, 1024) {
+    if short_of_three(notes, 3072, incoming, 3072, changed, 1024) {
         return true;
     }
-    short_of_four(marks, 2048, rows, 12291, prepared, 12288, sizes, 1024)
+    short_of_three(marks, 2048, rows, 12291, prepared, 12288)
 }
 
-// Four slices become zeros.
-fn clear_four(a: &mut [u32], b: &mut [u32], c: &mut [u32], d: &mut [u32])
-    ensures { λ _. ⌜ (now (a .exit) ≡ zeros (now (a .entry))) × (now (b .exit) ≡ zeros (now (b .entry))) × (now (c .exit) ≡ zeros (now (c .entry))) × (now (d .exit) ≡ zeros (now (d .entry))) ⌝ }
+// Three slices become zeros.
+fn clear_three(a: &mut [u32], b: &mut [u32], c: &mut [u32])
+    ensures { λ _. ⌜ (now (a .exit) ≡ zeros (now (a .entry))) × (now (b .exit) ≡ zeros (now (b .entry))) × (now (c .exit) ≡ zeros (now (c .entry))) ⌝ }
 {
     words::clear(a);
     words::clear(b);
     words::clear(c);
-    words::clear(d);
 }
 
 // Every work slice becomes zeros.
@@ -79,19 +77,16 @@ pub fn clear_all(
     table: &mut [u32],
     source: &mut [u32],
     changes: &mut [u32],
-    running: &mut [u32],
-    first: &mut [u32],
     notes: &mut [u32],
     incoming: &mut [u32],
     changed: &mut [u32],
     marks: &mut [u32],
     rows: &mut [u32],
     prepared: &mut [u32],
-    sizes: &mut [u32],
 )
-    ensures { λ _. ⌜ (now (table .exit) ∷ now (source .exit) ∷ now (changes .exit) ∷ now (running .exit) ∷ now (first .exit) ∷ now (notes .exit) ∷ now (incoming .exit) ∷ now (changed .exit) ∷ now (marks .exit) ∷ now (rows .exit) ∷ now (prepared .exit) ∷ now (sizes .exit) ∷ []) ≡ zeroed (now (table .entry) ∷ now (source .entry) ∷ now (changes .entry) ∷ now (running .entry) ∷ now (first .entry) ∷ now (notes .entry) ∷ now (incoming .entry) ∷ now (changed .entry) ∷ now (marks .entry) ∷ now (rows .entry) ∷ now (prepared .entry) ∷ now (sizes .entry) ∷ []) ⌝ }
+    ensures { λ _. ⌜ (now (table .exit) ∷ now (source .exit) ∷ now (changes .exit) ∷ now (notes .exit) ∷ now (incoming .exit) ∷ now (changed .exit) ∷ now (marks .exit) ∷ now (rows .exit) ∷ now (prepared .exit) ∷ []) ≡ zeroed (now (table .entry) ∷ now (source .entry) ∷ now (changes .entry) ∷ now (notes .entry) ∷ now (incoming .entry) ∷ now (changed .entry) ∷ now (marks .entry) ∷ now (rows .entry) ∷ now (prepared .entry) ∷ []) ⌝ }
 {
-    clear_four(table, source, changes, running);
-    clear_four(first, notes, incoming, changed);
-    clear_four(marks, rows, prepared, sizes);
+    clear_three(table, source, changes);
+    clear_three(notes, incoming, changed);
+    clear_three(marks, rows, prepared);
 }

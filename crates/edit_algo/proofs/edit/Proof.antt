@@ -1,71 +1,55 @@
--- `edit` meets its contract: the batch is performed, then answered, and every work slice is cleared.
+-- `edit` meets its contract: it is one job of `serve`.
 -- Assumes nothing.
-use mathlib.Core.Path.{_∙_}
-use native.Mathlib.Omega.{arith}
 use borrow.Author.Needs.{needs}
-use Rattle.work.specs.Slices.{long-enough}
-use Rattle.edit_algo.proofs.Ways.{to-write, edit-performed, zeroed-same, edits-cleared}
+use Rattle.edit_algo.proofs.Ways.{edits-told}
 use Rattle.edit_algo.proofs.edit.Statement.{statement}
 use Rattle.edit_algo.proofs.edit.Tie as tie
 
-perform-requires : tie.Need-perform-requires
-perform-requires c κs = search needs
+serve-requires : tie.Need-serve-requires
+serve-requires c κs = search needs
 
-answer-of-requires : tie.Need-answer-of-requires
-answer-of-requires c κs = to-write (c .before .before .before .before .before .before .before .before .before .before .before .before .before .before .before .before .before .before .before .before .before .before .before .before .before .before .before .before .before .perform .ensures) _ λ h. omega (arith, c .before .before .before .before .before .before .before .before .prepared .given, (long-enough _ _ _ _ _ _ _ _ _ _ _ _ h) .1 .5)
-
-clear-all-requires : tie.Need-clear-all-requires
-clear-all-requires c κs = search needs
+answer-in-requires : tie.Need-answer-in-requires
+answer-in-requires c κs = search needs
 
 same-length : tie.Need-same-length
-same-length c = c .before .before .before .before .before .before .before .before .before .before .before .before .before .before .before .before .before .before .before .before .before .before .before .before .before .before .before .before .before .before .before .before .before .before .before .before .before .before .result .given
+same-length c = c .before .before .before .before .before .before .before .before .before .before .before .before .before .before .before .before .before .before .before .before .result .given
 
 same-length-2 : tie.Need-same-length-2
-same-length-2 c = c .before .before .before .before .before .before .before .before .before .before .before .before .before .before .before .before .before .before .before .before .before .before .before .table2 .given ∙ c .before .before .before .before .before .before .before .before .before .before .before .before .before .before .before .before .before .before .before .before .before .before .before .before .before .before .before .before .before .before .before .before .before .before .before .before .before .before .before .before .before .before .before .before .before .before .before .before .before .before .before .before .before .before .before .before .before .before .before .before .before .before .before .before .before .before .before .before .before .before .before .before .before .before .table .given
+same-length-2 c = c .before .before .before .before .before .before .before .before .before .before .before .before .before .before .before .before .before .before .table .given
 
 same-length-3 : tie.Need-same-length-3
-same-length-3 c = c .before .before .before .before .before .before .before .before .before .before .before .before .before .before .before .before .before .before .before .before .before .source2 .given ∙ c .before .before .before .before .before .before .before .before .before .before .before .before .before .before .before .before .before .before .before .before .before .before .before .before .before .before .before .before .before .before .before .before .before .before .before .before .before .before .before .before .before .before .before .before .before .before .before .before .before .before .before .before .before .before .before .before .before .before .before .before .before .before .before .before .before .before .before .before .before .before .before .before .source .given
+same-length-3 c = c .before .before .before .before .before .before .before .before .before .before .before .before .before .before .before .before .source .given
 
 same-length-4 : tie.Need-same-length-4
-same-length-4 c = c .before .before .before .before .before .before .before .before .before .before .before .before .before .before .before .before .before .before .before .changes2 .given ∙ c .before .before .before .before .before .before .before .before .before .before .before .before .before .before .before .before .before .before .before .before .before .before .before .before .before .before .before .before .before .before .before .before .before .before .before .before .before .before .before .before .before .before .before .before .before .before .before .before .before .before .before .before .before .before .before .before .before .before .before .before .before .before .before .before .before .before .before .before .before .before .changes .given
+same-length-4 c = c .before .before .before .before .before .before .before .before .before .before .before .before .before .before .changes .given
 
 same-length-5 : tie.Need-same-length-5
-same-length-5 c = c .before .before .before .before .before .before .before .before .before .before .before .before .before .before .before .before .before .running2 .given ∙ c .before .before .before .before .before .before .before .before .before .before .before .before .before .before .before .before .before .before .before .before .before .before .before .before .before .before .before .before .before .before .before .before .before .before .before .before .before .before .before .before .before .before .before .before .before .before .before .before .before .before .before .before .before .before .before .before .before .before .before .before .before .before .before .before .before .before .before .before .running .given
+same-length-5 c = c .before .before .before .before .before .before .before .before .before .before .before .before .notes .given
 
 same-length-6 : tie.Need-same-length-6
-same-length-6 c = c .before .before .before .before .before .before .before .before .before .before .before .before .before .before .before .first2 .given ∙ c .before .before .before .before .before .before .before .before .before .before .before .before .before .before .before .before .before .before .before .before .before .before .before .before .before .before .before .before .before .before .before .before .before .before .before .before .before .before .before .before .before .before .before .before .before .before .before .before .before .before .before .before .before .before .before .before .before .before .before .before .before .before .before .before .before .before .first .given
+same-length-6 c = c .before .before .before .before .before .before .before .before .before .before .incoming .given
 
 same-length-7 : tie.Need-same-length-7
-same-length-7 c = c .before .before .before .before .before .before .before .before .before .before .before .before .before .notes3 .given ∙ (c .before .before .before .before .before .before .before .before .before .before .before .before .before .before .before .before .before .before .before .before .before .before .before .before .before .before .before .before .before .before .before .before .before .before .before .before .before .before .before .before .before .before .before .before .notes2 .given ∙ c .before .before .before .before .before .before .before .before .before .before .before .before .before .before .before .before .before .before .before .before .before .before .before .before .before .before .before .before .before .before .before .before .before .before .before .before .before .before .before .before .before .before .before .before .before .before .before .before .before .before .before .before .before .before .before .before .before .before .before .before .before .before .before .before .notes .given)
+same-length-7 c = c .before .before .before .before .before .before .before .before .changed .given
 
 same-length-8 : tie.Need-same-length-8
-same-length-8 c = c .before .before .before .before .before .before .before .before .before .before .before .incoming2 .given ∙ c .before .before .before .before .before .before .before .before .before .before .before .before .before .before .before .before .before .before .before .before .before .before .before .before .before .before .before .before .before .before .before .before .before .before .before .before .before .before .before .before .before .before .before .before .before .before .before .before .before .before .before .before .before .before .before .before .before .before .before .before .before .before .incoming .given
+same-length-8 c = c .before .before .before .before .before .before .marks .given
 
 same-length-9 : tie.Need-same-length-9
-same-length-9 c = c .before .before .before .before .before .before .before .before .before .changed3 .given ∙ (c .before .before .before .before .before .before .before .before .before .before .before .before .before .before .before .before .before .before .before .before .before .before .before .before .before .before .before .before .before .before .before .before .before .before .before .before .before .before .before .before .before .before .changed2 .given ∙ c .before .before .before .before .before .before .before .before .before .before .before .before .before .before .before .before .before .before .before .before .before .before .before .before .before .before .before .before .before .before .before .before .before .before .before .before .before .before .before .before .before .before .before .before .before .before .before .before .before .before .before .before .before .before .before .before .before .before .before .before .changed .given)
+same-length-9 c = c .before .before .before .before .rows .given
 
 same-length-10 : tie.Need-same-length-10
-same-length-10 c = c .before .before .before .before .before .before .before .marks2 .given ∙ c .before .before .before .before .before .before .before .before .before .before .before .before .before .before .before .before .before .before .before .before .before .before .before .before .before .before .before .before .before .before .before .before .before .before .before .before .before .before .before .before .before .before .before .before .before .before .before .before .before .before .before .before .before .before .before .before .before .before .marks .given
-
-same-length-11 : tie.Need-same-length-11
-same-length-11 c = c .before .before .before .before .before .rows2 .given ∙ c .before .before .before .before .before .before .before .before .before .before .before .before .before .before .before .before .before .before .before .before .before .before .before .before .before .before .before .before .before .before .before .before .before .before .before .before .before .before .before .before .before .before .before .before .before .before .before .before .before .before .before .before .before .before .before .before .rows .given
-
-same-length-12 : tie.Need-same-length-12
-same-length-12 c = c .before .before .before .prepared3 .given ∙ (c .before .before .before .before .before .before .before .before .before .before .before .before .before .before .before .before .before .before .before .before .before .before .before .before .before .before .before .before .before .before .before .before .before .before .before .before .before .before .before .before .prepared2 .given ∙ c .before .before .before .before .before .before .before .before .before .before .before .before .before .before .before .before .before .before .before .before .before .before .before .before .before .before .before .before .before .before .before .before .before .before .before .before .before .before .before .before .before .before .before .before .before .before .before .before .before .before .before .before .before .before .prepared .given)
-
-same-length-13 : tie.Need-same-length-13
-same-length-13 c = c .before .sizes2 .given ∙ c .before .before .before .before .before .before .before .before .before .before .before .before .before .before .before .before .before .before .before .before .before .before .before .before .before .before .before .before .before .before .before .before .before .before .before .before .before .before .before .before .before .before .before .before .before .before .before .before .before .before .before .before .sizes .given
+same-length-10 c = c .before .before .prepared .given
 
 returns : tie.Need-returns
-returns c = let a = c .before .before .before .before .before .before .before .before .before .before .before .before .before .before .before .before .before .before .before .before .before .before .before .before .before .before .before .before .before .before .before .before .before .before .before .before .before in let p = a .before .before .before .before .before .before .before .before .before .before .before .before .before .before in edits-cleared _ _ _ _ _ _ _ (edit-performed (p .before .before .before .before .before .before .before .before .before .before .before .before .before .before .before .before .before .before .before .before .before .before .before .before .perform .ensures) _) (a .before .before .before .before .before .before .before .before .answer-of .ensures) (c .before .before .before .before .before .before .before .before .before .before .before .before .before .before .before .before .before .before .before .before .before .before .before .before .clear-all .ensures) (zeroed-same _ _ _ _ _ _ _ _ _ _ _ _ _ _ _ _ _ _ _ _ _ _ _ _ (p .before .before .before .before .before .before .before .before .before .before .before .before .before .before .before .before .before .before .before .before .before .before .before .table .given) (p .before .before .before .before .before .before .before .before .before .before .before .before .before .before .before .before .before .before .before .before .before .source .given) (p .before .before .before .before .before .before .before .before .before .before .before .before .before .before .before .before .before .before .before .changes .given) (p .before .before .before .before .before .before .before .before .before .before .before .before .before .before .before .before .before .running .given) (p .before .before .before .before .before .before .before .before .before .before .before .before .before .before .before .first .given) (a .before .before .before .before .before .before .before .notes2 .given ∙ p .before .before .before .before .before .before .before .before .before .before .before .before .before .notes .given) (p .before .before .before .before .before .before .before .before .before .before .before .incoming .given) (a .before .before .before .before .before .changed2 .given ∙ p .before .before .before .before .before .before .before .before .before .changed .given) (p .before .before .before .before .before .before .before .marks .given) (p .before .before .before .before .before .rows .given) (a .before .before .before .prepared2 .given ∙ p .before .before .before .prepared .given) (p .before .sizes .given))
+returns c = edits-told _ _ _ _ _ _ _ (c .before .before .before .before .before .before .before .before .before .before .before .before .before .before .before .before .before .before .before .before .before .serve .ensures) (c .answer-in .ensures)
 
 pub edit-spec : {M : Type 1} → statement M
 edit-spec =
     tie.close
     (tie.spec
-    perform-requires
-    answer-of-requires
-    clear-all-requires
+    serve-requires
+    answer-in-requires
     same-length
     same-length-2
     same-length-3
@@ -76,7 +60,4 @@ edit-spec =
     same-length-8
     same-length-9
     same-length-10
-    same-length-11
-    same-length-12
-    same-length-13
     returns)

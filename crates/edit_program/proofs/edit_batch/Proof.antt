@@ -34,15 +34,6 @@ slice-aggregate-edit-8 c = search needs
 slice-aggregate-edit-9 : tie.Need-slice-aggregate-edit-9
 slice-aggregate-edit-9 c = search needs
 
-slice-aggregate-edit-10 : tie.Need-slice-aggregate-edit-10
-slice-aggregate-edit-10 c = search needs
-
-slice-aggregate-edit-11 : tie.Need-slice-aggregate-edit-11
-slice-aggregate-edit-11 c = search needs
-
-slice-aggregate-edit-12 : tie.Need-slice-aggregate-edit-12
-slice-aggregate-edit-12 c = search needs
-
 edit-requires : tie.Need-edit-requires
 edit-requires c κs = search needs
 
@@ -51,8 +42,8 @@ same-length c = search needs
 
 returns : tie.Need-returns
 returns c =
-    let p = c .before .before .before .before .before .before .before .before .before .before .before .before .before .before .before .before .before .before .before .before .before .before .before .before .before .before .before .before .before .before .pre in
-    edit-tells (c .before .before .before .before .before .before .before .before .before .before .before .before .before .before .edit .ensures) (p .1) (search (lengths-suffice, needs)) (p .0) (λ i. omega (arith, c .before .before .before .before .before .before .before .before .before .before .before .before .before .before .before .before .before .before .before .before .before .before .before .before .before .before .before .before .before .shared-slice-known .given i))
+    let p = c .before .before .before .before .before .before .before .before .before .before .before .before .before .before .before .before .before .before .before .before .before .before .before .before .pre in
+    edit-tells (c .before .before .before .before .before .before .before .before .before .before .before .edit .ensures) (p .1) (search (lengths-suffice, needs)) (p .0) (λ i. omega (arith, c .before .before .before .before .before .before .before .before .before .before .before .before .before .before .before .before .before .before .before .before .before .before .before .shared-slice-known .given i))
 
 pub edit-batch-spec : {M : Type 1} → statement M
 edit-batch-spec =
@@ -67,9 +58,6 @@ edit-batch-spec =
     slice-aggregate-edit-7
     slice-aggregate-edit-8
     slice-aggregate-edit-9
-    slice-aggregate-edit-10
-    slice-aggregate-edit-11
-    slice-aggregate-edit-12
     edit-requires
     same-length
     returns)

@@ -39,20 +39,11 @@ same-length-8 c = refl
 same-length-9 : tie.Need-same-length-9
 same-length-9 c = refl
 
-same-length-10 : tie.Need-same-length-10
-same-length-10 c = refl
-
-same-length-11 : tie.Need-same-length-11
-same-length-11 c = refl
-
-same-length-12 : tie.Need-same-length-12
-same-length-12 c = refl
-
 returns : tie.Need-returns
 returns c = short (sym (c .before .too-short .ensures) ∙ c .if1 .taken) refl
 
 accept-requires : tie.Need-accept-requires
-accept-requires c κs = let v = long-enough _ _ _ _ _ _ _ _ _ _ _ _ (sym (c .before .before .before .too-short .ensures) ∙ c .before .before .if1 .left) in (v .0 .0, v .0 .1)
+accept-requires c κs = let v = long-enough _ _ _ _ _ _ _ _ _ (sym (c .before .before .before .too-short .ensures) ∙ c .before .before .if1 .left) in (v .0 .0, v .0 .1)
 
 enum-known-laid : tie.Need-enum-known-laid
 enum-known-laid c = search needs
@@ -61,13 +52,22 @@ enum-known-laid-2 : tie.Need-enum-known-laid-2
 enum-known-laid-2 c = search needs
 
 plan-and-run-requires : tie.Need-plan-and-run-requires
-plan-and-run-requires c κs = let v = long-enough _ _ _ _ _ _ _ _ _ _ _ _ (sym (c .before .before .before .before .before .before .before .before .before .before .before .before .before .before .before .before .before .before .before .before .before .before .before .too-short .ensures) ∙ c .before .before .before .before .before .before .before .before .before .before .before .before .before .before .before .before .before .before .before .before .before .before .if1 .left) in let r = v .0 in (judged-laid (c .before .before .before .before .before .before .before .before .before .before .before .before .before .before .before .before .before .before .before .accept .ensures) _ (c .before .before .before .before .before .before .before .before .before .before .before .before .before .laid2 .given .1) (r .0) (r .1), ((omega (arith, c .before .before .before .before .before .before .before .before .before .before .before .before .before .before .before .before .source .given, r .1), r .2, r .3, r .4), v .1))
+plan-and-run-requires c κs = let v = long-enough _ _ _ _ _ _ _ _ _ (sym (c .before .before .before .before .before .before .before .before .before .before .before .before .before .before .before .before .before .before .before .before .too-short .ensures) ∙ c .before .before .before .before .before .before .before .before .before .before .before .before .before .before .before .before .before .before .before .if1 .left) in let r = v .0 in (judged-laid (c .before .before .before .before .before .before .before .before .before .before .before .before .before .before .before .before .accept .ensures) _ (c .before .before .before .before .before .before .before .before .before .before .laid2 .given .1) (r .0) (r .1), ((omega (arith, c .before .before .before .before .before .before .before .before .before .before .before .before .before .source .given, r .1), r .2), v .1))
+
+same-length-10 : tie.Need-same-length-10
+same-length-10 c = c .before .before .before .before .before .before .table .given
+
+same-length-11 : tie.Need-same-length-11
+same-length-11 c = c .before .before .before .before .source .given
+
+same-length-12 : tie.Need-same-length-12
+same-length-12 c = refl
 
 same-length-13 : tie.Need-same-length-13
-same-length-13 c = c .before .before .before .before .before .before .table .given
+same-length-13 c = refl
 
 same-length-14 : tie.Need-same-length-14
-same-length-14 c = c .before .before .before .before .source .given
+same-length-14 c = refl
 
 same-length-15 : tie.Need-same-length-15
 same-length-15 c = refl
@@ -81,65 +81,38 @@ same-length-17 c = refl
 same-length-18 : tie.Need-same-length-18
 same-length-18 c = refl
 
-same-length-19 : tie.Need-same-length-19
-same-length-19 c = refl
-
-same-length-20 : tie.Need-same-length-20
-same-length-20 c = refl
-
-same-length-21 : tie.Need-same-length-21
-same-length-21 c = refl
-
-same-length-22 : tie.Need-same-length-22
-same-length-22 c = refl
-
-same-length-23 : tie.Need-same-length-23
-same-length-23 c = refl
-
-same-length-24 : tie.Need-same-length-24
-same-length-24 c = refl
-
 returns-2 : tie.Need-returns-2
 returns-2 c = long (sym (c .before .before .before .before .before .before .before .before .before .before .before .too-short .ensures) ∙ c .before .before .before .before .before .before .before .before .before .before .if1 .left) (judged-stops (c .before .before .before .before .before .before .before .accept .ensures) _ (c .before .laid .given .1))
 
+same-length-19 : tie.Need-same-length-19
+same-length-19 c = c .before .before .before .before .before .before .before .before .before .before .before .before .before .before .before .before .before .before .before .before .before .before .before .before .before .before .before .before .before .before .table .given
+
+same-length-20 : tie.Need-same-length-20
+same-length-20 c = c .before .before .before .before .before .before .before .before .before .before .before .before .before .before .before .before .before .before .before .before .before .before .before .before .before .before .before .before .source .given
+
+same-length-21 : tie.Need-same-length-21
+same-length-21 c = c .before .before .before .before .before .before .before .before .before .before .before .before .before .changes .given
+
+same-length-22 : tie.Need-same-length-22
+same-length-22 c = c .before .before .before .before .before .before .before .before .before .before .before .notes .given
+
+same-length-23 : tie.Need-same-length-23
+same-length-23 c = c .before .before .before .before .before .before .before .before .before .incoming .given
+
+same-length-24 : tie.Need-same-length-24
+same-length-24 c = c .before .before .before .before .before .before .before .changed .given
+
 same-length-25 : tie.Need-same-length-25
-same-length-25 c = c .before .before .before .before .before .before .before .before .before .before .before .before .before .before .before .before .before .before .before .before .before .before .before .before .before .before .before .before .before .before .before .before .before .before .before .before .before .before .before .table .given
+same-length-25 c = c .before .before .before .before .before .marks .given
 
 same-length-26 : tie.Need-same-length-26
-same-length-26 c = c .before .before .before .before .before .before .before .before .before .before .before .before .before .before .before .before .before .before .before .before .before .before .before .before .before .before .before .before .before .before .before .before .before .before .before .before .before .source .given
+same-length-26 c = c .before .before .before .rows .given
 
 same-length-27 : tie.Need-same-length-27
-same-length-27 c = c .before .before .before .before .before .before .before .before .before .before .before .before .before .before .before .before .before .before .before .changes .given
-
-same-length-28 : tie.Need-same-length-28
-same-length-28 c = c .before .before .before .before .before .before .before .before .before .before .before .before .before .before .before .before .before .running .given
-
-same-length-29 : tie.Need-same-length-29
-same-length-29 c = c .before .before .before .before .before .before .before .before .before .before .before .before .before .before .before .first .given
-
-same-length-30 : tie.Need-same-length-30
-same-length-30 c = c .before .before .before .before .before .before .before .before .before .before .before .before .before .notes .given
-
-same-length-31 : tie.Need-same-length-31
-same-length-31 c = c .before .before .before .before .before .before .before .before .before .before .before .incoming .given
-
-same-length-32 : tie.Need-same-length-32
-same-length-32 c = c .before .before .before .before .before .before .before .before .before .changed .given
-
-same-length-33 : tie.Need-same-length-33
-same-length-33 c = c .before .before .before .before .before .before .before .marks .given
-
-same-length-34 : tie.Need-same-length-34
-same-length-34 c = c .before .before .before .before .before .rows .given
-
-same-length-35 : tie.Need-same-length-35
-same-length-35 c = c .before .before .before .prepared .given
-
-same-length-36 : tie.Need-same-length-36
-same-length-36 c = c .before .sizes .given
+same-length-27 c = c .before .prepared .given
 
 returns-3 : tie.Need-returns-3
-returns-3 c = long (sym (c .before .before .before .before .before .before .before .before .before .before .before .before .before .before .before .before .before .before .before .before .before .before .before .before .before .before .before .before .before .before .before .before .before .before .before .before .before .before .before .before .before .before .before .before .too-short .ensures) ∙ c .before .before .before .before .before .before .before .before .before .before .before .before .before .before .before .before .before .before .before .before .before .before .before .before .before .before .before .before .before .before .before .before .before .before .before .before .before .before .before .before .before .before .before .if1 .left) (c .before .before .before .before .before .before .before .before .before .before .before .before .before .before .before .before .before .before .before .before .plan-and-run .ensures)
+returns-3 c = long (sym (c .before .before .before .before .before .before .before .before .before .before .before .before .before .before .before .before .before .before .before .before .before .before .before .before .before .before .before .before .before .before .before .before .before .before .before .too-short .ensures) ∙ c .before .before .before .before .before .before .before .before .before .before .before .before .before .before .before .before .before .before .before .before .before .before .before .before .before .before .before .before .before .before .before .before .before .before .if1 .left) (c .before .before .before .before .before .before .before .before .before .before .before .before .before .before .plan-and-run .ensures)
 
 pub perform-spec : {M : Type 1} → statement M
 perform-spec =
@@ -155,37 +128,28 @@ perform-spec =
     same-length-7
     same-length-8
     same-length-9
-    same-length-10
-    same-length-11
-    same-length-12
     returns
     accept-requires
     enum-known-laid
     enum-known-laid-2
     plan-and-run-requires
+    same-length-10
+    same-length-11
+    same-length-12
     same-length-13
     same-length-14
     same-length-15
     same-length-16
     same-length-17
     same-length-18
+    returns-2
     same-length-19
     same-length-20
     same-length-21
     same-length-22
     same-length-23
     same-length-24
-    returns-2
     same-length-25
     same-length-26
     same-length-27
-    same-length-28
-    same-length-29
-    same-length-30
-    same-length-31
-    same-length-32
-    same-length-33
-    same-length-34
-    same-length-35
-    same-length-36
     returns-3)

@@ -1,9 +1,9 @@
--- `clear_four` meets its contract: slice by slice.
+-- `clear_three` meets its contract: slice by slice.
 -- Assumes nothing.
 use borrow.Author.Needs.{needs}
 use Rattle.work.proofs.Ways.{zeros-written}
-use Rattle.work.proofs.clear_four.Statement.{statement}
-use Rattle.work.proofs.clear_four.Tie as tie
+use Rattle.work.proofs.clear_three.Statement.{statement}
+use Rattle.work.proofs.clear_three.Tie as tie
 
 returns : tie.Need-returns
 returns c = search (zeros-written, needs)
@@ -17,9 +17,6 @@ clear-requires-2 c κs = search needs
 clear-requires-3 : tie.Need-clear-requires-3
 clear-requires-3 c κs = search needs
 
-clear-requires-4 : tie.Need-clear-requires-4
-clear-requires-4 c κs = search needs
-
 same-length : tie.Need-same-length
 same-length c = search needs
 
@@ -29,19 +26,14 @@ same-length-2 c = search needs
 same-length-3 : tie.Need-same-length-3
 same-length-3 c = search needs
 
-same-length-4 : tie.Need-same-length-4
-same-length-4 c = search needs
-
-pub clear-four-spec : {M : Type 1} → statement M
-clear-four-spec =
+pub clear-three-spec : {M : Type 1} → statement M
+clear-three-spec =
     tie.close
     (tie.spec
     clear-requires
     clear-requires-2
     clear-requires-3
-    clear-requires-4
     same-length
     same-length-2
     same-length-3
-    same-length-4
     returns)

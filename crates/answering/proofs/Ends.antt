@@ -1,6 +1,6 @@
 -- The ways out of the functions on what a run leaves.
 -- Assumes nothing.
-use mathlib.Core.Path.{_≡_, refl, sym, ap, _∙_}
+use mathlib.Core.Path.{_≡_, refl, sym, ap, subst, _∙_}
 use mathlib.Core.Bool.{Bool, true, false, not}
 use mathlib.Core.List.{List}
 use mathlib.Core.Option.{Option, none, some}
@@ -31,11 +31,12 @@ use Rattle.performing.specs.AtEnd.{AtEnd, Told}
 use Rattle.performing.specs.declared.Ended.{Ended}
 use Rattle.performing.specs.declared.Performed.{Performed}
 use Rattle.performing.specs.declared.Performed.the-variants.{Refused as Stopped, Done}
-use Rattle.work.specs.Promises.{leftIn, Answers, applied, found}
-use Rattle.edit_algo.specs.declared.Answer.the-variants.{Refused, Edited}
-use Rattle.edit_algo.specs.declared.Element.the-variants.{At as Stands, Nothing as NoElement}
-use Rattle.edit_algo.specs.Numbers.{answerOf, elementOf}
-use Rattle.edit_algo.specs.AtEnd.{RowsAtEnd, answered-edit, oldNode, none-there, no-node, node-there, no-old-node, old-node, unless, unless-refused, unless-done}
+use Rattle.work.specs.Promises.{leftIn, found}
+use Rattle.work.specs.Serving.{reached, place, ofLength, ofPlace, outcome, written, Tells, find-outcome, find-written}
+use Rattle.work.specs.declared.Job.the-variants.{Edit, Find}
+use Rattle.work.specs.declared.Outcome.{Outcome}
+use Rattle.work.specs.declared.Outcome.the-variants.{Refused, Bytes as Written, Nothing as NoElement, At as Stands}
+use Rattle.answering.specs.AtEnd.{RowsAtEnd, answered-edit, oldNode, none-there, no-node, node-there, no-old-node, old-node, unless, unless-refused, unless-done}
 
 -- what is behind a place, as a part is told
 pub whole-rest : (k : ℕ) (b : List ℕ) → take (length b - k) (drop k b) ≡ drop k b
@@ -45,25 +46,32 @@ whole-rest k b = take-all (length b - k) (drop k b) (omega (arith, length-drop k
 
 module _ {b rows notes changed : List ℕ} {d : Ended} (v : AtEnd b rows notes changed d) (held out : List ℕ) (a : Finished) (text : List ℕ) (t : text ≡ drop (d .text) b)
     (f : (marks : List ℕ) → Answered held (resultOf (d .discarded) (d .climbs) (stored text (d .rows) rows marks (notesOf (d .notes) notes) (take (d .changed) changed))) out a) where
-  answered : Answers (applied b (length held)) held (lengthOf a) out
+  answered : Tells (reached Edit b (length held)) held (ofLength (lengthOf a)) out
   answered = answered-edit v a (λ marks. rw (← t) (f marks))
 
-  pub answered-13 : a ≡ Short → Answers (applied b (length held)) held (answerOf (Refused 13)) out
-  unfolding answerOf lengthOf
-  answered-13 e = rw (ap lengthOf (sym e)) answered
+  pub answered-13 : a ≡ Short → Tells (reached Edit b (length held)) held (Refused 13) out
+  unfolding ofLength lengthOf
+  answered-13 e = subst (λ (x : Finished). Tells (reached Edit b (length held)) held (ofLength (lengthOf x)) out) e answered
 
-  pub answered-bytes : (n : ℕ) → a ≡ Bytes n → Answers (applied b (length held)) held (answerOf (Edited n)) out
-  unfolding answerOf lengthOf
-  answered-bytes n e = rw (ap lengthOf (sym e)) answered
+  pub answered-bytes : (n : ℕ) → a ≡ Bytes n → Tells (reached Edit b (length held)) held (Written n) out
+  unfolding ofLength lengthOf
+  answered-bytes n e = subst (λ (x : Finished). Tells (reached Edit b (length held)) held (ofLength (lengthOf x)) out) e answered
+
+-- ── Job by job ──────────────────────────────────────────────────────────────────────────────────────────────
 
 -- a refusal leaves the result slice as it was
-pub answered-refusal : {p : Performed} {k : ℕ} → p ≡ Stopped k → (a : basics.Answer (List ℕ)) (held : List ℕ) → Answers (unless p a) held (answerOf (Refused k)) held
-unfolding answerOf leftIn _>>=_
-answered-refusal e a held = rw (unless-refused e a) (record { answer = refl; result = refl })
+pub tells-refused : {p : Performed} {k : ℕ} → p ≡ Stopped k → (want : basics.Answer (Outcome × List ℕ)) (held : List ℕ) → Tells (unless p want) held (Refused k) held
+unfolding outcome written leftIn
+tells-refused e want held = rw (unless-refused e want) (record { answer = refl; result = refl })
 
--- at the end of the run, what is written is the answer
-pub answered-done : {p : Performed} {d : Ended} {held out : List ℕ} {r : basics.Answer ℕ} → p ≡ Done d → (a : basics.Answer (List ℕ)) → Answers a held r out → Answers (unless p a) held r out
-answered-done e a h = rw (unless-done e a) h
+-- at the end of the run, what is told is the answer
+pub tells-done : {p : Performed} {d : Ended} {held out : List ℕ} {r : Outcome} → p ≡ Done d → (want : basics.Answer (Outcome × List ℕ)) → Tells want held r out → Tells (unless p want) held r out
+tells-done e want h = rw (unless-done e want) h
+
+-- who finds leaves the result slice as it was
+pub tells-found : (b held : List ℕ) (room n : ℕ) {r : Outcome} → r ≡ ofPlace (found b n) → Tells (reached (Find n) b room) held r held
+unfolding reached
+tells-found b held room n e = record { answer = e ∙ sym (find-outcome (found b n)); result = find-written held (found b n) }
 
 -- ── A node of tree 0 ────────────────────────────────────────────────────────────────────────────────────────
 
@@ -76,27 +84,27 @@ module _ (n : ℕ) (t s : List ℕ) (k : ℕ) (h : k < n) (b : Bool) (e : b ≡ 
 
 -- ── Where it stands ─────────────────────────────────────────────────────────────────────────────────────────
 
-pub none-numbered : {b rows t s : List ℕ} {d : Ended} → RowsAtEnd b rows d → Told b t s (d .elements) → (k : ℕ) → d .elements ≤ k → elementOf NoElement ≡ found b k
-unfolding elementOf
-none-numbered {b} {rows} {t} {s} {d} v w k h = no-old-node v w k (sym (none-there (d .elements) t s k h))
+pub none-numbered : {b rows t s : List ℕ} {d : Ended} → RowsAtEnd b rows d → Told b t s (d .elements) → (k : ℕ) → d .elements ≤ k → NoElement ≡ ofPlace (found b k)
+unfolding ofPlace place
+none-numbered {b} {rows} {t} {s} {d} v w k h = ap ofPlace (no-old-node v w k (sym (none-there (d .elements) t s k h)))
 
 module _ {b rows t s : List ℕ} {d : Ended} (v : RowsAtEnd b rows d) (w : Told b t s (d .elements)) (k : ℕ) (o : Bool) (p : o ≡ oldNode (view (d .elements) t s) k) where
-  pub none-asked : not o ≡ true → elementOf NoElement ≡ found b k
-  unfolding elementOf
-  none-asked q = no-old-node v w k (sym p ∙ not-true o q)
+  pub none-asked : not o ≡ true → NoElement ≡ ofPlace (found b k)
+  unfolding ofPlace place
+  none-asked q = ap ofPlace (no-old-node v w k (sym p ∙ not-true o q))
 
   module _ (q : not o ≡ false) (low : k < d .elements) (kind start : ℕ) (e : kind ≡ getD s (3 * suc k + 0) 0) (f : start ≡ getD t (8 * k + 4) 0) (r : Found)
       (g : (text : List ℕ) → r ≡ foundBy (findRow (firstTree (firstRows text (d .rows) rows)) kind start)) where
-    meant : (o : Option ℕ) → r ≡ foundBy o → gives o ≡ found b k → (r ≡ Nothing → elementOf NoElement ≡ found b k) × ((x : ℕ) → r ≡ At x → elementOf (Stands x) ≡ found b k)
-    unfolding foundBy elementOf
-    meant none i j = ((λ z. j), λ x z. absurd (let y : _≡_ {A = ℕ} 0 1 = cc in omega arith))
-    meant (some y) i j = ((λ z. absurd (let y : _≡_ {A = ℕ} 0 1 = cc in omega arith)), λ x z. let m : x ≡ y = cc in rw m j)
+    meant : (o : Option ℕ) → r ≡ foundBy o → gives o ≡ found b k → (r ≡ Nothing → NoElement ≡ ofPlace (found b k)) × ((x : ℕ) → r ≡ At x → Stands x ≡ ofPlace (found b k))
+    unfolding foundBy ofPlace place
+    meant none i j = ((λ z. ap ofPlace j), λ x z. absurd (let y : _≡_ {A = ℕ} 0 1 = cc in omega arith))
+    meant (some y) i j = ((λ z. absurd (let y : _≡_ {A = ℕ} 0 1 = cc in omega arith)), λ x z. let m : x ≡ y = cc in rw m (ap ofPlace j))
 
-    told : (r ≡ Nothing → elementOf NoElement ≡ found b k) × ((x : ℕ) → r ≡ At x → elementOf (Stands x) ≡ found b k)
+    told : (r ≡ Nothing → NoElement ≡ ofPlace (found b k)) × ((x : ℕ) → r ≡ At x → Stands x ≡ ofPlace (found b k))
     told = meant (findRow (firstTree (firstRows (drop (d .text) b) (d .rows) rows)) kind start) (g (drop (d .text) b)) (old-node v w k (sym p ∙ not-false o q) low kind start (e ∙ ap (λ (i : ℕ). getD s i 0) (add-zero (3 * suc k))) f)
 
-    pub found-none : r ≡ Nothing → elementOf NoElement ≡ found b k
+    pub found-none : r ≡ Nothing → NoElement ≡ ofPlace (found b k)
     found-none = told .0
 
-    pub found-there : (x : ℕ) → r ≡ At x → elementOf (Stands x) ≡ found b k
+    pub found-there : (x : ℕ) → r ≡ At x → Stands x ≡ ofPlace (found b k)
     found-there = told .1

@@ -1,4 +1,4 @@
--- From what a run leaves to the answers of the public calls.
+-- From what a run leaves to what each job answers.
 -- Assumes nothing.
 use mathlib.Core.Path.{_≡_, refl, sym, ap, _∙_}
 use mathlib.Core.Bool.{Bool, true, false, cond, _&&_}
@@ -32,7 +32,9 @@ use Rattle.performing.specs.AtEnd.{AtEnd, Told}
 use Rattle.performing.specs.declared.Ended.{Ended}
 use Rattle.performing.specs.declared.Performed.{Performed}
 use Rattle.performing.specs.declared.Performed.the-variants.{Refused, Done}
-use Rattle.work.specs.Promises.{leftIn, Answers, applied, found}
+use Rattle.work.specs.Promises.{leftIn, applied, found}
+use Rattle.work.specs.Serving.{reached, ofLength, outcome, written, Tells, edit-outcome, edit-written}
+use Rattle.work.specs.declared.Job.the-variants.{Edit}
 
 -- ── The edit ────────────────────────────────────────────────────────────────────────────────────────────────
 
@@ -48,14 +50,15 @@ left-over held (gives bytes) = rw (take-all (length bytes) bytes (omega arith), 
 module _ {b rows notes changed held out : List ℕ} {d : Ended} (v : AtEnd b rows notes changed d) (a : Finished) where
   -- what is answered from what the run leaves is the edit's answer
   pub answered-edit : ((marks : List ℕ) → Answered held (resultOf (d .discarded) (d .climbs) (stored (drop (d .text) b) (d .rows) rows marks (notesOf (d .notes) notes) (take (d .changed) changed))) out a)
-      → Answers (applied b (length held)) held (lengthOf a) out
-  unfolding resultAt
+      → Tells (reached Edit b (length held)) held (ofLength (lengthOf a)) out
+  unfolding resultAt reached
   answered-edit f =
       let e = v .end in
       let g = f (v .marks) in
       let h : Answered held (resultOf _ (e .planned .climbs) _) out a = rw (v .discarded, v .climbs) at g in
       let r = answered-result (e .planned .changes) (e .planned .climbs) (e .world) (v .holds) (v .held) h in
-      rw (applied-fitted b (length held) e (v .ends)) (record { answer = r .answer; result = r .result ∙ left-over held (fitted (length held) (resultAt e)) })
+      let x = fitted (length held) (resultAt e) in
+      rw (applied-fitted b (length held) e (v .ends)) (record { answer = ap ofLength (r .answer) ∙ sym (edit-outcome x); result = r .result ∙ (left-over held x ∙ ap (leftIn held) (sym (edit-written x))) })
 
 -- ── find_element ────────────────────────────────────────────────────────────────────────────────────────────
 
@@ -136,12 +139,8 @@ pub unless-done : {A : Type 0} {p : Performed} {d : Ended} → p ≡ Done d → 
 unfolding unless
 unless-done e a = rw e refl
 
--- where the run has ended, the result can be written
-pub record ToWrite (b rows notes changed starts : List ℕ) (p : Performed) : Type 0 where
+-- where the run has ended, every job can be answered
+pub record ToAnswer (b t s rows notes changed starts : List ℕ) (p : Performed) : Type 0 where
   pub ends : (d : Ended) → p ≡ Done d → AtEnd b rows notes changed d
-  pub room : (d : Ended) → p ≡ Done d → 4096 ≤ length starts
-
--- where the run has ended, an element can be found
-pub record ToFind (b t s rows : List ℕ) (p : Performed) : Type 0 where
-  pub ends : (d : Ended) → p ≡ Done d → RowsAtEnd b rows d
   pub tells : (d : Ended) → p ≡ Done d → Told b t s (d .elements)
+  pub room : (d : Ended) → p ≡ Done d → 4096 ≤ length starts

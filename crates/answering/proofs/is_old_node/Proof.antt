@@ -1,9 +1,9 @@
 -- `is_old_node` meets its contract: a node, and of tree 0.
 -- Assumes nothing.
 use borrow.Author.Needs.{needs}
-use Rattle.edit_algo.proofs.Ends.{token-there, root-there}
-use Rattle.edit_algo.proofs.is_old_node.Statement.{statement}
-use Rattle.edit_algo.proofs.is_old_node.Tie as tie
+use Rattle.answering.proofs.Ends.{token-there, root-there}
+use Rattle.answering.proofs.is_old_node.Statement.{statement}
+use Rattle.answering.proofs.is_old_node.Tie as tie
 
 is-node-requires : tie.Need-is-node-requires
 is-node-requires c κs = search needs

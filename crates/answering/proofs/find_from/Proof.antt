@@ -2,9 +2,9 @@
 -- Assumes nothing.
 use native.Mathlib.Omega.{arith}
 use borrow.Author.Needs.{needs}
-use Rattle.edit_algo.proofs.Ends.{none-numbered, none-asked, found-none, found-there}
-use Rattle.edit_algo.proofs.find_from.Statement.{statement}
-use Rattle.edit_algo.proofs.find_from.Tie as tie
+use Rattle.answering.proofs.Ends.{none-numbered, none-asked, found-none, found-there}
+use Rattle.answering.proofs.find_from.Statement.{statement}
+use Rattle.answering.proofs.find_from.Tie as tie
 
 returns : tie.Need-returns
 returns c = search (none-numbered, needs)

@@ -1,9 +1,9 @@
--- `short_of_four` meets its contract: slice by slice.
+-- `short_of_three` meets its contract: slice by slice.
 -- Assumes nothing.
 use borrow.Author.Needs.{needs}
-use Rattle.work.proofs.Ways.{short-first, short-second, short-third, short-last}
-use Rattle.work.proofs.short_of_four.Statement.{statement}
-use Rattle.work.proofs.short_of_four.Tie as tie
+use Rattle.work.proofs.Ways.{short-first, short-second, short-last}
+use Rattle.work.proofs.short_of_three.Statement.{statement}
+use Rattle.work.proofs.short_of_three.Tie as tie
 
 is-short-requires : tie.Need-is-short-requires
 is-short-requires c κs = search needs
@@ -21,16 +21,10 @@ is-short-requires-3 : tie.Need-is-short-requires-3
 is-short-requires-3 c κs = search needs
 
 returns-3 : tie.Need-returns-3
-returns-3 c = search (short-third, needs)
+returns-3 c = search (short-last, needs)
 
-is-short-requires-4 : tie.Need-is-short-requires-4
-is-short-requires-4 c κs = search needs
-
-returns-4 : tie.Need-returns-4
-returns-4 c = search (short-last, needs)
-
-pub short-of-four-spec : {M : Type 1} → statement M
-short-of-four-spec =
+pub short-of-three-spec : {M : Type 1} → statement M
+short-of-three-spec =
     tie.close
     (tie.spec
     is-short-requires
@@ -38,6 +32,4 @@ short-of-four-spec =
     is-short-requires-2
     returns-2
     is-short-requires-3
-    returns-3
-    is-short-requires-4
-    returns-4)
+    returns-3)

@@ -2,9 +2,9 @@
 -- Assumes nothing.
 use native.Mathlib.Omega.{arith}
 use borrow.Author.Needs.{needs}
-use Rattle.edit_algo.proofs.Ends.{whole-rest, answered-13, answered-bytes}
-use Rattle.edit_algo.proofs.write_answer.Statement.{statement}
-use Rattle.edit_algo.proofs.write_answer.Tie as tie
+use Rattle.answering.proofs.Ends.{whole-rest, answered-13, answered-bytes}
+use Rattle.answering.proofs.write_answer.Statement.{statement}
+use Rattle.answering.proofs.write_answer.Tie as tie
 
 sub-text : tie.Need-sub-text
 sub-text c = search needs
@@ -25,31 +25,31 @@ enum-known-end : tie.Need-enum-known-end
 enum-known-end c = search needs
 
 same-length : tie.Need-same-length
-same-length c = search needs
+same-length c = c .before .before .before .before .before .before .before .before .before .notes .given
 
 same-length-2 : tie.Need-same-length-2
-same-length-2 c = search needs
+same-length-2 c = c .before .before .before .before .before .before .before .changed .given
 
 same-length-3 : tie.Need-same-length-3
-same-length-3 c = search needs
+same-length-3 c = c .before .before .before .before .before .starts .given
 
 same-length-4 : tie.Need-same-length-4
-same-length-4 c = search needs
+same-length-4 c = c .before .before .before .result .given
 
 returns : tie.Need-returns
 returns c = let v = c .before .before .before .before .before .before .before .before .before .before .before .before .before .before .before .before .before .before .before .before .before .before .pre in answered-13 (v .0) _ _ _ _ (whole-rest (c .before .before .before .before .before .before .before .before .before .before .before .before .before .before .before .before .before .before .before .before .before .before .args .d .text) (c .before .before .before .before .before .before .before .before .before .before .before .before .before .before .before .before .before .before .before .before .before .before .args .batch .now)) (c .before .before .before .before .before .before .before .before .before .before .finish .ensures) (c .enum-told .given .1)
 
 same-length-5 : tie.Need-same-length-5
-same-length-5 c = search needs
+same-length-5 c = c .before .before .before .before .before .before .before .before .before .before .notes .given
 
 same-length-6 : tie.Need-same-length-6
-same-length-6 c = search needs
+same-length-6 c = c .before .before .before .before .before .before .before .before .changed .given
 
 same-length-7 : tie.Need-same-length-7
-same-length-7 c = search needs
+same-length-7 c = c .before .before .before .before .before .before .starts .given
 
 same-length-8 : tie.Need-same-length-8
-same-length-8 c = search needs
+same-length-8 c = c .before .before .before .before .result .given
 
 returns-2 : tie.Need-returns-2
 returns-2 c = let v = c .before .before .before .before .before .before .before .before .before .before .before .before .before .before .before .before .before .before .before .before .before .before .before .pre in answered-bytes (v .0) _ _ _ _ (whole-rest (c .before .before .before .before .before .before .before .before .before .before .before .before .before .before .before .before .before .before .before .before .before .before .before .args .d .text) (c .before .before .before .before .before .before .before .before .before .before .before .before .before .before .before .before .before .before .before .before .before .before .before .args .batch .now)) (c .before .before .before .before .before .before .before .before .before .before .before .finish .ensures) _ (c .before .end .given .1)

@@ -1,0 +1,2 @@
+-- From what a run leaves to the answers.
+pub mod AtEnd
