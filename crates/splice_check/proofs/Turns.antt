@@ -18,16 +18,12 @@ use Rattle.rows.specs.Row.{Row, owes, rowIn, firstRows, triples}
 use Rattle.rows.specs.Words.{triples-at, triples-end}
 use Rattle.splice_model.specs.Cuts.{Cut, partAt, cutAt, cutsTo}
 use Rattle.splice_model.specs.Bounds.{rowsTo, rowsTo-more, part-is}
-use Rattle.splice_model.specs.Verdict.{owed, closed, boundedAt, hasRunAt, fitAt, treeRows, fitsTo, fitsTree, entersCut, overlapCut, apartCut, roomy, judgedBy, fits-each}
-use Rattle.splice_check.specs.Promises.{Closes, FitsAt, FitsAll, OneTree, FitsTree, EntersAt, Overlaps, ApartAt, RowsTo, ApartFrom, ApartAll, Judged}
+use Rattle.splice_model.specs.Verdict.{owed, closed, boundedAt, hasRunAt, fitAt, treeRows, fitsTo, entersCut, overlapCut, apartCut, limited, roomy, judgedBy, and-false, fits-each}
+use Rattle.splice_check.specs.Promises.{Closes, FitsAt, FitsAll, OneTree, EntersAt, Overlaps, ApartAt, RowsTo, ApartFrom, ApartAll, Fitted, Judged}
 
 -- what `word` tells
 abbrev Read : ℕ → ℕ → Type 0
 Read x y = (x ≡ y) × (x < 2 ^ 32)
-
-and-false : (x : Bool) → (x && false) ≡ false
-and-false true = refl
-and-false false = refl
 
 -- ── Whole trees ─────────────────────────────────────────────────────────────────────────────────────────────
 
@@ -156,15 +152,6 @@ module _ (run : List ℕ) {b : Bool} (B : Closes run b) where
 
 pub from-the-first : (rows : List ℕ) (e : ℕ) {r : Bool} → OneTree (take (3 * e - 0) rows) r → OneTree (take (3 * e) rows) r
 from-the-first rows e t = rw (sub-zero (3 * e)) at t
-
-module _ (rows : List ℕ) (e : ℕ) {s p : List ℕ} {c : ℕ} {b : Bool} (B : OneTree (take (3 * e) rows) b) where
-  pub no-tree : b ≡ false → FitsTree rows e s p c false
-  unfolding fitsTree
-  no-tree z = record { says = λ text. rw (← B .says text, z) }
-
-  pub tree-fits : {r : Bool} → b ≡ true → FitsAll rows e s p c r → FitsTree rows e s p c r
-  unfolding fitsTree
-  tree-fits z f = record { says = λ text. f .says text ∙ rw (← B .says text, z) }
 
 -- ── Two splices ─────────────────────────────────────────────────────────────────────────────────────────────
 
@@ -308,47 +295,65 @@ module _ {s : List ℕ} {c sum k : ℕ} (v : Summed s c sum k) where
   pub summed-done : c ≤ k → c < 2 ^ 15 → (sum ≡ rowsTo s c) × (sum < 2 ^ 48)
   summed-done h l = let q : k ≡ c = omega (arith, v .inside) in (v .is ∙ ap (rowsTo s) q, omega (arith, v .small))
 
-module _ (long e : ℕ) (s p : List ℕ) (c : ℕ) where
-  pub too-many : 32768 ≤ c → false ≡ roomy long e s p c
-  unfolding roomy
+module _ (e : ℕ) (s p : List ℕ) (c : ℕ) where
+  pub too-many : 32768 ≤ c → false ≡ limited e s p c
+  unfolding limited
   too-many h = rw (le-ltb c (2 ^ 15) h) (sym (and-false (eqb (length s) (6 * c))))
 
-  pub odd : (length s ≡ 6 * c → ⊥) → false ≡ roomy long e s p c
-  unfolding roomy
+  pub odd : (length s ≡ 6 * c → ⊥) → false ≡ limited e s p c
+  unfolding limited
   odd h = rw (ne-eqb (length s) (6 * c) h)
 
   module _ (k : c < 32768) (l : length s ≡ 6 * c) where
-    pub too-long : 196608 ≤ length p → false ≡ roomy long e s p c
-    unfolding roomy
-    too-long h = rw (eq-eqb (length s) (6 * c) l, lt-ltb c (2 ^ 15) k, le-ltb (length p) (3 * 2 ^ 16) h)
+    pub too-tall : 65536 ≤ e → false ≡ limited e s p c
+    unfolding limited
+    too-tall h = rw (eq-eqb (length s) (6 * c) l, lt-ltb c (2 ^ 15) k, le-ltb e (2 ^ 16) h)
 
-    module _ (m : length p < 196608) {sum : ℕ} (S : (sum ≡ rowsTo s c) × (sum < 2 ^ 48)) where
-      pub no-room : long < 3 * e + 3 * sum → false ≡ roomy long e s p c
-      unfolding roomy
-      no-room h = rw (eq-eqb (length s) (6 * c) l, lt-ltb c (2 ^ 15) k, lt-ltb (length p) (3 * 2 ^ 16) m, ← S .0, lt-leb (3 * e + 3 * sum) long h)
+    pub limits : e < 65536 → ltb (length p) 196608 ≡ limited e s p c
+    unfolding limited
+    limits h = rw (eq-eqb (length s) (6 * c) l, lt-ltb c (2 ^ 15) k, lt-ltb e (2 ^ 16) h)
 
-      pub some-room : 3 * e + 3 * sum ≤ long → ltb (e + sum) 65536 ≡ roomy long e s p c
-      unfolding roomy
-      some-room h = rw (eq-eqb (length s) (6 * c) l, lt-ltb c (2 ^ 15) k, lt-ltb (length p) (3 * 2 ^ 16) m, ← S .0, le-leb (3 * e + 3 * sum) long h)
+module _ (long e : ℕ) (s : List ℕ) (c : ℕ) {sum : ℕ} (S : (sum ≡ rowsTo s c) × (sum < 2 ^ 48)) where
+  pub no-room : long < 3 * e + 3 * sum → false ≡ roomy long e s c
+  unfolding roomy
+  no-room h = rw (← S .0, lt-leb (3 * e + 3 * sum) long h)
+
+  pub some-room : 3 * e + 3 * sum ≤ long → ltb (e + sum) 65536 ≡ roomy long e s c
+  unfolding roomy
+  some-room h = rw (← S .0, le-leb (3 * e + 3 * sum) long h)
 
 -- ── The verdict ─────────────────────────────────────────────────────────────────────────────────────────────
 
-pub fits-rows : {rows : List ℕ} {e : ℕ} {s p : List ℕ} {c : ℕ} {b : Bool} → FitsTree rows e s p c b → b ≡ true → RowsTo e s c
-unfolding fitsTree fitAt boundedAt
+pub fits-rows : {rows : List ℕ} {e : ℕ} {s p : List ℕ} {c : ℕ} {b : Bool} → FitsAll rows e s p c b → b ≡ true → RowsTo e s c
+unfolding fitAt boundedAt
 fits-rows {rows} {e} {s} {p} {c} f z =
-    let x = both-true (treeRows (firstRows [] e rows)) (fitsTo [] rows e s p c) (sym (f .says []) ∙ z) in
-    record { row = λ j h. ltb-true (getD s (6 * j + 1) 0) e (both-true _ _ (both-true _ _ (fits-each [] rows e s p c j h (x .1)) .0) .0) }
+    record { row = λ j h. ltb-true (getD s (6 * j + 1) 0) e (both-true _ _ (both-true _ _ (fits-each [] rows e s p c j h (sym (f .says []) ∙ z)) .0) .0) }
 
-module _ {rows : List ℕ} {e : ℕ} {s p : List ℕ} {c : ℕ} {b : Bool} (B : b ≡ roomy (length rows) e s p c) where
-  pub roomless : b ≡ false → Judged rows e s p c false
+module _ (rows : List ℕ) (e : ℕ) {s p : List ℕ} {c : ℕ} {b : Bool} (B : OneTree (take (3 * e) rows) b) where
+  pub no-tree : b ≡ false → Fitted rows e s p c 3
+  no-tree z = record { says = λ text. rw (← B .says text, z) }
+
+  module _ (y : b ≡ true) {f : Bool} (F : FitsAll rows e s p c f) where
+    pub unfit : f ≡ false → Fitted rows e s p c 4
+    unfit z = record { says = λ text. rw (← B .says text, y, ← F .says text, z) }
+
+    module _ (z : f ≡ true) {a : Bool} (A : ApartAll rows e s c a) where
+      pub not-apart : a ≡ false → Fitted rows e s p c 5
+      not-apart w = record { says = λ text. rw (← B .says text, y, ← F .says text, z, ← A .says text p, w) }
+
+      pub all-fitted : a ≡ true → Fitted rows e s p c 0
+      all-fitted w = record { says = λ text. rw (← B .says text, y, ← F .says text, z, ← A .says text p, w) }
+
+module _ {rows : List ℕ} {e : ℕ} {s p : List ℕ} {c : ℕ} {b : Bool} (B : b ≡ limited e s p c) where
+  pub beyond-limits : b ≡ false → Judged rows e s p c 1
   unfolding judgedBy
-  roomless z = record { says = λ text. rw (← B, z) }
+  beyond-limits z = record { says = λ text. rw (← B, z) }
 
-  module _ (y : b ≡ true) {f : Bool} (F : FitsTree rows e s p c f) where
-    pub unfit : f ≡ false → Judged rows e s p c false
+  module _ (y : b ≡ true) {d : Bool} (D : d ≡ roomy (length rows) e s c) where
+    pub roomless : d ≡ false → Judged rows e s p c 2
     unfolding judgedBy
-    unfit z = record { says = λ text. rw (← B, y, ← F .says text, z) }
+    roomless z = record { says = λ text. rw (← B, y, ← D, z) }
 
-    pub all-judged : {r : Bool} → f ≡ true → ApartAll rows e s c r → Judged rows e s p c r
+    pub all-judged : {r : ℕ} → d ≡ true → Fitted rows e s p c r → Judged rows e s p c r
     unfolding judgedBy
-    all-judged z w = record { says = λ text. w .says text p ∙ rw (← B, y, ← F .says text, z) }
+    all-judged z f = record { says = λ text. f .says text ∙ rw (← B, y, ← D, z) }

@@ -1,14 +1,14 @@
 -- What the functions that judge a list of splices promise. Text is not read, so that each promise holds for any.
 -- Assumes nothing.
 use mathlib.Core.Path.{_≡_}
-use mathlib.Core.Bool.{Bool}
+use mathlib.Core.Bool.{Bool, true}
 use mathlib.Core.List.{List}
 use Prim.Native.Nat.{ℕ, _+_, _*_, _<_}
 use lib.ListN.{getD}
 use Rattle.orders.specs.Check.{each, pairs}
 use Rattle.rows.specs.Row.{triples, firstRows}
 use Rattle.splice_model.specs.Cuts.{cutAt, cutsTo}
-use Rattle.splice_model.specs.Verdict.{closed, treeRows, fitAt, fitsTo, fitsTree, entersCut, overlapCut, apartCut, judgedBy}
+use Rattle.splice_model.specs.Verdict.{closed, treeRows, fitAt, fitsTo, entersCut, overlapCut, apartCut, firstWrong, judgedBy}
 
 -- a run of words spells whole trees
 pub record Closes (run : List ℕ) (r : Bool) : Type 0 where
@@ -25,10 +25,6 @@ pub record FitsAll (rows : List ℕ) (e : ℕ) (splices prepared : List ℕ) (c 
 -- a run of words is one whole tree
 pub record OneTree (run : List ℕ) (r : Bool) : Type 0 where
   pub says : (text : List ℕ) → r ≡ treeRows (triples text run)
-
--- the first e rows are, and each of the first c splices fits it
-pub record FitsTree (rows : List ℕ) (e : ℕ) (splices prepared : List ℕ) (c : ℕ) (r : Bool) : Type 0 where
-  pub says : (text : List ℕ) → r ≡ fitsTree text rows e splices prepared c
 
 -- the row x is one of those that splice i deletes
 pub record EntersAt (rows : List ℕ) (e : ℕ) (splices : List ℕ) (i x : ℕ) (r : Bool) : Type 0 where
@@ -54,6 +50,10 @@ pub record ApartFrom (rows : List ℕ) (e : ℕ) (splices : List ℕ) (i j : ℕ
 pub record ApartAll (rows : List ℕ) (e : ℕ) (splices : List ℕ) (c : ℕ) (r : Bool) : Type 0 where
   pub says : (text prepared : List ℕ) → r ≡ pairs (apartCut (firstRows text e rows)) (cutsTo text splices prepared c)
 
--- the whole verdict
-pub record Judged (rows : List ℕ) (e : ℕ) (splices prepared : List ℕ) (c : ℕ) (r : Bool) : Type 0 where
+-- the first refusal of a list where there is room
+pub record Fitted (rows : List ℕ) (e : ℕ) (splices prepared : List ℕ) (c r : ℕ) : Type 0 where
+  pub says : (text : List ℕ) → r ≡ firstWrong true true (treeRows (firstRows text e rows)) (fitsTo text rows e splices prepared c) (pairs (apartCut (firstRows text e rows)) (cutsTo text splices prepared c))
+
+-- the first refusal
+pub record Judged (rows : List ℕ) (e : ℕ) (splices prepared : List ℕ) (c r : ℕ) : Type 0 where
   pub says : (text : List ℕ) → r ≡ judgedBy text rows e splices prepared c

@@ -1,13 +1,13 @@
-// Whether a list of splices, six words each (number, row of its parent in the old tree, from, to, where its prepared rows start, how many they are), fits the
-// old tree and is apart, and whether the slices have room for it. Nothing is written.
+// The first refusal of a list of splices, six words each (number, row of its parent in the old tree, from, to, where its prepared rows start, how many they are):
+// whether the slices have room for it, it fits the old tree and is apart. Nothing is written.
 ghost use mathlib.Core.Path.{_≡_};
 ghost use mathlib.Core.Bool.{true};
 ghost use Prim.Native.Nat.{_+_, _*_, _^_, _≤_, _<_};
 ghost use lib.ListN.{length, getD, take};
 ghost use Rattle.splice_model.specs.Bounds.{rowsTo};
 ghost use Rattle.splice_model.specs.Cuts.{partAt};
-ghost use Rattle.splice_model.specs.Verdict.{boundedAt, hasRunAt, roomy};
-ghost use Rattle.splice_check.specs.Promises.{Closes, FitsAt, FitsAll, OneTree, FitsTree, EntersAt, Overlaps, ApartAt, RowsTo, ApartFrom, ApartAll, Judged};
+ghost use Rattle.splice_model.specs.Verdict.{boundedAt, hasRunAt, limited, roomy};
+ghost use Rattle.splice_check.specs.Promises.{Closes, FitsAt, FitsAll, OneTree, EntersAt, Overlaps, ApartAt, RowsTo, ApartFrom, ApartAll, Fitted, Judged};
 use syntax_node::child_count;
 use syntax_node::child_row;
 use syntax_node::trees_in;
@@ -126,17 +126,6 @@ fn spells_tree(rows: &[u32], e: usize) -> bool
     one_tree(&rows[0..end])
 }
 
-// Whether the first `e` rows are those of a tree, and each of the first `c` splices fits it.
-fn fit_tree(rows: &[u32], e: usize, splices: &[u32], prepared: &[u32], c: usize) -> bool
-    requires { ⌜ (6 * c ≤ length (now splices)) × (length (now prepared) < 3 * 2 ^ 16) × (3 * e ≤ length (now rows)) × (e < 2 ^ 16) ⌝ }
-    ensures { λ r. ⌜ FitsTree (now (rows .entry)) e (now (splices .entry)) (now (prepared .entry)) c r ⌝ }
-{
-    if spells_tree(rows, e) {
-        return all_fit(rows, e, splices, prepared, c);
-    }
-    false
-}
-
 // ── It is apart ──
 
 // Whether row `x` of the old tree is one of those that splice `i` deletes.
@@ -223,7 +212,7 @@ fn all_apart(rows: &[u32], e: usize, splices: &[u32], c: usize) -> bool
 // ── There is room ──
 
 // The prepared rows of the first `c` splices, all together.
-fn rows_to(splices: &[u32], c: usize) -> usize
+pub fn rows_to(splices: &[u32], c: usize) -> usize
     requires { ⌜ (6 * c ≤ length (now splices)) × (c < 2 ^ 15) ⌝ }
     ensures { λ r. ⌜ (r ≡ rowsTo (now (splices .entry)) c) × (r < 2 ^ 48) ⌝ }
 {
@@ -236,39 +225,62 @@ fn rows_to(splices: &[u32], c: usize) -> usize
     sum
 }
 
-// Whether the slices have room: for `long` words of rows, of which `e` rows are there, and the first `c` splices.
-fn room(long: usize, e: usize, splices: &[u32], prepared: &[u32], c: usize) -> bool
-    requires { ⌜ e < 2 ^ 48 ⌝ }
-    ensures { λ r. ⌜ r ≡ roomy long e (now (splices .entry)) (now (prepared .entry)) c ⌝ }
+// Whether the slices are within the limits, where the old tree has `e` rows and the list `c` splices.
+fn within(e: usize, splices: &[u32], prepared: &[u32], c: usize) -> bool
+    ensures { λ r. ⌜ r ≡ limited e (now (splices .entry)) (now (prepared .entry)) c ⌝ }
 {
     if 32768 <= c {
         return false;
     }
     if splices.len() == 6 * c {
-        if 196608 <= prepared.len() {
+        if 65536 <= e {
             return false;
         }
-        let sum = rows_to(splices, c);
-        if long < 3 * e + 3 * sum {
-            return false;
-        }
-        return e + sum < 65536;
+        return prepared.len() < 196608;
     }
     false
 }
 
-// ── The verdict ──
-
-// Whether the first `e` rows are those of a tree, the first `c` splices fit it and are apart, and there is room for them.
-pub fn judged(rows: &[u32], e: usize, splices: &[u32], prepared: &[u32], c: usize) -> bool
-    requires { ⌜ e < 2 ^ 48 ⌝ }
-    ensures { λ r. ⌜ Judged (now (rows .entry)) e (now (splices .entry)) (now (prepared .entry)) c r ⌝ }
+// Whether there is room for `e` rows with all that come in: `long` words, and no more than 65,535 rows.
+fn room(long: usize, e: usize, splices: &[u32], c: usize) -> bool
+    requires { ⌜ (e < 2 ^ 16) × (6 * c ≤ length (now splices)) × (c < 2 ^ 15) ⌝ }
+    ensures { λ r. ⌜ r ≡ roomy long e (now (splices .entry)) c ⌝ }
 {
-    if room(rows.len(), e, splices, prepared, c) {
-        if fit_tree(rows, e, splices, prepared, c) {
-            return all_apart(rows, e, splices, c);
-        }
+    let sum = rows_to(splices, c);
+    if long < 3 * e + 3 * sum {
         return false;
     }
-    false
+    e + sum < 65536
+}
+
+// ── The verdict ──
+
+// 3 if the first `e` rows are not those of one tree, 4 if one of the first `c` splices does not fit it, 5 if two are not apart, else 0.
+fn fitted(rows: &[u32], e: usize, splices: &[u32], prepared: &[u32], c: usize) -> usize
+    requires { ⌜ (6 * c ≤ length (now splices)) × (length (now prepared) < 3 * 2 ^ 16) × (3 * e ≤ length (now rows)) × (e < 2 ^ 16) ⌝ }
+    ensures { λ r. ⌜ Fitted (now (rows .entry)) e (now (splices .entry)) (now (prepared .entry)) c r ⌝ }
+{
+    if spells_tree(rows, e) {
+        if all_fit(rows, e, splices, prepared, c) {
+            if all_apart(rows, e, splices, c) {
+                return 0;
+            }
+            return 5;
+        }
+        return 4;
+    }
+    3
+}
+
+// The first refusal: 1 if a slice is beyond its limit, 2 if there is no room, 3 to 5 if the list does not fit a tree or is not apart; 0 if there is none.
+pub fn judged(rows: &[u32], e: usize, splices: &[u32], prepared: &[u32], c: usize) -> usize
+    ensures { λ r. ⌜ Judged (now (rows .entry)) e (now (splices .entry)) (now (prepared .entry)) c r ⌝ }
+{
+    if within(e, splices, prepared, c) {
+        if room(rows.len(), e, splices, c) {
+            return fitted(rows, e, splices, prepared, c);
+        }
+        return 2;
+    }
+    1
 }

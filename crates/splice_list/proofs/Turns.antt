@@ -1,32 +1,33 @@
 -- What each way out and each turn of a loop knows.
 -- Assumes nothing.
 use mathlib.Core.Path.{_≡_, refl, sym, ap, _∙_}
-use mathlib.Core.Bool.{Bool, true, false}
 use mathlib.Core.List.{List, [], _∷_, append-nil}
-use mathlib.Core.Logic.{_⊎_, inl, inr}
 use Prim.Native.Nat.{ℕ, zero, suc, _+_, _*_, _/_, _^_, _≤_, _<_, _-_}
 use native.Mathlib.Omega.{arith}
 use native.Mathlib.Nat.{zero-add}
 use native.Mathlib.Numerals.{add-one}
-use lib.ListN.{length, getD, set, length-set, drop-of-length-le, drop}
-use lib.Seq.{paste, paste-suc, take-all, drop-drop}
+use lib.ListN.{length, getD, set, length-set, drop-of-length-le, take, drop, replicate}
+use lib.Seq.{paste, paste-suc, take-all, drop-drop, length-take-le}
+use borrow.Rule.Slice.PartMut.{midOf, postOf, putMid, mid-len, post-is}
 use Rattle.orders.specs.Lists.{All}
-use Rattle.orders.specs.ListLaws.{bool?}
 use Rattle.orders.specs.Tree.{Tree}
 use Rattle.orders.specs.Splices.{Splice, begin, oneGo, AllApart}
+use Rattle.rows.specs.Row.{rowsOf}
+use Rattle.rows.specs.Place.{size}
 use Rattle.rows.specs.Words.{rows-many}
 use Rattle.splice_model.specs.Cuts.{cutsTo, Holds, Told, stateOf}
 use Rattle.splice_model.specs.Bounds.{BoundedTo, BoundedAll, rowsTo, rowsTo-more, rowsTo-mono, bounded-to}
 use Rattle.splice_model.specs.Orders.{one-more, one-go-rows}
-use Rattle.splice_model.specs.Verdict.{judgedBy, judged-bounds, judged-apart}
+use Rattle.splice_model.specs.Verdict.{judged-bounds}
+use Rattle.splice_model.specs.SpliceList.{oldTree, wordsOf, splicesTo, filled, rewritten}
+use Rattle.splice_model.specs.Found.{placesBelow, legible, old-told, list-told, wrong, judged-wrong, answer-wrong, Right, none-right, answer-right}
 use Rattle.splice_check.specs.Promises.{Judged}
-use Rattle.splice_model.specs.Places.{upFrom}
+use Rattle.splice_model.specs.Places.{upFrom, upFrom-many, upFrom-get}
 use Rattle.splice_model.specs.Step.{begin-holds}
 use Rattle.splice_list.specs.declared.Outcome.the-variants.{Refused, Done}
 use Rattle.splice_step.specs.Promises.{Stepped}
-use Rattle.splice_list.specs.Plain.{plainWord, plain, plain-next, plain-long, plain-beyond, plain-third, plain-tree}
-use Rattle.splice_list.specs.SameWords.{upFrom-many, upFrom-get}
-use Rattle.splice_list.specs.Promises.{Listed, Good, ListedAll, isDone, Spliced}
+use Rattle.splice_list.specs.Plain.{plainWord, plain, plain-next, plain-long, plain-beyond, plain-words, rows-inside}
+use Rattle.splice_list.specs.Promises.{Listed, Good, ListedAll, Tidied, outcomeOf, rowsLeft, marksLeft, Spliced}
 
 -- ── A list ──────────────────────────────────────────────────────────────────────────────────────────────────
 
@@ -137,7 +138,7 @@ module _ {rows : List ℕ} {n : ℕ} {l : List ℕ} {i : ℕ} (v : Plaining rows
   pub plaining-done : n ≤ i → l ≡ plain n rows
   plaining-done h = let e : i ≡ n = omega (arith, v .inside) in rw e at (v .is)
 
--- ── The whole list ──────────────────────────────────────────────────────────────────────────────────────────
+-- ── From the old tree on ────────────────────────────────────────────────────────────────────────────────────
 
 upFrom-below : (a n m : ℕ) → a + n ≤ m → All (λ x. x < m) (upFrom a n)
 upFrom-below a zero m h = tt
@@ -160,61 +161,52 @@ listed-all {rows} {marks} g e w = let l : 3 * length marks ≤ length rows = ome
   beyond = w .beyond;
 }
 
-module _ (rows marks s p : List ℕ) where
-  -- too many marks
-  pub spliced-not : 65536 ≤ length marks → Spliced rows marks s p rows marks Refused
-  unfolding isDone
-  spliced-not h = record {
-    verdict = λ text. go text (bool? (judgedBy text rows (length marks) s p (length s / 6)));
-    refused = λ z. (refl, refl);
-    within = λ n z. let w : _≡_ {A = ℕ} 0 1 = cc in absurd (omega arith);
-    beyond = λ n z. refl;
-    plain = λ n z. let w : _≡_ {A = ℕ} 0 1 = cc in absurd (omega arith);
-    done = λ n z. let w : _≡_ {A = ℕ} 0 1 = cc in absurd (omega arith);
-  }
-    where
-      go : (text : List ℕ) → (judgedBy text rows (length marks) s p (length s / 6) ≡ true) ⊎ (judgedBy text rows (length marks) s p (length s / 6) ≡ false) → false ≡ judgedBy text rows (length marks) s p (length s / 6)
-      go text (inl z) = let w = judged-bounds text rows (length marks) s p (length s / 6) z .0 in absurd (omega (arith, w .rows))
-      go text (inr z) = sym z
+-- ── The words that are left ─────────────────────────────────────────────────────────────────────────────────
 
-  module _ {b : Bool} (J : Judged rows (length marks) s p (length s / 6) b) where
-    pub spliced-refused : b ≡ false → Spliced rows marks s p rows marks Refused
-    unfolding isDone
-    spliced-refused z = record {
-      verdict = λ text. sym z ∙ J .says text;
-      refused = λ y. (refl, refl);
-      within = λ n y. let w : _≡_ {A = ℕ} 0 1 = cc in absurd (omega arith);
-      beyond = λ n y. refl;
-      plain = λ n y. let w : _≡_ {A = ℕ} 0 1 = cc in absurd (omega arith);
-      done = λ n y. let w : _≡_ {A = ℕ} 0 1 = cc in absurd (omega arith);
-    }
+-- plain rows, and behind them zeros
+pub tidied : (n to : ℕ) (l m : List ℕ) {ys : List ℕ} → 3 * n ≤ to → to ≤ length l → m ≡ plain n l → ys ≡ replicate (length (midOf (3 * n) (to - 3 * n) m)) 0 → putMid (3 * n) (to - 3 * n) m ys ≡ filled (take (3 * n) (plain n l)) to l
+unfolding filled
+tidied n to l m {ys} h k e f =
+    let z : length m ≡ length l = ap length e ∙ plain-long n l in
+    let a : length (take (3 * n) (plain n l)) ≡ 3 * n = length-take-le (3 * n) (plain n l) (omega (arith, plain-long n l)) in
+    let b : length (midOf (3 * n) (to - 3 * n) m) ≡ to - 3 * n = mid-len (3 * n) to m (omega arith) in
+    let q : postOf (3 * n) (to - 3 * n) m ≡ drop to m = post-is (3 * n) to m h in
+    rw (q, f, b, e, a, drop-more (3 * n) to (plain n l) l h (plain-beyond n l))
 
-    pub good : b ≡ true → Good rows marks s p (length s / 6)
-    good z = let w = judged-bounds [] rows (length marks) s p (length s / 6) (sym (J .says []) ∙ z) in record { room = w .0; bounds = w .1 }
+module _ {rows marks s p : List ℕ} {c : ℕ} {sum : ℕ} (S : (sum ≡ rowsTo s c) × (sum < 2 ^ 48)) {left marked : List ℕ} {r : ℕ} (w : ListedAll rows marks s p c left marked r) (l : length left ≡ length rows) where
+  pub tidied-all : {out : List ℕ} → out ≡ filled (take (3 * r) (plain r left)) (3 * (length marks + sum)) left → Tidied rows marks s p c out marked r
+  tidied-all u = record { left = left; long = l; listed = w; is = rw (S .0) at u }
 
-    module _ {left marked : List ℕ} {r : ℕ} (z : b ≡ true) (w : ListedAll rows marks s p (length s / 6) left marked r) where
-      pub plain-room : length left ≡ length rows → 3 * r ≤ length left
-      plain-room l = let g = good z in omega (arith, w .few, g .room .words)
+-- ── The whole list ──────────────────────────────────────────────────────────────────────────────────────────
 
-      pub plain-few : r < 2 ^ 16
-      plain-few = let g = good z in omega (arith, w .few, g .room .rows)
+module _ (rows marks s p : List ℕ) {k : ℕ} (J : Judged rows (length marks) s p (length s / 6) k) where
+  wrong-is : wrong rows (length marks) s p (length s / 6) ≡ k
+  wrong-is =
+      let n = legible rows (length marks) s p in
+      sym (J .says (placesBelow (n .0)) ∙ judged-wrong rows (length marks) s p (n .0) (n .1) (length s / 6))
 
-    pub spliced-done : {left out marked : List ℕ} {r : ℕ} → b ≡ true → length left ≡ length rows → ListedAll rows marks s p (length s / 6) left marked r → out ≡ plain r left → Spliced rows marks s p out marked (Done r)
-    unfolding isDone
-    spliced-done {left} {out} {marked} {r} z l w u =
-        let g = good z in
+  pub spliced-refused : (k ≡ 0 → ⊥) → Spliced rows marks s p rows marks (Refused k)
+  unfolding outcomeOf rowsLeft marksLeft
+  spliced-refused z = let e = answer-wrong rows marks s p k wrong-is z in record { outcome = rw e; result = rw e; moved = rw e }
+
+  module _ (z : k ≡ 0) where
+    pub good : Good rows marks s p (length s / 6)
+    good = let w = judged-bounds [] rows (length marks) s p (length s / 6) (sym (J .says []) ∙ z) in record { room = w .0; bounds = w .1 }
+
+    pub spliced-done : {out marked : List ℕ} {r : ℕ} → Tidied rows marks s p (length s / 6) out marked r → Spliced rows marks s p out marked (Done r)
+    unfolding outcomeOf rowsLeft marksLeft rewritten filled
+    spliced-done {out} {marked} {r} t =
+        let L = legible rows (length marks) s p in
+        let R : Right rows (length marks) s p (length s / 6) = none-right rows (length marks) s p (length s / 6) (wrong-is ∙ z) in
+        let w = t .listed in
+        let g = good in
         let long : 3 * length marks ≤ length rows = omega (arith, g .room .words) in
-        let k : 3 * r ≤ length left = plain-room z w l in
-        record {
-          verdict = λ text. sym z ∙ J .says text;
-          refused = λ y. let u : _≡_ {A = ℕ} 0 1 = cc in absurd (omega arith);
-          within = λ n y. let e : r ≡ n = cc (y) in rw u (omega (arith, plain-long r left, k));
-          beyond = λ n y. rw u (drop-more (3 * r) (3 * (length marks + rowsTo s (length s / 6))) (plain r left) left (omega (arith, w .few)) (plain-beyond r left) ∙ w .beyond);
-          plain = λ n y i h. let e : r ≡ n = cc (y) in rw u (plain-third r left i (omega arith) k);
-          done = λ n y text old D f t.
-              let e : r ≡ n = cc (y) in
-              let a = judged-apart text old rows (length marks) s p D long f t (sym (J .says text) ∙ z) in
-              let o = one-go-rows text old D left r marked a (w .done text old D f (t .told) a) in
-              let m = rows-many text r left (oneGo D old) k (o .0) in
-              rw (← e) (a, sym m, rw u (plain-tree text r left (oneGo D old) (o .0)), o .1);
-        }
+        let k : 3 * r ≤ length (t .left) = omega (arith, w .few, g .room .words, t .long) in
+        let tree = old-told rows (length marks) s p (L .0) (L .1) (R .tree) in
+        let told = list-told rows (length marks) s p (L .0) (L .1) long tree (length s / 6) (R .suits) in
+        let o = one-go-rows (placesBelow (L .0)) (oldTree rows (length marks)) (splicesTo (oldTree rows (length marks)) s p (length s / 6)) (t .left) r marked (R .apart) (w .done _ _ _ tree told (R .apart)) in
+        let new : Tree ℕ = oneGo (splicesTo (oldTree rows (length marks)) s p (length s / 6)) (oldTree rows (length marks)) in
+        let words : take (3 * r) (plain r (t .left)) ≡ wordsOf (rowsOf new) = plain-words (L .0) r (t .left) (rw (o .0) (rows-inside new)) k ∙ ap wordsOf (o .0) in
+        let many : r ≡ size new = sym (rows-many (placesBelow (L .0)) r (t .left) new k (o .0)) in
+        let e = answer-right rows marks s p R in
+        record { outcome = rw e (ap Done many); result = rw e (t .is ∙ rw (words, w .beyond)); moved = rw e (o .1) }

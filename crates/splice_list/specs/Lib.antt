@@ -3,3 +3,4 @@ pub mod Plain
 pub mod Promises
 pub mod TwoOrders
 pub mod SameWords
+pub mod InText

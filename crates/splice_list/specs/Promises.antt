@@ -1,19 +1,18 @@
 -- What the functions on a list of splices promise, part by part. Text is not read, so that each promise holds for any.
 -- Assumes nothing.
 use mathlib.Core.Path.{_≡_}
-use mathlib.Core.Bool.{Bool, true, false}
-use mathlib.Core.List.{List, map}
-use Prim.Native.Nat.{ℕ, _+_, _*_, _/_, _≤_, _<_}
-use lib.ListN.{length, drop, getD}
+use mathlib.Core.List.{List}
+use Prim.Native.Nat.{ℕ, _+_, _*_, _≤_}
+use lib.ListN.{length, take, drop}
 use Rattle.orders.specs.Tree.{Tree}
-use Rattle.orders.specs.Splices.{Splice, begin, oneGo, AllApart}
-use Rattle.orders.specs.Paths.{oneGoPath}
+use Rattle.orders.specs.Splices.{Splice, begin, AllApart}
+use Rattle.definition.specs.Basics.{Answer, refused, gives}
 use Rattle.rows.specs.Row.{firstRows, rowsOf}
-use Rattle.rows.specs.Place.{size, markOf}
 use Rattle.splice_model.specs.Bounds.{BoundedAll, rowsTo}
-use Rattle.splice_model.specs.Verdict.{Room, Listing, judgedBy}
-use Rattle.splice_model.specs.Cuts.{paths, Holds, Told, stateOf}
-use Rattle.splice_list.specs.Plain.{plainWord}
+use Rattle.splice_model.specs.Verdict.{Room}
+use Rattle.splice_model.specs.Cuts.{Holds, Told, stateOf}
+use Rattle.splice_model.specs.SpliceList.{Left, filled, spliceList}
+use Rattle.splice_list.specs.Plain.{plain}
 use Rattle.splice_list.specs.declared.Outcome.{Outcome}
 use Rattle.splice_list.specs.declared.Outcome.the-variants.{Refused, Done}
 
@@ -34,23 +33,32 @@ pub record ListedAll (rows marks splices prepared : List ℕ) (c : ℕ) (out mar
   pub few : r ≤ length marks + rowsTo splices c
   pub beyond : drop (3 * (length marks + rowsTo splices c)) out ≡ drop (3 * (length marks + rowsTo splices c)) rows
 
--- done, and not refused
-unfoldable pub isDone : Outcome → Bool
-isDone Refused = false
-isDone (Done n) = true
+-- and what that left is tidied
+pub record Tidied (rows marks splices prepared : List ℕ) (c : ℕ) (out marked : List ℕ) (r : ℕ) : Type 0 where
+  pub left : List ℕ
+  pub long : length left ≡ length rows
+  pub listed : ListedAll rows marks splices prepared c left marked r
+  pub is : out ≡ filled (take (3 * r) (plain r left)) (3 * (length marks + rowsTo splices c)) left
 
--- All splices of the list, in the order given, on the old tree that the first rows tell, one for each mark:
+-- ── The promise ─────────────────────────────────────────────────────────────────────────────────────────────
+
+-- the outcome of an answer
+unfoldable pub outcomeOf : Answer Left → Outcome
+outcomeOf (refused n) = Refused n
+outcomeOf (gives l) = Done (l .many)
+
+-- what the rows slice holds then, which held `held`: on refusal all that it held
+unfoldable pub rowsLeft : List ℕ → Answer Left → List ℕ
+rowsLeft held (refused n) = held
+rowsLeft held (gives l) = l .rows
+
+-- what the marks hold then
+unfoldable pub marksLeft : List ℕ → Answer Left → List ℕ
+marksLeft held (refused n) = held
+marksLeft held (gives l) = l .marks
+
+-- THE PROMISE of `splice_all`: the outcome and every word of both slices are those of the definition, from what was lent
 pub record Spliced (rows marks splices prepared out marked : List ℕ) (r : Outcome) : Type 0 where
-  -- refused just where the rows are no tree, or the list is not judged to fit it, to be apart and to have room
-  pub verdict : (text : List ℕ) → isDone r ≡ judgedBy text rows (length marks) splices prepared (length splices / 6)
-  -- with nothing changed
-  pub refused : r ≡ Refused → (out ≡ rows) × (marked ≡ marks)
-  -- done: the rows are all there
-  pub within : (n : ℕ) → r ≡ Done n → 3 * n ≤ length out
-  -- beyond all that come in nothing is written; between these and the rows that are left stand words of earlier steps, and they are left free
-  pub beyond : (n : ℕ) → r ≡ Done n → drop (3 * (length marks + rowsTo splices (length splices / 6))) out ≡ drop (3 * (length marks + rowsTo splices (length splices / 6))) rows
-  -- a third word that tells nothing, a node's or that of a token without text, is 0
-  pub plain : (n : ℕ) → r ≡ Done n → (i : ℕ) → i < n → getD out (3 * i + 2) 0 ≡ plainWord (getD out (3 * i) 0) (getD out (3 * i + 1) 0) (getD out (3 * i + 2) 0)
-  -- and where the words tell a list of splices of a tree, that list is apart, the rows are those of the one-go tree, and the marks the rows of the law's paths
-  pub done : (n : ℕ) → r ≡ Done n → (text : List ℕ) (old : Tree ℕ) (D : List (Splice ℕ)) → firstRows text (length marks) rows ≡ rowsOf old → Listing text old splices prepared D
-      → AllApart old D × (n ≡ size (oneGo D old)) × (firstRows text n out ≡ rowsOf (oneGo D old)) × (marked ≡ map (λ e. markOf (oneGo D old) (oneGoPath D e)) (paths old))
+  pub outcome : r ≡ outcomeOf (spliceList rows marks splices prepared)
+  pub result : out ≡ rowsLeft rows (spliceList rows marks splices prepared)
+  pub moved : marked ≡ marksLeft marks (spliceList rows marks splices prepared)

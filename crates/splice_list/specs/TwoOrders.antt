@@ -1,121 +1,114 @@
--- What `splice_all` leaves is the law's state, the same in every order.
+-- What a list that is done leaves is the law's state; two orders of one list leave the same.
 -- Assumes nothing.
-use mathlib.Core.Path.{_≡_, refl, sym, ap, subst, _∙_}
-use mathlib.Core.Bool.{true}
-use mathlib.Core.List.{List, [], _∷_, map, reverseAux, List·Permᴰ, Permᴰ·refl, cons≢nil}
-use mathlib.Core.Logic.{_↔_, _⊎_, inl, inr}
+use mathlib.Core.Path.{_≡_, refl, sym, ap, _∙_}
+use mathlib.Core.List.{List, [], _∷_, _++_, map, append-nil, reverseAux, List·Permᴰ, Permᴰ·refl, Permᴰ·symm, cons≢nil}
+use mathlib.Core.Logic.{_↔_}
 use mathlib.Core.Option.{Option, none, some}
-use Prim.Native.Nat.{ℕ, zero, suc, _+_, _*_, _/_, _≤_, _<_}
+use Prim.Native.Nat.{ℕ, zero, suc, _+_, _*_, _/_, _<_}
 use native.Mathlib.Omega.{arith}
 use lib.ListN.{length, take, getD, getElem?}
-use lib.Seq.{length-take-le, getD-take, ext-getD}
-use Rattle.orders.specs.Lists.{All}
-use Rattle.orders.specs.ListLaws.{both-true, some-inj, none-some, lt-or-le}
+use lib.Seq.{take-at}
+use Rattle.orders.specs.ListLaws.{none-some}
 use Rattle.orders.specs.Tree.{Tree, Path, resolve}
 use Rattle.orders.specs.Splices.{Splice, State, begin, performs, oneGo, EntersDeleted, AllApart}
-use Rattle.orders.specs.Check.{allApart?, says-all-apart}
 use Rattle.orders.specs.Parts.{neat}
-use Rattle.orders.specs.Paths.{down}
+use Rattle.orders.specs.Paths.{oneGoPath, down}
 use Rattle.orders.specs.Order.{one-go-same, path-same, apart-perm}
 use Rattle.orders.specs.Demand.{Demanded, demand}
 use Rattle.orders.specs.Done.{performs-one-go, reversed}
-use Rattle.rows.specs.Row.{Row, kind, measure, rowsOf, firstRows, rowIn}
-use Rattle.rows.specs.Place.{place, markOf, Held}
+use Rattle.rows.specs.Row.{Row, tok, nod, outside, rowsOf}
+use Rattle.rows.specs.Place.{size, place, markOf, Held}
 use Rattle.rows.specs.PlaceLaws.{place-pos}
 use Rattle.rows.specs.Moves.{place-inj}
-use Rattle.rows.specs.Words.{kind-word, measure-word, first-get}
 use Rattle.laws.specs.Kin.{get-getD}
 use Rattle.splice_model.specs.Cuts.{paths, stateOf}
 use Rattle.splice_model.specs.Places.{get-map, paths-at}
 use Rattle.splice_model.specs.Orders.{map-same, state-after, performs-state}
-use Rattle.splice_model.specs.Verdict.{Listing, roomy, judgedBy, judged-bounds, judged-told, room-same}
-use Rattle.splice_model.specs.Found.{Inside}
-use Rattle.splice_list.specs.Plain.{Distinct, rows-inside, third-same}
-use Rattle.splice_list.specs.Promises.{isDone, Spliced}
-use Rattle.splice_list.specs.declared.Outcome.{Outcome}
-use Rattle.splice_list.specs.declared.Outcome.the-variants.{Done}
+use Rattle.splice_model.specs.SpliceList.{oldTree, wordsOf, splicesTo, filled, rewritten}
+use Rattle.splice_model.specs.Found.{wrong, answer-wrong, Right, none-right, answer-right}
+use Rattle.splice_list.specs.Promises.{outcomeOf, rowsLeft, marksLeft, Spliced}
+use Rattle.splice_list.specs.declared.Outcome.the-variants.{Refused, Done}
 
-all-get : (l : List Row) (i : ℕ) (r : Row) → All Inside l → getElem? l i ≡ some r → Inside r
-all-get [] i r h e = absurd (none-some e)
-all-get (x ∷ l) zero r h e = subst Inside (some-inj e) (h .0)
-all-get (x ∷ l) (suc i) r h e = all-get l i r (h .1) e
+-- ── What is done ────────────────────────────────────────────────────────────────────────────────────────────
 
-thirds : (j : ℕ) → (j ≡ 3 * (j / 3)) ⊎ ((j ≡ 3 * (j / 3) + 1) ⊎ (j ≡ 3 * (j / 3) + 2))
-thirds j = elim (lt-or-le (3 * (j / 3)) j) [
-  | inr h ↦ inl (omega arith)
-  | inl h ↦ elim (lt-or-le (3 * (j / 3) + 1) j) [ inr g ↦ inr (inl (omega arith)) | inl g ↦ inr (inr (omega arith)) ]
-]
+-- the splices that the words tell, the last first
+abbrev pub told : List ℕ → List ℕ → List ℕ → List ℕ → List (Splice ℕ)
+told rows marks s p = splicesTo (oldTree rows (length marks)) s p (length s / 6)
+
+-- the same in the order given
+abbrev pub given : List ℕ → List ℕ → List ℕ → List ℕ → List (Splice ℕ)
+given rows marks s p = reverseAux (told rows marks s p) []
+
+wordsOf-many : (rs : List Row) → length (wordsOf rs) ≡ 3 * length rs
+unfolding wordsOf
+wordsOf-many [] = refl
+wordsOf-many (tok k x ∷ rs) = omega (arith, wordsOf-many rs)
+wordsOf-many (nod k m ∷ rs) = omega (arith, wordsOf-many rs)
+wordsOf-many (outside k m ∷ rs) = omega (arith, wordsOf-many rs)
+
+-- a list that is done is apart; the rows are those of the one-go tree, and the marks the rows of the law's paths
+pub record DoneAll (rows marks s p out marked : List ℕ) (n : ℕ) : Type 0 where
+  pub right : Right rows (length marks) s p (length s / 6)
+  pub many : n ≡ size (oneGo (told rows marks s p) (oldTree rows (length marks)))
+  pub words : take (3 * n) out ≡ wordsOf (rowsOf (oneGo (told rows marks s p) (oldTree rows (length marks))))
+  pub paths : marked ≡ map (λ e. markOf (oneGo (told rows marks s p) (oldTree rows (length marks))) (oneGoPath (told rows marks s p) e)) (paths (oldTree rows (length marks)))
+
+pub spliced-done : (rows marks s p out marked : List ℕ) (n : ℕ) → Spliced rows marks s p out marked (Done n) → DoneAll rows marks s p out marked n
+unfolding outcomeOf rowsLeft marksLeft rewritten filled
+spliced-done rows marks s p out marked n w = go (wrong rows (length marks) s p (length s / 6)) refl
+  where
+    go : (k : ℕ) → wrong rows (length marks) s p (length s / 6) ≡ k → DoneAll rows marks s p out marked n
+    go (suc k) z = let u : Done n ≡ Refused (suc k) = w .outcome ∙ ap outcomeOf (answer-wrong rows marks s p (suc k) z (λ e. omega arith)) in let y : _≡_ {A = ℕ} 0 1 = cc in absurd (omega arith)
+    go zero z =
+        let R = none-right rows (length marks) s p (length s / 6) z in
+        let e = answer-right rows marks s p R in
+        let new : Tree ℕ = oneGo (told rows marks s p) (oldTree rows (length marks)) in
+        let u : Done n ≡ Done (size new) = w .outcome ∙ ap outcomeOf e in
+        let m : n ≡ size new = cc in
+        record {
+          right = R;
+          many = m;
+          words = rw (w .result, e, m) (take-at (wordsOf (rowsOf new)) _ (3 * size new) (wordsOf-many (rowsOf new)));
+          paths = w .moved ∙ ap (marksLeft marks) e;
+        }
+
+-- ── The law's state ─────────────────────────────────────────────────────────────────────────────────────────
 
 -- the rows are those of a state's tree, and the marks the rows where its paths lead
-pub record Leaves (text : List ℕ) (old : Tree ℕ) (now : State ℕ) (out : List ℕ) (n : ℕ) (marked : List ℕ) : Type 0 where
-  pub rows : firstRows text n out ≡ rowsOf (now .tree)
+pub record Leaves (old : Tree ℕ) (now : State ℕ) (out : List ℕ) (n : ℕ) (marked : List ℕ) : Type 0 where
+  pub rows : take (3 * n) out ≡ wordsOf (rowsOf (now .tree))
   pub marks : marked ≡ map (λ e. markOf (now .tree) (now .path e)) (paths old)
 
-module _ (text : List ℕ) (old : Tree ℕ) (rows marks : List ℕ) (tree : firstRows text (length marks) rows ≡ rowsOf old) where
-  -- what is done is what the law does with the list, from its first splice to its last; and that is what demand 3 demands
-  pub spliced-demanded : (S : List (Splice ℕ)) (s p out marked : List ℕ) (n : ℕ) → Listing text old s p (reverseAux S []) → Spliced rows marks s p out marked (Done n)
-      → Leaves text old (performs S (begin old)) out n marked × Demanded old S (performs S (begin old))
-  unfolding stateOf
-  spliced-demanded S s p out marked n l w =
-      let d = w .done n refl text old (reverseAux S []) tree l in
-      let a = state-after old (reverseAux S []) (d .0) in
-      let e : performs S (begin old) ≡ stateOf old (reverseAux S []) = performs-state old S [] in
-      (rw e (record { rows = d .2 ∙ ap rowsOf (sym (a .tree)); marks = d .3 ∙ map-same _ _ (λ q. cc (a .tree, a .path q)) (paths old) }), demand old S S (apart-perm old (reverseAux S []) S (reversed S) (d .0)) (Permᴰ·refl S))
+reversed-twice : {X : Type 0} (D A B : List X) → reverseAux (reverseAux D A) B ≡ reverseAux A (D ++ B)
+reversed-twice [] A B = refl
+reversed-twice (x ∷ D) A B = reversed-twice D (x ∷ A) B
 
-  module _ (D D′ : List (Splice ℕ)) (same : List·Permᴰ D D′) (s p s′ p′ : List ℕ) (l : Listing text old s p D) (l′ : Listing text old s′ p′ D′) where
-    -- two orders of one list leave the same rows and the same marks
-    pub two-orders : {out marked out′ marked′ : List ℕ} {n n′ : ℕ} → Spliced rows marks s p out marked (Done n) → Spliced rows marks s′ p′ out′ marked′ (Done n′)
-        → (n ≡ n′) × (firstRows text n out ≡ firstRows text n′ out′) × (marked ≡ marked′)
-    two-orders {n = n} {n′ = n′} w w′ =
-        let d = w .done n refl text old D tree l in
-        let d′ = w′ .done n′ refl text old D′ tree l′ in
-        let t : oneGo D old ≡ oneGo D′ old = one-go-same D D′ same (neat old D (d .0)) old in
-        (d .1 ∙ cc (t, d′ .1), d .2 ∙ cc (t, d′ .2), d .3 ∙ (map-same _ _ (λ q. cc (t, path-same D D′ same q)) (paths old) ∙ sym (d′ .3)))
+-- what is done is what the law does with the list, from its first splice to its last; and that is what demand 3 demands
+pub spliced-demanded : (rows marks s p out marked : List ℕ) (n : ℕ) → Spliced rows marks s p out marked (Done n)
+    → Leaves (oldTree rows (length marks)) (performs (given rows marks s p) (begin (oldTree rows (length marks)))) out n marked
+    × Demanded (oldTree rows (length marks)) (given rows marks s p) (performs (given rows marks s p) (begin (oldTree rows (length marks))))
+unfolding stateOf
+spliced-demanded rows marks s p out marked n w =
+    let old = oldTree rows (length marks) in
+    let D = told rows marks s p in
+    let d = spliced-done rows marks s p out marked n w in
+    let a = state-after old D (d .right .apart) in
+    let e : performs (given rows marks s p) (begin old) ≡ stateOf old D = performs-state old (given rows marks s p) [] ∙ ap (stateOf old) (reversed-twice D [] [] ∙ append-nil D) in (
+      rw e (record { rows = d .words ∙ ap (λ t. wordsOf (rowsOf t)) (sym (a .tree)); marks = d .paths ∙ map-same _ _ (λ q. cc (a .tree, a .path q)) (paths old) }),
+      demand old (given rows marks s p) (given rows marks s p) (apart-perm old D (given rows marks s p) (Permᴰ·symm (reversed D)) (d .right .apart)) (Permᴰ·refl (given rows marks s p)),
+    )
 
-    module _ {out marked out′ marked′ : List ℕ} {n n′ : ℕ} (w : Spliced rows marks s p out marked (Done n)) (w′ : Spliced rows marks s′ p′ out′ marked′ (Done n′)) where
-      row-same : (i : ℕ) → i < n → rowIn text out i ≡ rowIn text out′ i
-      row-same i h =
-          let t = two-orders w w′ in
-          some-inj (sym (first-get text n out (w .within n refl) i h) ∙ (ap (λ l. getElem? l i) (t .1) ∙ first-get text n′ out′ (w′ .within n′ refl) i (omega (arith, t .0))))
+-- ── Two orders ──────────────────────────────────────────────────────────────────────────────────────────────
 
-      -- word by word: kind words and measures are the same (and so is the text, since the rows are)
-      pub same-words : (i : ℕ) → i < n → (getD out (3 * i) 0 ≡ getD out′ (3 * i) 0) × (getD out (3 * i + 1) 0 ≡ getD out′ (3 * i + 1) 0)
-      same-words i h =
-          let k : (l : List ℕ) → kind (rowIn text l i) ≡ getD l (3 * i) 0 = λ l. kind-word text (getD l (3 * i) 0) (getD l (3 * i + 1) 0) (getD l (3 * i + 2) 0) in
-          let m : (l : List ℕ) → measure (rowIn text l i) ≡ getD l (3 * i + 1) 0 = λ l. measure-word text (getD l (3 * i) 0) (getD l (3 * i + 1) 0) (getD l (3 * i + 2) 0) in
-          (sym (k out) ∙ (ap kind (row-same i h) ∙ k out′), sym (m out) ∙ (ap measure (row-same i h) ∙ m out′))
-
-      -- in a text of which no two numbers are the same, third words are the same too
-      same-third : Distinct text → (i : ℕ) → i < n → getD out (3 * i + 2) 0 ≡ getD out′ (3 * i + 2) 0
-      same-third d i h =
-          let e = same-words i h in
-          let u = w .done n refl text old D tree l in
-          let inside : Inside (rowIn text out i) = all-get (firstRows text n out) i (rowIn text out i) (rw (u .2) (rows-inside (oneGo D old))) (first-get text n out (w .within n refl) i h) in
-          let q′ = w′ .plain n′ refl i (omega (arith, two-orders w w′ .0)) in
-          third-same text d (getD out (3 * i) 0) (getD out (3 * i + 1) 0) (getD out (3 * i + 2) 0) (getD out′ (3 * i + 2) 0) inside (row-same i h ∙ rw (e .0, e .1)) (w .plain n refl i h) (rw (e .0, e .1) q′)
-
-      -- so that every word is
-      pub every-word : Distinct text → take (3 * n) out ≡ take (3 * n′) out′
-      every-word d =
-          let e : n ≡ n′ = two-orders w w′ .0 in
-          let a : length (take (3 * n) out) ≡ 3 * n = length-take-le (3 * n) out (w .within n refl) in
-          let b : length (take (3 * n′) out′) ≡ 3 * n′ = length-take-le (3 * n′) out′ (w′ .within n′ refl) in
-          ext-getD 0 (take (3 * n) out) (take (3 * n′) out′) (omega arith) (λ j h. getD-take (3 * n) out j 0 (omega arith) ∙ (word j (j / 3) (thirds j) (omega arith) ∙ sym (getD-take (3 * n′) out′ j 0 (omega arith))))
-        where
-          word : (j i : ℕ) → (j ≡ 3 * i) ⊎ ((j ≡ 3 * i + 1) ⊎ (j ≡ 3 * i + 2)) → j < 3 * n → getD out j 0 ≡ getD out′ j 0
-          word j i (inl e) h = rw e (same-words i (omega arith) .0)
-          word j i (inr (inl e)) h = rw e (same-words i (omega arith) .1)
-          word j i (inr (inr e)) h = rw e (same-third d i (omega arith))
-
-  -- and where the one is done, so is every other: six words for each splice, and the same prepared rows
-  pub every-order : (D D′ : List (Splice ℕ)) → List·Permᴰ D D′ → (s s′ p : List ℕ) → Listing text old s p D → Listing text old s′ p D′ → length s′ ≡ 6 * (length s′ / 6)
-      → {out marked out′ marked′ : List ℕ} {r r′ : Outcome} → Spliced rows marks s p out marked r → Spliced rows marks s′ p out′ marked′ r′ → isDone r ≡ true → isDone r′ ≡ true
-  every-order D D′ same s s′ p l l′ whole w w′ z =
-      let j : judgedBy text rows (length marks) s p (length s / 6) ≡ true = sym (w .verdict text) ∙ z in
-      let long : 3 * length marks ≤ length rows = omega (arith, judged-bounds text rows (length marks) s p (length s / 6) j .0 .words) in
-      let x = both-true (roomy (length rows) (length marks) s p (length s / 6)) (allApart? old D) (sym (judged-told text old rows (length marks) s p D long tree l) ∙ j) in
-      let a : AllApart old D′ = apart-perm old D D′ same (says-all-apart old D .0 (x .1)) in
-      w′ .verdict text ∙ (judged-told text old rows (length marks) s′ p D′ long tree l′ ∙ rw (room-same text old (length rows) (length marks) s s′ p D D′ same l l′ whole (x .0), says-all-apart old D′ .1 a))
+-- two orders of one list leave the same rows and the same marks, wherever their prepared rows stand
+pub two-orders : (rows marks s p s′ p′ : List ℕ) → List·Permᴰ (told rows marks s p) (told rows marks s′ p′) → {out marked out′ marked′ : List ℕ} {n n′ : ℕ}
+    → Spliced rows marks s p out marked (Done n) → Spliced rows marks s′ p′ out′ marked′ (Done n′) → (n ≡ n′) × (take (3 * n) out ≡ take (3 * n′) out′) × (marked ≡ marked′)
+two-orders rows marks s p s′ p′ same {n = n} {n′ = n′} w w′ =
+    let old = oldTree rows (length marks) in
+    let d = spliced-done rows marks s p _ _ n w in
+    let d′ = spliced-done rows marks s′ p′ _ _ n′ w′ in
+    let t : oneGo (told rows marks s p) old ≡ oneGo (told rows marks s′ p′) old = one-go-same (told rows marks s p) (told rows marks s′ p′) same (neat old (told rows marks s p) (d .right .apart)) old in
+    (d .many ∙ (ap size t ∙ sym (d′ .many)), d .words ∙ (ap (λ t. wordsOf (rowsOf t)) t ∙ sym (d′ .words)), d .paths ∙ (map-same _ _ (λ q. cc (t, path-same (told rows marks s p) (told rows marks s′ p′) same q)) (paths old) ∙ sym (d′ .paths)))
 
 -- MARKS TELL PATHS: in one tree two paths with the same place are the same path (`place-inj`); so two marks of elements below the root, there or dropped, are the same just where the paths are.
 pub marks-tell : (t : Tree ℕ) (o o′ : Option Path) → Held t o → Held t o′ → ((x : Path) → o ≡ some x → x ≡ [] → ⊥) → ((x : Path) → o′ ≡ some x → x ≡ [] → ⊥) → markOf t o ≡ markOf t o′ → o ≡ o′
@@ -132,10 +125,10 @@ stays-below : (old : Tree ℕ) (S : List (Splice ℕ)) → AllApart old S → (i
 stays-below old S h i e q z n = cons≢nil (down S i e q (sym (performs-one-go old S S h (Permᴰ·refl S) .1 (i ∷ e)) ∙ z) .is ∙ n)
 
 -- the mark of an old element below the root is 0 just where its path enters a child that some splice deletes
-pub mark-dropped : (text : List ℕ) (old : Tree ℕ) (S : List (Splice ℕ)) (out : List ℕ) (n : ℕ) (marked : List ℕ) → AllApart old S → Leaves text old (performs S (begin old)) out n marked
+pub mark-dropped : (old : Tree ℕ) (S : List (Splice ℕ)) (out : List ℕ) (n : ℕ) (marked : List ℕ) → AllApart old S → Leaves old (performs S (begin old)) out n marked
     → (i : ℕ) (e : Path) (t : Tree ℕ) → resolve (i ∷ e) old ≡ some t → (getD marked (place (i ∷ e) old) 0 ≡ 0) ↔ EntersDeleted S (i ∷ e)
 unfolding markOf
-mark-dropped text old S out n marked h l i e t f = go (now .path (i ∷ e)) refl
+mark-dropped old S out n marked h l i e t f = go (now .path (i ∷ e)) refl
   where
     now : State ℕ
     now = performs S (begin old)

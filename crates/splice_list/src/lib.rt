@@ -2,14 +2,17 @@
 // where its prepared rows start, how many they are. The mark of an old element is the row where it stands now.
 ghost use mathlib.Core.Path.{_≡_};
 ghost use Prim.Native.Nat.{_+_, _*_, _^_, _≤_, _<_};
-ghost use lib.ListN.{length};
+ghost use lib.ListN.{length, take};
 ghost use Rattle.orders.specs.Lists.{All};
 ghost use Rattle.splice_list.specs.Plain.{plainWord, plain};
-ghost use Rattle.splice_list.specs.Promises.{Listed, Good, ListedAll, Spliced};
+ghost use Rattle.splice_list.specs.Promises.{Listed, Good, ListedAll, Tidied, Spliced};
 ghost use Rattle.splice_model.specs.Bounds.{BoundedAll, rowsTo};
 ghost use Rattle.splice_model.specs.Places.{upFrom};
+ghost use Rattle.splice_model.specs.SpliceList.{filled};
 use splice_check::judged;
+use splice_check::rows_to;
 use splice_step::splice_once;
+use words::clear;
 
 // The first `c` splices, from the first to the last. The new number of rows.
 fn splice_each(
@@ -89,25 +92,49 @@ fn make_plain(rows: &mut [u32], n: usize)
     }
 }
 
+// The first `n` rows with such third words, and zeros behind them, up to the word `to`.
+fn tidy(rows: &mut [u32], n: usize, to: usize)
+    requires { ⌜ (3 * n ≤ to) × (to ≤ length (now rows)) × (n < 2 ^ 16) ⌝ }
+    ensures { λ _. ⌜ now (rows .exit) ≡ filled (take (3 * n) (plain n (now (rows .entry)))) to (now (rows .entry)) ⌝ }
+{
+    make_plain(rows, n);
+    let from = 3 * n;
+    clear(&mut rows[from..to]);
+}
+
+// A list that is judged well, done and tidied: zeros stand behind the rows that are left, as far as the list could use rows. The new number of rows.
+fn splice_tidy(
+    rows: &mut [u32],
+    marks: &mut [u32],
+    splices: &[u32],
+    prepared: &[u32],
+    c: usize,
+) -> usize
+    requires { ⌜ Good (now rows) (now marks) (now splices) (now prepared) c ⌝ }
+    ensures { λ r. ⌜ Tidied (now (rows .entry)) (now (marks .entry)) (now (splices .entry)) (now (prepared .entry)) c (now (rows .exit)) (now (marks .exit)) r ⌝ }
+{
+    let used = 3 * (marks.len() + rows_to(splices, c));
+    let n = splice_list(rows, marks, splices, prepared, c);
+    tidy(rows, n, used);
+    n
+}
+
 pub enum Outcome {
-    Refused,
+    // The number of the first refusal (docs/WORK.md).
+    Refused(usize),
+    // The number of rows of the new tree.
     Done(usize),
 }
 
-// All splices of the list, in the order given, on the old tree that the first rows tell, one row for each mark: refused with nothing changed if the list does
-// not fit the tree or is not apart, or if there is no room; else the new number of rows, in which a third word that tells nothing is 0.
+// All splices of the list, in the order given, on the old tree that the first rows tell, one row for each mark: refused with nothing changed, or done. The rows
+// are then those of the new tree, where a third word that tells nothing is 0; zeros stand behind them as far as the list could use rows.
 pub fn splice_all(rows: &mut [u32], marks: &mut [u32], splices: &[u32], prepared: &[u32]) -> Outcome
     ensures { λ r. ⌜ Spliced (now (rows .entry)) (now (marks .entry)) (now (splices .entry)) (now (prepared .entry)) (now (rows .exit)) (now (marks .exit)) r ⌝ }
 {
-    let e = marks.len();
-    if 65536 <= e {
-        return Outcome::Refused;
-    }
     let c = splices.len() / 6;
-    if judged(rows, e, splices, prepared, c) {
-        let n = splice_list(rows, marks, splices, prepared, c);
-        make_plain(rows, n);
-        return Outcome::Done(n);
+    let refusal = judged(rows, marks.len(), splices, prepared, c);
+    if refusal == 0 {
+        return Outcome::Done(splice_tidy(rows, marks, splices, prepared, c));
     }
-    Outcome::Refused
+    Outcome::Refused(refusal)
 }

@@ -1,4 +1,5 @@
-// Lists of splices on one old tree, each in all its orders: what they leave is printed once where all orders agree. Then lists that are refused.
+// Lists of splices on one old tree, each in all its orders: every word of what they leave is printed once where all orders agree. Then lists that are refused, by
+// their numbers.
 // The old tree is root(X(a, b), Y(c), d), with one-letter tokens: rows 0 to 6.
 use splice_list::Outcome;
 use words::copy_in;
@@ -243,7 +244,7 @@ fn arrange(list: &[u32], orders: &[u32], at: usize, c: usize, out: &mut [u32]) {
     }
 }
 
-// The old tree, and the list done on it: the number of rows, or 0 if it is refused.
+// The old tree, and the list done on it.
 fn run(
     list: &[u32],
     orders: &[u32],
@@ -251,21 +252,18 @@ fn run(
     c: usize,
     rows: &mut [u32],
     marks: &mut [u32],
-) -> usize {
+) -> Outcome {
     let mut splices = [0u32; 24];
     if 4 < c {
-        return 0;
+        return Outcome::Refused(0);
     }
     arrange(list, orders, at, c, &mut splices);
     if rows.len() < 21 {
-        return 0;
+        return Outcome::Refused(0);
     }
     copy_in(rows, 0, &OLD);
     let end = 6 * c;
-    match splice_list::splice_all(rows, marks, &splices[0..end], &PREPARED) {
-        Outcome::Done(n) => n,
-        Outcome::Refused => 0,
-    }
+    splice_list::splice_all(rows, marks, &splices[0..end], &PREPARED)
 }
 
 // Whether the first `n` words are the same.
@@ -299,19 +297,20 @@ fn leaves(
     rows: &[u32],
     marks: &[u32],
 ) -> bool {
-    let mut other_rows = [0u32; 42];
+    let mut other_rows = [9u32; 42];
     let mut other_marks = [0u32; 7];
-    let m = run(list, orders, at, c, &mut other_rows, &mut other_marks);
-    if m == n {
-        if 14 < n {
-            return false;
+    match run(list, orders, at, c, &mut other_rows, &mut other_marks) {
+        Outcome::Done(m) => {
+            if m == n {
+                if same(rows, &other_rows, 42) {
+                    return same(marks, &other_marks, 7);
+                }
+                return false;
+            }
+            false
         }
-        if same(rows, &other_rows, 3 * n) {
-            return same(marks, &other_marks, 7);
-        }
-        return false;
+        Outcome::Refused(_) => false,
     }
-    false
 }
 
 // Whether each order leaves these rows and marks.
@@ -342,45 +341,74 @@ fn agree(list: &[u32], orders: &[u32], c: usize, n: usize, rows: &[u32], marks: 
 }
 
 fn try_list(list: &[u32], orders: &[u32], c: usize) {
-    let mut rows = [0u32; 42];
+    let mut rows = [9u32; 42];
     let mut marks = [0u32; 7];
-    let n = run(list, orders, 0, c, &mut rows, &mut marks);
-    if agree(list, orders, c, n, &rows, &marks) {
-        if n < 15 {
-            print_words(&rows, 3 * n);
-            print_words(&marks, 7);
-            return;
+    match run(list, orders, 0, c, &mut rows, &mut marks) {
+        Outcome::Done(n) => {
+            if agree(list, orders, c, n, &rows, &marks) {
+                print(n);
+                end_line();
+                print_words(&rows, 42);
+                print_words(&marks, 7);
+                return;
+            }
+            io::write_all(1, b"orders differ\n");
         }
+        Outcome::Refused(_) => {
+            io::write_all(1, b"refused\n");
+        }
+    }
+}
+
+// The number by which the list is refused, where all that is lent stays as it was; else 0.
+fn refusal(list: &[u32], at: usize, c: usize, rows: &mut [u32], marks: &mut [u32]) -> usize {
+    let mut held = [9u32; 42];
+    copy_in(&mut held, 0, &OLD);
+    match run(list, &[0, 1, 1, 0], at, c, rows, marks) {
+        Outcome::Refused(number) => {
+            if same(rows, &held, rows.len()) {
+                if same(marks, &[7, 7, 7, 7, 7, 7, 7], marks.len()) {
+                    return number;
+                }
+            }
+            0
+        }
+        Outcome::Done(_) => 0,
+    }
+}
+
+// The list, and its order from `at` on: both are refused by one number.
+fn try_refused(list: &[u32], at: usize, c: usize) {
+    let mut rows = [9u32; 42];
+    let mut marks = [7u32; 7];
+    let number = refusal(list, 0, c, &mut rows, &mut marks);
+    if refusal(list, at, c, &mut rows, &mut marks) == number {
+        print(number);
+        end_line();
+        return;
     }
     io::write_all(1, b"orders differ\n");
 }
 
-// A list that is refused leaves the old tree and its marks.
-fn try_refused(list: &[u32], c: usize) {
-    let mut rows = [0u32; 21];
-    let mut marks = [7u32; 7];
-    let n = run(list, &ORDERS4, 0, c, &mut rows, &mut marks);
-    if n == 0 {
-        if same(&rows, &OLD, 21) {
-            if same(&marks, &[7, 7, 7, 7, 7, 7, 7], 7) {
-                io::write_all(1, b"refused\n");
-                return;
-            }
-        }
+// Slices that are too short for the list.
+fn try_slices() {
+    let list = [1, 0, 1, 1, 0, 1];
+    // Room for no row more; six rows of the old tree, which are no tree.
+    let mut rows = [9u32; 21];
+    print(refusal(&list, 0, 1, &mut rows, &mut [7u32; 7]));
+    let mut more_rows = [9u32; 42];
+    print(refusal(&list, 0, 1, &mut more_rows, &mut [7u32; 6]));
+    // Seven words for a splice.
+    match splice_list::splice_all(
+        &mut more_rows,
+        &mut [7u32; 7],
+        &[1, 0, 1, 1, 0, 1, 2],
+        &PREPARED,
+    ) {
+        Outcome::Refused(number) => print(number),
+        Outcome::Done(_) => print(0),
     }
-    io::write_all(1, b"changed\n");
-}
-
-// Six rows of the old tree are no tree.
-fn try_no_tree() {
-    let mut rows = [0u32; 42];
-    let mut marks = [7u32; 6];
-    let n = run(&[1, 0, 1, 1, 0, 1], &ORDERS4, 0, 1, &mut rows, &mut marks);
-    if n == 0 {
-        io::write_all(1, b"refused\n");
-        return;
-    }
-    io::write_all(1, b"changed\n");
+    end_line();
 }
 
 fn accepted() {
@@ -401,23 +429,23 @@ fn accepted() {
 
 fn refusals() {
     // Runs that overlap, an insertion inside a run, a parent that another deletes, one number twice.
-    try_refused(&[1, 0, 0, 2, 0, 1, 2, 0, 1, 3, 0, 0], 2);
-    try_refused(&[1, 0, 0, 2, 0, 1, 2, 0, 1, 1, 1, 1], 2);
-    try_refused(&[1, 0, 0, 1, 0, 1, 2, 1, 0, 1, 1, 1], 2);
-    try_refused(&[1, 1, 0, 1, 0, 1, 1, 4, 0, 1, 1, 1], 2);
+    try_refused(&[1, 0, 0, 2, 0, 1, 2, 0, 1, 3, 0, 0], 2, 2);
+    try_refused(&[1, 0, 0, 2, 0, 1, 2, 0, 1, 1, 1, 1], 2, 2);
+    try_refused(&[1, 0, 0, 1, 0, 1, 2, 1, 0, 1, 1, 1], 2, 2);
+    try_refused(&[1, 1, 0, 1, 0, 1, 1, 4, 0, 1, 1, 1], 2, 2);
     // A token as parent, no row, a run past the children, a run reversed.
-    try_refused(&[1, 2, 0, 0, 0, 1], 1);
-    try_refused(&[1, 7, 0, 0, 0, 1], 1);
-    try_refused(&[1, 0, 3, 4, 0, 1], 1);
-    try_refused(&[1, 0, 2, 1, 0, 1], 1);
-    // Rows that spell no trees, rows past the end of the slice, no room.
-    try_refused(&[1, 0, 1, 1, 5, 1], 1);
-    try_refused(&[1, 0, 1, 1, 5, 2], 1);
-    try_refused(&[1, 0, 1, 1, 0, 1], 1);
+    try_refused(&[1, 2, 0, 0, 0, 1], 3, 1);
+    try_refused(&[1, 7, 0, 0, 0, 1], 3, 1);
+    try_refused(&[1, 0, 3, 4, 0, 1], 3, 1);
+    try_refused(&[1, 0, 2, 1, 0, 1], 3, 1);
+    // Rows that spell no trees, rows past the end of the slice, more rows than there is room for.
+    try_refused(&[1, 0, 1, 1, 5, 1], 3, 1);
+    try_refused(&[1, 0, 1, 1, 5, 2], 3, 1);
+    try_refused(&[1, 0, 1, 1, 0, 8], 3, 1);
 }
 
 fn main() {
     accepted();
     refusals();
-    try_no_tree();
+    try_slices();
 }

@@ -5,11 +5,15 @@
 --     Orders    a list done one after the other: the law's state, for every apart list
 --     Bounds    what keeps every step within the slices
 --     Verdict   whether a list fits the old tree and is apart, told in rows
---     Found     words that are judged well tell a list of splices
+--     SpliceList  what a list of splices leaves, from the words that are lent: THE DEFINITION
+--     Found     what is judged is what the definition reads
+--     Examples  the definition computed
 pub mod Cuts
 pub mod Places
 pub mod Step
 pub mod Orders
 pub mod Bounds
 pub mod Verdict
+pub mod SpliceList
 pub mod Found
+pub mod Examples

@@ -7,7 +7,7 @@ use mathlib.Core.Option.{Option, some}
 use Prim.Native.Nat.{ℕ, zero, suc, _+_, _-_, _≤_, _<_}
 use native.Mathlib.Omega.{arith}
 use native.Mathlib.Nat.{zero-add}
-use lib.ListN.{length, take, getElem?, length-append, length-map}
+use lib.ListN.{length, take, drop, getD, getElem?, length-append, length-map}
 use Rattle.orders.specs.Lists.{All}
 use Rattle.orders.specs.Tree.{Tree, Trees, node, token, nil, cons, list, Path, resolve}
 use Rattle.orders.specs.ListLaws.{some-inj, none-some, lt-or-le, get-lt, get-left, get-right}
@@ -150,6 +150,26 @@ paths-lead t = each-get _ (paths t) (λ i p g. let s = paths-stood t i p g in (s
 abbrev pub upFrom : ℕ → ℕ → List ℕ
 upFrom a zero = []
 upFrom a (suc n) = a ∷ upFrom (suc a) n
+
+pub upFrom-many : (a n : ℕ) → length (upFrom a n) ≡ n
+upFrom-many a zero = refl
+upFrom-many a (suc n) = ap suc (upFrom-many (suc a) n)
+
+pub upFrom-get : (a n i : ℕ) → i < n → getD (upFrom a n) i 0 ≡ a + i
+upFrom-get a zero i h = absurd (omega arith)
+upFrom-get a (suc n) zero h = omega arith
+upFrom-get a (suc n) (suc i) h = upFrom-get (suc a) n i (omega arith) ∙ omega arith
+
+upFrom-take : (a n m : ℕ) → m ≤ n → take m (upFrom a n) ≡ upFrom a m
+upFrom-take a n zero h = refl
+upFrom-take a zero (suc m) h = absurd (omega arith)
+upFrom-take a (suc n) (suc m) h = ap (λ (l : List ℕ). a ∷ l) (upFrom-take (suc a) n m (omega arith))
+
+-- a part of them
+pub upFrom-part : (o a n m : ℕ) → o + m ≤ n → take m (drop o (upFrom a n)) ≡ upFrom (a + o) m
+upFrom-part zero a n m h = let e : a + 0 ≡ a = omega arith in rw e (upFrom-take a n m (omega arith))
+upFrom-part (suc o) a zero m h = absurd (omega arith)
+upFrom-part (suc o) a (suc n) m h = let e : suc a + o ≡ a + suc o = omega arith in upFrom-part o (suc a) n m (omega arith) ∙ ap (λ (x : ℕ). upFrom x m) e
 
 counted : {X : Type 0} (f : X → ℕ) (a : ℕ) (l : List X) → ((i : ℕ) (x : X) → getElem? l i ≡ some x → f x ≡ a + i) → map f l ≡ upFrom a (length l)
 counted f a [] h = refl

@@ -2,30 +2,30 @@
 -- Assumes nothing.
 use mathlib.Core.Path.{_≡_, refl, sym, ap, _∙_}
 use mathlib.Core.Bool.{Bool, true, false, cond, not, _&&_}
-use mathlib.Core.List.{List, [], _∷_, _++_, map, append-assoc, append-nil, List·Permᴰ}
+use mathlib.Core.List.{List, [], _∷_, _++_, map, append-assoc, append-nil}
 use mathlib.Core.Logic.{_⊎_, inl, inr}
 use mathlib.Core.Option.{Option, none, some, Option·map}
-use Prim.Native.Nat.{ℕ, zero, suc, _+_, _-_, _*_, _/_, _^_, _≤_, _<_}
+use Prim.Native.Nat.{ℕ, zero, suc, _+_, _-_, _*_, _^_, _≤_, _<_}
 use native.Mathlib.Omega.{arith}
 use native.Mathlib.Nat.{add-zero, add-comm, zero-add, suc-add}
 use lib.ListN.{length, getD}
 use lib.Dec.{leb, ltb, eqb}
 use borrow.Author.Tests.{leb-true, ltb-true, eqb-true, lt-ltb, le-ltb, le-leb, lt-leb, eq-eqb}
-use Rattle.orders.specs.Lists.{All, total}
-use Rattle.orders.specs.ListLaws.{bool?, both-true, lt-or-le, total-perm, before, inside, after, zone?}
+use Rattle.orders.specs.Lists.{All}
+use Rattle.orders.specs.ListLaws.{both-true, lt-or-le, before, inside, after, zone?}
 use Rattle.orders.specs.Tree.{Tree, Trees, node, token, nil, cons, list, Path, resolve, adjust, shift, splice}
 use Rattle.orders.specs.TreeLaws.{adjust-shift, shift-before, shift-inside, shift-after}
-use Rattle.orders.specs.Splices.{Splice, AllApart, Fits}
-use Rattle.orders.specs.Check.{each, pairs, enters?, run?, fits?, apart?, allApart?, says-all-apart, says-run}
+use Rattle.orders.specs.Splices.{Splice, Fits}
+use Rattle.orders.specs.Check.{each, pairs, enters?, run?, fits?, apart?}
 use Rattle.rows.specs.Row.{Row, owes, rowsOf, rowsIn, rowsAll, triples, firstRows, treesIn}
-use Rattle.rows.specs.Place.{sizeAll, place, childRow}
+use Rattle.rows.specs.Place.{place, childRow}
 use Rattle.rows.specs.RowLaws.{children-few, trees-count}
 use Rattle.rows.specs.PlaceLaws.{child-at, place-lt, place-bound}
 use Rattle.rows.specs.Moves.{adjust-place}
-use Rattle.rows.specs.Words.{node-at, token-at, rows-many, length-triples}
-use Rattle.splice_model.specs.Cuts.{Cut, cutOf, cutAt, cutsTo, partAt, Stands, Told}
-use Rattle.splice_model.specs.Step.{First, told-first, told-before, same-place}
-use Rattle.splice_model.specs.Bounds.{Bounded, BoundedAll, rowsTo, part-long}
+use Rattle.rows.specs.Words.{node-at, token-at, rows-many}
+use Rattle.splice_model.specs.Cuts.{Cut, cutOf, cutAt, cutsTo, partAt, Stands}
+use Rattle.splice_model.specs.Step.{same-place}
+use Rattle.splice_model.specs.Bounds.{Bounded, BoundedAll, rowsTo}
 
 -- ── Rows that spell trees ───────────────────────────────────────────────────────────────────────────────────
 
@@ -65,10 +65,6 @@ unfoldable pub fitsTo : List ℕ → List ℕ → ℕ → List ℕ → List ℕ 
 fitsTo text rows E splices prepared zero = true
 fitsTo text rows E splices prepared (suc k) = fitAt text rows E splices prepared k && fitsTo text rows E splices prepared k
 
--- the first E rows are those of a tree, and the first c splices fit it
-unfoldable pub fitsTree : List ℕ → List ℕ → ℕ → List ℕ → List ℕ → ℕ → Bool
-fitsTree text rows E splices prepared c = treeRows (firstRows text E rows) && fitsTo text rows E splices prepared c
-
 -- ── Two splices ─────────────────────────────────────────────────────────────────────────────────────────────
 
 -- the row x is one of those that s deletes
@@ -85,12 +81,15 @@ apartCut rs s t = not (eqb (s .number) (t .number)) && (not (entersCut rs s (t .
 
 -- ── The list ────────────────────────────────────────────────────────────────────────────────────────────────
 
--- the slices have room: so many rows at first, so many that come, so many words for them
-unfoldable pub roomy : ℕ → ℕ → List ℕ → List ℕ → ℕ → Bool
-roomy long E splices prepared c =
-    eqb (length splices) (6 * c) && (ltb c (2 ^ 15) && (ltb (length prepared) (3 * 2 ^ 16) && (leb (3 * E + 3 * rowsTo splices c) long && ltb (E + rowsTo splices c) (2 ^ 16))))
+-- the slices are within the limits, where the old tree has E rows: six words for each of c splices
+unfoldable pub limited : ℕ → List ℕ → List ℕ → ℕ → Bool
+limited E splices prepared c = eqb (length splices) (6 * c) && (ltb c (2 ^ 15) && (ltb E (2 ^ 16) && ltb (length prepared) (3 * 2 ^ 16)))
 
--- what that says
+-- there is room for its rows with all that come in: so many words are there, and rows are numbered in 16 bits
+unfoldable pub roomy : ℕ → ℕ → List ℕ → ℕ → Bool
+roomy long E splices c = leb (3 * E + 3 * rowsTo splices c) long && ltb (E + rowsTo splices c) (2 ^ 16)
+
+-- what both say
 pub record Room (long E : ℕ) (splices prepared : List ℕ) (c : ℕ) : Type 0 where
   pub whole : length splices ≡ 6 * c
   pub few : c < 2 ^ 15
@@ -98,19 +97,29 @@ pub record Room (long E : ℕ) (splices prepared : List ℕ) (c : ℕ) : Type 0 
   pub words : 3 * E + 3 * rowsTo splices c ≤ long
   pub rows : E + rowsTo splices c < 2 ^ 16
 
-pub room-is : (long E : ℕ) (splices prepared : List ℕ) (c : ℕ) → roomy long E splices prepared c ≡ true → Room long E splices prepared c
-unfolding roomy
-room-is long E splices prepared c t =
+pub limited-is : (E : ℕ) (splices prepared : List ℕ) (c : ℕ) → limited E splices prepared c ≡ true → (length splices ≡ 6 * c) × (c < 2 ^ 15) × (E < 2 ^ 16) × (length prepared < 3 * 2 ^ 16)
+unfolding limited
+limited-is E splices prepared c t =
     let x = both-true _ _ t in
     let y = both-true _ _ (x .1) in
     let z = both-true _ _ (y .1) in
-    let w = both-true _ _ (z .1) in
-    record { whole = eqb-true _ _ (x .0); few = ltb-true _ _ (y .0); short = ltb-true _ _ (z .0); words = leb-true _ _ (w .0); rows = ltb-true _ _ (w .1) }
+    (eqb-true _ _ (x .0), ltb-true _ _ (y .0), ltb-true _ _ (z .0), ltb-true _ _ (z .1))
 
--- the list fits the old tree and is apart, and there is room
-unfoldable pub judgedBy : List ℕ → List ℕ → ℕ → List ℕ → List ℕ → ℕ → Bool
+pub room-is : (long E : ℕ) (splices prepared : List ℕ) (c : ℕ) → limited E splices prepared c ≡ true → roomy long E splices c ≡ true → Room long E splices prepared c
+unfolding roomy
+room-is long E splices prepared c l t =
+    let w = limited-is E splices prepared c l in
+    let x = both-true _ _ t in
+    record { whole = w .0; few = w .1; short = w .3; words = leb-true _ _ (x .0); rows = ltb-true _ _ (x .1) }
+
+-- the number of the first refusal, by what is right: 0 if all is
+abbrev pub firstWrong : Bool → Bool → Bool → Bool → Bool → ℕ
+firstWrong limited roomy tree fit apart = cond limited (cond roomy (cond tree (cond fit (cond apart 0 5) 4) 3) 2) 1
+
+-- the first refusal of a list, 0 if it fits the old tree and is apart, and there is room
+unfoldable pub judgedBy : List ℕ → List ℕ → ℕ → List ℕ → List ℕ → ℕ → ℕ
 judgedBy text rows E splices prepared c =
-    roomy (length rows) E splices prepared c && (fitsTree text rows E splices prepared c && pairs (apartCut (firstRows text E rows)) (cutsTo text splices prepared c))
+    firstWrong (limited E splices prepared c) (roomy (length rows) E splices c) (treeRows (firstRows text E rows)) (fitsTo text rows E splices prepared c) (pairs (apartCut (firstRows text E rows)) (cutsTo text splices prepared c))
 
 -- ── Rows of trees are closed ────────────────────────────────────────────────────────────────────────────────
 
@@ -196,22 +205,18 @@ unfolding each
 each-cut old s [] h k = refl
 each-cut old s (t ∷ D) h k = rw (apart-cut old s t h (k .0), each-cut old s D h (k .1))
 
-pairs-cut : (old : Tree ℕ) (D : List (Splice ℕ)) → All (Fits old) D → pairs (apartCut (rowsOf old)) (map (cutOf old) D) ≡ pairs apart? D
+pub pairs-cut : (old : Tree ℕ) (D : List (Splice ℕ)) → All (Fits old) D → pairs (apartCut (rowsOf old)) (map (cutOf old) D) ≡ pairs apart? D
 unfolding pairs
 pairs-cut old [] h = refl
 pairs-cut old (s ∷ D) h = rw (each-cut old s D (h .0) (h .1), pairs-cut old D (h .1))
 
 -- ── A splice fits the old tree just where its words say so ──────────────────────────────────────────────────
 
--- its prepared rows lie within the slice
-abbrev pub Placed : List ℕ → List ℕ → ℕ → Type 0
-Placed splices prepared k = (j : ℕ) → j < k → 3 * getD splices (6 * j + 4) 0 + 3 * getD splices (6 * j + 5) 0 ≤ length prepared
-
 and-true : (x : Bool) → (x && true) ≡ x
 and-true true = refl
 and-true false = refl
 
-and-false : (x : Bool) → (x && false) ≡ false
+pub and-false : (x : Bool) → (x && false) ≡ false
 and-false true = refl
 and-false false = refl
 
@@ -225,31 +230,26 @@ node-fits P E a b x y K M c h k l m z = rw (lt-ltb P E h, le-leb x y k, le-leb 2
 token-fits : (X : Bool) (K : ℕ) (y c : Bool) → K < 2147483648 → (X && ((leb 2147483648 K && y) && c)) ≡ false
 token-fits X K y c h = rw (lt-leb 2147483648 K h) (and-false X)
 
-fits-all : (old : Tree ℕ) (l : List (Splice ℕ)) → each (fits? old) l ≡ true → All (Fits old) l
-unfolding each fits?
-fits-all old [] z = tt
-fits-all old (s ∷ l) z = let r = both-true _ _ z in (says-run old (s .parent) (s .from) (s .to) .0 (r .0), fits-all old l (r .1))
-
 module _ (text : List ℕ) (old : Tree ℕ) (rows : List ℕ) (E : ℕ) (splices prepared : List ℕ) (long : 3 * E ≤ length rows) (e : firstRows text E rows ≡ rowsOf old) where
-  fit-told : (j : ℕ) (s : Splice ℕ) (D : List (Splice ℕ)) → First text old splices prepared j s D → Stands old s → 3 * getD splices (6 * j + 4) 0 + 3 * getD splices (6 * j + 5) 0 ≤ length prepared
+  pub fit-told : (j : ℕ) (s : Splice ℕ) → cutAt text splices prepared j ≡ cutOf old s → Stands old s → 3 * getD splices (6 * j + 4) 0 + 3 * getD splices (6 * j + 5) 0 ≤ length prepared
       → fitAt text rows E splices prepared j ≡ fits? old s
   unfolding fitAt boundedAt hasRunAt fits? run?
-  fit-told j s D f u b = go (u .0) (u .1)
+  fit-told j s f u b = go (u .0) (u .1)
     where
       P : ℕ
       P = place (s .parent) old
 
       row : getD splices (6 * j + 1) 0 ≡ P
-      row = unfold cutAt cutOf in ap (λ c. c .parent) (f .cut)
+      row = unfold cutAt cutOf in ap (λ c. c .parent) f
 
       start : getD splices (6 * j + 2) 0 ≡ s .from
-      start = unfold cutAt cutOf in ap (λ c. c .from) (f .cut)
+      start = unfold cutAt cutOf in ap (λ c. c .from) f
 
       end : getD splices (6 * j + 3) 0 ≡ s .to
-      end = unfold cutAt cutOf in ap (λ c. c .to) (f .cut)
+      end = unfold cutAt cutOf in ap (λ c. c .to) f
 
       told : triples text (partAt splices prepared j) ≡ rowsAll (s .prepared)
-      told = unfold cutAt cutOf in ap (λ c. c .rows) (f .cut)
+      told = unfold cutAt cutOf in ap (λ c. c .rows) f
 
       spelt : closed (triples text (partAt splices prepared j)) ≡ true
       spelt = ap closed told ∙ trees-closed (s .prepared)
@@ -263,23 +263,6 @@ module _ (text : List ℕ) (old : Tree ℕ) (rows : List ℕ) (E : ℕ) (splices
           let many = rows-many text E rows old long e in
           rw (g, row, start, end, ← w .2)
           (node-fits P E (s .from) (s .to) (3 * getD splices (6 * j + 4) 0 + 3 * getD splices (6 * j + 5) 0) (length prepared) (getD rows (3 * P) 0) (getD rows (3 * P + 1) 0) (closed (triples text (partAt splices prepared j))) (omega (arith, place-lt (s .parent) old (node k cs) g)) b (w .0) (omega (arith, w .2, children-few cs, place-bound (s .parent) old (node k cs) g)) spelt)
-
-  fits-told : (k : ℕ) (D : List (Splice ℕ)) → Told text old splices prepared k D → Placed splices prepared k → fitsTo text rows E splices prepared k ≡ each (fits? old) D
-  unfolding fitsTo each cutsTo
-  fits-told zero [] t b = refl
-  fits-told zero (s ∷ D) t b = let z : _≡_ {A = ℕ} 0 1 = cc (t .cuts) in absurd (omega arith)
-  fits-told (suc k) [] t b = let z : _≡_ {A = ℕ} 0 1 = cc (t .cuts) in absurd (omega arith)
-  fits-told (suc k) (s ∷ D) t b = rw (fit-told k s D (told-first t) (t .stand .0) (b k (omega arith)), fits-told k D (told-before t) (λ j h. b j (omega arith)))
-
-  -- THE VERDICT: a list that the words tell is judged to fit and to be apart just where it is
-  pub verdict-told : (c : ℕ) (D : List (Splice ℕ)) → Told text old splices prepared c D → Placed splices prepared c
-      → (fitsTree text rows E splices prepared c && pairs (apartCut (firstRows text E rows)) (cutsTo text splices prepared c)) ≡ allApart? old D
-  unfolding allApart? fitsTree
-  verdict-told c D t b = rw (fits-told c D t b, t .cuts, e, tree-closed old) (go (bool? (each (fits? old) D)))
-    where
-      go : (each (fits? old) D ≡ true) ⊎ (each (fits? old) D ≡ false) → (each (fits? old) D && pairs (apartCut (rowsOf old)) (map (cutOf old) D)) ≡ (each (fits? old) D && pairs apart? D)
-      go (inl z) = rw (pairs-cut old D (fits-all old D z))
-      go (inr z) = rw z
 
 -- ── What a good verdict says of the words ───────────────────────────────────────────────────────────────────
 
@@ -298,65 +281,19 @@ fits-each text rows e s p (suc c) j h z =
     let x = both-true (fitAt text rows e s p c) (fitsTo text rows e s p c) z in
     elim (lt-or-le j c) [ inl w ↦ fits-each text rows e s p c j w (x .1) | inr w ↦ let q : j ≡ c = omega arith in rw q (x .0) ]
 
--- the words tell the list D, the last first, whole: six words for each, and each with its prepared rows in the slice
-pub record Listing (text : List ℕ) (old : Tree ℕ) (splices prepared : List ℕ) (D : List (Splice ℕ)) : Type 0 where
-  pub told : Told text old splices prepared (length splices / 6) D
-  pub placed : Placed splices prepared (length splices / 6)
-
--- A list that the words tell is judged well just where there is room and it is apart.
-pub judged-told : (text : List ℕ) (old : Tree ℕ) (rows : List ℕ) (E : ℕ) (splices prepared : List ℕ) (D : List (Splice ℕ)) → 3 * E ≤ length rows → firstRows text E rows ≡ rowsOf old → Listing text old splices prepared D
-    → judgedBy text rows E splices prepared (length splices / 6) ≡ (roomy (length rows) E splices prepared (length splices / 6) && allApart? old D)
-unfolding judgedBy
-judged-told text old rows E splices prepared D long e l = rw (verdict-told text old rows E splices prepared long e (length splices / 6) D (l .told) (l .placed))
-
--- where it is judged well, it is apart
-pub judged-apart : (text : List ℕ) (old : Tree ℕ) (rows : List ℕ) (E : ℕ) (splices prepared : List ℕ) (D : List (Splice ℕ)) → 3 * E ≤ length rows → firstRows text E rows ≡ rowsOf old → Listing text old splices prepared D
-    → judgedBy text rows E splices prepared (length splices / 6) ≡ true → AllApart old D
-judged-apart text old rows E splices prepared D long e l z =
-    says-all-apart old D .0 (both-true (roomy (length rows) E splices prepared (length splices / 6)) (allApart? old D) (sym (judged-told text old rows E splices prepared D long e l) ∙ z) .1)
+-- what is right where nothing is wrong
+pub none-wrong : (a b c d e : Bool) → firstWrong a b c d e ≡ 0 → (a ≡ true) × (b ≡ true) × (c ≡ true) × (d ≡ true) × (e ≡ true)
+none-wrong true true true true true z = (refl, refl, refl, refl, refl)
+none-wrong true true true true false z = absurd (omega arith)
+none-wrong true true true false e z = absurd (omega arith)
+none-wrong true true false d e z = absurd (omega arith)
+none-wrong true false c d e z = absurd (omega arith)
+none-wrong false b c d e z = absurd (omega arith)
 
 -- each splice that is judged to fit has its words in bounds
-pub judged-bounds : (text rows : List ℕ) (E : ℕ) (splices prepared : List ℕ) (c : ℕ) → judgedBy text rows E splices prepared c ≡ true → Room (length rows) E splices prepared c × BoundedAll E splices prepared c
-unfolding judgedBy fitsTree fitAt
+pub judged-bounds : (text rows : List ℕ) (E : ℕ) (splices prepared : List ℕ) (c : ℕ) → judgedBy text rows E splices prepared c ≡ 0 → Room (length rows) E splices prepared c × BoundedAll E splices prepared c
+unfolding judgedBy fitAt
 judged-bounds text rows E splices prepared c z =
-    let x = both-true (roomy (length rows) E splices prepared c) _ z in
-    let t = both-true (fitsTree text rows E splices prepared c) _ (x .1) in
-    let y = both-true (treeRows (firstRows text E rows)) (fitsTo text rows E splices prepared c) (t .0) in
-    let w = room-is (length rows) E splices prepared c (x .0) in
-    (w, record { all = λ j h. bounded-is E splices prepared j (both-true (boundedAt E splices prepared j) _ (fits-each text rows E splices prepared c j h (y .1)) .0) (omega (arith, w .whole)) })
-
--- ── Room is the same in every order ─────────────────────────────────────────────────────────────────────────
-
--- the prepared rows of a list, all together
-rows-sum : (text : List ℕ) (old : Tree ℕ) (splices prepared : List ℕ) (k : ℕ) (D : List (Splice ℕ)) → Told text old splices prepared k D → Placed splices prepared k
-    → rowsTo splices k ≡ total (λ s. true) (λ s. sizeAll (s .prepared)) D
-unfolding rowsTo total cutsTo
-rows-sum text old splices prepared zero [] t b = refl
-rows-sum text old splices prepared zero (s ∷ D) t b = let z : _≡_ {A = ℕ} 0 1 = cc (t .cuts) in absurd (omega arith)
-rows-sum text old splices prepared (suc k) [] t b = let z : _≡_ {A = ℕ} 0 1 = cc (t .cuts) in absurd (omega arith)
-rows-sum text old splices prepared (suc k) (s ∷ D) t b = omega (arith, rows-sum text old splices prepared k D (told-before t) (λ j h. b j (omega arith)), one, length-triples text (partAt splices prepared k), part-long splices prepared k (b k (omega arith)))
-  where
-    one : length (triples text (partAt splices prepared k)) ≡ sizeAll (s .prepared)
-    one = unfold cutAt cutOf in ap (λ c. length (c .rows)) (told-first t .cut)
-
-told-many : (text : List ℕ) (old : Tree ℕ) (splices prepared : List ℕ) (k : ℕ) (D : List (Splice ℕ)) → Told text old splices prepared k D → total (λ s. true) (λ s. 1) D ≡ k
-unfolding total cutsTo
-told-many text old splices prepared zero [] t = refl
-told-many text old splices prepared zero (s ∷ D) t = let z : _≡_ {A = ℕ} 0 1 = cc (t .cuts) in absurd (omega arith)
-told-many text old splices prepared (suc k) [] t = let z : _≡_ {A = ℕ} 0 1 = cc (t .cuts) in absurd (omega arith)
-told-many text old splices prepared (suc k) (s ∷ D) t = omega (arith, told-many text old splices prepared k D (told-before t))
-
-room-says : (long E : ℕ) (splices prepared : List ℕ) (c : ℕ) → Room long E splices prepared c → roomy long E splices prepared c ≡ true
-unfolding roomy
-room-says long E splices prepared c r =
-    rw (eq-eqb (length splices) (6 * c) (r .whole), lt-ltb c (2 ^ 15) (r .few), lt-ltb (length prepared) (3 * 2 ^ 16) (r .short), le-leb (3 * E + 3 * rowsTo splices c) long (r .words)) (lt-ltb (E + rowsTo splices c) (2 ^ 16) (r .rows))
-
--- two orders of one list, each whole, on the same prepared rows
-pub room-same : (text : List ℕ) (old : Tree ℕ) (long E : ℕ) (splices splices′ prepared : List ℕ) (D D′ : List (Splice ℕ)) → List·Permᴰ D D′ → Listing text old splices prepared D → Listing text old splices′ prepared D′
-    → length splices′ ≡ 6 * (length splices′ / 6) → roomy long E splices prepared (length splices / 6) ≡ true → roomy long E splices′ prepared (length splices′ / 6) ≡ true
-room-same text old long E splices splices′ prepared D D′ same l l′ w z =
-    let r = room-is long E splices prepared (length splices / 6) z in
-    let c : length splices / 6 ≡ length splices′ / 6 = sym (told-many text old splices prepared (length splices / 6) D (l .told)) ∙ (total-perm (λ s. true) (λ s. 1) same ∙ told-many text old splices′ prepared (length splices′ / 6) D′ (l′ .told)) in
-    let m : rowsTo splices (length splices / 6) ≡ rowsTo splices′ (length splices′ / 6) =
-    rows-sum text old splices prepared (length splices / 6) D (l .told) (l .placed) ∙ (total-perm (λ s. true) (λ s. sizeAll (s .prepared)) same ∙ sym (rows-sum text old splices′ prepared (length splices′ / 6) D′ (l′ .told) (l′ .placed))) in
-    room-says long E splices′ prepared (length splices′ / 6) (record { whole = w; few = omega (arith, r .few); short = r .short; words = omega (arith, r .words); rows = omega (arith, r .rows) })
+    let x = none-wrong (limited E splices prepared c) (roomy (length rows) E splices c) (treeRows (firstRows text E rows)) (fitsTo text rows E splices prepared c) (pairs (apartCut (firstRows text E rows)) (cutsTo text splices prepared c)) z in
+    let w = room-is (length rows) E splices prepared c (x .0) (x .1) in
+    (w, record { all = λ j h. bounded-is E splices prepared j (both-true (boundedAt E splices prepared j) _ (fits-each text rows E splices prepared c j h (x .3)) .0) (omega (arith, w .whole)) })
