@@ -14,7 +14,7 @@ use Rattle.orders.specs.ListLaws.{bool-absurd, All-map}
 pub use Rattle.orders.specs.ListLaws.{either-false as neither, none-passes}
 use Rattle.definition.specs.Basics.{any, among}
 use Rattle.definition.specs.Elements.{Table, node?, root?, parent, child}
-use Rattle.definition.specs.Refusals.{Call, wrongCount, sameParent, childless, wrongRun, wrongCall}
+use Rattle.definition.specs.Refusals.{Call, wrongCount, sameParent, childless, wrongRun, misplaced, wrongCall}
 use Rattle.definition.specs.Recording.{firstChild, after, Change, insert, replace, delete, replaceWithMany, replaceAll, run, change, call}
 use Rattle.definition.specs.Running.{news}
 
@@ -33,20 +33,20 @@ pub record Judged (T : Table) (c : Call) : Type 0 where
   pub editor : (eqb c.operation 6 && not (eqb c.target 0)) ≡ false
 
 pub judged : (T : Table) (c : Call) → wrongCall T c ≡ false → Judged T c
-unfolding wrongCall
+unfolding wrongCall misplaced
 judged T c e =
-    let (e, i) = neither _ _ e in
-    let (e, h) = neither _ _ e in
-    let (e, g) = neither _ _ e in
-    let (e, f) = neither _ _ e in
-    let (e, d) = neither _ _ e in
-    let (e, k) = neither _ _ e in
+    let (e, m) = neither _ _ e in
     let (e, b) = neither _ _ e in
     let (z, a) = neither _ _ e in
+    let (m, i) = neither _ _ m in
+    let (m, h) = neither _ _ m in
+    let (m, g) = neither _ _ m in
+    let (m, f) = neither _ _ m in
+    let (k, d) = neither _ _ m in
     record { known = z; count = a; within = b; isNode = k; hasChild = d; noRoot = f; byNode = g; run = h; editor = i }
 
 pub unjudged : (T : Table) (c : Call) → Judged T c → wrongCall T c ≡ false
-unfolding wrongCall
+unfolding wrongCall misplaced
 unjudged T c j = rw (j .known, j .count, j .within, j .isNode, j .hasChild, j .noRoot, j .byNode, j .run, j .editor)
 
 pub below-E : (T : Table) (l : List ℕ) → any (λ e. leb (length T) e) l ≡ false → All (λ e. e < length T) l

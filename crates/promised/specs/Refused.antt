@@ -10,18 +10,18 @@ use lib.Dec.{ltb, eqb}
 use lib.ListN.{length, getD}
 use borrow.Author.Tests.{ltb-true}
 use Rattle.orders.specs.Tree.{Path}
-use Rattle.definition.specs.Basics.{Answer, refused, gives, _>>=_, refuse, orRefuse, isSome, any}
+use Rattle.definition.specs.Basics.{Answer, refused, gives, _>>=_, refuse, orRefuse, any}
 use Rattle.definition.specs.Batch.{batch, sizes, beyond, whole}
 use Rattle.definition.specs.Elements.{Table, table, spelled, node?, parent, child, placeBelow, descend}
 use Rattle.definition.specs.Refusals.{calls, wrongCall, wrongMapping, wrongNote, Accepted, accepted}
-use Rattle.definition.specs.Recording.{Change, insert, replace, delete, replaceWithMany, replaceAll, call, recorded}
-use Rattle.definition.specs.Planning.{Fate, own, dependent, discarded, Planned, target, sorted, overlap, planned}
+use Rattle.definition.specs.Recording.{Change, insert, replace, delete, replaceWithMany, replaceAll, call}
+use Rattle.definition.specs.Planning.{Fate, own, dependent, discarded, Planned, target, Judgement, overlaps, fated}
 use Rattle.definition.specs.Rewriting.{mapping, replacement, mappedOr, climb, trail, land, moved, retarget, rewriteInto, rewriteOne, rewriting, rewritten, nearest, isParent, noteFrom, settle, settled}
 use Rattle.definition.specs.Running.{World, place, yield, news, spliced, tooLarge, records, step, steps}
 use Rattle.definition.specs.Finishing.{Result, encoded, fitting}
-use Rattle.definition.specs.Answers.{plan, performed, atFirst, ran, edit, edited, tooShort}
+use Rattle.definition.specs.Answers.{judgeChanges, disjoint, rewriteChanges, plan, performed, atFirst, ran, edit, edited, tooShort}
 use Rattle.laws.specs.Answers.{refused-gives}
-use Rattle.laws.specs.Limits.{encoded-within}
+use Rattle.laws.specs.Limits.{mostBytes, encoded-within}
 use Rattle.work.specs.Slices.{lengths}
 use Rattle.work.specs.Promises.{Edits, Finds, applied, found, short-edited, long-edited, long-found}
 
@@ -165,15 +165,19 @@ module _ (T : Table) (mapped : ℕ → Option ℕ) where
   settled-by i [] = tt
   settled-by i (n ∷ ns) = by-then 8 10 (settle T mapped (length T) (n .0)) _ (settle-by (length T) (n .0)) λ e. by-then 8 10 (settled T mapped (suc i) ns) _ (settled-by (suc i) ns) λ rest. tt
 
+disjoint-by : (j : Judgement) → By 8 10 (disjoint j)
+unfolding disjoint
+disjoint-by (overlaps i k) = (omega arith, omega arith)
+disjoint-by (fated ps) = tt
+
 -- Planning refuses by 8 to 10.
 pub plan-by : (a : Accepted) → By 8 10 (plan a)
-unfolding plan rewritten
+unfolding plan rewriteChanges rewritten
 plan-by a =
     let T = a .table in
-    let cs = sorted T (recorded a.calls) in
     let mapped = mapping a.mappings in
-    by-then 8 10 (refuse 8 (isSome (overlap T cs))) _ (by-refuse 8 10 8 _ (omega arith) (omega arith)) λ u.
-    by-then 8 10 (rewritten T mapped (planned T cs)) _ (rewriting-by T mapped (map (λ p. p .change) (planned T cs)) (planned T cs)) λ ps.
+    by-then 8 10 (disjoint (judgeChanges a)) _ (disjoint-by (judgeChanges a)) λ ps.
+    by-then 8 10 (rewritten T mapped ps) _ (rewriting-by T mapped (map (λ p. p .change) ps) ps) λ rs.
     by-then 8 10 (settled T mapped 0 a.notes) _ (settled-by T mapped 0 a.notes) λ notes. tt
 
 -- ── Lines 11 and 12 ─────────────────────────────────────────────────────────────────────────────────────────
@@ -252,8 +256,8 @@ refused-why b held work r holds left p k e = go (tooShort (lengths work)) refl
     go true t = rw (← refused-inj (number (refused 1) (short-edited work b (length held) t))) (workShort t)
     go false t = answer (edit b) refl (long-edited work b (length held) t)
 
--- With 61,464 bytes of room 13 never comes.
-pub never-13 : (b held : List ℕ) (work : List (List ℕ)) (r : Answer ℕ) (holds : List ℕ) (left : List (List ℕ)) → Edits b held work r holds left → 61464 ≤ length held → r ≡ refused 13 → ⊥
+-- With room for the most bytes that a result has 13 never comes.
+pub never-13 : (b held : List ℕ) (work : List (List ℕ)) (r : Answer ℕ) (holds : List ℕ) (left : List (List ℕ)) → Edits b held work r holds left → mostBytes ≤ length held → r ≡ refused 13 → ⊥
 never-13 b held work r holds left p h e = go 13 refl (refused-why b held work r holds left p 13 e)
   where
     go : (k : ℕ) → k ≡ 13 → Why b held work k → ⊥
