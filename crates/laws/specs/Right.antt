@@ -8,7 +8,7 @@ use Prim.Native.Nat.{ℕ, zero, suc, _≤_, _<_}
 use native.Mathlib.Omega.{arith}
 use lib.Dec.{leb, ltb, eqb}
 use lib.ListN.{length}
-use borrow.Author.Tests.{ltb-false, leb-false, eqb-true, ne-eqb, not-false}
+use borrow.Author.Tests.{ltb-false, leb-false, eqb-true, eq-eqb, ne-eqb, not-false}
 use Rattle.orders.specs.Lists.{All}
 use Rattle.orders.specs.ListLaws.{bool-absurd, All-map}
 pub use Rattle.orders.specs.ListLaws.{either-false as neither, none-passes}
@@ -52,12 +52,17 @@ unjudged T c j = rw (j .known, j .count, j .within, j .isNode, j .hasChild, j .n
 pub below-E : (T : Table) (l : List ℕ) → any (λ e. leb (length T) e) l ≡ false → All (λ e. e < length T) l
 below-E T l e = All-map (λ x h. leb-false (length T) x h) l (none-passes (λ x. leb (length T) x) l e)
 
-same-parent : (p q : Option ℕ) → sameParent p q ≡ true → p ≡ q
+pub same-parent : (p q : Option ℕ) → sameParent p q ≡ true → p ≡ q
 unfolding sameParent
 same-parent none none e = refl
 same-parent none (some q) e = bool-absurd e refl
 same-parent (some p) none e = bool-absurd e refl
 same-parent (some p) (some q) e = ap {B = Option ℕ} some (eqb-true p q e)
+
+pub parent-same : (p : Option ℕ) → sameParent p p ≡ true
+unfolding sameParent
+parent-same none = refl
+parent-same (some p) = eq-eqb p p refl
 
 -- "a run whose ends have different parents or are reversed" is refused
 pub right-run : (T : Table) (x y : ℕ) → wrongRun T x y ≡ false → (parent T x ≡ parent T y) × (child T x ≤ child T y)
