@@ -12,7 +12,7 @@ use Rattle.orders.specs.ListLaws.{lt-or-le}
 use mathlib.Core.Logic.{⊎-elim}
 use Rattle.definition.specs.Basics.{any, among}
 use Rattle.definition.specs.Elements.{Table, isNode}
-use Rattle.definition.specs.Refusals.{wrongCount, sameParent, wrongRun}
+use Rattle.definition.specs.Refusals.{wrongCount, sameParent, wrongRun, misplaced}
 use Rattle.element_table.specs.View.{view}
 use Rattle.element_table.specs.Wellformed.{Wellformed}
 use Rattle.element_table.specs.Told.{elementOf, childCount, node-told, parent-told, root-told, child-told, childless-told}
@@ -96,29 +96,29 @@ among-others (suc (suc (suc (suc (suc (suc zero)))))) h a b c = absurd (b refl)
 among-others (suc (suc (suc (suc (suc (suc (suc k))))))) h a b c = absurd (omega arith)
 
 pub fits-first-child : (n : ℕ) (w r : List ℕ) (op x y k : ℕ) → x < n → op ≡ 0 → k ≡ childCount r x → ltb 0 k ≡ callFits (view n w r) op x y
-unfolding callFits among any
+unfolding callFits misplaced among any
 fits-first-child n w r op x y k hx h e = rw (h, node-told n w r x hx, childless-told n w r x hx) (ap (ltb 0) e ∙ (parents r x ∙ simp or-false))
 
 pub fits-editor : (T : Table) (op x y : ℕ) → op ≡ 6 → eqb x 0 ≡ callFits T op x y
-unfolding callFits among any
+unfolding callFits misplaced among any
 fits-editor T op x y h = rw h (rw twice)
 
 module _ (n : ℕ) (w r : List ℕ) (op x y : ℕ) (t : Bool) (W : Wellformed n w r) (hx : x < n) where
   module _ (e : t ≡ eqb (getD w (8 * x + 1) 0) 0) where
     pub fits-root-by : (hy : y < n) (u : Bool) → op ≡ 2 → t ≡ true → u ≡ isNode (getD r (3 * suc y) 0) → u ≡ callFits (view n w r) op x y
-    unfolding callFits among any
+    unfolding callFits misplaced among any
     fits-root-by hy u h q k = rw (h, root-told n w r (W .lines) x hx, ← e, q, node-told n w r y hy) (k ∙ simp (or-false, twice))
 
     pub fits-root : op ≤ 6 → (op ≡ 0 → ⊥) → (op ≡ 6 → ⊥) → (op ≡ 2 → ⊥) → t ≡ true → false ≡ callFits (view n w r) op x y
-    unfolding callFits
+    unfolding callFits misplaced
     fits-root h a b c q = rw (among-others op h a b c, root-told n w r (W .lines) x hx, ← e, q, ne-eqb op 0 a)
 
     pub fits-run : (hy : y < n) (u : Bool) → op ≡ 5 → t ≡ false → u ≡ runFits w x y → u ≡ callFits (view n w r) op x y
-    unfolding callFits among any runFits wrongRun
+    unfolding callFits misplaced among any runFits wrongRun
     fits-run hy u h q k = rw (h, root-told n w r (W .lines) x hx, ← e, q, parent-told n w r (W .lines) x hx, parent-told n w r (W .lines) y hy, same-parent, child-told n w r (W .lines) x hx, child-told n w r (W .lines) y hy, or-false, ← (both (eqb (getD w (8 * x + 1) 0) (getD w (8 * y + 1) 0))), not-less) k
 
     pub fits-rest : (op ≡ 0 → ⊥) → (op ≡ 6 → ⊥) → (op ≡ 5 → ⊥) → t ≡ false → true ≡ callFits (view n w r) op x y
-    unfolding callFits
+    unfolding callFits misplaced
     fits-rest a b c q = rw (root-told n w r (W .lines) x hx, ← e, q, ne-eqb op 0 a, ne-eqb op 6 b, ne-eqb op 5 c, and-false, and-false)
 
 -- ── Words ───────────────────────────────────────────────────────────────────────────────────────────────────

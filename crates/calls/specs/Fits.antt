@@ -9,9 +9,9 @@ use lib.Dec.{eqb, leb, ltb}
 use borrow.Author.Tests.{lt-leb}
 use Rattle.orders.specs.Lists.{All}
 use Rattle.orders.specs.ListLaws.{bool-absurd}
-use Rattle.definition.specs.Basics.{any, among}
-use Rattle.definition.specs.Elements.{Table, node?, root?}
-use Rattle.definition.specs.Refusals.{Call, wrongCount, childless, wrongRun, wrongCall}
+use Rattle.definition.specs.Basics.{any}
+use Rattle.definition.specs.Elements.{Table}
+use Rattle.definition.specs.Refusals.{Call, wrongCount, misplaced, wrongCall}
 use Rattle.element_table.specs.View.{view}
 use Rattle.element_table.specs.Told.{length-view}
 
@@ -19,15 +19,9 @@ use Rattle.element_table.specs.Told.{length-view}
 unfoldable pub countFits : ℕ → ℕ → Bool
 countFits op count = not (ltb 6 op || wrongCount op count)
 
--- what else line 6 says of a call of the operation op with target x and first listed element y
+-- a call of the operation op with target x and first listed element y stands where it may
 unfoldable pub callFits : Table → ℕ → ℕ → ℕ → Bool
-callFits T op x y =
-    not ((eqb op 0 && not (node? T x))
-    || (eqb op 0 && childless T x)
-    || (among (1 ∷ 3 ∷ 4 ∷ 5 ∷ []) op && root? T x)
-    || (eqb op 2 && root? T x && not (node? T y))
-    || (eqb op 5 && wrongRun T x y)
-    || (eqb op 6 && not (eqb x 0)))
+callFits T op x y = not (misplaced T op x y)
 
 -- ── Both parts make line 6 ──────────────────────────────────────────────────────────────────────────────────
 
@@ -40,22 +34,18 @@ twice : (a : Bool) → a ≡ not (not a)
 twice true = refl
 twice false = refl
 
-parts : (a b c d e f g h i : Bool) → c ≡ false → (a || b || c || d || e || f || g || h || i) ≡ not (not (a || b) && not (d || e || f || g || h || i))
-parts true b c d e f g h i q = refl
-parts false true c d e f g h i q = refl
-parts false false true d e f g h i q = bool-absurd refl q
-parts false false false d e f g h i q = twice (d || e || f || g || h || i)
+parts : (a b c d : Bool) → c ≡ false → (a || b || c || d) ≡ not (not (a || b) && not d)
+parts true b c d q = refl
+parts false true c d q = refl
+parts false false true d q = bool-absurd refl q
+parts false false false d q = twice d
 
 pub judged : (n : ℕ) (w r : List ℕ) (c : Call) → All (λ e. e < n) (c .target ∷ c .listed) → wrongCall (view n w r) c ≡ not (countFits (c .operation) (length (c .listed)) && callFits (view n w r) (c .operation) (c .target) (headD (c .listed) 0))
 unfolding wrongCall countFits callFits
 judged n w r c h =
     let T : Table = view n w r in
-    let op : ℕ = c .operation in
-    let x : ℕ = c .target in
-    let y : ℕ = headD (c .listed) 0 in
-    parts (ltb 6 op) (wrongCount op (length (c .listed))) (any (λ e. leb (length T) e) (x ∷ c .listed)) (eqb op 0 && not (node? T x)) (eqb op 0 && childless T x)
-    (among (1 ∷ 3 ∷ 4 ∷ 5 ∷ []) op && root? T x) (eqb op 2 && root? T x && not (node? T y)) (eqb op 5 && wrongRun T x y) (eqb op 6 && not (eqb x 0))
-    (rw (length-view n w r) (none-beyond n (x ∷ c .listed) h))
+    parts (ltb 6 (c .operation)) (wrongCount (c .operation) (length (c .listed))) (any (λ e. leb (length T) e) (c .target ∷ c .listed)) (misplaced T (c .operation) (c .target) (headD (c .listed) 0))
+    (rw (length-view n w r) (none-beyond n (c .target ∷ c .listed) h))
 
 -- ── By the words ────────────────────────────────────────────────────────────────────────────────────────────
 

@@ -1,4 +1,4 @@
-// The judgement of one call by what the element table tells, for a batch's calls and for rewritten ones.
+// One call: what its word says, and its judgement by what the element table tells, for a batch's calls and for rewritten ones.
 ghost use mathlib.Core.Path.{_≡_};
 ghost use mathlib.Core.List.{headD};
 ghost use Prim.Native.Nat.{suc, _+_, _*_, _^_, _≤_, _<_};
@@ -6,10 +6,25 @@ ghost use lib.ListN.{length, getD, drop};
 ghost use lib.Dec.{eqb};
 ghost use Rattle.definition.specs.Words.{words as wordsOf};
 ghost use Rattle.definition.specs.Elements.{isNode};
+ghost use Rattle.definition.specs.Refusals.{operationOf, countOf};
 ghost use Rattle.element_table.specs.View.{view};
 ghost use Rattle.element_table.specs.Wellformed.{Wellformed};
 ghost use Rattle.element_table.specs.Told.{childCount};
 ghost use Rattle.calls.specs.Fits.{countFits, callFits, runFits};
+
+// The operation of a call word.
+pub fn operation_of(word: usize) -> usize
+    ensures { λ r. ⌜ r ≡ operationOf word ⌝ }
+{
+    word % 256
+}
+
+// How many elements a call word says that the call lists.
+pub fn count_of(word: usize) -> usize
+    ensures { λ r. ⌜ r ≡ countOf word ⌝ }
+{
+    word / 256
+}
 
 // Word `k` of element `e` in the element table.
 pub fn entry(table: &[u32], e: usize, k: usize) -> usize

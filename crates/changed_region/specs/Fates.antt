@@ -8,9 +8,9 @@ use lib.ListN.{getD, set, replicate}
 use lib.Dec.{eqb}
 use Rattle.definition.specs.Elements.{Table, tree, node?}
 use Rattle.definition.specs.Recording.{Change, insert, replace, delete, replaceWithMany, replaceAll}
-use Rattle.definition.specs.Planning.{Fate, dependent, discarded, isDiscarded, Region, around, fate, Planned, from, to, addsRegion, nodeByNode, inner, pushed, fates, planned}
+use Rattle.definition.specs.Planning.{Fate, dependent, discarded, isDiscarded, Region, around, fate, from, to, addsRegion, nodeByNode, inner, pushed, fatesFrom, fates}
 use Rattle.syntax_editor.specs.ChangeRow.{ChangeRow, regionOf}
-use Rattle.edit_plan.specs.Rows.{rowFate, withFate, fate-stated, Tells}
+use Rattle.edit_plan.specs.Rows.{withFate, Tells}
 
 -- ── On rows ─────────────────────────────────────────────────────────────────────────────────────────────────
 
@@ -86,29 +86,16 @@ pushed-told T k r c rs t =
 
 -- things that have a row and a change each
 module _ (T : Table) {X : Type 0} (row : X → ChangeRow) (change : X → Change) (tells : (x : X) → Tells T (row x) (change x)) where
-  fates-told : (k : ℕ) (stacks : List (List Region)) (xs : List X) → rowsFates k stacks (map row xs) ≡ zipWith (λ x p. withFate (row x) (p .fate)) xs (fates T k stacks (map change xs))
-  unfolding rowsFates fates zipWith
-  fates-told k stacks [] = refl
-  fates-told k stacks (x ∷ xs) =
+  from-told : (k : ℕ) (stacks : List (List Region)) (xs : List X) → rowsFates k stacks (map row xs) ≡ zipWith (λ x f. withFate (row x) f) xs (fatesFrom T k stacks (map change xs))
+  unfolding rowsFates fatesFrom zipWith
+  from-told k stacks [] = refl
+  from-told k stacks (x ∷ xs) =
       let t = tells x in
       let over : List Region = around ((row x) .from) ((row x) .to) (getD stacks ((row x) .tree) []) in
       rw (← t .fromTold, ← t .toTold, ← t .treeTold, ← pushed-told T k (row x) (change x) over t)
-      (ap {B = List ChangeRow} (λ r. withFate (row x) (fate over) ∷ r) (fates-told (suc k) (set stacks ((row x) .tree) (rowPushed k (row x) over)) xs))
+      (ap {B = List ChangeRow} (λ r. withFate (row x) (fate over) ∷ r) (from-told (suc k) (set stacks ((row x) .tree) (rowPushed k (row x) over)) xs))
 
-  pub planned-told : (xs : List X) → plannedRows (map row xs) ≡ zipWith (λ x p. withFate (row x) (p .fate)) xs (planned T (map change xs))
-  unfolding plannedRows planned
-  planned-told xs = fates-told 0 (replicate 16 []) xs
-
-  -- the definition's fates are those that the rows state
-  fates-stated : (k : ℕ) (stacks : List (List Region)) (xs : List X) → fates T k stacks (map change xs) ≡ zipWith (λ x r. record { change = change x; fate = rowFate r }) xs (rowsFates k stacks (map row xs))
-  unfolding rowsFates fates zipWith
-  fates-stated k stacks [] = refl
-  fates-stated k stacks (x ∷ xs) =
-      let t = tells x in
-      let over : List Region = around ((row x) .from) ((row x) .to) (getD stacks ((row x) .tree) []) in
-      rw (← t .fromTold, ← t .toTold, ← t .treeTold, ← pushed-told T k (row x) (change x) over t, fate-stated (row x) (fate over))
-      (ap {B = List Planned} (λ r. record { change = change x; fate = fate over } ∷ r) (fates-stated (suc k) (set stacks ((row x) .tree) (rowPushed k (row x) over)) xs))
-
-  pub planned-stated : (xs : List X) → planned T (map change xs) ≡ zipWith (λ x r. record { change = change x; fate = rowFate r }) xs (plannedRows (map row xs))
-  unfolding plannedRows planned
-  planned-stated xs = fates-stated 0 (replicate 16 []) xs
+  -- each row gets the fate that the definition gives its change
+  pub fates-told : (xs : List X) → plannedRows (map row xs) ≡ zipWith (λ x f. withFate (row x) f) xs (fates T (map change xs))
+  unfolding plannedRows fates
+  fates-told xs = from-told 0 (replicate 16 []) xs

@@ -6,13 +6,24 @@ use mathlib.Core.Option.{none}
 use Prim.Native.Nat.{ℕ}
 use lib.ListN.{length}
 use lib.Dec.{ltb}
-use Rattle.definition.specs.Basics.{Answer, gives, _>>=_, refuse, isSome, any}
+use Rattle.definition.specs.Basics.{Answer, refused, gives, _>>=_, refuse, any}
 use Rattle.definition.specs.Refusals.{Accepted, accepted}
 use Rattle.definition.specs.Recording.{recorded}
-use Rattle.definition.specs.Planning.{Planned, sorted, overlap, planned}
+use Rattle.definition.specs.Planning.{Planned, sorted, Judgement, overlaps, fated, judge}
 use Rattle.definition.specs.Rewriting.{Note, mapping, rewritten, settled}
 use Rattle.definition.specs.Running.{World, begin, ranked, order, steps}
 use Rattle.definition.specs.Finishing.{Result, result, fitting, encoded}
+
+-- ── Planning ────────────────────────────────────────────────────────────────────────────────────────────────
+
+-- THE FIRST STAGE: what is recorded, in sorted order, is judged
+unfoldable pub judgeChanges : Accepted → Judgement
+judgeChanges a = judge a.table (sorted a.table (recorded a.calls))
+
+-- 8: "Replacements overlap."
+unfoldable pub disjoint : Judgement → Answer (List Planned)
+disjoint (overlaps j k) = refused 8
+disjoint (fated ps) = gives ps
 
 -- what is done, before anything is: the changes with rewritten targets and their fates, the climb steps, the notes where they settle
 pub record Plan : Type 0 where
@@ -20,16 +31,21 @@ pub record Plan : Type 0 where
   pub climbs : ℕ
   pub notes : List Note
 
--- 8: "Replacements overlap." Then 9 and 10: "dependents from the last to the first, ... then notes in order"
+-- THE SECOND STAGE, of changes that do not overlap. 9 and 10: "dependents from the last to the first, ... then notes in order"
+unfoldable pub rewriteChanges : Accepted → List Planned → Answer Plan
+rewriteChanges a ps = do
+  let mapped = mapping a.mappings
+  rs ← rewritten a.table mapped ps
+  notes ← settled a.table mapped 0 a.notes
+  gives (record { changes = rs .0; climbs = rs .1; notes = notes })
+
+-- both: the plan, or the refusal out of 8, 9 and 10
 unfoldable pub plan : Accepted → Answer Plan
 plan a = do
-  let T = a .table
-  let cs = sorted T (recorded a.calls)
-  _ ← refuse 8 (isSome (overlap T cs))
-  let mapped = mapping a.mappings
-  ps ← rewritten T mapped (planned T cs)
-  notes ← settled T mapped 0 a.notes
-  gives (record { changes = ps .0; climbs = ps .1; notes = notes })
+  ps ← disjoint (judgeChanges a)
+  rewriteChanges a ps
+
+-- ── Running ─────────────────────────────────────────────────────────────────────────────────────────────────
 
 -- the performed changes in the order in which they run
 unfoldable pub performed : Accepted → Plan → List Planned
@@ -50,6 +66,8 @@ edit bytes = do
   p ← plan a
   w ← ran a p
   gives (result p.changes p.climbs w)
+
+-- ── The public calls ────────────────────────────────────────────────────────────────────────────────────────
 
 -- 1: "A work slice is shorter than its length in docs/": each work slice as its length and the length that it needs
 unfoldable pub tooShort : List (ℕ × ℕ) → Bool

@@ -1,16 +1,16 @@
 -- Printed case, and the marked examples of S: one table, by computation.
 -- Assumes nothing.
 use mathlib.Core.Path.{_≡_, refl}
-use mathlib.Core.List.{List, [], _∷_, _++_, map, flatMap}
+use mathlib.Core.List.{List, [], _∷_, map, flatMap}
 use mathlib.Core.Option.{none, some}
-use Prim.Native.Nat.{ℕ, _+_, _*_}
+use Prim.Native.Nat.{ℕ, _+_}
 use Prim.Native.String.{String}
 use lib.ListN.{length}
 use Rattle.definition.specs.Basics.{Answer, refused, gives, _>>=_}
-use Rattle.definition.specs.Words.{written}
 use Rattle.orders.specs.Tree.{Tree, node, token, forest, label, text, measure, preorder}
 use Rattle.orders.specs.Splices.{Splice}
 use Rattle.definition.specs.Refusals.{Call, accepted}
+use Rattle.definition.specs.Writing.{Lists, laidOut}
 use Rattle.definition.specs.Recording.{recorded}
 use Rattle.definition.specs.Planning.{Fate, own, discarded, sorted, planned}
 use Rattle.definition.specs.Finishing.{Result}
@@ -29,26 +29,28 @@ pub record Told : Type 0 where
   pub mappings : List (ℕ × ℕ)
   pub notes : List (ℕ × ℕ)
 
--- the bytes of such a batch, by the layout of "The batch"
-unfoldable pub inBytes : Told → List ℕ
-inBytes b =
+-- the lists that such a batch has
+unfoldable pub inLists : Told → Lists
+inLists b =
     let elements = flatMap preorder b.trees in
-    let text = flatMap text b.trees in
-    let listed = flatMap (λ c. c .listed) b.calls in
-    let sizes : List ℕ = length b.trees ∷ length elements ∷ length text ∷ length b.calls ∷ length listed ∷ length b.mappings ∷ length b.notes ∷ [] in
-    written (
-    sizes
-    ++ map label elements
-    ++ map measure elements
-    ++ map (λ c. c .operation + 256 * length c.listed) b.calls
-    ++ map (λ c. c .target) b.calls
-    ++ listed
-    ++ map (λ m. m .0) b.mappings
-    ++ map (λ m. m .1) b.mappings
-    ++ map (λ n. n .0) b.notes
-    ++ map (λ n. n .1) b.notes
-    )
-    ++ text
+    record {
+      trees = length b.trees;
+      kinds = map label elements;
+      measures = map measure elements;
+      text = flatMap text b.trees;
+      operations = map (λ c. c .operation) b.calls;
+      counts = map (λ c. length c.listed) b.calls;
+      targets = map (λ c. c .target) b.calls;
+      listed = flatMap (λ c. c .listed) b.calls;
+      inputs = map (λ m. m .0) b.mappings;
+      outputs = map (λ m. m .1) b.mappings;
+      noted = map (λ n. n .0) b.notes;
+      numbers = map (λ n. n .1) b.notes;
+    }
+
+-- its bytes
+unfoldable pub inBytes : Told → List ℕ
+inBytes b = laidOut (inLists b)
 
 -- a node of this kind
 abbrev pub nodeOf : ℕ → List (Tree ℕ) → Tree ℕ
@@ -288,5 +290,5 @@ pub examples : (answered marked ≡ told marked)
     × (fatesOf (inBytes nested) ≡ gives (own ∷ discarded 0 ∷ discarded 1 ∷ []))
     × (splicesOf (inBytes twoAfterX) ≡ gives twoSplices)
     × (map (findElement [] (inBytes withNotes)) (1 ∷ 2 ∷ 11 ∷ []) ≡ gives (some 2) ∷ gives none ∷ gives none ∷ [])
-unfolding computed short inBytes fatesOf
+unfolding computed short inLists inBytes fatesOf
 examples = (refl, refl, refl, refl, refl, refl, refl, refl)

@@ -4,6 +4,7 @@
 --     Batch        the batch: sizes, limits, arrays                                  refusals 2, 3, 4
 --     Elements     the batch: the trees it spells, and what is known of each element            5
 --     Refusals     calls, mappings, notes; a batch accepted                                  6, 7
+--     Writing      the batch laid out, from lists
 --     Recording    from calls to changes
 --     Planning     sorting, overlap, owners and discarded changes                               8
 --     Rewriting    a dependent's targets, and the notes                                     9, 10
@@ -20,6 +21,7 @@ pub mod Words
 pub mod Batch
 pub mod Elements
 pub mod Refusals
+pub mod Writing
 pub mod Recording
 pub mod Planning
 pub mod Rewriting

@@ -1,7 +1,7 @@
 -- Planning: sorting, refusal 8, and what becomes of each change.
 -- Assumes nothing.
 use mathlib.Core.Bool.{Bool, true, false, cond, not, _&&_}
-use mathlib.Core.List.{List, [], _∷_}
+use mathlib.Core.List.{List, [], _∷_, zipWith}
 use mathlib.Core.Option.{Option, none, some}
 use Prim.Native.Nat.{ℕ, suc, _-_}
 use lib.ListN.{getD, set, replicate}
@@ -156,14 +156,34 @@ module _ (T : Table) where
   unfoldable pub pushed : ℕ → Change → List Region → List Region
   pushed k c rs = cond (addsRegion c) (record { from = from T c; to = to T c; inner = inner k (fate rs) c } ∷ rs) rs
 
-  -- "Regions stand in a stack per tree": sorted changes from place k on, with the stacks
-  unfoldable pub fates : ℕ → List (List Region) → List Change → List Planned
-  fates k stacks [] = []
-  fates k stacks (c ∷ cs) =
+  -- "Regions stand in a stack per tree": the fates of sorted changes from place k on, with the stacks
+  unfoldable pub fatesFrom : ℕ → List (List Region) → List Change → List Fate
+  fatesFrom k stacks [] = []
+  fatesFrom k stacks (c ∷ cs) =
       let t = tree T (target c) in
       let rs = around (from T c) (to T c) (getD stacks t []) in
-      record { change = c; fate = fate rs } ∷ fates (suc k) (set stacks t (pushed k c rs)) cs
+      fate rs ∷ fatesFrom (suc k) (set stacks t (pushed k c rs)) cs
 
-  -- at most 16 trees, each with an empty stack at first
+  -- what becomes of each of the sorted changes: at most 16 trees, each with an empty stack at first
+  unfoldable pub fates : List Change → List Fate
+  fates cs = fatesFrom 0 (replicate 16 []) cs
+
+-- ── Judged ──────────────────────────────────────────────────────────────────────────────────────────────────
+
+-- changes with what becomes of each
+unfoldable pub withFates : List Change → List Fate → List Planned
+withFates cs fs = zipWith (λ c f. record { change = c; fate = f }) cs fs
+
+-- what is found of the changes before any is rewritten: two overlap, at the places j and k; or else what becomes of each
+pub data Judgement : Type 0 where
+  overlaps : ℕ → ℕ → Judgement
+  fated : List Planned → Judgement
+
+module _ (T : Table) where
+  -- sorted changes with what becomes of them
   unfoldable pub planned : List Change → List Planned
-  planned cs = fates 0 (replicate 16 []) cs
+  planned cs = withFates cs (fates T cs)
+
+  -- sorted changes judged
+  unfoldable pub judge : List Change → Judgement
+  judge cs = elim (overlap T cs) [ none ↦ fated (planned cs) | some p ↦ overlaps (p .0) (p .1) ]

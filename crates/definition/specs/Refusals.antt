@@ -3,7 +3,7 @@
 use mathlib.Core.Bool.{Bool, true, false, cond, not, _&&_, _||_}
 use mathlib.Core.List.{List, [], _∷_, headD, zip}
 use mathlib.Core.Option.{Option, none, some, Option·map}
-use Prim.Native.Nat.{ℕ, _/_, _%_}
+use Prim.Native.Nat.{ℕ, _+_, _*_, _/_, _%_}
 use lib.ListN.{length, take, drop}
 use lib.Dec.{leb, ltb, eqb}
 use Rattle.orders.specs.Tree.{Tree}
@@ -13,7 +13,11 @@ use Rattle.definition.specs.Elements.{Table, row, node?, root?, parent, 
 
 -- ── Calls ───────────────────────────────────────────────────────────────────────────────────────────────────
 
--- "A call word is operation + 256 × listed count.": its operation
+-- "A call word is operation + 256 × listed count."
+unfoldable pub callWord : ℕ → ℕ → ℕ
+callWord operation count = operation + 256 * count
+
+-- its operation
 unfoldable pub operationOf : ℕ → ℕ
 operationOf word = word % 256
 
@@ -27,6 +31,10 @@ pub record Call : Type 0 where
   pub target : ℕ
   pub listed : List ℕ
 
+-- the call of a call word, with its target and the elements that it lists
+abbrev pub callOf : ℕ → ℕ → List ℕ → Call
+callOf word target listed = record { operation = operationOf word; target = target; listed = listed }
+
 -- from call words with their targets, and the listed elements: each call takes its count of them; none if "the counts do not add up to L"
 unfoldable pub calls : List (ℕ × ℕ) → List ℕ → Option (List Call)
 calls [] [] = some []
@@ -34,7 +42,7 @@ calls [] (x ∷ l) = none
 calls (c ∷ cs) l =
     let n = countOf (c .0) in
     let rest = calls cs (drop n l) in
-    cond (leb n (length l)) (Option·map (λ r. record { operation = operationOf (c .0); target = c .1; listed = take n l } ∷ r) rest) none
+    cond (leb n (length l)) (Option·map (λ r. callOf (c .0) (c .1) (take n l) ∷ r) rest) none
 
 -- "3: delete, nothing listed"; a 6 has "count 0"; 2 is "by one element"; 5 lists the run's end; "Insertions and 4 may list none"
 unfoldable pub wrongCount : ℕ → ℕ → Bool
@@ -56,22 +64,24 @@ module _ (T : Table) where
   unfoldable pub wrongRun : ℕ → ℕ → Bool
   wrongRun from to = not (sameParent (parent T from) (parent T to)) || ltb (child T to) (child T from)
 
-  -- 6, of one call: "an unknown operation, a wrong count, a number of E or more, a token as parent, a childless parent under 0, a root under 1, 3, 4 or 5,
-  -- a token replacing a root, or a run whose ends have different parents or are reversed, a 6 whose target is not 0"
-  unfoldable pub wrongCall : Call → Bool
-  wrongCall c =
-      let op = c .operation in
-      let x = c .target in
-      let y = headD c.listed 0 in
-      ltb 6 op
-      || wrongCount op (length c.listed)
-      || any (λ e. leb (length T) e) (x ∷ c.listed)
-      || (eqb op 0 && not (node? T x))
+  -- 6, of where a call stands, by its operation, its target x and the first element y that it lists: "a token as parent, a childless parent under 0, a root under
+  -- 1, 3, 4 or 5, a token replacing a root, or a run whose ends have different parents or are reversed, a 6 whose target is not 0"
+  unfoldable pub misplaced : ℕ → ℕ → ℕ → Bool
+  misplaced op x y =
+      (eqb op 0 && not (node? T x))
       || (eqb op 0 && childless x)
       || (among (1 ∷ 3 ∷ 4 ∷ 5 ∷ []) op && root? T x)
       || (eqb op 2 && root? T x && not (node? T y))
       || (eqb op 5 && wrongRun x y)
       || (eqb op 6 && not (eqb x 0))
+
+  -- 6, of one call: "an unknown operation, a wrong count, a number of E or more", or it is misplaced
+  unfoldable pub wrongCall : Call → Bool
+  wrongCall c =
+      ltb 6 c.operation
+      || wrongCount c.operation (length c.listed)
+      || any (λ e. leb (length T) e) (c .target ∷ c .listed)
+      || misplaced c.operation c.target (headD c.listed 0)
 
   -- 7, of one mapping (input and output): it "names no node or a root as output"
   unfoldable pub wrongMapping : ℕ × ℕ → Bool

@@ -37,6 +37,10 @@ order qs (suc n) owner = flatMap (λ q. order qs n (some (q .0)) ++ (q .1 ∷ []
 
 -- ── The current trees ───────────────────────────────────────────────────────────────────────────────────────
 
+-- an element that is "recorded as changed": its path
+abbrev pub Changed : Type 0
+Changed = Path
+
 -- what the steps change
 pub record World : Type 0 where
   -- all current trees, as the children of one node that is no element (its kind is 0)
@@ -45,8 +49,8 @@ pub record World : Type 0 where
   pub paths : List (Option Path)
   -- the notes, in the order in which they are held
   pub notes : List Note
-  -- what is "recorded as changed", in the order of time
-  pub changed : List Path
+  -- what is recorded as changed, in the order of time
+  pub changed : List Changed
 
 -- before the first step: the batch's own trees, and the notes where they settled
 unfoldable pub begin : List (Tree ℕ) → Table → List Note → World

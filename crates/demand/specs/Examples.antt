@@ -12,7 +12,7 @@ use Rattle.definition.specs.Refusals.{Call}
 use Rattle.definition.specs.Answers.{edit}
 use Rattle.definition.specs.Printed.{ascii}
 use Rattle.definition.specs.Computing.{computed}
-use Rattle.definition.specs.Examples.{Told, inBytes, nodeOf, tokenOf, call}
+use Rattle.definition.specs.Examples.{Told, inLists, inBytes, nodeOf, tokenOf, call}
 use Rattle.demand.specs.Aims.{replacesRoot}
 use Rattle.demand.specs.Answered.{apartIn?, apartPlan?, apartBatch?, oneGoOf}
 
@@ -59,7 +59,7 @@ pub compares : (compared apart ≡ (gives true, gives (ascii "adce"), gives (asc
     × (compared notApart ≡ (gives false, gives (ascii "e"), gives (ascii "ce")))
     × (compared rootReplaced ≡ (gives false, gives (ascii "cde"), gives (ascii "ab")))
 unfolding
-    computed inBytes compared replacesRoot apartIn? apartPlan? apartBatch? oneGoOf
+    computed inLists inBytes compared replacesRoot apartIn? apartPlan? apartBatch? oneGoOf
     Check.each Check.pairs Check.enters? Check.run? Check.fits? Check.apart? Check.allApart?
     Splices.samePath Splices.leftOf Splices.under Splices.fromRoot Splices.fromChild Splices.atRoot Splices.below Splices.insertByLeft Splices.leftToRight Splices.newChildren Splices.oneGo Splices.oneGoAll
 compares = (refl, refl, refl, refl)

@@ -1,14 +1,14 @@
 -- THE THEOREMS of line 5 and the element table, for a batch that spells trees.
 -- Assumes nothing.
 use mathlib.Core.Path.{_≡_, refl, sym, ap, _∙_}
-use mathlib.Core.Bool.{Bool, true, false, cond, not, _||_}
+use mathlib.Core.Bool.{Bool, true, false, cond, not, _&&_, _||_}
 use mathlib.Core.List.{List, [], _∷_, _++_, map, zip, append-nil}
 use mathlib.Core.Option.{Option, none, some}
 use Prim.Native.Nat.{ℕ, _+_, _*_, _≤_, _<_}
 use native.Mathlib.Omega.{arith}
 use borrow.Author.Tests.{eqb-true}
-use lib.Dec.{ltb, eqb}
-use lib.ListN.{length, take, drop, length-map}
+use lib.Dec.{leb, ltb, eqb}
+use lib.ListN.{length, getD, take, drop, length-map}
 use lib.Seq.{paste, take-all, take-at, length-paste}
 use Rattle.orders.specs.ListLaws.{bind-some, some-inj, none-some, bool-absurd}
 use Rattle.orders.specs.Tree.{Tree, node, forest, deepest, label, measure, preorders, elementsOf}
@@ -16,7 +16,9 @@ use Rattle.orders.specs.TreeLaws.{list-forest}
 use Rattle.definition.specs.Basics.{any, isSome}
 use Rattle.definition.specs.Words.{words}
 use Rattle.definition.specs.Batch.{Batch}
-use Rattle.definition.specs.Elements.{malformed, startsWithToken, unspelled, spelled, table}
+use Rattle.definition.specs.Elements.{malformed, startsWithToken, unspelled, spelled, table, parent, child}
+use Rattle.laws.specs.Rows.{table-length}
+use Rattle.laws.specs.Intervals.{atOrBelow, after, interval}
 use Rattle.element_table.specs.View.{view, field}
 use Rattle.rows.specs.Row.{nod, rowsOf, firstRows}
 use Rattle.words.specs.Bytes.{length-words}
@@ -29,6 +31,7 @@ use Rattle.element_table.specs.ViewLaws.{told-all}
 use Rattle.element_table.specs.Wellformed.{Wellformed}
 use Rattle.element_table.specs.SourceRows.{rows-told as source-told}
 use Rattle.element_table.specs.Sound.{hop, Sound, sound-all}
+use Rattle.element_table.specs.Afters.{afters}
 
 -- the elements of a batch, each with kind word and measure
 unfoldable pub elementsIn : Batch → List (ℕ × ℕ)
@@ -142,6 +145,20 @@ module _ (b : Batch) (ts : List (Tree ℕ)) (h : spelled b ≡ some ts) where
           rw (take-all (8 * n) w (omega (arith, length-table)), take-all (3 * (n + 1)) (sourceOf (b .trees) (elementsIn b)) (omega (arith, length-source (b .trees) (elementsIn b), count)))
           (sound-all (w ++ r) (b .trees) (elementsIn b) z n ts (s .worded) (passed .1) 0 0 0 r [] (rw spelled-words) (rw (append-nil, s .elements)) refl (omega (arith, spelled-count)) e (omega arith) (omega (arith, spelled-count)))
 
+      -- word 6 is the element after the subtree, so siblings bound what is below them
+      between : (x y e : ℕ) → x < length (b .kinds) → y < length (b .kinds) → e < length (b .kinds)
+          → parent (view (length (b .kinds)) ws rs) x ≡ parent (view (length (b .kinds)) ws rs) y → child (view (length (b .kinds)) ws rs) x ≤ child (view (length (b .kinds)) ws rs) y
+          → atOrBelow (view (length (b .kinds)) ws rs) x y e ≡ (leb x e && ltb e (getD ws (8 * y + 6) 0))
+      unfolding ws rs field
+      between x y e qx qy qe =
+          let n : ℕ = length (b .kinds) in
+          let w : List ℕ = tableOf (b .trees) (elementsIn b) in
+          let long : length (table 0 0 ts) ≡ n = table-length ts 0 0 ∙ spelled-count in
+          let words : ws ≡ wordsAll ts 0 0 0 ++ drop (0 + 8 * n) t₀ = rw (take-all (8 * n) w (omega (arith, length-table)), spelled-words) in
+          let last : getD ws (8 * y + 6) 0 ≡ after ts y = afters ws rs ts (drop (0 + 8 * n) t₀) words y (omega arith) in
+          rw (filled-view t₀ s₀, last)
+          (λ p c. interval ts (record { first = omega arith; last = omega arith; parent = p; order = c }) e (omega arith))
+
       pub filled-wellformed : length (b .kinds) ≤ 2048 → 8 * length (b .kinds) ≤ length t₀ → 3 * (length (b .kinds) + 1) ≤ length s₀
           → Wellformed (length (b .kinds)) (paste t₀ 0 (tableOf (b .trees) (elementsIn b)) (8 * length (b .kinds))) (paste s₀ 0 (sourceOf (b .trees) (elementsIn b)) (3 * (length (b .kinds) + 1)))
       unfolding ws rs field
@@ -161,6 +178,7 @@ module _ (b : Batch) (ts : List (Tree ℕ)) (h : spelled b ≡ some ts) where
             };
             long = omega (arith, length-paste s₀ 0 x (3 * (n + 1)) (omega arith) (omega (arith, length-source (b .trees) (elementsIn b), count)));
             children = λ e q. sound e q .children;
+            interval = λ x y e qx qy qe p c. between x y e qx qy qe p c;
           }
 
 -- ── What a caller of the fill has ───────────────────────────────────────────────────────────────────────────

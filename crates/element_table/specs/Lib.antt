@@ -6,6 +6,7 @@
 --     FillingLaws   the walk writes the words that the trees have
 --     ViewLaws      those words tell the definition's table
 --     Sound         and are well formed
+--     Afters        word 6 is the element after the subtree, as the trees have it
 --     SourceRows    the rows are those of the trees
 --     Filled        the theorems for a batch
 pub mod View
@@ -15,5 +16,6 @@ pub mod Filling
 pub mod FillingLaws
 pub mod ViewLaws
 pub mod Sound
+pub mod Afters
 pub mod SourceRows
 pub mod Filled

@@ -1,11 +1,15 @@
 -- What an accepted batch guarantees of the words of the element table and of the batch's rows (View of element_table says what each word is).
 -- Assumes nothing.
+use mathlib.Core.Bool.{_&&_}
 use mathlib.Core.List.{List}
 use mathlib.Core.Path.{_≡_}
 use Prim.Native.Nat.{ℕ, suc, _+_, _*_, _≤_, _<_}
+use lib.Dec.{leb, ltb}
 use lib.ListN.{length, getD}
 use Rattle.orders.specs.Lists.{All}
-use Rattle.element_table.specs.View.{rowAt}
+use Rattle.definition.specs.Elements.{parent, child}
+use Rattle.laws.specs.Intervals.{atOrBelow}
+use Rattle.element_table.specs.View.{rowAt, view}
 
 -- The table of n elements. Word 8 e + 1 is the parent's number + 1 (0 for a root), 8 e + 2 the child number, 8 e + 3 the depth, 8 e + 7 the tree.
 pub record Lines (n : ℕ) (table : List ℕ) : Type 0 where
@@ -27,3 +31,6 @@ pub record Wellformed (n : ℕ) (table source : List ℕ) : Type 0 where
   pub long : 3 * n + 3 ≤ length source
   -- children are elements
   pub children : (e : ℕ) → e < n → All (λ c. c < n) ((rowAt table source e) .children)
+  -- word 8 y + 6 is the element after the subtree of y: what is at or below the siblings x to y stands from x on, before it
+  pub interval : (x y e : ℕ) → x < n → y < n → e < n → parent (view n table source) x ≡ parent (view n table source) y → child (view n table source) x ≤ child (view n table source) y
+      → atOrBelow (view n table source) x y e ≡ (leb x e && ltb e (getD table (8 * y + 6) 0))

@@ -148,7 +148,7 @@ tree-path : (T : Table) (n t : ℕ) (p : Path) → (row T n) .path ≡ t ∷ p �
 unfolding tree headD
 tree-path T n t p e = ap (λ q. headD q 0) e
 
-elementAt-one : (d e : Element) (i : ℕ) → elementAt d (i ∷ []) ≡ some e → childOf d i ≡ some e
+pub elementAt-one : (d e : Element) (i : ℕ) → elementAt d (i ∷ []) ≡ some e → childOf d i ≡ some e
 unfolding elementAt
 elementAt-one d e i g = let (c, a, b) = bind-some (childOf d i) (λ c. some c) g in a ∙ b
 
@@ -259,7 +259,7 @@ module _ (ts : List (Tree ℕ)) where
     root : IsRoot n → Kin n
     below : (m : ℕ) → IsParent m n → Kin n
 
-  root-kin : (t : ℕ) (e : Element) → element ts (t ∷ []) ≡ some e → IsRoot e.number
+  pub root-kin : (t : ℕ) (e : Element) → element ts (t ∷ []) ≡ some e → IsRoot e.number
   unfolding element rootOf elementAt bind rowOf
   root-kin t e g =
       let (r, a, b) = bind-some (rootOf ts t) (λ r. some r) g in
@@ -270,7 +270,7 @@ module _ (ts : List (Tree ℕ)) where
       let path : (row T e.number) .path ≡ t ∷ [] = rw told (ap (λ d. d .path) is) in
       record { parent = parent-root T e.number e.number line; line = line; path = path ∙ ap {B = Path} (λ x. x ∷ []) (sym (tree-path T e.number t [] path)); start = rw told (ap (λ d. d .start) is) }
 
-  child-kin : (t : ℕ) (p : Path) (e c : Element) (i : ℕ) → element ts (t ∷ p) ≡ some e → childOf e i ≡ some c → IsParent e.number c.number × (child T c.number ≡ i)
+  pub child-kin : (t : ℕ) (p : Path) (e c : Element) (i : ℕ) → element ts (t ∷ p) ≡ some e → childOf e i ≡ some c → IsParent e.number c.number × (child T c.number ≡ i)
   unfolding child rowOf
   child-kin t p e c i g h =
       let told = row-told (t ∷ p) e g in
@@ -341,7 +341,7 @@ module _ (ts : List (Tree ℕ)) where
   -- ── Ancestors ──
 
   -- each element of a line is its element or above it; fuel as much as the element's number
-  line-above : (k n a : ℕ) → n < k → n < length T → List·Memᴰ a ((row T n) .line) → (a < length T) × ((p : Path) × ((row T n) .path ≡ (row T a) .path ++ p))
+  pub line-above : (k n a : ℕ) → n < k → n < length T → List·Memᴰ a ((row T n) .line) → (a < length T) × ((p : Path) × ((row T n) .path ≡ (row T a) .path ++ p))
   line-above zero n a l h m = absurd (omega arith)
   line-above (suc k) n a l h m = go (kin n h) (λ b i q. line-above k b a (omega (arith, i .before)) (i .within) q)
     where

@@ -7,6 +7,7 @@
 --     Kin        paths, parents, children and descents, as the table tells them
 --     Moves      what survives of paths, whatever the splices
 --     Right      what is known of the targets of calls that line 6 accepts
+--     Intervals  the elements at or below siblings are those from the first one's number up to the element after the last one's subtree
 --     Sorting    the sorted order is a stable permutation, also where places are sorted and not the elements
 --     Searching  where an element is put in a sorted list, found by halves
 --     Regions    the last region that contains a change is the one that popping finds
@@ -25,6 +26,7 @@ pub mod Rows
 pub mod Kin
 pub mod Moves
 pub mod Right
+pub mod Intervals
 pub mod Sorting
 pub mod Searching
 pub mod Regions

@@ -1,4 +1,4 @@
--- The sizes of an accepted answer are within document 01's limits, and its bytes are as many as the sizes tell: so 13 cannot come with 61,464 bytes of room.
+-- The sizes of an accepted answer are within document 01's limits, and its bytes are as many as the sizes tell: so 13 cannot come with room for the most bytes that a result has.
 -- Assumes nothing.
 use mathlib.Core.Path.{_≡_, refl, sym, ap, _∙_}
 use mathlib.Core.Bool.{Bool, true, false, cond, _&&_}
@@ -283,12 +283,16 @@ edit-within bytes r e =
 
 -- ── The longest result ──────────────────────────────────────────────────────────────────────────────────────
 
--- An accepted answer has at most 61,464 bytes.
-pub encoded-within : (bytes : List ℕ) (r : Result) → edit bytes ≡ gives r → length (encoded r) ≤ 61464
+-- the most bytes that a result has
+abbrev pub mostBytes : ℕ
+mostBytes = 61464
+
+-- An accepted answer has at most so many.
+pub encoded-within : (bytes : List ℕ) (r : Result) → edit bytes ≡ gives r → length (encoded r) ≤ mostBytes
 encoded-within bytes r e = let w = edit-within bytes r e in omega (arith, encoded-length r (w .measures) (w .noted), w .elements, w .changed, w .notes, w .text)
 
 -- With that much room the buffer is never too short.
-pub room-suffices : (bytes : List ℕ) (room : ℕ) → 61464 ≤ room → (edit bytes >>= λ r. fitting room r) ≡ edit bytes
+pub room-suffices : (bytes : List ℕ) (room : ℕ) → mostBytes ≤ room → (edit bytes >>= λ r. fitting room r) ≡ edit bytes
 unfolding fitting refuse _>>=_
 room-suffices bytes room h = go (edit bytes) refl
   where

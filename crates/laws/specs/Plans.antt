@@ -2,7 +2,7 @@
 -- Assumes nothing.
 use mathlib.Core.Path.{_≡_, refl, sym, ap, _∙_}
 use mathlib.Core.Bool.{Bool, true, false, cond, not, _&&_}
-use mathlib.Core.List.{List, [], _∷_}
+use mathlib.Core.List.{List, [], _∷_, map}
 use mathlib.Core.Option.{Option, none, some, Option·getD}
 use Prim.Native.Nat.{ℕ, zero, suc, _*_, _≤_, _<_}
 use native.Mathlib.Omega.{arith}
@@ -16,16 +16,16 @@ use Rattle.definition.specs.Basics.{Answer, refused, gives, _>>=_, refuse, orRe
 use Rattle.definition.specs.Elements.{Table, table, row, node?, placeBelow, descend}
 use Rattle.definition.specs.Refusals.{Call, wrongCall, wrongMapping, wrongNote, Accepted}
 use Rattle.definition.specs.Recording.{Change, change, recorded}
-use Rattle.definition.specs.Planning.{Planned, sorted, overlap, planned}
+use Rattle.definition.specs.Planning.{Planned, sorted, Judgement, overlaps, fated}
 use Rattle.definition.specs.Rewriting.{mapping, mappedOr, land, rewritten, nearest, isParent, noteFrom, settle, Note, settled}
 use Rattle.definition.specs.Running.{news, ranked}
-use Rattle.definition.specs.Answers.{Plan, plan, performed}
+use Rattle.definition.specs.Answers.{judgeChanges, disjoint, Plan, rewriteChanges, plan, performed}
 use Rattle.laws.specs.Basics.{map-All, total-length, total-map, first-passes}
 use Rattle.laws.specs.Answers.{gives-inj, refused-gives, given, is-there}
 use Rattle.laws.specs.Kin.{descends-place}
 use Rattle.laws.specs.Accepted.{Known}
 use Rattle.laws.specs.Right.{Right, neither, none-passes, change-right, change-lists}
-use Rattle.laws.specs.Stages.{lists, listsAll, recorded-all, recorded-total, sorted-all, sorted-total, planned-changes, RewroteAll, rewritten-all, order-all, ranked-all}
+use Rattle.laws.specs.Stages.{lists, listsAll, recorded-all, recorded-total, sorted-all, sorted-total, planned-changes, judge-fated, RewroteAll, rewritten-all, order-all, ranked-all}
 
 -- ── Notes ───────────────────────────────────────────────────────────────────────────────────────────────────
 
@@ -96,6 +96,14 @@ pub record Checked (a : Accepted) : Type 0 where
   pub mappings : All (λ m. wrongMapping a.table m ≡ false) a.mappings
   pub notes : All (λ n. wrongNote a.table n ≡ false) a.notes
 
+-- what is known of the changes that are judged
+pub record Judging (a : Accepted) (ps : List Planned) : Type 0 where
+  -- line 6 would refuse none of them
+  pub right : All (λ q. Right a.table q.change) ps
+  -- there are no more of them than calls, and they list no more than the calls do
+  pub count : length ps ≤ length a.calls
+  pub listed : total (λ q. true) (λ q. lists q.change) ps ≤ total (λ c. true) (λ c. length c.listed) a.calls
+
 -- what is known of a plan
 pub record Planning (a : Accepted) (p : Plan) : Type 0 where
   -- line 6 would refuse none of its changes, as rewritten
@@ -108,6 +116,21 @@ pub record Planning (a : Accepted) (p : Plan) : Type 0 where
   -- every note stands where an element of the batch does
   pub notes : length p.notes ≡ length a.notes
   pub noted : All (λ n. (e : ℕ) × (e < length a.table) × (n .path ≡ (row a.table e) .path)) p.notes
+
+-- 8 does not refuse the changes
+pub disjoint-fated : (j : Judgement) (ps : List Planned) → disjoint j ≡ gives ps → j ≡ fated ps
+unfolding disjoint
+disjoint-fated (overlaps i k) ps e = refused-gives e
+disjoint-fated (fated qs) ps e = ap fated (gives-inj e)
+
+-- the plan by what the first stage finds
+pub plan-overlap : (a : Accepted) (j k : ℕ) → judgeChanges a ≡ overlaps j k → plan a ≡ refused 8
+unfolding plan disjoint _>>=_
+plan-overlap a j k e = rw (e, disjoint)
+
+pub plan-fated : (a : Accepted) (ps : List Planned) → judgeChanges a ≡ fated ps → plan a ≡ rewriteChanges a ps
+unfolding plan disjoint _>>=_
+plan-fated a ps e = rw (e, disjoint)
 
 module _ (a : Accepted) (k : Checked a) where
   -- the changes as sorted, before they are rewritten
@@ -126,23 +149,29 @@ module _ (a : Accepted) (k : Checked a) where
       let one : total (λ c. true) (λ (c : Change). 1) (recorded a.calls) ≤ total (λ c. true) (λ (c : Call). 1) a.calls = recorded-total (λ c. 1) (λ c. 1) a.calls (All-map (λ c e h. omega arith) a.calls (k .calls)) in
       omega (arith, total-length (sorted a.table (recorded a.calls)), sorted-total a.table (λ c. true) (λ c. 1) (recorded a.calls), one, total-length a.calls)
 
-  -- what holds of the rewritten changes, from what holds of the sorted ones
-  rewritten-known : (cs : List Change) (r : List Planned × ℕ) (notes : List Note) → RewroteAll a.table (mapping a.mappings) (planned a.table cs) r → All (Right a.table) cs
-      → length cs ≤ length a.calls → listsAll cs ≤ total (λ c. true) (λ c. length c.listed) a.calls
+  -- the changes that are judged are those that were sorted
+  pub judged-known : (ps : List Planned) → judgeChanges a ≡ fated ps → Judging a ps
+  unfolding judgeChanges
+  judged-known ps e =
+      let T = a .table in
+      let cs = sorted T (recorded a.calls) in
+      let same : map (λ q. q .change) ps ≡ cs = ap (map (λ q. q .change)) ((judge-fated T cs ps e) .1) ∙ planned-changes T cs in
+      let long : length ps ≡ length cs = sym (length-map ps (λ q. q .change)) ∙ ap length same in
+      let sum : total (λ q. true) (λ q. lists q.change) ps ≡ listsAll cs = total-map (λ q. q .change) lists ps ∙ ap listsAll same in
+      record { right = map-All (Right T) (λ q. q .change) ps (rw same changes-right); count = omega (arith, changes-count); listed = omega (arith, changes-listed) }
+
+  -- what holds of the rewritten changes, from what holds of the judged ones
+  rewritten-known : (ps : List Planned) (r : List Planned × ℕ) (notes : List Note) → RewroteAll a.table (mapping a.mappings) ps r → Judging a ps
       → (length notes ≡ length a.notes) × All (λ n. (e : ℕ) × (e < length a.table) × (n .path ≡ (row a.table e) .path)) notes
       → Planning a (record { changes = r .0; climbs = r .1; notes = notes })
-  rewritten-known cs r notes w h c l n =
-      let T = a .table in
-      let ps = planned T cs in
+  rewritten-known ps r notes w j n =
       let long : length (r .0) ≡ length ps = sym (length-map (r .0) (λ q. q .fate)) ∙ (ap length (w .fates) ∙ length-map ps (λ q. q .fate)) in
-      let long′ : length ps ≡ length cs = sym (length-map ps (λ q. q .change)) ∙ ap length (planned-changes T cs) in
       let sum : total (λ q. true) (λ q. lists q.change) (r .0) ≡ total (λ q. true) (λ q. lists q.change) ps =
       total-map (λ q. news q.change) length (r .0) ∙ (ap (total (λ q. true) length) (w .listed) ∙ sym (total-map (λ q. news q.change) length ps)) in
-      let sum′ : total (λ q. true) (λ q. lists q.change) ps ≡ listsAll cs = total-map (λ q. q .change) lists ps ∙ ap listsAll (planned-changes T cs) in
       record {
-        right = w .right (map-All (Right T) (λ q. q .change) ps (rw (planned-changes T cs) h));
-        count = omega arith;
-        listed = omega arith;
+        right = w .right (j .right);
+        count = omega (arith, j .count);
+        listed = omega (arith, j .listed);
         climbs = rw long (w .steps);
         notes = n .0;
         noted = n .1;
@@ -165,14 +194,13 @@ module _ (a : Accepted) (k : Checked a) where
   settled-known notes T q = rw q (λ w n g. settled-notes a.trees (mapping a.mappings) w 0 a.notes notes n g)
 
   pub plan-known : (p : Plan) → plan a ≡ gives p → Planning a p
-  unfolding plan
+  unfolding plan rewriteChanges
   plan-known p e =
       let T = a .table in
-      let cs = sorted T (recorded a.calls) in
-      given (refuse 8 (isSome (overlap T cs))) _ e λ u x e.
-      given (rewritten T (mapping a.mappings) (planned T cs)) _ e λ r y e.
+      given (disjoint (judgeChanges a)) _ e λ ps x e.
+      given (rewritten T (mapping a.mappings) ps) _ e λ r y e.
       given (settled T (mapping a.mappings) 0 a.notes) _ e λ notes z e.
-      rw (← gives-inj e) (rewritten-known cs r notes (rewritten-all T (mapping a.mappings) (planned T cs) r y) changes-right changes-count changes-listed (settled-known notes T (k .table) outputs-within notes-within z))
+      rw (← gives-inj e) (rewritten-known ps r notes (rewritten-all T (mapping a.mappings) ps r y) (judged-known ps (disjoint-fated (judgeChanges a) ps x)) (settled-known notes T (k .table) outputs-within notes-within z))
 
 -- lines 6 and 7 have passed what is accepted
 pub checked : (bytes : List ℕ) (a : Accepted) → Known bytes a → Checked a

@@ -8,13 +8,13 @@ use Prim.Native.Nat.{ℕ, zero, suc, _≤_, _<_}
 use native.Mathlib.Omega.{arith}
 use lib.Dec.{leb, ltb, eqb}
 use lib.ListN.{length}
-use borrow.Author.Tests.{ltb-false, leb-false, eqb-true, ne-eqb, not-false}
+use borrow.Author.Tests.{ltb-false, leb-false, eqb-true, eq-eqb, ne-eqb, not-false}
 use Rattle.orders.specs.Lists.{All}
 use Rattle.orders.specs.ListLaws.{bool-absurd, All-map}
 pub use Rattle.orders.specs.ListLaws.{either-false as neither, none-passes}
 use Rattle.definition.specs.Basics.{any, among}
 use Rattle.definition.specs.Elements.{Table, node?, root?, parent, child}
-use Rattle.definition.specs.Refusals.{Call, wrongCount, sameParent, childless, wrongRun, wrongCall}
+use Rattle.definition.specs.Refusals.{Call, wrongCount, sameParent, childless, wrongRun, misplaced, wrongCall}
 use Rattle.definition.specs.Recording.{firstChild, after, Change, insert, replace, delete, replaceWithMany, replaceAll, run, change, call}
 use Rattle.definition.specs.Running.{news}
 
@@ -33,31 +33,36 @@ pub record Judged (T : Table) (c : Call) : Type 0 where
   pub editor : (eqb c.operation 6 && not (eqb c.target 0)) ≡ false
 
 pub judged : (T : Table) (c : Call) → wrongCall T c ≡ false → Judged T c
-unfolding wrongCall
+unfolding wrongCall misplaced
 judged T c e =
-    let (e, i) = neither _ _ e in
-    let (e, h) = neither _ _ e in
-    let (e, g) = neither _ _ e in
-    let (e, f) = neither _ _ e in
-    let (e, d) = neither _ _ e in
-    let (e, k) = neither _ _ e in
+    let (e, m) = neither _ _ e in
     let (e, b) = neither _ _ e in
     let (z, a) = neither _ _ e in
+    let (m, i) = neither _ _ m in
+    let (m, h) = neither _ _ m in
+    let (m, g) = neither _ _ m in
+    let (m, f) = neither _ _ m in
+    let (k, d) = neither _ _ m in
     record { known = z; count = a; within = b; isNode = k; hasChild = d; noRoot = f; byNode = g; run = h; editor = i }
 
 pub unjudged : (T : Table) (c : Call) → Judged T c → wrongCall T c ≡ false
-unfolding wrongCall
+unfolding wrongCall misplaced
 unjudged T c j = rw (j .known, j .count, j .within, j .isNode, j .hasChild, j .noRoot, j .byNode, j .run, j .editor)
 
 pub below-E : (T : Table) (l : List ℕ) → any (λ e. leb (length T) e) l ≡ false → All (λ e. e < length T) l
 below-E T l e = All-map (λ x h. leb-false (length T) x h) l (none-passes (λ x. leb (length T) x) l e)
 
-same-parent : (p q : Option ℕ) → sameParent p q ≡ true → p ≡ q
+pub same-parent : (p q : Option ℕ) → sameParent p q ≡ true → p ≡ q
 unfolding sameParent
 same-parent none none e = refl
 same-parent none (some q) e = bool-absurd e refl
 same-parent (some p) none e = bool-absurd e refl
 same-parent (some p) (some q) e = ap {B = Option ℕ} some (eqb-true p q e)
+
+pub parent-same : (p : Option ℕ) → sameParent p p ≡ true
+unfolding sameParent
+parent-same none = refl
+parent-same (some p) = eq-eqb p p refl
 
 -- "a run whose ends have different parents or are reversed" is refused
 pub right-run : (T : Table) (x y : ℕ) → wrongRun T x y ≡ false → (parent T x ≡ parent T y) × (child T x ≤ child T y)

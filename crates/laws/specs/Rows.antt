@@ -219,7 +219,7 @@ reach-child w cs e k r =
 mutual
   unfolding elements elementAt list forest
 
-  reach-tree : (t : Tree ℕ) (e : Element) (k : ℕ) → k < elements t → Reached (having e t) k
+  pub reach-tree : (t : Tree ℕ) (e : Element) (k : ℕ) → k < elements t → Reached (having e t) k
   reach-tree (token w own) e k h = record { path = []; found = having e (token w own); at = refl; number = omega arith }
   reach-tree (node w cs) e zero h = record { path = []; found = having e (node w cs); at = refl; number = omega arith }
   reach-tree (node w cs) e (suc k) h = reach-child w cs e k (reach-trees cs k (omega arith))

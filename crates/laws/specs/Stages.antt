@@ -2,7 +2,7 @@
 -- Assumes nothing.
 use mathlib.Core.Path.{_≡_, refl, ap, _∙_}
 use mathlib.Core.Bool.{Bool, true, false, cond}
-use mathlib.Core.List.{List, [], _∷_, _++_, map, foldl}
+use mathlib.Core.List.{List, [], _∷_, _++_, map, zipWith, foldl}
 use mathlib.Core.Option.{Option, none, some}
 use Prim.Native.Nat.{ℕ, zero, suc, _+_, _*_, _≤_, _<_}
 use native.Mathlib.Omega.{arith}
@@ -15,7 +15,7 @@ use Rattle.definition.specs.Basics.{Answer, refused, gives, refuse, orRefuse, k
 use Rattle.definition.specs.Elements.{Table, parent, child, placeBelow}
 use Rattle.definition.specs.Refusals.{Call, wrongCall}
 use Rattle.definition.specs.Recording.{Change, insert, replace, delete, replaceWithMany, replaceAll, change, call, merges, merged, merge, queued, Queues, recordCall, recorded}
-use Rattle.definition.specs.Planning.{Fate, own, dependent, discarded, Planned, Region, target, sorted, key, fates, planned}
+use Rattle.definition.specs.Planning.{Fate, own, dependent, discarded, Planned, Region, target, sorted, key, overlap, fatesFrom, fates, withFates, Judgement, overlaps, fated, planned, judge}
 use Rattle.definition.specs.Rewriting.{replacement, mappedOr, climb, trail, land, moved, retarget, rewriteInto, rewriteOne, rewriting, rewritten}
 use Rattle.definition.specs.Running.{news, owned, ranked, order}
 use Rattle.laws.specs.Basics.{All-append, All-keep, All-flatMap, total-append, total-le, total-zeros, total-flatMap}
@@ -139,16 +139,56 @@ module _ (f : Change → ℕ) (g : Call → ℕ) where
 
 -- ── Planning ────────────────────────────────────────────────────────────────────────────────────────────────
 
-module _ (T : Table) where
-  fates-changes : (k : ℕ) (stacks : List (List Region)) (cs : List Change) → map (λ p. p .change) (fates T k stacks cs) ≡ cs
-  unfolding fates
-  fates-changes k stacks [] = refl
-  fates-changes k stacks (c ∷ cs) = ap {B = List Change} (λ r. c ∷ r) (fates-changes (suc k) _ cs)
+-- changes with fates, as many of each: both are kept
+pub withFates-changes : (cs : List Change) (fs : List Fate) → length fs ≡ length cs → map (λ p. p .change) (withFates cs fs) ≡ cs
+unfolding withFates zipWith
+withFates-changes [] fs e = refl
+withFates-changes (c ∷ cs) [] e = absurd (omega arith)
+withFates-changes (c ∷ cs) (f ∷ fs) e = ap {B = List Change} (λ r. c ∷ r) (withFates-changes cs fs (omega arith))
 
-  -- planning keeps the changes
+pub withFates-fates : (cs : List Change) (fs : List Fate) → length fs ≡ length cs → map (λ p. p .fate) (withFates cs fs) ≡ fs
+unfolding withFates zipWith
+withFates-fates [] [] e = refl
+withFates-fates [] (f ∷ fs) e = absurd (omega arith)
+withFates-fates (c ∷ cs) [] e = absurd (omega arith)
+withFates-fates (c ∷ cs) (f ∷ fs) e = ap {B = List Fate} (λ r. f ∷ r) (withFates-fates cs fs (omega arith))
+
+module _ (T : Table) where
+  fatesFrom-length : (k : ℕ) (stacks : List (List Region)) (cs : List Change) → length (fatesFrom T k stacks cs) ≡ length cs
+  unfolding fatesFrom
+  fatesFrom-length k stacks [] = refl
+  fatesFrom-length k stacks (c ∷ cs) = ap suc (fatesFrom-length (suc k) _ cs)
+
+  -- as many fates as changes
+  pub fates-length : (cs : List Change) → length (fates T cs) ≡ length cs
+  unfolding fates
+  fates-length cs = fatesFrom-length 0 _ cs
+
+  -- planning keeps the changes, and gives each its fate
   pub planned-changes : (cs : List Change) → map (λ p. p .change) (planned T cs) ≡ cs
   unfolding planned
-  planned-changes cs = fates-changes 0 _ cs
+  planned-changes cs = withFates-changes cs (fates T cs) (fates-length cs)
+
+  pub planned-fates : (cs : List Change) → map (λ p. p .fate) (planned T cs) ≡ fates T cs
+  unfolding planned
+  planned-fates cs = withFates-fates cs (fates T cs) (fates-length cs)
+
+  -- changes that overlap are judged so, and others are planned
+  pub judge-overlap : (cs : List Change) (j k : ℕ) → overlap T cs ≡ some (j, k) → judge T cs ≡ overlaps j k
+  unfolding judge
+  judge-overlap cs j k e = rw (e, judge)
+
+  pub judge-disjoint : (cs : List Change) → overlap T cs ≡ none → judge T cs ≡ fated (planned T cs)
+  unfolding judge
+  judge-disjoint cs e = rw (e, judge)
+
+  pub judge-fated : (cs : List Change) (ps : List Planned) → judge T cs ≡ fated ps → (overlap T cs ≡ none) × (ps ≡ planned T cs)
+  unfolding judge
+  judge-fated cs ps e = go (overlap T cs) refl e
+    where
+      go : (o : Option (ℕ × ℕ)) → overlap T cs ≡ o → elim o as (λ _. Judgement) [ none ↦ fated (planned T cs) | some p ↦ overlaps (p .0) (p .1) ] ≡ fated ps → (overlap T cs ≡ none) × (ps ≡ planned T cs)
+      go none h e = (h, cc)
+      go (some p) h e = absurd (let z : _≡_ {A = ℕ} 0 1 = cc in omega arith)
 
   pub sorted-all : (P : Change → Type 0) (cs : List Change) → All P cs → All P (sorted T cs)
   unfolding sorted rising

@@ -13,11 +13,11 @@ use Rattle.definition.specs.Basics.{rising, lower}
 use Rattle.definition.specs.Elements.{Table}
 use Rattle.definition.specs.Refusals.{Call}
 use Rattle.definition.specs.Recording.{firstChild, after, Change, insert, replace, delete, replaceWithMany, replaceAll, call, recorded}
-use Rattle.definition.specs.Planning.{Fate, dependent, Planned, target, key, sorted, overlap, nodeByNode, planned}
+use Rattle.definition.specs.Planning.{Fate, dependent, Planned, target, key, sorted, overlap, nodeByNode, fates, withFates, planned}
 use Rattle.laws.specs.Basics.{map-All, getD-map}
 use Rattle.laws.specs.Right.{Right, judged, below-E}
 use Rattle.laws.specs.Sorting.{sort-all}
-use Rattle.laws.specs.Stages.{planned-changes}
+use Rattle.laws.specs.Stages.{planned-changes, planned-fates}
 use Rattle.syntax_editor.specs.ChangeRow.{ChangeRow, rowsOf, operation, endOf, changeRow}
 use Rattle.syntax_editor.specs.ChangeRowLaws.{rowAt, length-rowsOf, row-among}
 use Rattle.recording.specs.Recorded.{recordedAt, snd, recorded-changes}
@@ -25,13 +25,13 @@ use Rattle.recording.specs.RecordedRows.{rowFor, changeRows}
 use Rattle.edit_plan.specs.Rows.{rowKey, rowFate, withFate, fate-stated, row-tells, key-told}
 use Rattle.edit_plan.specs.Sorting.{sorted-rows, sorted-changes}
 use Rattle.edit_plan.specs.Overlap.{rowsOverlap, overlap-told}
-use Rattle.changed_region.specs.Fates.{plannedRows, planned-told}
+use Rattle.changed_region.specs.Fates.{plannedRows, fates-told}
 use Rattle.change_row.specs.Stated.{changeBy, newOf, changeOf, planOf, Rewritable, fate-dependent}
 use Rattle.change_row.specs.Exact.{recorded-states, recorded-exact, exact-stated}
 use Rattle.rewriting.specs.Rewritten.{noChange}
 use Rattle.rewriting.specs.Kept.{Kept}
 use Rattle.plan_model.specs.Recorded.{Known}
-use Rattle.plan_model.specs.Owners.{Owned, planned-owned}
+use Rattle.plan_model.specs.Owners.{Owned, fates-owned}
 
 -- ── Sorted ──────────────────────────────────────────────────────────────────────────────────────────────────
 
@@ -100,51 +100,65 @@ rows-each P (suc c) w h (suc i) b =
     let e : 13 * suc i ≡ 13 + 13 * i = omega arith in
     rw (e, ← drop-drop (13 * i) 13 w) (rows-each P c (drop 13 w) (h .1) i (omega arith))
 
-module _ (n : ℕ) (T : Table) (listed : List ℕ) (long : length T ≡ n) where
-  abbrev fated : ℕ × Change → Planned → ChangeRow
-  fated y p = withFate (rowFor T y) (p .fate)
+-- c rows with their fates, as the second stage goes by them
+pub record RowsFated (n : ℕ) (T : Table) (listed : List ℕ) (c : ℕ) (w : List ℕ) : Type 0 where
+  pub few : c ≤ 256
+  -- each is exact and states a change of elements
+  pub kept : All (Kept n T listed) (rowsOf c w)
+  -- a dependent's owner is a call 2 among them
+  pub owned : (i : ℕ) → i < c → (rowAt w i) .fate ≡ 1 → ((rowAt w i) .owner < c) × ((rowAt w ((rowAt w i) .owner)) .operation ≡ 2)
 
-  kept-one : (y : ℕ × Change) (f : Fate) → Known T listed y → Kept n T listed (withFate (changeRow T (y .0) (y .1)) f)
+-- what rewriting asks of them
+pub rewritable : (n : ℕ) (T : Table) (listed : List ℕ) (c : ℕ) (w : List ℕ) → RowsFated n T listed c w → 13 * c ≤ length w → All (λ e. e < n) listed → Rewritable n listed w c
+rewritable n T listed c w F fits elements =
+    record { few = F .few; long = fits; elements = elements; stated = λ i h. (rows-each (Kept n T listed) c w (F .kept) i h) .stated; owned = F .owned }
+
+module _ (n : ℕ) (T : Table) (listed : List ℕ) (long : length T ≡ n) where
+  -- the row of a change, with its fate
+  abbrev fatedRow : ℕ × Change → Fate → ChangeRow
+  fatedRow y f = withFate (rowFor T y) f
+
+  kept-one : (y : ℕ × Change) (f : Fate) → Known T listed y → Kept n T listed (fatedRow y f)
   unfolding withFate changeRow
   kept-one y f k =
       let e = recorded-exact T listed (y .0) f (y .1) (k .stands) in
       let b = right-ends T (y .1) (k .right) in
       record { exact = e; stated = exact-stated n T listed (withFate (changeRow T (y .0) (y .1)) f) e (operation-most (y .1)) (omega (arith, b .0)) (omega (arith, b .1)) (k .ends) }
 
-  zip-kept : (ys : List (ℕ × Change)) (ps : List Planned) → All (Known T listed) ys → All (Kept n T listed) (zipWith fated ys ps)
+  zip-kept : (ys : List (ℕ × Change)) (fs : List Fate) → All (Known T listed) ys → All (Kept n T listed) (zipWith fatedRow ys fs)
   unfolding zipWith
-  zip-kept [] ps k = tt
+  zip-kept [] fs k = tt
   zip-kept (y ∷ ys) [] k = tt
-  zip-kept (y ∷ ys) (p ∷ ps) k = (kept-one y (p .fate) (k .0), zip-kept ys ps (k .1))
+  zip-kept (y ∷ ys) (f ∷ fs) k = (kept-one y f (k .0), zip-kept ys fs (k .1))
 
-  zip-planned : (ys : List (ℕ × Change)) (ps : List Planned) → map (λ p. p .change) ps ≡ map snd ys → All (Known T listed) ys → map (planOf listed) (zipWith fated ys ps) ≡ ps
-  unfolding zipWith planOf
-  zip-planned [] [] e k = refl
-  zip-planned [] (p ∷ ps) e k = cc
-  zip-planned (y ∷ ys) [] e k = cc
-  zip-planned (y ∷ ys) (p ∷ ps) e k =
-      let a : p .change ≡ y .1 = cc in
-      let b : map (λ p. p .change) ps ≡ map snd ys = cc in
-      rw (recorded-states T listed (y .0) (p .fate) (y .1) (k .0 .stands), fate-stated (rowFor T y) (p .fate), ← a) (ap {B = List Planned} (λ l. p ∷ l) (zip-planned ys ps b (k .1)))
+  zip-planned : (ys : List (ℕ × Change)) (fs : List Fate) → All (Known T listed) ys → map (planOf listed) (zipWith fatedRow ys fs) ≡ withFates (map snd ys) fs
+  unfolding zipWith planOf withFates
+  zip-planned [] fs k = refl
+  zip-planned (y ∷ ys) [] k = refl
+  zip-planned (y ∷ ys) (f ∷ fs) k =
+      rw (recorded-states T listed (y .0) f (y .1) (k .0 .stands), fate-stated (rowFor T y) f) (ap {B = List Planned} (λ l. record { change = y .1; fate = f } ∷ l) (zip-planned ys fs (k .1)))
 
   module _ (cs : List Call) (known : All (Known T listed) (recordedAt cs)) where
     known-sorted : All (Known T listed) (sortedAt T cs)
     unfolding sortedAt rising
     known-sorted = sort-all (λ (x y : ℕ × Change). lower (key T (x .1)) (key T (y .1))) (Known T listed) (recordedAt cs) known
 
-    rows-fated : fatedRows T cs ≡ zipWith fated (sortedAt T cs) (planned T (map snd (sortedAt T cs)))
+    -- what becomes of the sorted changes
+    abbrev fs : List Fate
+    fs = fates T (map snd (sortedAt T cs))
+
+    rows-fated : fatedRows T cs ≡ zipWith fatedRow (sortedAt T cs) fs
     unfolding fatedRows
-    rows-fated = rw (rows-sorted T cs) (planned-told T (rowFor T) snd (λ x. row-tells T (x .0) (x .1)) (sortedAt T cs))
+    rows-fated = rw (rows-sorted T cs) (fates-told T (rowFor T) snd (λ x. row-tells T (x .0) (x .1)) (sortedAt T cs))
 
     -- every row is exact and states a change of elements
     pub fated-kept : All (Kept n T listed) (fatedRows T cs)
-    fated-kept = rw rows-fated (zip-kept (sortedAt T cs) (planned T (map snd (sortedAt T cs))) known-sorted)
+    fated-kept = rw rows-fated (zip-kept (sortedAt T cs) fs known-sorted)
 
     -- the rows tell the definition's planned changes
     pub fated-planned : map (planOf listed) (fatedRows T cs) ≡ planned T (sorted T (recorded cs))
-    fated-planned =
-        rw (rows-fated, changes-sorted T cs)
-        (zip-planned (sortedAt T cs) (planned T (map snd (sortedAt T cs))) (planned-changes T (map snd (sortedAt T cs))) known-sorted)
+    unfolding planned
+    fated-planned = rw (rows-fated, changes-sorted T cs) (zip-planned (sortedAt T cs) fs known-sorted)
 
     module _ (w : List ℕ) (c : ℕ) (rows : rowsOf c w ≡ fatedRows T cs) where
       abbrev S : List Change
@@ -159,14 +173,12 @@ module _ (n : ℕ) (T : Table) (listed : List ℕ) (long : length T ≡ n) where
       counted : length S ≡ c
       counted = ap length (sym stated-changes) ∙ (length-map (rowsOf c w) (changeOf listed) ∙ length-rowsOf c w)
 
-      kept-each : (i : ℕ) → i < c → Kept n T listed (rowAt w i)
-      kept-each = rows-each (Kept n T listed) c w (rw rows fated-kept)
-
       owned-each : (i : ℕ) → i < c → Owned T S (rowFate (rowAt w i))
       unfolding planOf
       owned-each =
           rows-each (λ r. Owned T S (rowFate r)) c w
-          (map-All (λ (p : Planned). Owned T S (p .fate)) (planOf listed) (rowsOf c w) (rw (rows, fated-planned) (planned-owned T S)))
+          (map-All (λ (p : Planned). Owned T S (p .fate)) (planOf listed) (rowsOf c w)
+          (rw (rows, fated-planned) (map-All (Owned T S) (λ (p : Planned). p .fate) (planned T S) (rw (planned-fates T S) (fates-owned T S)))))
 
       owner-at : (o : ℕ) → o < c → getD S o (delete 0) ≡ changeOf listed (rowAt w o)
       owner-at o h =
@@ -181,6 +193,6 @@ module _ (n : ℕ) (T : Table) (listed : List ℕ) (long : length T ≡ n) where
           let r : ChangeRow = rowAt w o in
           (b, owner-replaces T (r .operation) (r .target) (r .end) (getD listed (r .list) 0) (newOf listed r) (rw (owner-at o b) at (g .1)))
 
-      -- what rewriting asks of the rows
-      pub rewritable : c ≤ 256 → 13 * c ≤ length w → All (λ e. e < n) listed → Rewritable n listed w c
-      rewritable few fits elements = record { few = few; long = fits; elements = elements; stated = λ i h. (kept-each i h) .stated; owned = owner-is }
+      -- so the second stage may go on with the rows
+      pub fated-rows : c ≤ 256 → RowsFated n T listed c w
+      fated-rows few = record { few = few; kept = rw rows fated-kept; owned = owner-is }

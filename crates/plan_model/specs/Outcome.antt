@@ -1,6 +1,5 @@
 -- What planning makes of a batch, and each way out of it on rows.
 -- Assumes nothing.
-use mathlib.Core.Bool.{Bool, true, false}
 use mathlib.Core.List.{List, map, map-map}
 use mathlib.Core.Option.{Option, none, some}
 use mathlib.Core.Path.{_≡_, refl, sym, ap, _∙_, subst}
@@ -9,23 +8,27 @@ use lib.ListN.{length}
 use Rattle.orders.specs.Lists.{All}
 use Rattle.orders.specs.ListLaws.{All-map}
 use Rattle.orders.specs.Tree.{node, forest}
-use Rattle.definition.specs.Basics.{Answer, refused, gives, _>>=_, refuse, isSome, keep}
+use Rattle.definition.specs.Basics.{Answer, refused, gives, _>>=_, keep}
 use Rattle.definition.specs.Elements.{Table, table}
 use Rattle.definition.specs.Refusals.{Accepted, accepted}
 use Rattle.definition.specs.Recording.{recorded}
-use Rattle.definition.specs.Planning.{Planned, isDiscarded, sorted, planned}
+use Rattle.definition.specs.Planning.{Planned, isDiscarded, sorted, Judgement, overlaps, fated}
 use Rattle.definition.specs.Rewriting.{Note, mapping, rewritten}
 use Rattle.definition.specs.Running.{begin, ranked, order}
-use Rattle.definition.specs.Answers.{Plan, plan, performed, atFirst}
+use Rattle.definition.specs.Answers.{judgeChanges, Plan, rewriteChanges, plan, performed, atFirst}
+use Rattle.laws.specs.Answers.{gives-inj}
+use Rattle.laws.specs.Stages.{judge-overlap, judge-disjoint}
+use Rattle.laws.specs.Plans.{plan-overlap, plan-fated}
 use Rattle.element_table.specs.Told.{length-view}
 use Rattle.layout.specs.declared.Layout.{Layout}
 use Rattle.syntax_editor.specs.ChangeRow.{ChangeRow}
 use Rattle.edit_plan.specs.Overlap.{rowsOverlap}
 use Rattle.settling.specs.Notes.{noteOf, settledAt, settled-told}
 use Rattle.change_row.specs.Stated.{planOf}
+use Rattle.rewriting.specs.Kept.{Kept}
 use Rattle.rewriting.specs.Rewritten.{rewriteRows, toldRows, rewrite-told}
 use Rattle.store_model.specs.Store.{HeldNote, heldNote, store}
-use Rattle.plan_model.specs.Fated.{sortedRows, fatedRows, overlap-sorted, fated-planned, fated-kept}
+use Rattle.plan_model.specs.Fated.{sortedRows, fatedRows, overlap-sorted, fated-planned}
 use Rattle.plan_model.specs.Noted.{noteHeld, notes-held}
 use Rattle.plan_model.specs.Ready.{listedIn, callsIn, mappingsIn, notesIn, tableIn, acceptedIn, Facts}
 
@@ -49,6 +52,12 @@ outcome a p = record {
   climbs = p .climbs;
 }
 
+-- what the first stage finds of a batch, or its refusal out of 2 to 7
+unfoldable pub judging : List ℕ → Answer Judgement
+judging b = do
+  a ← accepted b
+  gives (judgeChanges a)
+
 -- THE PLAN of a batch, or its refusal out of 2 to 10
 unfoldable pub planning : List ℕ → Answer Outcome
 planning b = do
@@ -68,25 +77,22 @@ rowsOutcome T listed rs steps notes = record {
   climbs = steps;
 }
 
--- THE PLAN on rows: 8; then 9 and 10, "dependents from the last to the first, ... then notes in order"
-unfoldable pub planRows : Table → List ℕ → (ℕ → Option ℕ) → List ChangeRow → List ChangeRow → List (ℕ × ℕ) → Answer Plan
-planRows T listed mapped sorted fated noted = do
-  _ ← refuse 8 (isSome (rowsOverlap sorted))
-  q ← rewriteRows T mapped listed fated fated
+-- the second stage on rows with their fates: 9 and 10, "dependents from the last to the first, ... then notes in order"
+unfoldable pub rewriteFated : Table → List ℕ → (ℕ → Option ℕ) → List ChangeRow → List (ℕ × ℕ) → Answer Plan
+rewriteFated T listed mapped rows noted = do
+  q ← rewriteRows T mapped listed rows rows
   ns ← settledAt T mapped 0 noted
   gives (record { changes = map (planOf listed) (q .0); climbs = q .1; notes = map (noteOf T) ns })
 
 -- told change by change, or row by row
-rows-alike : (T : Table) (listed : List ℕ) (o : Bool) (R : Answer (List ChangeRow × ℕ)) (N : Answer (List (ℕ × ℕ × ℕ)))
-    → _≡_ {A = Answer Plan} (_>>=_ {B = Plan} (refuse 8 o) (λ _. _>>=_ {B = Plan} (toldRows listed R) (λ ps. _>>=_ {B = Plan} (_>>=_ {B = List Note} N (λ ns. gives (map (noteOf T) ns))) (λ notes. gives (record { changes = ps .0; climbs = ps .1; notes = notes })))))
-    (_>>=_ {B = Plan} (refuse 8 o) (λ _. _>>=_ {B = Plan} R (λ q. _>>=_ {B = Plan} N (λ ns. gives (record { changes = map (planOf listed) (q .0); climbs = q .1; notes = map (noteOf T) ns })))))
-unfolding _>>=_ refuse toldRows
-rows-alike T listed true R N = refl
-rows-alike T listed false (refused k) N = refl
-rows-alike T listed false (gives q) (refused k) = refl
-rows-alike T listed false (gives q) (gives ns) = refl
+rows-alike : (T : Table) (listed : List ℕ) (R : Answer (List ChangeRow × ℕ)) (N : Answer (List (ℕ × ℕ × ℕ)))
+    → _≡_ {A = Answer Plan} (_>>=_ {B = Plan} (toldRows listed R) (λ ps. _>>=_ {B = Plan} (_>>=_ {B = List Note} N (λ ns. gives (map (noteOf T) ns))) (λ notes. gives (record { changes = ps .0; climbs = ps .1; notes = notes }))))
+    (_>>=_ {B = Plan} R (λ q. _>>=_ {B = Plan} N (λ ns. gives (record { changes = map (planOf listed) (q .0); climbs = q .1; notes = map (noteOf T) ns }))))
+unfolding _>>=_ toldRows
+rows-alike T listed (refused k) N = refl
+rows-alike T listed (gives q) (refused k) = refl
+rows-alike T listed (gives q) (gives ns) = refl
 
--- what an accepted batch's rows become
 module _ {b : List ℕ} {l : Layout} {t s : List ℕ} (f : Facts b l t s) where
   abbrev T : Table
   T = tableIn l t s
@@ -94,44 +100,58 @@ module _ {b : List ℕ} {l : Layout} {t s : List ℕ} (f : Facts b l t s) where
   abbrev listed : List ℕ
   listed = listedIn l b
 
+  abbrev mapped : ℕ → Option ℕ
+  mapped = mapping (mappingsIn l b)
+
   abbrev a : Accepted
   a = acceptedIn l b t s (f .trees)
 
-  abbrev F : List ChangeRow
-  F = fatedRows T (callsIn l b)
+  -- ── The first stage ──
 
-  rewriting-told : rewritten T (mapping (mappingsIn l b)) (planned T (sorted T (recorded (callsIn l b)))) ≡ toldRows listed (rewriteRows T (mapping (mappingsIn l b)) listed F F)
-  unfolding rewritten planOf
-  rewriting-told =
-      let m = mapping (mappingsIn l b) in
+  judging-is : judging b ≡ gives (judgeChanges a)
+  unfolding judging _>>=_
+  judging-is = rw (f .accepted)
+
+  pub judged-overlap : (j k : ℕ) → rowsOverlap (sortedRows T (callsIn l b)) ≡ some (j, k) → judging b ≡ gives (overlaps j k)
+  unfolding judgeChanges
+  judged-overlap j k e = judging-is ∙ ap gives (judge-overlap T (sorted T (recorded (callsIn l b))) j k (sym (overlap-sorted T (callsIn l b)) ∙ e))
+
+  pub judged-fated : rowsOverlap (sortedRows T (callsIn l b)) ≡ none → judging b ≡ gives (fated (map (planOf listed) (fatedRows T (callsIn l b))))
+  unfolding judgeChanges
+  judged-fated e =
       let n : ℕ = l .sizes .elements in
-      let long = length-view n t s in
-      let kept = fated-kept n T listed long (callsIn l b) (f .recorded) in
-      ap (rewritten T m) (sym (fated-planned n T listed long (callsIn l b) (f .recorded)))
-      ∙ rw (map-map (λ (p : Planned). p .change) (planOf listed) F) (rewrite-told T m listed n F F (All-map (λ r k. k .stated) F kept))
+      let told = fated-planned n T listed (length-view n t s) (callsIn l b) (f .recorded) in
+      judging-is ∙ ap gives (judge-disjoint T (sorted T (recorded (callsIn l b))) (sym (overlap-sorted T (callsIn l b)) ∙ e) ∙ ap fated (sym told))
 
-  pub plan-rows : plan a ≡ planRows T listed (mapping (mappingsIn l b)) (sortedRows T (callsIn l b)) F (notesIn l b)
-  unfolding plan planRows
-  plan-rows =
-      rw (← overlap-sorted T (callsIn l b), rewriting-told, settled-told T (mapping (mappingsIn l b)) 0 (notesIn l b))
-      (rows-alike T listed (isSome (rowsOverlap (sortedRows T (callsIn l b)))) (rewriteRows T (mapping (mappingsIn l b)) listed F F) (settledAt T (mapping (mappingsIn l b)) 0 (notesIn l b)))
+  -- ── The second stage ──
 
   -- 8
-  pub out-overlap : (p : ℕ × ℕ) → rowsOverlap (sortedRows T (callsIn l b)) ≡ some p → planning b ≡ refused 8
-  unfolding planning planRows _>>=_ refuse isSome
-  out-overlap p e = rw (f .accepted, plan-rows, e)
+  pub out-overlap : (j k : ℕ) → judging b ≡ gives (overlaps j k) → planning b ≡ refused 8
+  unfolding planning _>>=_
+  out-overlap j k e = rw (f .accepted, plan-overlap a j k (gives-inj (sym judging-is ∙ e)))
 
-  module _ (disjoint : rowsOverlap (sortedRows T (callsIn l b)) ≡ none) where
+  -- whatever rows are fated, if they state changes of elements
+  module _ (rows : List ChangeRow) (judged : judging b ≡ gives (fated (map (planOf listed) rows))) (kept : All (Kept (l .sizes .elements) T listed) rows) where
+    rewriting-told : rewritten T mapped (map (planOf listed) rows) ≡ toldRows listed (rewriteRows T mapped listed rows rows)
+    unfolding rewritten planOf
+    rewriting-told = rw (map-map (λ (p : Planned). p .change) (planOf listed) rows) (rewrite-told T mapped listed (l .sizes .elements) rows rows (All-map (λ r k. k .stated) rows kept))
+
+    plan-rows : plan a ≡ rewriteFated T listed mapped rows (notesIn l b)
+    unfolding rewriteChanges rewriteFated
+    plan-rows =
+        rw (plan-fated a (map (planOf listed) rows) (gives-inj (sym judging-is ∙ judged)), rewriting-told, settled-told T mapped 0 (notesIn l b))
+        (rows-alike T listed (rewriteRows T mapped listed rows rows) (settledAt T mapped 0 (notesIn l b)))
+
     -- 9 or 10 of a dependent
-    pub out-dependents : (k : ℕ) → rewriteRows T (mapping (mappingsIn l b)) listed F F ≡ refused k → planning b ≡ refused k
-    unfolding planning planRows _>>=_ refuse isSome
-    out-dependents k g = rw (f .accepted, plan-rows, disjoint, g)
+    pub out-dependents : (k : ℕ) → rewriteRows T mapped listed rows rows ≡ refused k → planning b ≡ refused k
+    unfolding planning rewriteFated _>>=_
+    out-dependents k g = rw (f .accepted, plan-rows, g)
 
-    module _ (rs : List ChangeRow) (steps : ℕ) (rewrote : rewriteRows T (mapping (mappingsIn l b)) listed F F ≡ gives (rs, steps)) where
+    module _ (rs : List ChangeRow) (steps : ℕ) (rewrote : rewriteRows T mapped listed rows rows ≡ gives (rs, steps)) where
       -- 9 or 10 of a note
-      pub out-notes : (k : ℕ) → settledAt T (mapping (mappingsIn l b)) 0 (notesIn l b) ≡ refused k → planning b ≡ refused k
-      unfolding planning planRows _>>=_ refuse isSome
-      out-notes k g = rw (f .accepted, plan-rows, disjoint, rewrote, g)
+      pub out-notes : (k : ℕ) → settledAt T mapped 0 (notesIn l b) ≡ refused k → planning b ≡ refused k
+      unfolding planning rewriteFated _>>=_
+      out-notes k g = rw (f .accepted, plan-rows, rewrote, g)
 
       held : (ns : List (ℕ × ℕ × ℕ)) → All (λ m. m .0 < l .sizes .elements) ns → map (heldNote (node 2147483648 (forest (f .trees)))) (map (noteOf T) ns) ≡ map noteHeld ns
       held ns low =
@@ -139,7 +159,7 @@ module _ {b : List ℕ} {l : Layout} {t s : List ℕ} (f : Facts b l t s) where
           ap (λ (U : Table). map (heldNote (node 2147483648 (forest (f .trees)))) (map (noteOf U) ns)) (f .table) ∙ notes-held (f .trees) 2147483648 ns low′
 
       -- nothing is refused
-      pub out-made : (ns : List (ℕ × ℕ × ℕ)) → settledAt T (mapping (mappingsIn l b)) 0 (notesIn l b) ≡ gives ns → All (λ m. m .0 < l .sizes .elements) ns
+      pub out-made : (ns : List (ℕ × ℕ × ℕ)) → settledAt T mapped 0 (notesIn l b) ≡ gives ns → All (λ m. m .0 < l .sizes .elements) ns
           → planning b ≡ gives (rowsOutcome T listed rs steps (map noteHeld ns))
-      unfolding planning planRows outcome performed atFirst begin store _>>=_ refuse isSome
-      out-made ns g low = rw (f .accepted, plan-rows, disjoint, rewrote, g, held ns low)
+      unfolding planning rewriteFated outcome performed atFirst begin store _>>=_
+      out-made ns g low = rw (f .accepted, plan-rows, rewrote, g, held ns low)

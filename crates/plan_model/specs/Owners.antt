@@ -10,7 +10,7 @@ use Rattle.orders.specs.Lists.{All}
 use Rattle.orders.specs.ListLaws.{both-true, All-getD, All-set}
 use Rattle.definition.specs.Elements.{Table, tree}
 use Rattle.definition.specs.Recording.{Change, delete}
-use Rattle.definition.specs.Planning.{Fate, own, dependent, discarded, isDiscarded, Region, contains, around, fate, target, from, to, addsRegion, nodeByNode, inner, pushed, fates, planned}
+use Rattle.definition.specs.Planning.{Fate, own, dependent, discarded, isDiscarded, Region, contains, around, fate, target, from, to, addsRegion, nodeByNode, inner, pushed, fatesFrom, fates}
 
 -- ── Lists ───────────────────────────────────────────────────────────────────────────────────────────────────
 
@@ -66,17 +66,17 @@ module _ (T : Table) (cs : List Change) where
       go true = (makes (not (isDiscarded (fate rs)) && nodeByNode T c) (λ q. both-true (not (isDiscarded (fate rs))) (nodeByNode T c) q .1), h)
       go false = h
 
-  fates-owned : (k : ℕ) (stacks : List (List Region)) (ds : List Change) → drop k cs ≡ ds → All OwnedAll stacks → All (λ p. Owned (p .fate)) (fates T k stacks ds)
-  unfolding fates
-  fates-owned k stacks [] e h = tt
-  fates-owned k stacks (c ∷ ds) e h =
+  from-owned : (k : ℕ) (stacks : List (List Region)) (ds : List Change) → drop k cs ≡ ds → All OwnedAll stacks → All Owned (fatesFrom T k stacks ds)
+  unfolding fatesFrom
+  from-owned k stacks [] e h = tt
+  from-owned k stacks (c ∷ ds) e h =
       let t : ℕ = tree T (target c) in
       let rs : List Region = around (from T c) (to T c) (getD stacks t []) in
       let g : OwnedAll rs = around-owned (from T c) (to T c) (getD stacks t []) (All-getD OwnedAll [] tt stacks t h) in
       let f = front k cs c (delete 0) ds e in
-      (fate-owned rs g, fates-owned (suc k) (set stacks t (pushed T k c rs)) ds (f .2) (All-set OwnedAll stacks t (pushed T k c rs) (pushed-owned k c rs (f .0) (f .1) g) h))
+      (fate-owned rs g, from-owned (suc k) (set stacks t (pushed T k c rs)) ds (f .2) (All-set OwnedAll stacks t (pushed T k c rs) (pushed-owned k c rs (f .0) (f .1) g) h))
 
   -- each dependent has such an owner
-  pub planned-owned : All (λ p. Owned (p .fate)) (planned T cs)
-  unfolding planned
-  planned-owned = fates-owned 0 (replicate 16 []) cs refl (replicate-all OwnedAll 16 [] tt)
+  pub fates-owned : All Owned (fates T cs)
+  unfolding fates
+  fates-owned = from-owned 0 (replicate 16 []) cs refl (replicate-all OwnedAll 16 [] tt)

@@ -14,7 +14,7 @@ use Rattle.orders.specs.Lists.{All}
 use Rattle.orders.specs.ListLaws.{bool-absurd, either-false, none-some, some-inj, map-some, All-map, All-map₂, none-passes}
 use Rattle.definition.specs.Basics.{any, among}
 use Rattle.definition.specs.Elements.{Table}
-use Rattle.definition.specs.Refusals.{Call, operationOf, countOf, calls, wrongCount, wrongCall}
+use Rattle.definition.specs.Refusals.{countOf, Call, callOf, calls, wrongCount, wrongCall}
 use Rattle.definition.specs.Recording.{Change, change, run, replaceWithMany, replaceAll}
 use Rattle.definition.specs.Running.{news}
 use Rattle.laws.specs.Basics.{All-append, map-All}
@@ -38,7 +38,7 @@ listed-elements T (c ∷ cs) l r e q = go (leb (countOf (c .0)) (length l)) refl
     k = countOf (c .0)
 
     d : Call
-    d = callAs (operationOf (c .0)) (c .1) (take k l)
+    d = callOf (c .0) (c .1) (take k l)
 
     go : (t : Bool) → leb k (length l) ≡ t → cond t (Option·map (λ r. d ∷ r) (calls cs (drop k l))) none ≡ some r
         → ((m : List Call) → calls cs (drop k l) ≡ some m → any (wrongCall T) m ≡ false → All (λ e. e < length T) (drop k l))
@@ -94,7 +94,7 @@ all-end T L (c ∷ cs) at l r e q w = go (leb (countOf (c .0)) (length l)) refl 
     k = countOf (c .0)
 
     d : Call
-    d = callAs (operationOf (c .0)) (c .1) (take k l)
+    d = callOf (c .0) (c .1) (take k l)
 
     asks : wrongCall T d ≡ false → k ≤ length l → Asks (EndsIn L) (askedAt at d)
     asks a h = one (eqb (d .operation) 6) (ends T (length L) at (c .1) (d .operation) (take k l) a (rw (length-take-le k l h) (omega arith)))

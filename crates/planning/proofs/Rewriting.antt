@@ -1,25 +1,27 @@
 -- Rewriting: what the callees ask, and a dependent is refused or the rows are rewritten.
 -- Assumes nothing.
-use mathlib.Core.List.{List, zip}
+use mathlib.Core.List.{List, map, zip}
 use mathlib.Core.Path.{_≡_, sym, ap, _∙_}
 use Prim.Native.Nat.{ℕ, _≤_}
 use native.Mathlib.Omega.{arith}
 use lib.ListN.{length}
 use Rattle.definition.specs.Elements.{Table}
+use Rattle.definition.specs.Basics.{gives}
+use Rattle.definition.specs.Planning.{fated}
 use Rattle.definition.specs.Rewriting.{mapping}
-use Rattle.element_table.specs.Told.{length-view}
 use Rattle.syntax_editor.specs.ChangeRow.{rowsOf}
 use Rattle.mapping.specs.Mapped.{wordsAt, mappedBy, Mapped, mappingWords, Bounded, mapped-words, mapped-elements, bounded-more}
-use Rattle.change_row.specs.Stated.{Rewritable}
+use Rattle.change_row.specs.Stated.{planOf, Rewritable}
 use Rattle.rewriting.specs.Answers.{rewrittenBy, stepsOf, RowsRewritten}
 use Rattle.rewriting.specs.declared.Rewritten.{Rewritten}
 use Rattle.rewriting.specs.declared.Rewritten.the-variants.{Steps, Refused as NotRewritten}
 use Rattle.layout.specs.declared.Layout.{Layout}
 use Rattle.plan_model.specs.Fated.{rewritable}
-use Rattle.plan_model.specs.Ready.{listedIn, callsIn, mappingsIn, tableIn, Ready, Facts, ready-facts}
-use Rattle.plan_model.specs.Outcome.{out-dependents}
-use Rattle.planning.specs.Stages.{Fated, Rewriting, Rewrote}
+use Rattle.plan_model.specs.Ready.{listedIn, mappingsIn, tableIn, Ready, Facts, ready-facts}
+use Rattle.plan_model.specs.Outcome.{judging, out-dependents}
+use Rattle.planning.specs.Stages.{judgedBy, ChangesJudged, Rewriting, Rewrote}
 use Rattle.planning.specs.Answers.{plannedBy, PlanMade}
+use Rattle.planning.specs.declared.Judgement.the-variants.{Fated}
 use Rattle.planning.specs.declared.Planned.the-variants.{Refused}
 
 module _ {b : List ℕ} {l : Layout} {t s : List ℕ} (r : Ready b l t s) where
@@ -54,28 +56,37 @@ module _ {b : List ℕ} {l : Layout} {t s : List ℕ} (r : Ready b l t s) where
     unfolding wordsAt
     map-told = rw e (mapped-words k n mappingsAt (bounded k low))
 
-    module _ {c : ℕ} {w : List ℕ} (F : Fated b l t s c w) where
+    module _ {c : ℕ} {w : List ℕ} (F : ChangesJudged b l t s w (Fated c)) where
       pub rows-rewritable : 3328 ≤ length w → Rewritable n (wordsAt b (l .list) (l .sizes .listed)) w c
       unfolding wordsAt
-      rows-rewritable long = rewritable n T (listedIn l b) (length-view n t s) (callsIn l b) (facts .recorded) w c (F .rows) (F .few) (omega (arith, F .few)) (facts .elements)
+      rows-rewritable long = rewritable n T (listedIn l b) c w (F .within) (omega (arith, F .within .few)) (facts .elements)
 
-      pub rows-rewriting : {out : List ℕ} {q : Rewritten} → RowsRewritten n t s m (wordsAt b (l .list) (l .sizes .listed)) w c out q → Rewriting b l t s m c out q
+      pub rows-rewriting : {out : List ℕ} {q : Rewritten} → RowsRewritten n t s m (wordsAt b (l .list) (l .sizes .listed)) w c out q → Rewriting b l t s m (rowsOf c w) c out q
       unfolding wordsAt
-      rows-rewriting R = record { mapped = map-mapped; mappings = map-told; rows = R .rows ∙ rw (map-told, F .rows); climbs = omega (arith, R .few, F .few) }
+      rows-rewriting R = record { mapped = map-mapped; mappings = map-told; rows = R .rows ∙ rw map-told; climbs = omega (arith, R .few, F .within .few) }
 
-module _ {b : List ℕ} {l : Layout} {t s : List ℕ} {c : ℕ} {w : List ℕ} (F : Fated b l t s c w) {m out : List ℕ} {q : Rewritten} (R : Rewriting b l t s m c out q) where
+module _ {b : List ℕ} {l : Layout} {t s : List ℕ} {c : ℕ} {w : List ℕ} (F : ChangesJudged b l t s w (Fated c)) {m out : List ℕ} {q : Rewritten} (R : Rewriting b l t s m (rowsOf c w) c out q) where
+  were : judging b ≡ gives (fated (map (planOf (listedIn l b)) (rowsOf c w)))
+  unfolding judgedBy
+  were = sym (F .answer)
+
   -- 9 or 10 of a dependent
   pub dependents-refused : Ready b l t s → (k : ℕ) → q ≡ NotRewritten k → (changes running first : List ℕ) → PlanMade b l t s changes running first (Refused k)
   unfolding plannedBy rewrittenBy
   dependents-refused r k z changes running first =
-      record { answer = sym (out-dependents (ready-facts r) (F .disjoint) k (sym (R .rows) ∙ ap (λ (p : Rewritten). rewrittenBy p (rowsOf c out)) z)); within = tt }
+      record {
+        answer = sym (out-dependents (ready-facts r) (rowsOf c w) were (F .within .kept) k (sym (R .rows) ∙ ap (λ (p : Rewritten). rewrittenBy p (rowsOf c out)) z));
+        within = tt;
+      }
 
   pub dependents-rewritten : (k : ℕ) → q ≡ Steps k → Rewrote b l t s m c k out
   unfolding rewrittenBy stepsOf
   dependents-rewritten k z =
       record {
-        few = F .few;
-        disjoint = F .disjoint;
+        few = F .within .few;
+        before = rowsOf c w;
+        judged = were;
+        kept = F .within .kept;
         mapped = R .mapped;
         mappings = R .mappings;
         rewrote = sym (R .rows) ∙ ap (λ (p : Rewritten). rewrittenBy p (rowsOf c out)) z;

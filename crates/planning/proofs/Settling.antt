@@ -16,7 +16,7 @@ use Rattle.definition.specs.Rewriting.{mapping}
 use Rattle.definition.specs.Running.{ranked, order}
 use Rattle.laws.specs.Answers.{gives-inj, refused-gives, both-given}
 use Rattle.element_table.specs.Told.{length-view}
-use Rattle.syntax_editor.specs.ChangeRow.{ChangeRow, rowsOf}
+use Rattle.syntax_editor.specs.ChangeRow.{rowsOf}
 use Rattle.syntax_editor.specs.ChangeRowLaws.{rowAt, length-rowsOf}
 use Rattle.mapping.specs.Mapped.{mappedBy}
 use Rattle.settling.specs.Notes.{settledAt, noteWords}
@@ -28,10 +28,9 @@ use Rattle.postorder.specs.Counting.{running-most}
 use Rattle.change_row.specs.Stated.{planOf}
 use Rattle.rewriting.specs.Kept.{Kept, rewritten-kept}
 use Rattle.layout.specs.declared.Layout.{Layout}
-use Rattle.plan_model.specs.Fated.{fatedRows, fated-kept}
 use Rattle.plan_model.specs.Running.{running-low, running-told}
 use Rattle.plan_model.specs.Noted.{noteHeld, notes-pasted, length-settled, length-pairs}
-use Rattle.plan_model.specs.Ready.{listedIn, callsIn, mappingsIn, notesIn, tableIn, Ready, Facts, ready-facts}
+use Rattle.plan_model.specs.Ready.{listedIn, mappingsIn, notesIn, tableIn, Ready, Facts, ready-facts}
 use Rattle.plan_model.specs.Outcome.{rowsOutcome, out-notes, out-made}
 use Rattle.annotations.specs.Notes.{notesOf}
 use Rattle.planning.specs.Counted.{discardedOf, discarded-told}
@@ -76,13 +75,10 @@ module _ {b : List ℕ} {l : Layout} {t s : List ℕ} (r : Ready b l t s) {m : L
     notes-refused k e running first =
         let a : settles ≡ refused k =
         is-refused settles (λ ns. gives (paste before 0 (noteWords ns) (3 * l .sizes .notes))) k (λ ns. (_, refl)) (sym (ap (λ (p : Notes). notesBy p after) e) ∙ (N .words ∙ rw same-settles)) in
-        record { answer = sym (out-notes facts (R .disjoint) (rowsOf c w) steps (R .rewrote) k a); within = tt }
+        record { answer = sym (out-notes facts (R .before) (R .judged) (R .kept) (rowsOf c w) steps (R .rewrote) k a); within = tt }
 
     rows-kept : All (Kept n T listed) (rowsOf c w)
-    rows-kept =
-        let long = length-view n t s in
-        let F : List ChangeRow = fatedRows T (callsIn l b) in
-        rewritten-kept n T (mapping (mappingsIn l b)) listed long F F (rowsOf c w, steps) (fated-kept n T listed long (callsIn l b) (facts .recorded)) (R .rewrote)
+    rows-kept = rewritten-kept n T (mapping (mappingsIn l b)) listed (length-view n t s) (R .before) (R .before) (rowsOf c w, steps) (R .kept) (R .rewrote)
 
     module _ (e : q ≡ Settled) {runs discarded : ℕ} {running : List ℕ} (rest : List ℕ) (er : runs ≡ length (runningPlaces w c)) (ew : running ≡ runningPlaces w c ++ rest)
         (ed : (discarded ≡ discardedOf (rowsOf c w)) × (discarded ≤ c)) where
@@ -117,7 +113,7 @@ module _ {b : List ℕ} {l : Layout} {t s : List ℕ} (r : Ready b l t s) {m : L
           let none-lost = ed .0 ∙ sym (discarded-told listed (rowsOf c w)) in
           let same : outcomeIn l b w running after counts ≡ rowsOutcome T listed (rowsOf c w) steps (map noteHeld ns) = λ i. record { changes = ps; running = runs-told i; notes = notes i; discarded = none-lost i; climbs = steps } in
           record {
-            answer = ap gives same ∙ sym (out-made facts (R .disjoint) (rowsOf c w) steps (R .rewrote) ns a low);
+            answer = ap gives same ∙ sym (out-made facts (R .before) (R .judged) (R .kept) (rowsOf c w) steps (R .rewrote) ns a low);
             within = record {
               few = R .few;
               most = omega (arith, running-most w c);

@@ -1,4 +1,5 @@
-// Planning: from an accepted batch to the changes that run, in order, and the notes where they settle; refusals 8, 9 and 10.
+// Planning: from an accepted batch to the changes that run, in order, and the notes where they settle; refusals 8, 9 and 10. In two stages: what becomes of
+// each change (`judge_changes`), then where dependents and notes go.
 use edit_plan::Replacements;
 use layout::Layout;
 use rewriting::Rewritten;
@@ -11,8 +12,9 @@ ghost use Rattle.mapping.specs.Mapped.{Mapped};
 ghost use Rattle.settling.specs.Answers.{NotesSettled};
 ghost use Rattle.plan_model.specs.Ready.{notesIn, Ready};
 ghost use Rattle.planning.specs.Counted.{discardedOf};
-ghost use Rattle.planning.specs.Stages.{Sorted, Fated, Rewriting, Rewrote};
+ghost use Rattle.planning.specs.Stages.{Sorted, ChangesJudged, Rewriting, Rewrote};
 ghost use Rattle.planning.specs.Answers.{PlanMade};
+ghost use Rattle.planning.specs.declared.Judgement.the-variants.{Fated};
 
 // Of a plan: how many change rows, how many of them run, how many are discarded, and the climb steps.
 pub struct Counts {
@@ -20,6 +22,12 @@ pub struct Counts {
     pub runs: usize,
     pub discarded: usize,
     pub climbs: usize,
+}
+
+// What the first stage finds: two changes overlap, at these places of the sorted order, or each of so many changes has its fate.
+pub enum Judgement {
+    Overlap(usize, usize),
+    Fated(usize),
 }
 
 // A refusal, by its number, or a plan.
@@ -75,6 +83,30 @@ fn record_and_sort(
     );
     edit_plan::sort_rows(recorded, c, order, sorted);
     c
+}
+
+// The first stage: the recorded changes in sorted order are judged, and unless two overlap, `sorted` holds their rows with what becomes of each.
+pub fn judge_changes(
+    b: &[u8],
+    l: Layout,
+    table: &[u32],
+    source: &[u32],
+    recorded: &mut [u32],
+    order: &mut [u32],
+    sorted: &mut [u32],
+) -> Judgement
+    requires { ⌜ Ready (now b) l (now table) (now source) ⌝ }
+    requires { ⌜ (3328 ≤ length (now recorded)) × (256 ≤ length (now order)) × (3328 ≤ length (now sorted)) ⌝ }
+    ensures { λ r. ⌜ ChangesJudged (now (b .entry)) l (now (table .entry)) (now (source .entry)) (now (sorted .exit)) r ⌝ }
+{
+    let c = record_and_sort(b, l, table, source, recorded, order, sorted);
+    match edit_plan::replacements_are_disjoint(sorted, c) {
+        Replacements::Overlap(j, k) => Judgement::Overlap(j, k),
+        Replacements::Disjoint => {
+            changed_region::plan_fates(sorted, c);
+            Judgement::Fated(c)
+        }
+    }
 }
 
 // The notes of a batch with this layout settle, and are written to `first`.
@@ -150,9 +182,9 @@ fn rewrite(
     changes: &mut [u32],
 ) -> Rewritten
     requires { ⌜ Ready (now b) l (now table) (now source) ⌝ }
-    requires { ⌜ Fated (now b) l (now table) (now source) c (now sorted) ⌝ }
+    requires { ⌜ ChangesJudged (now b) l (now table) (now source) (now sorted) (Fated c) ⌝ }
     requires { ⌜ (3328 ≤ length (now sorted)) × (2048 ≤ length (now map)) × (3328 ≤ length (now changes)) ⌝ }
-    ensures { λ r. ⌜ Rewriting (now (b .entry)) l (now (table .entry)) (now (source .entry)) (now (map .exit)) c (now (changes .exit)) r ⌝ }
+    ensures { λ r. ⌜ Rewriting (now (b .entry)) l (now (table .entry)) (now (source .entry)) (now (map .exit)) (rowsOf c (now (sorted .entry))) c (now (changes .exit)) r ⌝ }
 {
     let s = l.sizes;
     mapping::fill_mapping(b, l.inputs, l.outputs, s.mappings, map);
@@ -170,7 +202,7 @@ fn rewrite(
     )
 }
 
-// Dependents are rewritten, then the notes settle: the plan, or 9 or 10.
+// The second stage: dependents are rewritten, then the notes settle: the plan, or 9 or 10.
 fn rewrite_and_settle(
     b: &[u8],
     l: Layout,
@@ -185,7 +217,7 @@ fn rewrite_and_settle(
     first: &mut [u32],
 ) -> Planned
     requires { ⌜ Ready (now b) l (now table) (now source) ⌝ }
-    requires { ⌜ Fated (now b) l (now table) (now source) c (now sorted) ⌝ }
+    requires { ⌜ ChangesJudged (now b) l (now table) (now source) (now sorted) (Fated c) ⌝ }
     requires { ⌜ (3328 ≤ length (now sorted)) × (3328 ≤ length (now rewritten)) × (256 ≤ length (now order)) × (256 ≤ length (now running)) × (2048 ≤ length (now map)) × (768 ≤ length (now first)) ⌝ }
     ensures { λ r. ⌜ PlanMade (now (b .entry)) l (now (table .entry)) (now (source .entry)) (now (rewritten .exit)) (now (running .exit)) (now (first .exit)) r ⌝ }
 {
@@ -227,11 +259,9 @@ pub fn plan(
     requires { ⌜ (3328 ≤ length (now recorded)) × (3328 ≤ length (now sorted)) × (3328 ≤ length (now changes)) × (256 ≤ length (now order)) × (256 ≤ length (now running)) × (2048 ≤ length (now map)) × (768 ≤ length (now first)) ⌝ }
     ensures { λ r. ⌜ PlanMade (now (b .entry)) l (now (table .entry)) (now (source .entry)) (now (changes .exit)) (now (running .exit)) (now (first .exit)) r ⌝ }
 {
-    let c = record_and_sort(b, l, table, source, recorded, order, sorted);
-    match edit_plan::replacements_are_disjoint(sorted, c) {
-        Replacements::Overlap(_, _) => Planned::Refused(8),
-        Replacements::Disjoint => {
-            changed_region::plan_fates(sorted, c);
+    match judge_changes(b, l, table, source, recorded, order, sorted) {
+        Judgement::Overlap(_, _) => Planned::Refused(8),
+        Judgement::Fated(c) => {
             rewrite_and_settle(
                 b,
                 l,

@@ -12,7 +12,7 @@ use Rattle.definition.specs.Basics.{Answer, refused, gives, _>>=_, refuse, any}
 use Rattle.definition.specs.Finishing.{Result, encoded, fitting}
 use Rattle.definition.specs.Answers.{edit, edited, tooShort, withWork}
 use Rattle.definition.specs.FindElement.{findElement}
-use Rattle.laws.specs.Limits.{edit-within, encoded-within}
+use Rattle.laws.specs.Limits.{edit-within, mostBytes, encoded-within}
 use Rattle.result_words.specs.Worded.{Bytes, edit-worded}
 use Rattle.result_words.specs.Decoded.{decoded}
 use Rattle.result_words.specs.Encoded.{decoded-encoded}
@@ -24,8 +24,8 @@ pub record Lent (b held : List ℕ) (work : List (List ℕ)) : Type 0 where
   pub works : tooShort (lengths needed work) ≡ false
   pub room : (R : Result) → edit b ≡ gives R → length (encoded R) ≤ length held
 
--- 61,464 bytes are room for every answer.
-pub lent-most : (b held : List ℕ) (work : List (List ℕ)) → tooShort (lengths needed work) ≡ false → 61464 ≤ length held → Lent b held work
+-- As much room as the longest result needs is room for every answer.
+pub lent-most : (b held : List ℕ) (work : List (List ℕ)) → tooShort (lengths needed work) ≡ false → mostBytes ≤ length held → Lent b held work
 lent-most b held work h k = record { works = h; room = λ R e. omega (arith, encoded-within b R e) }
 
 -- what an answer leaves: its refusal, and all that was held; or the number of its bytes, and these with what was held beyond them

@@ -17,7 +17,7 @@ use Rattle.definition.specs.Answers.{edit, tooShort}
 use Rattle.definition.specs.FindElement.{findElement}
 use Rattle.definition.specs.Printed.{ascii, print, printed}
 use Rattle.definition.specs.Computing.{computed}
-use Rattle.definition.specs.Examples.{Told, inBytes, Summary, Short, short, marked, further, told, answered, printedCase, printedLines, withNotes, withNotesLines, examples}
+use Rattle.definition.specs.Examples.{Told, inLists, inBytes, Summary, Short, short, marked, further, told, answered, printedCase, printedLines, withNotes, withNotesLines, examples}
 use Rattle.laws.specs.Answers.{gives-inj, refused-gives}
 use Rattle.result_words.specs.Worded.{Bytes, take-bytes, tested-bytes}
 use Rattle.result_words.specs.Decoded.{decoded}
@@ -111,7 +111,7 @@ foundIn = (1, gives (some 2)) ∷ (2, gives none) ∷ (11, gives none) ∷ []
 
 -- the batches of the tables are of bytes
 in-bytes : (beyondBytes marked ≡ false) × (beyondBytes further ≡ false) × (any (leb 256) (inBytes printedCase) ≡ false) × (any (leb 256) (inBytes withNotes) ≡ false)
-unfolding computed inBytes
+unfolding computed inLists inBytes
 in-bytes = (refl, refl, refl, refl)
 
 -- THE EXAMPLES of document 01, for the code: each marked and each further example becomes what is told of it, the printed case and `withNotes` print their

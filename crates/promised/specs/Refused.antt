@@ -11,19 +11,19 @@ use lib.ListN.{length, getD}
 use borrow.Author.Tests.{ltb-true, ltb-false, eqb-true, not-false}
 use Rattle.orders.specs.ListLaws.{bool-absurd, either-false}
 use Rattle.orders.specs.Tree.{Path}
-use Rattle.definition.specs.Basics.{Answer, refused, gives, _>>=_, refuse, orRefuse, isSome, any, among}
+use Rattle.definition.specs.Basics.{Answer, refused, gives, _>>=_, refuse, orRefuse, any, among}
 use Rattle.definition.specs.Batch.{batch, sizes, beyond, whole}
 use Rattle.definition.specs.Elements.{Table, table, spelled, node?, parent, child, placeBelow, descend}
 use Rattle.definition.specs.Refusals.{calls, wrongCall, wrongMapping, wrongNote, Accepted, accepted}
-use Rattle.definition.specs.Recording.{Change, insert, replace, delete, replaceWithMany, replaceAll, call, recorded}
-use Rattle.definition.specs.Planning.{Fate, own, dependent, discarded, Planned, target, sorted, overlap, planned}
+use Rattle.definition.specs.Recording.{Change, insert, replace, delete, replaceWithMany, replaceAll, call}
+use Rattle.definition.specs.Planning.{Fate, own, dependent, discarded, Planned, target, Judgement, overlaps, fated}
 use Rattle.definition.specs.Rewriting.{mapping, replacement, mappedOr, climb, trail, land, moved, retarget, rewriteInto, rewriteOne, rewriting, rewritten, nearest, isParent, noteFrom, settle, settled}
 use Rattle.definition.specs.Running.{World, place, yield, news, spliced, tooLarge, records, step, steps}
 use Rattle.definition.specs.Finishing.{Result, result, encoded, fitting}
-use Rattle.definition.specs.Answers.{Plan, plan, performed, atFirst, ran, edit, edited, tooShort, withWork}
+use Rattle.definition.specs.Answers.{judgeChanges, disjoint, rewriteChanges, Plan, plan, performed, atFirst, ran, edit, edited, tooShort, withWork}
 use Rattle.definition.specs.FindElement.{findIn, findElement}
 use Rattle.laws.specs.Answers.{refused-gives}
-use Rattle.laws.specs.Limits.{encoded-within}
+use Rattle.laws.specs.Limits.{mostBytes, encoded-within}
 use Rattle.work.specs.Slices.{needed, lengths}
 use Rattle.work.specs.Promises.{Edits, Finds, applied, found, short-edited, long-edited, long-found}
 
@@ -201,15 +201,19 @@ module _ (T : Table) (mapped : ℕ → Option ℕ) where
   settled-by i [] = tt
   settled-by i (n ∷ ns) = by-then planLines (settle T mapped (length T) (n .0)) _ (settle-by (length T) (n .0)) λ e. by-then planLines (settled T mapped (suc i) ns) _ (settled-by (suc i) ns) λ rest. tt
 
+disjoint-by : (j : Judgement) → By planLines (disjoint j)
+unfolding disjoint among any
+disjoint-by (overlaps i k) = refl
+disjoint-by (fated ps) = tt
+
 -- Planning refuses by 8 to 10.
 pub plan-by : (a : Accepted) → By planLines (plan a)
-unfolding plan rewritten among any
+unfolding plan rewriteChanges rewritten among any
 plan-by a =
     let T = a .table in
-    let cs = sorted T (recorded a.calls) in
     let mapped = mapping a.mappings in
-    by-then planLines (refuse 8 (isSome (overlap T cs))) _ (by-refuse planLines 8 _ refl) λ u.
-    by-then planLines (rewritten T mapped (planned T cs)) _ (rewriting-by T mapped (map (λ p. p .change) (planned T cs)) (planned T cs)) λ ps.
+    by-then planLines (disjoint (judgeChanges a)) _ (disjoint-by (judgeChanges a)) λ ps.
+    by-then planLines (rewritten T mapped ps) _ (rewriting-by T mapped (map (λ p. p .change) ps) ps) λ rs.
     by-then planLines (settled T mapped 0 a.notes) _ (settled-by T mapped 0 a.notes) λ notes. tt
 
 -- ── Lines 11 and 12 ─────────────────────────────────────────────────────────────────────────────────────────
@@ -318,8 +322,8 @@ refused-why b held work r holds left p k e = go (tooShort (lengths needed work))
     go true t = rw (← refused-inj (number (refused 1) (short-edited work b (length held) t))) (workShort t)
     go false t = answer (edit b) refl (long-edited work b (length held) t)
 
--- With 61,464 bytes of room 13 never comes.
-pub never-13 : (b held : List ℕ) (work : List (List ℕ)) (r : Answer ℕ) (holds : List ℕ) (left : List (List ℕ)) → Edits b held work r holds left → 61464 ≤ length held → r ≡ refused 13 → ⊥
+-- With room for the most bytes that a result has 13 never comes.
+pub never-13 : (b held : List ℕ) (work : List (List ℕ)) (r : Answer ℕ) (holds : List ℕ) (left : List (List ℕ)) → Edits b held work r holds left → mostBytes ≤ length held → r ≡ refused 13 → ⊥
 never-13 b held work r holds left p h e = go 13 refl (refused-why b held work r holds left p 13 e)
   where
     go : (k : ℕ) → k ≡ 13 → Why b held work k → ⊥

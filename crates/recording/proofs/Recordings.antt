@@ -320,22 +320,18 @@ module _ {T : Table} {n : ℕ} {b : List ℕ} {heads targets calls list listed :
         written = rw (e, length-rowsOf count w, rows-written count w (omega (arith, v .long, v .high, v .inside)), ← v .beyond) (sym (take-append-drop (13 * count) w));
       }
 
-  module _ (h : i < calls) {word₁ x : ℕ} (ew : word₁ ≡ word (drop (heads + 4 * i) b)) (ex : x ≡ word (drop (targets + 4 * i) b)) where
-    abbrev k : ℕ
-    k = word₁ / 256
-
+  module _ (h : i < calls) {word₁ x k : ℕ} (ew : word₁ ≡ word (drop (heads + 4 * i) b)) (ex : x ≡ word (drop (targets + 4 * i) b)) (ek : k ≡ countOf word₁) where
     abbrev m : List ℕ
     m = drop (list + 4 * taken) b
 
     more : callsFrom b heads targets calls i ≡ (word₁, x) ∷ callsFrom b heads targets calls (i + 1)
     more = rw (ew, ex) (calls-more b heads targets calls i h)
 
-    front : k ≤ listed - taken
-    unfolding countOf
-    front = let f = rw more at (v .fit) in omega (arith, f .0, length-words (listed - taken) m)
+    pub recording-front : k ≤ listed - taken
+    recording-front = let f = rw more at (v .fit) in omega (arith, f .0, length-words (listed - taken) m)
 
     parts : listed - taken ≡ k + (listed - (taken + k))
-    parts = omega (arith, front, v .few)
+    parts = omega (arith, recording-front, v .few)
 
     taking : take k (words (listed - taken) m) ≡ words k m
     taking = take-words k (listed - (taken + k)) (listed - taken) m parts
@@ -346,8 +342,7 @@ module _ {T : Table} {n : ℕ} {b : List ℕ} {heads targets calls list listed :
         drop-words k (listed - (taken + k)) (listed - taken) m parts ∙ rw (drop-drop (4 * k) (list + 4 * taken) b, e)
 
     fits : (x < n) × All (λ e. e < n) (words k m) × Fit n (callsFrom b heads targets calls (i + 1)) (words (listed - (taken + k)) (drop (list + 4 * (taken + k)) b))
-    unfolding countOf
-    fits = let f = rw more at (v .fit) in (f .1, rw taking at (f .2), rw left at (f .3))
+    fits = let f = rw (more, ← ek) at (v .fit) in (f .1, rw taking at (f .2), rw left at (f .3))
 
     head-below : (l : List ℕ) → All (λ e. e < n) l → 0 < n → headD l 0 < n
     unfolding headD
@@ -360,28 +355,28 @@ module _ {T : Table} {n : ℕ} {b : List ℕ} {heads targets calls list listed :
         record {
           target = f .0;
           first = head-below (words k m) (f .1) (omega (arith, f .0));
-          inside = omega (arith, front, v .few, s .listWithin);
+          inside = omega (arith, recording-front, v .few, s .listWithin);
           low = omega (arith, v .few, s .fewListed);
-          few = omega (arith, front, s .fewListed);
+          few = omega (arith, recording-front, s .fewListed);
         }
 
-    turn : rowsAsked T taken (callsOf (callsFrom b heads targets calls i) (words (listed - taken) m))
-        ≡ Option·map (rowFor T) (askedAt taken (callAs (word₁ % 256) x (words k m))) ∷ rowsAsked T (taken + k) (callsOf (callsFrom b heads targets calls (i + 1)) (words (listed - (taken + k)) (drop (list + 4 * (taken + k)) b)))
-    unfolding callsOf allAsked operationOf countOf
-    turn = rw (more, taking, left, length-words k m)
+    turn : {op : ℕ} → op ≡ operationOf word₁ → rowsAsked T taken (callsOf (callsFrom b heads targets calls i) (words (listed - taken) m))
+        ≡ Option·map (rowFor T) (askedAt taken (callAs op x (words k m))) ∷ rowsAsked T (taken + k) (callsOf (callsFrom b heads targets calls (i + 1)) (words (listed - (taken + k)) (drop (list + 4 * (taken + k)) b)))
+    unfolding callsOf allAsked
+    turn e = rw (more, ← ek, taking, left, length-words k m, e)
 
-    pub recording-next : {start′ count′ : ℕ} {w′ : List ℕ} → CallPut T taken (callAs (word₁ % 256) x (words k m)) start count w start′ count′ w′ → length w′ ≡ length w → Recording T n b heads targets calls list listed w₀ start′ count′ (taken + k) (i + 1) w′
-    recording-next {start′} {count′} {w′} p l =
+    pub recording-next : {op : ℕ} → op ≡ operationOf word₁ → {start′ count′ : ℕ} {w′ : List ℕ} → CallPut T taken (callAs op x (words k m)) start count w start′ count′ w′ → length w′ ≡ length w → Recording T n b heads targets calls list listed w₀ start′ count′ (taken + k) (i + 1) w′
+    recording-next eo {start′} {count′} {w′} p l =
         let rest : List (Option ChangeRow) = rowsAsked T (taken + k) (callsOf (callsFrom b heads targets calls (i + 1)) (words (listed - (taken + k)) (drop (list + 4 * (taken + k)) b))) in
         let j : ℕ = 13 * count′ - 13 * count in
         let e : 13 * count′ ≡ 13 * count + j = omega (arith, p .low) in
         record {
           inside = omega arith;
-          few = omega (arith, front, v .few);
+          few = omega (arith, recording-front, v .few);
           sound = p .sound;
           high = omega (arith, p .high, v .high);
           long = l ∙ v .long;
           fit = fits .2;
           beyond = p .beyond ∙ rw (e, ← drop-drop j (13 * count) w, v .beyond, drop-drop j (13 * count) w₀);
-          verdict = v .verdict ∙ (ap (λ (cs : List (Option ChangeRow)). through meetsRow mergedRow (take start (rowsOf count w)) (drop start (rowsOf count w)) cs) turn ∙ p .step rest);
+          verdict = v .verdict ∙ (ap (λ (cs : List (Option ChangeRow)). through meetsRow mergedRow (take start (rowsOf count w)) (drop start (rowsOf count w)) cs) (turn eo) ∙ p .step rest);
         }

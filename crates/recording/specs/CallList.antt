@@ -1,6 +1,6 @@
 -- The calls of a batch, one by one.
 -- Assumes nothing.
-use mathlib.Core.Bool.{Bool, true, false, cond, not, _&&_, _||_}
+use mathlib.Core.Bool.{Bool, true, false, cond}
 use mathlib.Core.List.{List, [], _∷_, headD, zip, zipWith}
 use mathlib.Core.Option.{Option, none, some, Option·map}
 use mathlib.Core.Path.{_≡_, refl, sym, ap, _∙_}
@@ -8,14 +8,15 @@ use Prim.Native.Nat.{ℕ, suc, _+_, _-_, _*_, _^_, _≤_, _<_}
 use native.Mathlib.Omega.{arith}
 use lib.ListN.{length, take, drop}
 use lib.Seq.{drop-drop}
-use lib.Dec.{leb, ltb, eqb}
-use borrow.Author.Tests.{leb-true, leb-false}
+use lib.Dec.{leb}
+use borrow.Author.Tests.{leb-true}
 use Rattle.orders.specs.Lists.{All}
-use Rattle.orders.specs.ListLaws.{bool-absurd, either-false, none-some, some-inj, map-some}
-use Rattle.definition.specs.Basics.{any, among}
-use Rattle.definition.specs.Elements.{Table, node?, root?}
-use Rattle.definition.specs.Refusals.{Call, operationOf, countOf, calls, wrongCount, childless, wrongRun, wrongCall}
+use Rattle.orders.specs.ListLaws.{either-false, none-some, some-inj, map-some}
+use Rattle.definition.specs.Basics.{any}
+use Rattle.definition.specs.Elements.{Table}
+use Rattle.definition.specs.Refusals.{countOf, Call, callOf, calls, wrongCall}
 use Rattle.definition.specs.Words.{word, words}
+use Rattle.laws.specs.Right.{judged, below-E}
 use Rattle.syntax_editor.specs.ChangeRow.{ChangeRow, rowsOf}
 use Rattle.recording.specs.Queueing.{through}
 use Rattle.recording.specs.Recorded.{askedAt}
@@ -30,7 +31,7 @@ callAs op x l = record { operation = op; target = x; listed = l }
 -- from call words with their targets, and the listed elements: each call takes its count of them
 unfoldable pub callsOf : List (ℕ × ℕ) → List ℕ → List Call
 callsOf [] l = []
-callsOf (c ∷ cs) l = callAs (operationOf (c .0)) (c .1) (take (countOf (c .0)) l) ∷ callsOf cs (drop (countOf (c .0)) l)
+callsOf (c ∷ cs) l = callOf (c .0) (c .1) (take (countOf (c .0)) l) ∷ callsOf cs (drop (countOf (c .0)) l)
 
 -- each call has its count of listed elements; its target and all these are below n
 abbrev pub Fit : ℕ → List (ℕ × ℕ) → List ℕ → Type 0
@@ -39,27 +40,9 @@ Fit n (c ∷ cs) l = (countOf (c .0) ≤ length l) × (c .1 < n) × All (λ e. e
 
 -- ── What line 6 accepts ─────────────────────────────────────────────────────────────────────────────────────
 
-below-all : (n : ℕ) (l : List ℕ) → any (λ e. leb n e) l ≡ false → All (λ e. e < n) l
-unfolding any
-below-all n [] q = tt
-below-all n (e ∷ l) q = let h = either-false (leb n e) (any (λ e. leb n e) l) q in (leb-false n e (h .0), below-all n l (h .1))
-
-third : (a b c d e f g h i : Bool) → (a || b || c || d || e || f || g || h || i) ≡ false → c ≡ false
-third true b c d e f g h i q = bool-absurd refl q
-third false true c d e f g h i q = bool-absurd refl q
-third false false true d e f g h i q = bool-absurd refl q
-third false false false d e f g h i q = refl
-
 -- a call that is not wrong names elements only
 pub names-elements : (T : Table) (c : Call) → wrongCall T c ≡ false → All (λ e. e < length T) (c .target ∷ c .listed)
-unfolding wrongCall
-names-elements T c q =
-    let op : ℕ = c .operation in
-    let x : ℕ = c .target in
-    let y : ℕ = headD (c .listed) 0 in
-    below-all (length T) (x ∷ c .listed)
-    (third (ltb 6 op) (wrongCount op (length (c .listed))) (any (λ e. leb (length T) e) (x ∷ c .listed)) (eqb op 0 && not (node? T x)) (eqb op 0 && childless T x)
-    (among (1 ∷ 3 ∷ 4 ∷ 5 ∷ []) op && root? T x) (eqb op 2 && root? T x && not (node? T y)) (eqb op 5 && wrongRun T x y) (eqb op 6 && not (eqb x 0)) q)
+names-elements T c q = below-E T (c .target ∷ c .listed) ((judged T c q) .within)
 
 -- the calls of an accepted batch are these, and fit
 pub accepted-calls : (T : Table) (cs : List (ℕ × ℕ)) (l : List ℕ) (r : List Call) → calls cs l ≡ some r → any (wrongCall T) r ≡ false → (r ≡ callsOf cs l) × Fit (length T) cs l
@@ -69,7 +52,7 @@ accepted-calls T [] (x ∷ l) r e q = none-some e
 accepted-calls T (c ∷ cs) l r e q = go (leb (countOf (c .0)) (length l)) refl e (accepted-calls T cs (drop (countOf (c .0)) l))
   where
     d : Call
-    d = callAs (operationOf (c .0)) (c .1) (take (countOf (c .0)) l)
+    d = callOf (c .0) (c .1) (take (countOf (c .0)) l)
 
     go : (t : Bool) → leb (countOf (c .0)) (length l) ≡ t → cond t (Option·map (λ r. d ∷ r) (calls cs (drop (countOf (c .0)) l))) none ≡ some r
         → ((m : List Call) → calls cs (drop (countOf (c .0)) l) ≡ some m → any (wrongCall T) m ≡ false → (m ≡ callsOf cs (drop (countOf (c .0)) l)) × Fit (length T) cs (drop (countOf (c .0)) l))

@@ -1,6 +1,6 @@
 -- The elements that a recorded change puts in stand in the batch's list where its row says.
 -- Assumes nothing.
-use mathlib.Core.Bool.{Bool, true, false, cond, not, _&&_, _||_}
+use mathlib.Core.Bool.{Bool, true, false, cond}
 use mathlib.Core.List.{List, [], _∷_, headD, tail}
 use mathlib.Core.Option.{none, some, Option·map}
 use mathlib.Core.Path.{_≡_, refl, sym, ap, _∙_}
@@ -8,15 +8,16 @@ use Prim.Native.Nat.{ℕ, zero, suc, _+_, _≤_}
 use native.Mathlib.Omega.{arith}
 use lib.ListN.{length, take, drop}
 use lib.Seq.{drop-drop, length-take-le}
-use lib.Dec.{leb, ltb, eqb}
+use lib.Dec.{leb, eqb}
 use borrow.Author.Tests.{leb-true, ne-eqb, le-ltb}
 use Rattle.orders.specs.Lists.{All}
 use Rattle.orders.specs.ListLaws.{bool-absurd, either-false, none-some, some-inj, map-some}
 use Rattle.definition.specs.Basics.{any, among}
-use Rattle.definition.specs.Elements.{Table, node?, root?}
-use Rattle.definition.specs.Refusals.{Call, operationOf, countOf, calls, wrongCount, childless, wrongRun, wrongCall}
+use Rattle.definition.specs.Elements.{Table}
+use Rattle.definition.specs.Refusals.{operationOf, countOf, Call, callOf, calls, wrongCount, wrongCall}
 use Rattle.definition.specs.Recording.{Change, change, run, replaceWithMany, replaceAll}
 use Rattle.definition.specs.Running.{news}
+use Rattle.laws.specs.Right.{judged}
 use Rattle.recording.specs.Queueing.{Asks, through-all}
 use Rattle.recording.specs.Recorded.{newsAt, askedAt, allAsked, isDelete, meetsAt, mergedAt, recordedAt}
 use Rattle.recording.specs.CallList.{callAs}
@@ -34,20 +35,6 @@ merged-stands l c d a b = go (isDelete (d .1))
     go false = a
 
 -- ── One call ────────────────────────────────────────────────────────────────────────────────────────────────
-
-second : (a b c d e f g h i : Bool) → (a || b || c || d || e || f || g || h || i) ≡ false → b ≡ false
-second true b c d e f g h i q = bool-absurd refl q
-second false true c d e f g h i q = bool-absurd refl q
-second false false c d e f g h i q = refl
-
-right-count : (T : Table) (c : Call) → wrongCall T c ≡ false → wrongCount (c .operation) (length (c .listed)) ≡ false
-unfolding wrongCall
-right-count T c q =
-    let op : ℕ = c .operation in
-    let x : ℕ = c .target in
-    let y : ℕ = headD (c .listed) 0 in
-    second (ltb 6 op) (wrongCount op (length (c .listed))) (any (λ e. leb (length T) e) (x ∷ c .listed)) (eqb op 0 && not (node? T x)) (eqb op 0 && childless T x)
-    (among (1 ∷ 3 ∷ 4 ∷ 5 ∷ []) op && root? T x) (eqb op 2 && root? T x && not (node? T y)) (eqb op 5 && wrongRun T x y) (eqb op 6 && not (eqb x 0)) q
 
 take-same : (k : ℕ) (l : List ℕ) → k ≤ length l → take (length (take k l)) l ≡ take k l
 take-same k l h = rw (length-take-le k l h)
@@ -106,7 +93,7 @@ all-stand T L (c ∷ cs) at l r e q w = go (leb (countOf (c .0)) (length l)) ref
     k = countOf (c .0)
 
     d : Call
-    d = callAs (operationOf (c .0)) (c .1) (take k l)
+    d = callOf (c .0) (c .1) (take k l)
 
     go : (t : Bool) → leb k (length l) ≡ t → cond t (Option·map (λ r. d ∷ r) (calls cs (drop k l))) none ≡ some r
         → ((at : ℕ) (l : List ℕ) (r : List Call) → drop at L ≡ l → calls cs l ≡ some r → any (wrongCall T) r ≡ false → All (Asks (StandsIn L)) (allAsked at r))
@@ -117,7 +104,7 @@ all-stand T L (c ∷ cs) at l r e q w = go (leb (countOf (c .0)) (length l)) ref
         let (a, b) = either-false (wrongCall T d) (any (wrongCall T) m) (rw (← er) at w) in
         let h : k ≤ length l = leb-true k (length l) t in
         let n : drop (at + length (take k l)) L ≡ drop k l = rw (length-take-le k l h, ← drop-drop k at L, e) in
-        rw (← er) (asks L at (c .1) k l e h (operationOf (c .0)) (right-count T d a), f (at + length (take k l)) (drop k l) m n em b)
+        rw (← er) (asks L at (c .1) k l e h (operationOf (c .0)) ((judged T d a) .count), f (at + length (take k l)) (drop k l) m n em b)
 
 -- the elements that a recorded change of an accepted batch puts in stand in the batch's list, from its place on
 pub recorded-stand : (T : Table) (cs : List (ℕ × ℕ)) (l : List ℕ) (r : List Call) → calls cs l ≡ some r → any (wrongCall T) r ≡ false → All (StandsIn l) (recordedAt r)

@@ -146,12 +146,13 @@ pub fn record_calls(
     while i < calls {
         let word = words::read_word(b, words + 4 * i);
         let target = words::read_word(b, targets + 4 * i);
+        let count = calls::count_of(word);
         q = record_call(
             b,
             list + 4 * taken,
             taken,
-            word % 256,
-            word / 256,
+            calls::operation_of(word),
+            count,
             target,
             n,
             table,
@@ -159,7 +160,7 @@ pub fn record_calls(
             q,
             rows,
         );
-        taken += word / 256;
+        taken += count;
         i += 1;
     }
     q.count

@@ -14,7 +14,7 @@ use Rattle.orders.specs.Lists.{All}
 use Rattle.orders.specs.ListLaws.{lt-or-le, All-map}
 use Rattle.definition.specs.Basics.{any}
 use Rattle.definition.specs.Words.{word, words}
-use Rattle.definition.specs.Refusals.{operationOf, countOf, wrongCount, wrongCall}
+use Rattle.definition.specs.Refusals.{operationOf, countOf, callOf, wrongCount, wrongCall}
 use Rattle.words.specs.Bytes.{length-words, take-words, drop-words}
 use Rattle.definition.specs.Elements.{Table}
 use Rattle.element_table.specs.View.{view}
@@ -24,7 +24,7 @@ use Rattle.element_table.specs.Told.{length-view}
 use Rattle.calls.specs.Fits.{countFits, callFits, judged}
 use Rattle.laws.specs.Right.{neither, none-passes}
 use Rattle.layout.specs.Truth.{or-true, twice}
-use Rattle.refusals.specs.Called.{callOf, callsFit, fit-end, fit-more}
+use Rattle.refusals.specs.Called.{callsFit, fit-end, fit-more}
 
 -- ── One call ────────────────────────────────────────────────────────────────────────────────────────────────
 
@@ -46,21 +46,20 @@ first-below n x y l u h g q d = rw d (head-below n l (omega arith) (all-below n 
 module _ (n : ℕ) (w r : List ℕ) (word x : ℕ) (m : List ℕ) (k : ℕ) (e : k ≡ countOf word) where
   module _ (op : ℕ) (f : op ≡ operationOf word) (t : Bool) (g : t ≡ countFits op k) where
     pub wrong-count : not t ≡ true → false ≡ not (wrongCall (view n w r) (callOf word x (words (countOf word) m)))
-    unfolding wrongCall callOf countFits
+    unfolding wrongCall countFits
     wrong-count q = rw (length-words (countOf word) m, ← e, ← f, not-false (ltb 6 op || wrongCount op k) (sym g ∙ not-true t q))
 
   pub wrong-target : n ≤ x → false ≡ not (wrongCall (view n w r) (callOf word x (words (countOf word) m)))
-  unfolding wrongCall callOf any
+  unfolding wrongCall any
   wrong-target h = rw (length-view n w r, le-leb n x h, or-true)
 
   module _ (u : Bool) (g : u ≡ not (any (leb n) (words k m))) where
     pub wrong-listed : not u ≡ true → false ≡ not (wrongCall (view n w r) (callOf word x (words (countOf word) m)))
-    unfolding wrongCall callOf any
+    unfolding wrongCall any
     wrong-listed q = rw (length-view n w r, ← e, not-false (any (leb n) (words k m)) (sym g ∙ not-true u q), or-true, or-true)
 
     pub call-judged : (op : ℕ) → op ≡ operationOf word → (t : Bool) → t ≡ countFits op k → not t ≡ false → x < n → not u ≡ false → (y : ℕ) → y ≡ headD (words k m) 0 → (v : Bool) → v ≡ callFits (view n w r) op x y
         → v ≡ not (wrongCall (view n w r) (callOf word x (words (countOf word) m)))
-    unfolding callOf
     call-judged op f t a b h q y d v z =
         let s = all-below n (words k m) (not-true _ (sym g ∙ not-false u q)) in
         let j = judged n w r (callOf word x (words k m)) (h, s) in

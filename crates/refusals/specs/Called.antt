@@ -9,11 +9,7 @@ use lib.ListN.{length, take, drop}
 use lib.Dec.{leb, eqb, eqb·suc-zero}
 use Rattle.definition.specs.Basics.{any}
 use Rattle.definition.specs.Elements.{Table}
-use Rattle.definition.specs.Refusals.{Call, operationOf, countOf, calls, wrongCall}
-
--- the call that a call word, a target and its own listed elements make
-unfoldable pub callOf : ℕ → ℕ → List ℕ → Call
-callOf word target listed = record { operation = operationOf word; target = target; listed = listed }
+use Rattle.definition.specs.Refusals.{countOf, Call, callOf, calls, wrongCall}
 
 -- the counts add up, and no call is wrong
 unfoldable pub noneWrong : Table → Option (List Call) → Bool
@@ -34,7 +30,7 @@ module _ (T : Table) where
   -- a call, and those after it
   pub fit-more : (w x : ℕ) (cs : List (ℕ × ℕ)) (l : List ℕ)
       → callsFit T ((w, x) ∷ cs) l ≡ (leb (countOf w) (length l) && (not (wrongCall T (callOf w x (take (countOf w) l))) && callsFit T cs (drop (countOf w) l)))
-  unfolding callsFit noneWrong calls any callOf
+  unfolding callsFit noneWrong calls any
   fit-more w x cs l = go (leb (countOf w) (length l)) (calls cs (drop (countOf w) l))
     where
       c : Call

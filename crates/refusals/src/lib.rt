@@ -7,25 +7,11 @@ ghost use lib.ListN.{length, drop};
 ghost use lib.Dec.{leb};
 ghost use Rattle.definition.specs.Basics.{any};
 ghost use Rattle.definition.specs.Words.{words as wordsOf};
-ghost use Rattle.definition.specs.Refusals.{operationOf, countOf, wrongCall, wrongMapping};
+ghost use Rattle.definition.specs.Refusals.{countOf, callOf, wrongCall, wrongMapping};
 ghost use Rattle.element_table.specs.View.{view};
 ghost use Rattle.element_table.specs.Wellformed.{Wellformed};
-ghost use Rattle.refusals.specs.Called.{callOf, callsFit};
+ghost use Rattle.refusals.specs.Called.{callsFit};
 ghost use Rattle.refusals.specs.Noted.{noteWrong};
-
-// The operation of a call word.
-pub fn operation_of(word: usize) -> usize
-    ensures { λ r. ⌜ r ≡ operationOf word ⌝ }
-{
-    word % 256
-}
-
-// How many elements a call word says that the call lists.
-pub fn count_of(word: usize) -> usize
-    ensures { λ r. ⌜ r ≡ countOf word ⌝ }
-{
-    word / 256
-}
 
 // Whether the `count` words at `from` are all below `n`.
 fn all_below(b: &[u8], from: usize, count: usize, n: usize) -> bool
@@ -56,8 +42,8 @@ fn call_stands(
     requires { ⌜ from + 4 * countOf word ≤ length (now b) ⌝ }
     ensures { λ r. ⌜ r ≡ not (wrongCall (view n (now (table .entry)) (now (source .entry))) (callOf word target (wordsOf (countOf word) (drop from (now (b .entry)))))) ⌝ }
 {
-    let operation = operation_of(word);
-    let count = count_of(word);
+    let operation = calls::operation_of(word);
+    let count = calls::count_of(word);
     if !calls::count_fits(operation, count) {
         return false;
     }
@@ -92,7 +78,7 @@ pub fn calls_fit(
     while i < calls {
         let word = words::read_word(b, words + 4 * i);
         let target = words::read_word(b, targets + 4 * i);
-        let count = count_of(word);
+        let count = calls::count_of(word);
         if listed - taken < count {
             return false;
         }

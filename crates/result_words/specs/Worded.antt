@@ -13,15 +13,14 @@ use borrow.Author.Tests.{leb-false}
 use Rattle.orders.specs.Lists.{All, pick}
 use Rattle.orders.specs.ListLaws.{none-passes, some-inj, none-some, All-map₂, All-over, All-pick, map-some, bind-some}
 use Rattle.orders.specs.Tree.{Tree, node, token, list, label, measure, text, preorder, children, elementsOf, Path, resolve, adjust, strip}
-use Rattle.definition.specs.Basics.{gives, refuse, orRefuse, isSome, any, rising}
+use Rattle.definition.specs.Basics.{gives, refuse, orRefuse, any, rising}
 use Rattle.definition.specs.Words.{word, words}
 use Rattle.definition.specs.Batch.{Batch, sizes, beyond, whole, arrays, batch}
 use Rattle.definition.specs.Elements.{Table, table, pieces, grow, unspelled, spelled, descend}
 use Rattle.definition.specs.Finishing.{newTree, newTable, numberAt, changedElements, noteElements, Result, result}
 use Rattle.definition.specs.Refusals.{Accepted, accepted, calls, wrongCall, wrongMapping, wrongNote}
-use Rattle.definition.specs.Recording.{recorded}
-use Rattle.definition.specs.Answers.{Plan, plan, performed, atFirst, ran, edit}
-use Rattle.definition.specs.Planning.{Planned, sorted, overlap, planned}
+use Rattle.definition.specs.Answers.{judgeChanges, disjoint, Plan, rewriteChanges, plan, performed, atFirst, ran, edit}
+use Rattle.definition.specs.Planning.{Planned}
 use Rattle.definition.specs.Rewriting.{Note, settle, settled, mapping, rewritten}
 use Rattle.definition.specs.Running.{World, begin, present, withPath, notesAt, Yield, yieldAt, yield, news, Run, place, placed, spliced, tooLarge, records, step, steps}
 use Rattle.laws.specs.Basics.{All-append, append-All, flatMap-append, All-flatMap, All-take, map-All}
@@ -212,10 +211,10 @@ settled-kept T mapped i (n ∷ ns) notes h e =
     rw (← gives-inj e) (h .0, settled-kept T mapped (suc i) ns rest (h .1) x)
 
 plan-kept : (a : Accepted) (p : Plan) → All (λ n. Word (n .1)) a.notes → plan a ≡ gives p → All (λ n. Word (n .number)) p.notes
-unfolding plan
+unfolding plan rewriteChanges
 plan-kept a p h e =
-    given (refuse 8 (isSome (overlap a.table (sorted a.table (recorded a.calls))))) _ e λ _ _ e.
-    given (rewritten a.table (mapping a.mappings) (planned a.table (sorted a.table (recorded a.calls)))) _ e λ _ _ e.
+    given (disjoint (judgeChanges a)) _ e λ ps _ e.
+    given (rewritten a.table (mapping a.mappings) ps) _ e λ _ _ e.
     given (settled a.table (mapping a.mappings) 0 a.notes) _ e λ notes x e.
     rw (← gives-inj e) (settled-kept a.table (mapping a.mappings) 0 a.notes notes h x)
 

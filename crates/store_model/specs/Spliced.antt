@@ -18,7 +18,7 @@ use Rattle.rows.specs.Place.{sizeAll, place, spliceRows, markOf, movedMark, Hel
 use Rattle.rows.specs.PlaceLaws.{rows-splice}
 use Rattle.rows.specs.Moves.{adjust-place}
 use Rattle.rows.specs.Marks.{marks-follow, places-follow, new-place}
-use Rattle.store_model.specs.Store.{HeldNote, Store, heldNote, store, withRow, newRows, placedParts, splicedStore}
+use Rattle.store_model.specs.Store.{HeldNote, HeldChanged, Store, heldNote, store, withRow, newRows, placedParts, splicedStore}
 use Rattle.store_model.specs.Gaps.{gapAt}
 use Rattle.store_model.specs.Parts.{pick-square, partIn}
 
@@ -78,7 +78,7 @@ module _ (t : Tree ℕ) (q : Path) where
 
 -- ── The whole ───────────────────────────────────────────────────────────────────────────────────────────────
 
-pub store-same : {r r′ : List Row} {m m′ : List ℕ} {n n′ : List HeldNote} {c c′ : List ℕ} → r ≡ r′ → m ≡ m′ → n ≡ n′ → c ≡ c′
+pub store-same : {r r′ : List Row} {m m′ : List ℕ} {n n′ : List HeldNote} {c c′ : List HeldChanged} → r ≡ r′ → m ≡ m′ → n ≡ n′ → c ≡ c′
     → _≡_ {A = Store} (record { rows = r; marks = m; notes = n; changed = c }) (record { rows = r′; marks = m′; notes = n′; changed = c′ })
 store-same e f g h = rw (e, f, g, h)
 

@@ -25,6 +25,10 @@ pub record HeldNote : Type 0 where
   pub number : ℕ
   pub place : ℕ
 
+-- a changed element: its row
+abbrev pub HeldChanged : Type 0
+HeldChanged = ℕ
+
 pub record Store : Type 0 where
   -- all current trees, the root of all first
   pub rows : List Row
@@ -33,7 +37,7 @@ pub record Store : Type 0 where
   -- the notes, in the order in which they are held
   pub notes : List HeldNote
   -- what is recorded as changed, in the order of time
-  pub changed : List ℕ
+  pub changed : List HeldChanged
 
 -- a note of the definition by its row
 unfoldable pub heldNote : Tree ℕ → Note → HeldNote

@@ -17,7 +17,7 @@ use Rattle.element_table.specs.Told.{root-told, tree-told}
 use Rattle.definition.specs.Elements.{Table, root?, tree}
 use Rattle.rows.specs.Row.{Row, firstRows, treesIn}
 use Rattle.rows.specs.Place.{childRow, between, subtree}
-use Rattle.store_model.specs.Store.{HeldNote, Store, there, marked, parentRow, endRow, gapOf, gapAfter, gapRun, Part, partAt, partOf}
+use Rattle.store_model.specs.Store.{HeldNote, HeldChanged, Store, there, marked, parentRow, endRow, gapOf, gapAfter, gapRun, Part, partAt, partOf}
 use Rattle.store_model.specs.Sums.{tooLargeBy}
 use Rattle.syntax_node.specs.Promises as node
 use Rattle.tree_store.specs.Stored.{stored, storedFirst}
@@ -97,7 +97,7 @@ none-between rows n p q h =
     record { count = λ text. rw z; few = omega arith }
 
 module _ (rows : List ℕ) (n : ℕ) (table marks : List ℕ) (x m a b : ℕ) (L : Lines (length marks) table × (x < length marks)) (e : a ≡ parentMark table marks x) where
-  above : (text source : List ℕ) (notes : List HeldNote) (changed : List ℕ) → a ≡ parentRow (view (length marks) table source) (stored text n rows marks notes changed) x
+  above : (text source : List ℕ) (notes : List HeldNote) (changed : List HeldChanged) → a ≡ parentRow (view (length marks) table source) (stored text n rows marks notes changed) x
   unfolding stored
   above text source notes changed = e ∙ parent-mark table source (stored text n rows marks notes changed) x (L .0) (L .1)
 
@@ -144,7 +144,7 @@ replaced-root rows n table marks x t m b g L e z f c h = record {
 }
 
 module _ (rows : List ℕ) (n : ℕ) (table marks : List ℕ) (x m : ℕ) (b : Bool) (L : Lines (length marks) table × (x < length marks)) (e : b ≡ eqb (getD table (8 * x + 1) 0) 0) (z : b ≡ false) (v : (m ≡ getD marks x 0) × (m < 2 ^ 32)) where
-  replaced : (o : Option ℕ) → there m ≡ o → (text source : List ℕ) (notes : List HeldNote) (changed : List ℕ)
+  replaced : (o : Option ℕ) → there m ≡ o → (text source : List ℕ) (notes : List HeldNote) (changed : List HeldChanged)
       → replacedBy (view (length marks) table source) (stored text n rows marks notes changed) x o ≡ siteOf (gapBy (view (length marks) table source) (stored text n rows marks notes changed) 2 x x)
   unfolding gapBy stored marked
   replaced o q text source notes changed =
@@ -167,7 +167,7 @@ unfolding gapBy
 site-replaced rows n table marks op x y r e h = rw e (record { site = λ text source notes changed. h .site text source notes changed })
 
 module _ (rows : List ℕ) (n : ℕ) (table marks : List ℕ) (op x y m : ℕ) (z : op ≡ 2 → ⊥) (v : (m ≡ getD marks x 0) × (m < 2 ^ 32)) where
-  by-mark : (o : Option ℕ) → there m ≡ o → (text source : List ℕ) (notes : List HeldNote) (changed : List ℕ)
+  by-mark : (o : Option ℕ) → there m ≡ o → (text source : List ℕ) (notes : List HeldNote) (changed : List HeldChanged)
       → siteOf (gapMarked (view (length marks) table source) (stored text n rows marks notes changed) op x y o) ≡ siteOf (gapBy (view (length marks) table source) (stored text n rows marks notes changed) op x y)
   unfolding gapBy stored marked
   by-mark o q text source notes changed =
@@ -212,7 +212,7 @@ module _ (rows : List ℕ) (n : ℕ) (table marks : List ℕ) (op x y m : ℕ) (
       site = λ text source notes changed. ap At (h .gap text source notes changed) ∙ (ap siteOf (sym (one text source notes changed)) ∙ by-mark (some m) (there-not m q) text source notes changed);
     }
       where
-        one : (text source : List ℕ) (notes : List HeldNote) (changed : List ℕ)
+        one : (text source : List ℕ) (notes : List HeldNote) (changed : List HeldChanged)
             → gapMarked (view (length marks) table source) (stored text n rows marks notes changed) op x y (some m) ≡ some (gapOf (view (length marks) table source) (stored text n rows marks notes changed) x m)
         one text source notes changed = rw (ne-eqb op 0 a, ne-eqb op 1 b, ne-eqb op 5 c)
 

@@ -93,3 +93,39 @@ words-written [] r h = refl
 words-written (w ∷ ws) r h =
     rw (written-cons, append-assoc, word-bytes w (written ws ++ r) (h 0), drop-at (bytes w) (written ws ++ r) 4 (length-bytes w))
     (ap (λ (l : List ℕ). w ∷ l) (words-written ws r (λ i. h (suc i))))
+
+-- ── What was read is written back ───────────────────────────────────────────────────────────────────────────
+
+-- a digit to the base 256, and what is above it
+digit : (a r : ℕ) → a < 256 → ((a + 256 * r) % 256 ≡ a) × ((a + 256 * r) / 256 ≡ r)
+digit a r h = (omega arith, omega arith)
+
+pub bytes-word : (a b c d : ℕ) (l : List ℕ) → a < 256 → b < 256 → c < 256 → d < 256 → bytes (word (a ∷ b ∷ c ∷ d ∷ l)) ≡ a ∷ b ∷ c ∷ d ∷ []
+unfolding bytes word
+bytes-word a b c d l p q r s =
+    let w : ℕ = a + 256 * b + 65536 * c + 16777216 * d in
+    let x : w ≡ a + 256 * (b + 256 * (c + 256 * d)) = omega arith in
+    let (e₀, f₁) = digit a (b + 256 * (c + 256 * d)) p in
+    let (e₁, f₂) = digit b (c + 256 * d) q in
+    let (e₂, f₃) = digit c d r in
+    let g₁ : w / 256 ≡ b + 256 * (c + 256 * d) = ap (λ (z : ℕ). z / 256) x ∙ f₁ in
+    let g₂ : w / 65536 ≡ c + 256 * d = sym (div-div-eq-div-mul w 256 256) ∙ (ap (λ (z : ℕ). z / 256) g₁ ∙ f₂) in
+    let g₃ : w / 16777216 ≡ d = sym (div-div-eq-div-mul w 65536 256) ∙ (ap (λ (z : ℕ). z / 256) g₂ ∙ f₃) in
+    let h₀ : w % 256 ≡ a = ap (λ (z : ℕ). z % 256) x ∙ e₀ in
+    let h₁ : w / 256 % 256 ≡ b = ap (λ (z : ℕ). z % 256) g₁ ∙ e₁ in
+    let h₂ : w / 65536 % 256 ≡ c = ap (λ (z : ℕ). z % 256) g₂ ∙ e₂ in
+    let h₃ : w / 16777216 % 256 ≡ d = ap (λ (z : ℕ). z % 256) g₃ ∙ omega arith in
+    rw (h₀, h₁, h₂, h₃)
+
+-- n words of bytes, written, are those bytes
+pub written-words : (n : ℕ) (l : List ℕ) → 4 * n ≤ length l → ((i : ℕ) → getD l i 0 < 256) → written (words n l) ≡ take (4 * n) l
+unfolding words written flatMap
+written-words zero l h b = refl
+written-words (suc n) [] h b = absurd (omega arith)
+written-words (suc n) (a ∷ []) h b = absurd (omega arith)
+written-words (suc n) (a ∷ c ∷ []) h b = absurd (omega arith)
+written-words (suc n) (a ∷ c ∷ d ∷ []) h b = absurd (omega arith)
+written-words (suc n) (a ∷ c ∷ d ∷ e ∷ l) h b =
+    let k : 4 * suc n ≡ suc (suc (suc (suc (4 * n)))) = omega arith in
+    rw (k, bytes-word a c d e l (b 0) (b 1) (b 2) (b 3))
+    (ap (λ (r : List ℕ). a ∷ c ∷ d ∷ e ∷ r) (written-words n l (omega arith) (λ i. b (suc (suc (suc (suc i)))))))

@@ -1,7 +1,7 @@
 -- A part of a list written over (`paste`): a copy behind another or before it, what is read of one; and a splice.
 -- Places and counts that add up are given by an equation, so that each caller has its own words for them.
 -- Assumes nothing.
-use mathlib.Core.Path.{_≡_, refl, sym, ap, _∙_}
+use mathlib.Core.Path.{_≡_, refl, sym, ap, ap₂, _∙_}
 use mathlib.Core.List.{List, [], _∷_, _++_, append-assoc}
 use Prim.Native.Nat.{ℕ, zero, suc, _+_, _-_, _≤_, _<_}
 use native.Mathlib.Nat.{add-assoc, sub-zero, zero-sub, suc-sub-suc}
@@ -71,13 +71,40 @@ module _ {ℓ} {A : Type ℓ} where
         ap (λ (x : ℕ). getD (paste d at s n) x z) (sym e)
         ∙ (getD-append-add (take at d ++ take n s) (drop (at + n) d) j z ∙ (getD-drop (at + n) d j z ∙ ap (λ (x : ℕ). getD d x z) f))
 
-  -- ── A splice ──────────────────────────────────────────────────────────────────────────────────────────────
+  -- ── Two copies that do not meet ───────────────────────────────────────────────────────────────────────────
 
   pub drop-take : (b n : ℕ) (l : List A) → drop b (take n l) ≡ take (n - b) (drop b l)
   drop-take zero n l = rw sub-zero
   drop-take (suc b) zero l = rw zero-sub
   drop-take (suc b) (suc n) [] = sym (take-nil (suc n - suc b))
   drop-take (suc b) (suc n) (x ∷ l) = rw suc-sub-suc (drop-take b n l)
+
+  drop-within : (i : ℕ) (x y : List A) → i ≤ length x → drop i (x ++ y) ≡ drop i x ++ y
+  drop-within zero x y h = refl
+  drop-within (suc i) [] y h = absurd (omega arith)
+  drop-within (suc i) (a ∷ x) y h = drop-within i x y (omega arith)
+
+  -- in either order the same: m elements of s at p, and n of t at q, behind them
+  pub paste-swap : (d s t : List A) (p m q n : ℕ) → p + m ≤ q → q ≤ length d → m ≤ length s → paste (paste d q t n) p s m ≡ paste (paste d p s m) q t n
+  paste-swap d s t p m q n h l k =
+      let g : ℕ = q - (p + m) in
+      let X : List A = take n t ++ drop (q + n) d in
+      let H : List A = take p d ++ take m s in
+      let a : take p (take q d ++ X) ≡ take p d = take-append-le p (take q d) X (omega (arith, length-take-le q d l)) ∙ take-take p q d (omega arith) in
+      let b : drop (p + m) (take q d ++ X) ≡ take g (drop (p + m) d) ++ X =
+      drop-within (p + m) (take q d) X (omega (arith, length-take-le q d l)) ∙ ap (λ (y : List A). y ++ X) (drop-take (p + m) q d) in
+      let u : length H + g ≡ q = omega (arith, length-paste-head d p s m (omega arith) k) in
+      let v : take q (H ++ drop (p + m) d) ≡ H ++ take g (drop (p + m) d) = ap (λ (y : ℕ). take y (H ++ drop (p + m) d)) (sym u) ∙ take-append-add H (drop (p + m) d) g in
+      let f : p + m + (g + n) ≡ q + n = omega arith in
+      let w : drop (q + n) (H ++ drop (p + m) d) ≡ drop (q + n) d =
+      ap (λ (y : ℕ). drop y (H ++ drop (p + m) d)) (sym f)
+      ∙ (sym (drop-drop (g + n) (p + m) (H ++ drop (p + m) d)) ∙ (ap (drop (g + n)) (drop-paste d p s m (omega arith) k) ∙ (drop-drop (g + n) (p + m) d ∙ ap (λ (y : ℕ). drop y d) f))) in
+      let left : paste (paste d q t n) p s m ≡ H ++ (take g (drop (p + m) d) ++ X) =
+      ap (λ (y : List A). take p y ++ take m s ++ drop (p + m) y) (append-assoc (take q d) (take n t) (drop (q + n) d)) ∙ ap₂ (λ (x y : List A). x ++ take m s ++ y) a b in
+      let right : paste (paste d p s m) q t n ≡ H ++ (take g (drop (p + m) d) ++ X) = ap₂ (λ (x y : List A). x ++ take n t ++ y) v w ∙ simp append-assoc in
+      left ∙ sym right
+
+  -- ── A splice ──────────────────────────────────────────────────────────────────────────────────────────────
 
   module _ (d new : List A) (n a b : ℕ) (h : a ≤ b) (i : b ≤ n) (j : n ≤ length d) where
     pub length-spliced : length (spliced a b new (take n d)) ≡ a + length new + (n - b)

@@ -1,30 +1,24 @@
--- `plan` meets its contract. One law for refusal 8, one for what is left to rewriting.
+-- `plan` meets its contract. One law for refusal 8, one for what is left to the second stage.
 -- Assumes nothing.
 use borrow.Author.Needs.{needs}
-use Rattle.planning.proofs.Judging.{overlap-refused, rows-fated}
+use Rattle.planning.proofs.Judging.{overlap-refused, judged-fates}
 use Rattle.planning.proofs.plan.Statement.{statement}
 use Rattle.planning.proofs.plan.Tie as tie
 
-record-and-sort-requires : tie.Need-record-and-sort-requires
-record-and-sort-requires c κs = search needs
-
-replacements-are-disjoint-requires : tie.Need-replacements-are-disjoint-requires
-replacements-are-disjoint-requires c κs = search needs
+judge-changes-requires : tie.Need-judge-changes-requires
+judge-changes-requires c κs = search needs
 
 enum-told : tie.Need-enum-told
 enum-told c = search needs
 
-enum-told-2 : tie.Need-enum-told-2
-enum-told-2 c = search needs
-
-plan-fates-requires : tie.Need-plan-fates-requires
-plan-fates-requires c κs = search needs
+enum-known-c : tie.Need-enum-known-c
+enum-known-c c = search needs
 
 rewrite-and-settle-requires : tie.Need-rewrite-and-settle-requires
 rewrite-and-settle-requires c κs =
-    let p = c .before .before .before .before .before .before .before .before .before .before .before .before .before .before .before .before .before .before .before .before .before .before .before .before .before .before .before .before .before .before .before .before .before .before .pre in
-    let F = rows-fated (c .before .before .before .before .before .before .before .before .before .before .before .before .before .before .before .before .before .before .before .before .record-and-sort .ensures) (c .before .before .before .before .before .before .before .before .before .before .before .before .replacements-are-disjoint .ensures) (c .before .before .before .before .before .before .before .before .before .before .enum-told2 .given .1) (c .before .before .before .before .before .before .before .before .plan-fates .ensures) in
-    (p .0, (F, (search needs, p .1 .2, search needs, p .1 .4, p .1 .5, p .1 .6)))
+    let p = c .before .before .before .before .before .before .before .before .before .before .before .before .before .before .before .before .before .before .before .before .before .before .before .before .before .before .before .before .before .pre in
+    let J = judged-fates _ _ (c .before .before .before .before .before .before .before .before .before .before .before .before .before .before .before .judge-changes .ensures) (c .before .before .before .before .before .before .before .c .given .1) in
+    (p .0, (J, (search needs, p .1 .2, search needs, p .1 .4, p .1 .5, p .1 .6)))
 
 same-length : tie.Need-same-length
 same-length c = search needs
@@ -36,7 +30,7 @@ same-length-3 : tie.Need-same-length-3
 same-length-3 c = search needs
 
 returns : tie.Need-returns
-returns c = overlap-refused (c .before .before .before .before .before .before .before .before .before .before .record-and-sort .ensures) (c .before .before .replacements-are-disjoint .ensures) (c .before .before .before .before .before .before .before .before .before .before .before .before .before .before .before .before .before .before .before .before .before .before .before .before .pre .0) _ _ (c .enum-told .given .1) _ _ _
+returns c = overlap-refused (c .before .before .before .before .before .before .before .before .before .before .before .before .before .before .before .before .before .before .before .before .before .before .pre .0) _ _ _ (c .before .before .before .before .before .before .before .before .judge-changes .ensures) (c .enum-told .given .1) _ _ _
 
 same-length-4 : tie.Need-same-length-4
 same-length-4 c = search needs
@@ -66,11 +60,9 @@ pub plan-spec : {M : Type 1} → statement M
 plan-spec =
     tie.close
     (tie.spec
-    record-and-sort-requires
-    replacements-are-disjoint-requires
+    judge-changes-requires
     enum-told
-    enum-told-2
-    plan-fates-requires
+    enum-known-c
     rewrite-and-settle-requires
     same-length
     same-length-2

@@ -2,8 +2,8 @@
 -- Assumes nothing.
 use mathlib.Core.Path.{refl}
 use Rattle.definition.specs.Refusals.{operationOf}
-use Rattle.refusals.proofs.operation_of.Statement.{statement}
-use Rattle.refusals.proofs.operation_of.Tie as tie
+use Rattle.calls.proofs.operation_of.Statement.{statement}
+use Rattle.calls.proofs.operation_of.Tie as tie
 
 returns : tie.Need-returns
 unfolding operationOf
