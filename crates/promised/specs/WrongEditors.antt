@@ -19,7 +19,7 @@ use Rattle.definition.specs.Running.{steps}
 use Rattle.definition.specs.Finishing.{Result, result, encoded}
 use Rattle.definition.specs.Answers.{plan, performed, atFirst, ran, edit}
 use Rattle.definition.specs.Computing.{computed}
-use Rattle.definition.specs.Examples.{Told, inBytes, call, onS, twoAfterX, withNotes}
+use Rattle.definition.specs.Examples.{Told, inLists, inBytes, call, onS, twoAfterX, withNotes}
 use Rattle.demand.specs.Aims.{replacesRoot}
 use Rattle.demand.specs.Answered.{apartIn?, apartPlan?, apartBatch?, oneGoOf}
 use Rattle.result_words.specs.Worded.{tested-bytes}
@@ -80,7 +80,7 @@ untouched bytes = do
   gives (result p.changes p.climbs (atFirst a p))
 
 pub untouched-excluded : Excluded twoAfterX untouched
-unfolding computed inBytes untouched ofResult
+unfolding computed inLists inBytes untouched ofResult
 untouched-excluded = excluded (ofResult (λ r. length r.text)) twoAfterX untouched refl refl
 
 -- the bytes of text of the first of these trees
@@ -93,7 +93,7 @@ textOfFirst (gives (t ∷ ts)) = length (text t)
 pub untouched-one-go-excluded : (held : List ℕ) (work : List (List ℕ)) (r : Answer ℕ) (holds : List ℕ) (left : List (List ℕ)) → Edits (inBytes twoAfterX) held work r holds left
     → (n : ℕ) → r ≡ gives n → (old : Tree ℕ) → take 1 (twoAfterX .trees) ≡ old ∷ [] → Shown old n holds → ⊥
 unfolding
-    computed inBytes textOfFirst replacesRoot apartIn? apartPlan? apartBatch? oneGoOf
+    computed inLists inBytes textOfFirst replacesRoot apartIn? apartPlan? apartBatch? oneGoOf
     Check.each Check.pairs Check.enters? Check.run? Check.fits? Check.apart? Check.allApart?
     Splices.samePath Splices.leftOf Splices.under Splices.fromRoot Splices.fromChild Splices.atRoot Splices.below Splices.insertByLeft Splices.leftToRight Splices.newChildren Splices.oneGo Splices.oneGoAll
 untouched-one-go-excluded held work r holds left p n e old first h =
@@ -112,7 +112,7 @@ firstStepOnly bytes = do
   gives (result p.changes p.climbs (record { trees = one .trees; paths = one .paths; notes = one .notes; changed = all .changed }))
 
 pub first-step-excluded : Excluded twoAfterX firstStepOnly
-unfolding computed inBytes firstStepOnly ofResult
+unfolding computed inLists inBytes firstStepOnly ofResult
 first-step-excluded = excluded (ofResult (λ r. length r.text)) twoAfterX firstStepOnly refl refl
 
 -- the result with these counts
@@ -124,7 +124,7 @@ unfoldable pub discardsMadeUp : ℕ → Editor
 discardsMadeUp n bytes = edit bytes >>= λ r. gives (withCounts r n r.climbs)
 
 pub discards-excluded : (n : ℕ) → Excluded twoAfterX (discardsMadeUp n) ⊎ Excluded oneDiscarded (discardsMadeUp n)
-unfolding computed inBytes discardsMadeUp ofResult
+unfolding computed inLists inBytes discardsMadeUp ofResult
 discards-excluded n = either-excluded (ofResult (λ r. r .discarded)) twoAfterX oneDiscarded (discardsMadeUp n) refl refl refl refl
 
 -- ".. or climb count": always n
@@ -132,7 +132,7 @@ unfoldable pub climbsMadeUp : ℕ → Editor
 climbsMadeUp n bytes = edit bytes >>= λ r. gives (withCounts r r.discarded n)
 
 pub climbs-excluded : (n : ℕ) → Excluded twoAfterX (climbsMadeUp n) ⊎ Excluded withNotes (climbsMadeUp n)
-unfolding computed inBytes climbsMadeUp ofResult
+unfolding computed inLists inBytes climbsMadeUp ofResult
 climbs-excluded n = either-excluded (ofResult (λ r. r .climbs)) twoAfterX withNotes (climbsMadeUp n) refl refl refl refl
 
 -- "says "gone" or "too large" before the step": k is 11 or 12, whatever is planned; and "always overlaps": 8, whatever lines 2 to 7 accept
@@ -148,7 +148,7 @@ alwaysOverlaps bytes = do
   refused 8
 
 pub refusals-excluded : Excluded twoAfterX (beforeTheStep 11) × Excluded twoAfterX (beforeTheStep 12) × Excluded twoAfterX alwaysOverlaps
-unfolding computed inBytes beforeTheStep alwaysOverlaps refusal
+unfolding computed inLists inBytes beforeTheStep alwaysOverlaps refusal
 refusals-excluded = (excluded refusal twoAfterX (beforeTheStep 11) refl refl, excluded refusal twoAfterX (beforeTheStep 12) refl refl, excluded refusal twoAfterX alwaysOverlaps refl refl)
 
 -- "always one tree": one answer to every batch
@@ -156,7 +156,7 @@ unfoldable pub always : Answer Result → Editor
 always a bytes = a
 
 pub one-tree-excluded : (a : Answer Result) → Excluded twoAfterX (always a) ⊎ Excluded oneDiscarded (always a)
-unfolding computed inBytes always ofResult
+unfolding computed inLists inBytes always ofResult
 one-tree-excluded a = either-excluded (ofResult (λ r. length r.text)) twoAfterX oneDiscarded (always a) refl refl refl refl
 
 -- ── Writes nothing ──────────────────────────────────────────────────────────────────────────────────────────
@@ -165,7 +165,7 @@ one-tree-excluded a = either-excluded (ofResult (λ r. length r.text)) twoAfterX
 -- not is never left as it was.
 pub nothing-written-excluded : (held : List ℕ) (work : List (List ℕ)) (r : Answer ℕ) (holds : List ℕ) (left : List (List ℕ)) → Edits (inBytes twoAfterX) held work r holds left → Lent (inBytes twoAfterX) held work
     → eqb (getD held 0 0) 6 ≡ false → holds ≡ held → ⊥
-unfolding computed inBytes ofResult
+unfolding computed inLists inBytes ofResult
 nothing-written-excluded held work r holds left p l d q =
     let z = edit-answered (inBytes twoAfterX) held work r holds left p (tested-bytes (inBytes twoAfterX) refl) l in
     eqb-false (getD held 0 0) 6 d (go (edit (inBytes twoAfterX)) refl (z .leaves))
