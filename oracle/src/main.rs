@@ -34,7 +34,8 @@ fn main() -> io::Result<()> {
             _ => return Err(io::Error::other(format!("no such argument: {argument}"))),
         }
     }
-    play::begin();
+    play::watch_edits();
+    play::catch_panics();
     let (mut input, mut output) = (io::stdin().lock(), io::stdout().lock());
     if !stream {
         let mut batch = Vec::new();

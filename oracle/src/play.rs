@@ -31,9 +31,13 @@ thread_local! {
     static PANIC: RefCell<String> = RefCell::default();
 }
 
-/// Once, before the first answer: edits are watched, and panics are kept for the answer and not written out.
-pub fn begin() {
+/// Edits are watched from now on; to be said once.
+pub fn watch_edits() {
     watch::install(places::places());
+}
+
+/// Panics are kept for the answer and not written out.
+pub fn catch_panics() {
     set_hook(Box::new(|info| {
         let place = info.location().map(|it| (it.file().rsplit('/').next().unwrap_or(""), it.line()));
         let (file, line) = place.unwrap_or_default();
