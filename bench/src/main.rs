@@ -100,7 +100,7 @@ fn times(case: &Case, effort: Effort) -> Times {
 }
 
 fn head(what: &str) {
-    println!("{:73}{:^30} {:^30}", "", "finish: times as long as ours", "whole: times as long as ours");
+    println!("{:74}{:29} {}", "", "finish: times as long as ours", "whole: times as long as ours");
     print!("{what:38} {:>8} {:>6} {:>9} {:>8}", "elements", "calls", "ours", "/floor");
     PEERS.iter().chain(&PEERS).for_each(|peer| print!(" {:>9}", peer.name));
     println!();
