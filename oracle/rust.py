@@ -7,6 +7,7 @@ from struct import pack, unpack
 
 ROOT = Path(__file__).resolve().parent.parent
 PROGRAM = ROOT / "target" / "oracle" / "oracle"
+GREEN = ROOT / "target" / "oracle" / "oracle-green"
 
 # `printed` is the printed form, `refused N` of the reader, or overlap, panic, loop, large; `remark` says how it came about.
 Answer = namedtuple("Answer", "printed remark")

@@ -147,3 +147,8 @@ pub fn by_elements() -> Vec<Case> {
 pub fn by_calls() -> Vec<Case> {
     [16, 32, 64, 128, 256].map(|calls| mixed("mixed calls", 1_024, calls, 0)).into()
 }
+
+/// Where most of the tree is not touched at all.
+pub fn few_calls() -> Vec<Case> {
+    [1, 2, 4, 8, 16].map(|calls| mixed("mixed calls", 2_048, calls, 0)).into()
+}

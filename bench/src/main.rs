@@ -1,153 +1,172 @@
-//! The static library beside the Rust `SyntaxEditor` on the same batches. bench/README.md says what each column counts.
+//! The static library beside the Rust `SyntaxEditor` over two stand-ins for rowan, on the same batches:   bench [--quick] [NAME]...
+//! NAME is the beginning of a row's name; without one, all rows. bench/README.md says what each column counts.
 
-use std::hint::black_box;
+use std::{env, hint::black_box};
 
 use syntax_edit::{Editor, raw};
 
-pub use ast::AstNode;
-pub use rowan::{NodeOrToken, SyntaxElement, SyntaxKind, SyntaxNode, SyntaxToken};
-
 use batches::Case;
-use time::{median, shown};
+use time::{Clock, Contestant, Effort, FULL, QUICK, medians, shown};
 
-mod ast;
 mod batches;
-mod places;
-mod play;
-mod reader;
-mod syntax_editor;
 mod time;
 
-/// Stands for the crate's token kinds, which only the whitespace helpers name.
-macro_rules! T {
-    ($($token:tt)*) => {
-        $crate::SyntaxKind(0xffff)
+/// The Rust over one stand-in.
+struct Peer {
+    name: &'static str,
+    /// Whether it tells discarded changes and climb steps; else it is not watched, and both are printed as nothing.
+    watched: bool,
+    printed: fn(&[u8]) -> String,
+    /// `finish` alone: the trees are built and the calls recorded before.
+    finish: fn(&[u8], &mut Clock),
+    /// The batch's bytes read, trees built, calls recorded, and `finish`.
+    whole: fn(&[u8], &mut Clock),
+}
+
+macro_rules! peer {
+    ($the_rust:ident, $watched:expr) => {
+        Peer {
+            name: stringify!($the_rust),
+            watched: $watched,
+            printed: |batch| $the_rust::play::answer(batch, $the_rust::sharing::Sharing::Nothing).printed,
+            finish: |batch, clock| {
+                let recorded = $the_rust::play::Recorded::new(batch);
+                drop(clock.time(|| recorded.finish()));
+            },
+            whole: |batch, clock| drop(clock.time(|| $the_rust::play::Recorded::new(black_box(batch)).finish())),
+        }
     };
 }
-pub(crate) use T;
 
-/// The times of one batch, in nanoseconds.
+const PEERS: [Peer; 3] = [peer!(numbered, true), peer!(green, false), peer!(straight, false)];
+
+/// The times of one batch, in nanoseconds. `finish` and `whole` are those of the peers.
 struct Times {
+    calls: usize,
     ours: f64,
-    /// `finish` alone: trees are built and calls recorded before.
-    finish: f64,
-    /// The batch's bytes read, trees built, calls recorded, and `finish`.
-    whole: f64,
-    /// Of `finish`, about what the stand-in for rowan takes to write out a whole tree at every step, which rowan does not.
-    trees: f64,
+    floor: f64,
+    finish: [f64; 3],
+    whole: [f64; 3],
 }
 
-fn ours(batch: &[u8]) -> f64 {
+fn ours(batch: &[u8]) -> Contestant<'_> {
     let (mut work, mut result) = (raw::Work::new(), vec![0; syntax_edit::MOST_ANSWER]);
-    median(|clock| {
-        clock.start();
-        black_box(raw::edit(black_box(batch), &mut result, work.slices()));
-        clock.stop();
+    Box::new(move |clock| {
+        clock.time(|| raw::edit(black_box(batch), &mut result, work.slices()));
     })
 }
 
-fn the_rust(batch: &[u8]) -> (f64, f64, f64) {
-    let finish = median(|clock| {
-        rowan::watch::reset();
-        let read = reader::read(batch).ok().expect("the reader accepts it");
-        let roots = play::trees(&read);
-        let editor = play::Player { batch: &read, roots: &roots }.editor(0);
-        clock.start();
-        let edit = black_box(editor.finish());
-        clock.stop();
-        drop(edit);
-    });
-    let whole = median(|clock| {
-        rowan::watch::reset();
-        clock.start();
-        let read = reader::read(black_box(batch)).ok().expect("the reader accepts it");
-        let roots = play::trees(&read);
-        let edit = black_box(play::Player { batch: &read, roots: &roots }.editor(0).finish());
-        clock.stop();
-        drop(edit);
-    });
-    rowan::watch::reset();
-    let read = reader::read(batch).ok().expect("the reader accepts it");
-    let roots = play::trees(&read);
-    let editor = play::Player { batch: &read, roots: &roots }.editor(0);
-    let steps = editor.recorded() as f64;
-    let new = editor.finish().new_root().clone();
-    let tree = median(|clock| {
-        rowan::watch::reset();
-        clock.start();
-        black_box(new.clone_subtree());
-        clock.stop();
-    });
-    (finish, whole, tree * steps)
+/// What a call of ours cannot do without: the batch read once, the answer written once, every work slice set to zero.
+fn floor(batch: &[u8]) -> Contestant<'_> {
+    let (mut work, mut answer) = (raw::Work::new(), vec![0; syntax_edit::MOST_ANSWER]);
+    let length = raw::edit(batch, &mut answer, work.slices());
+    answer.truncate(length as usize);
+    let (mut read, mut written) = (vec![0; batch.len()], vec![0; answer.len()]);
+    Box::new(move |clock| {
+        clock.time(|| {
+            black_box(&mut read).copy_from_slice(black_box(batch));
+            black_box(&mut written).copy_from_slice(black_box(&answer));
+            work.slices().into_iter().for_each(|it| black_box(it).fill(0));
+        });
+    })
 }
 
-/// Both must print the same before anything is timed.
+/// All must print the same before anything is timed, but for what is not watched: the last two numbers of the first line.
 fn agree(case: &Case) {
-    let mut editor = Editor::new();
-    let printed = match editor.edit_bytes(&case.batch) {
+    let printed = match Editor::new().edit_bytes(&case.batch) {
         Ok(answer) => answer.to_string(),
         Err(refusal) => panic!("{}: {refusal}", case.name),
     };
-    let rust = play::answer(&case.batch).printed;
-    assert!(printed == rust, "{}: the answers differ", case.name);
+    let unwatched = |it: &str| {
+        let (first, rest) = it.split_once('\n').expect("a first line");
+        let told = first.split(' ').take(5).collect::<Vec<_>>().join(" ");
+        format!("{told}\n{rest}")
+    };
+    for peer in &PEERS {
+        let rust = (peer.printed)(&case.batch);
+        let same = if peer.watched { rust == printed } else { unwatched(&rust) == unwatched(&printed) };
+        assert!(same, "{}: the answers differ over the stand-in {}", case.name, peer.name);
+    }
 }
 
-fn times(case: &Case) -> Times {
+fn times(case: &Case, effort: Effort) -> Times {
     agree(case);
-    let (finish, whole, trees) = the_rust(&case.batch);
-    Times { ours: ours(&case.batch), finish, whole, trees }
-}
-
-/// The nine work slices set to zero, which each of our calls does: no call of ours takes less.
-fn floor() -> f64 {
-    let mut work = raw::LENGTHS.map(|length| vec![0u32; length]);
-    median(|clock| {
-        clock.start();
-        for slice in black_box(&mut work) {
-            slice.fill(0);
-        }
-        black_box(&mut work);
-        clock.stop();
-    })
+    let batch = case.batch.as_slice();
+    let finish = |i: usize| -> Contestant<'_> { Box::new(move |clock| (PEERS[i].finish)(batch, clock)) };
+    let whole = |i: usize| -> Contestant<'_> { Box::new(move |clock| (PEERS[i].whole)(batch, clock)) };
+    let contestants = [ours(batch), floor(batch), finish(0), finish(1), finish(2), whole(0), whole(1), whole(2)];
+    let [ours, floor, f0, f1, f2, w0, w1, w2] = medians(contestants, effort);
+    Times { calls: case.calls, ours, floor, finish: [f0, f1, f2], whole: [w0, w1, w2] }
 }
 
 fn head(what: &str) {
-    println!(
-        "{what:38} {:>8} {:>6} {:>9} {:>9} {:>9} {:>9} {:>8} {:>8} {:>8}",
-        "elements", "calls", "ours", "finish", "whole", "trees", "/finish", "/whole", "/less"
-    );
+    println!("{:74}{:29} {}", "", "finish: times as long as ours", "whole: times as long as ours");
+    print!("{what:38} {:>8} {:>6} {:>9} {:>8}", "elements", "calls", "ours", "/floor");
+    PEERS.iter().chain(&PEERS).for_each(|peer| print!(" {:>9}", peer.name));
+    println!();
 }
 
-fn row(case: &Case) -> Times {
-    let it = times(case);
-    let ratios = [it.finish, it.whole, (it.finish - it.trees).max(1.0)].map(|time| it.ours / time);
-    let [finish, whole, less] = ratios;
-    let [ours_shown, finish_shown, whole_shown, trees_shown] = [it.ours, it.finish, it.whole, it.trees].map(shown);
-    println!(
-        "{:38} {:8} {:6} {ours_shown:>9} {finish_shown:>9} {whole_shown:>9} {trees_shown:>9} {finish:8.2} {whole:8.2} {less:8.2}",
-        case.name, case.elements, case.calls,
-    );
+fn row(case: &Case, effort: Effort) -> Times {
+    let it = times(case, effort);
+    print!("{:38} {:8} {:6} {:>9} {:8.2}", case.name, case.elements, case.calls, shown(it.ours), it.ours / it.floor);
+    it.finish.iter().chain(&it.whole).for_each(|time| print!(" {:9.2}", time / it.ours));
+    println!();
     it
 }
 
 /// How a time grows from one row to the next, each with twice as much of something: 1.0 is in proportion, 2.0 the square.
 fn growth(rows: &[Times]) {
-    let exponents = |time: fn(&Times) -> f64| {
+    let shown = |name: &str, time: &dyn Fn(&Times) -> f64| {
         let each = rows.windows(2).map(|it| format!("{:.2}", (time(&it[1]) / time(&it[0])).log2()));
-        each.collect::<Vec<_>>().join("  ")
+        println!("  doublings, {name:16} {}", each.collect::<Vec<_>>().join("  "));
     };
-    println!("  doublings, ours:   {}", exponents(|it| it.ours));
-    println!("  doublings, finish: {}", exponents(|it| it.finish));
-    println!("  doublings, whole:  {}\n", exponents(|it| it.whole));
+    shown("ours:", &|it| it.ours);
+    for (i, peer) in PEERS.iter().enumerate() {
+        shown(&format!("finish {}:", peer.name), &|it| it.finish[i]);
+    }
+}
+
+/// The least, the most and the median of each ratio.
+fn ranges<'a>(what: &str, rows: impl Iterator<Item = &'a Times> + Clone) {
+    let range = |name: &str, ratio: &dyn Fn(&Times) -> f64| {
+        let mut ratios = rows.clone().map(ratio).collect::<Vec<_>>();
+        ratios.sort_by(f64::total_cmp);
+        println!("  {name:16} {:6.2} to {:6.2}, median {:6.2}", ratios[0], ratios[ratios.len() - 1], ratios[ratios.len() / 2]);
+    };
+    println!("{what}, times as long as ours:");
+    for (i, peer) in PEERS.iter().enumerate() {
+        range(&format!("finish {}", peer.name), &|it| it.finish[i] / it.ours);
+    }
+    for (i, peer) in PEERS.iter().enumerate() {
+        range(&format!("whole {}", peer.name), &|it| it.whole[i] / it.ours);
+    }
 }
 
 fn main() {
-    rowan::watch::install(places::places());
-    head("");
-    batches::sorts().iter().for_each(|it| drop(row(it)));
-    println!("\nThe work slices cleared, without any edit: {}\n", shown(floor()));
-    head("Elements doubled, 32 calls");
-    growth(&batches::by_elements().iter().map(row).collect::<Vec<_>>());
-    head("Calls doubled, 1,024 elements");
-    growth(&batches::by_calls().iter().map(row).collect::<Vec<_>>());
+    let (options, names): (Vec<_>, Vec<_>) = env::args().skip(1).partition(|it| it.starts_with("--"));
+    let effort = if options.iter().any(|it| it == "--quick") { QUICK } else { FULL };
+    numbered::play::watch_edits();
+    let tables = [
+        ("", batches::sorts()),
+        ("Elements doubled, 32 calls", batches::by_elements()),
+        ("Calls doubled, 1,024 elements", batches::by_calls()),
+        ("Calls doubled, 2,048 elements", batches::few_calls()),
+    ];
+    if !names.is_empty() {
+        head("");
+        let named = tables.iter().flat_map(|(_, cases)| cases).filter(|case| names.iter().any(|it| case.name.starts_with(it)));
+        return named.for_each(|it| drop(row(it, effort)));
+    }
+    let mut all = Vec::new();
+    for (what, cases) in &tables {
+        head(what);
+        let rows = cases.iter().map(|it| row(it, effort)).collect::<Vec<_>>();
+        if what.contains("doubled") {
+            growth(&rows);
+        }
+        println!();
+        all.extend(rows);
+    }
+    ranges("Rows with 64 calls and more", all.iter().filter(|it| it.calls >= 64));
+    ranges("All rows", all.iter());
 }

@@ -1,25 +1,11 @@
-//! The oracle: the syntax editor of rust-analyzer, unchanged, behind document 01's batches and printed form.
+//! The oracle: the syntax editor of rust-analyzer behind document 01's batches and printed form.
 //!
-//! `oracle < batch` prints the answer. `oracle --stream` reads batches and writes answers, each with its length in front.
+//! `oracle [--shared-in-trees | --shared-in-batch] < batch` prints the answer. With `--stream` it reads batches and writes answers, each with its
+//! length in front. What is shared says sharing.rs.
 
 use std::io::{self, Read, Write};
 
-pub use ast::AstNode;
-pub use rowan::{NodeOrToken, SyntaxElement, SyntaxKind, SyntaxNode, SyntaxToken};
-
-mod ast;
-mod places;
-mod play;
-mod reader;
-mod syntax_editor;
-
-/// Stands for the crate's token kinds, which only the whitespace helpers name.
-macro_rules! T {
-    ($($token:tt)*) => {
-        $crate::SyntaxKind(0xffff)
-    };
-}
-pub(crate) use T;
+use the_rust::{play, sharing::Sharing};
 
 /// The next batch of the stream, or none at its end.
 fn next_batch(input: &mut impl Read) -> io::Result<Option<Vec<u8>>> {
@@ -39,16 +25,25 @@ fn write_part(output: &mut impl Write, part: &str) -> io::Result<()> {
 }
 
 fn main() -> io::Result<()> {
-    rowan::watch::install(places::places());
+    let (mut stream, mut sharing) = (false, Sharing::Nothing);
+    for argument in std::env::args().skip(1) {
+        match argument.as_str() {
+            "--stream" => stream = true,
+            "--shared-in-trees" => sharing = Sharing::InTrees,
+            "--shared-in-batch" => sharing = Sharing::InBatch,
+            _ => return Err(io::Error::other(format!("no such argument: {argument}"))),
+        }
+    }
+    play::watch_edits();
     play::catch_panics();
     let (mut input, mut output) = (io::stdin().lock(), io::stdout().lock());
-    if std::env::args().nth(1).as_deref() != Some("--stream") {
+    if !stream {
         let mut batch = Vec::new();
         input.read_to_end(&mut batch)?;
-        return output.write_all(play::answer(&batch).printed.as_bytes());
+        return output.write_all(play::answer(&batch, sharing).printed.as_bytes());
     }
     while let Some(batch) = next_batch(&mut input)? {
-        let answer = play::answer(&batch);
+        let answer = play::answer(&batch, sharing);
         write_part(&mut output, &answer.printed)?;
         write_part(&mut output, &answer.remark)?;
         output.flush()?;

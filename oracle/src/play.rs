@@ -8,11 +8,12 @@ use std::{
     panic::{AssertUnwindSafe, catch_unwind, set_hook},
 };
 
-use rowan::{GreenNode, GreenToken, watch};
+use rowan::watch;
 
 use crate::{
-    NodeOrToken, SyntaxElement, SyntaxKind, SyntaxNode,
-    reader::{Batch, Call, Element, MOST_BYTES, read},
+    NodeOrToken, SyntaxElement, SyntaxNode, places,
+    reader::{Batch, Call, MOST_BYTES, read},
+    sharing::{Sharing, green_roots},
     syntax_editor::{Position, SyntaxAnnotation, SyntaxEdit, SyntaxEditor, SyntaxMappingBuilder},
 };
 
@@ -30,6 +31,11 @@ thread_local! {
     static PANIC: RefCell<String> = RefCell::default();
 }
 
+/// Edits are watched from now on; to be said once.
+pub fn watch_edits() {
+    watch::install(places::places());
+}
+
 /// Panics are kept for the answer and not written out.
 pub fn catch_panics() {
     set_hook(Box::new(|info| {
@@ -40,14 +46,14 @@ pub fn catch_panics() {
     }));
 }
 
-pub fn answer(data: &[u8]) -> Answer {
+pub fn answer(data: &[u8], sharing: Sharing) -> Answer {
     let data = &data[..data.len().min(MOST_BYTES)];
     let batch = match read(data) {
         Ok(batch) => batch,
         Err(number) => return Answer { printed: format!("refused {number}\n"), remark: "reader".to_owned() },
     };
     watch::reset();
-    let roots = trees(&batch);
+    let roots = trees(&batch, sharing);
     let player = Player { batch: &batch, roots: &roots };
     let editor = player.editor(0);
     let recorded = editor.recorded() as u64;
@@ -58,7 +64,7 @@ pub fn answer(data: &[u8]) -> Answer {
     let (printed, remark) = match outcome {
         _ if seen.reported => ("overlap\n".to_owned(), report(outcome.ok())),
         Ok(_) if player.too_many_notes() => ("large\n".to_owned(), "notes".to_owned()),
-        Ok(edit) => (print(&batch, &edit, recorded - seen.steps, seen.climb_steps), find(&batch, &roots[0], &edit)),
+        Ok(edit) => (print(&batch, &edit, recorded - seen.steps, seen.climb_steps), player.find(&edit)),
         Err(payload) => match payload.downcast::<watch::Stop>() {
             Ok(why) if matches!(*why, watch::Stop::Loop) => ("loop\n".to_owned(), String::new()),
             Ok(_) => ("large\n".to_owned(), "trees".to_owned()),
@@ -78,29 +84,51 @@ fn report(edit: Option<SyntaxEdit>) -> String {
 }
 
 /// The batch's trees.
-pub fn trees(batch: &Batch) -> Vec<SyntaxNode> {
-    batch.roots.iter().map(|&it| SyntaxNode::new_root(green_node(batch, it))).collect()
+fn trees(batch: &Batch, sharing: Sharing) -> Vec<SyntaxNode> {
+    green_roots(batch, sharing).into_iter().map(SyntaxNode::new_root).collect()
 }
 
-fn green_node(batch: &Batch, number: usize) -> GreenNode {
-    let element = &batch.elements[number];
-    let children = element.children.iter().map(|&it| match &batch.elements[it] {
-        Element { node: true, .. } => NodeOrToken::Node(green_node(batch, it)),
-        token => NodeOrToken::Token(GreenToken::new(SyntaxKind(token.kind), &token.text)),
-    });
-    GreenNode::new(SyntaxKind(element.kind), children)
+/// All that goes before `finish`: a batch read, its trees built, its calls recorded. The trees are kept, as a user of the editor keeps its own.
+pub struct Recorded {
+    editor: SyntaxEditor,
+    trees: Vec<SyntaxNode>,
+}
+
+/// What `finish` gives, with the trees.
+pub struct Finished {
+    pub edit: SyntaxEdit,
+    pub trees: Vec<SyntaxNode>,
+}
+
+impl Recorded {
+    /// Of a batch that the reader accepts.
+    pub fn new(data: &[u8]) -> Recorded {
+        watch::reset();
+        let batch = read(data).unwrap_or_else(|number| panic!("refused {number}"));
+        let trees = trees(&batch, Sharing::Nothing);
+        let editor = Player { batch: &batch, roots: &trees }.editor(0);
+        Recorded { editor, trees }
+    }
+
+    pub fn finish(self) -> Finished {
+        Finished { edit: self.editor.finish(), trees: self.trees }
+    }
 }
 
 /// A batch with its trees.
-pub struct Player<'a> {
-    pub batch: &'a Batch,
-    pub roots: &'a [SyntaxNode],
+struct Player<'a> {
+    batch: &'a Batch<'a>,
+    roots: &'a [SyntaxNode],
 }
 
 impl Player<'_> {
+    /// The element, reached from its root.
     fn element(&self, number: usize) -> SyntaxElement {
-        let tree = self.batch.elements[number].tree;
-        self.roots[tree].element(number - self.batch.roots[tree])
+        let element = &self.batch.elements[number];
+        match element.parent {
+            None => SyntaxElement::Node(self.roots[element.tree].clone()),
+            Some(parent) => self.node(parent).child_at(element.index),
+        }
     }
 
     fn node(&self, number: usize) -> SyntaxNode {
@@ -109,7 +137,7 @@ impl Player<'_> {
 
     /// One editor for each part of the calls between operations 6, with its share of the mappings and notes, all merged into the first.
     /// `home` is the tree whose outcome is asked for.
-    pub fn editor(&self, home: usize) -> SyntaxEditor {
+    fn editor(&self, home: usize) -> SyntaxEditor {
         let parts = self.batch.calls.split(|call| call.operation == 6).collect::<Vec<_>>();
         let share = |len: usize, i: usize| len * i / parts.len()..len * (i + 1) / parts.len();
         let mut editors = parts.iter().enumerate().map(|(i, calls)| {
@@ -163,6 +191,16 @@ impl Player<'_> {
             }
         }
     }
+
+    /// `find_element` of every node of tree 0: its number, a colon, and the number found or nothing.
+    fn find(&self, edit: &SyntaxEdit) -> String {
+        let mut out = "find".to_owned();
+        for (number, _) in self.batch.elements.iter().enumerate().filter(|(_, it)| it.tree == 0 && it.node) {
+            let found = edit.find_element(&self.node(number)).map(|it| SyntaxElement::from(it).number().to_string());
+            let _ = write!(out, " {number}:{}", found.unwrap_or_default());
+        }
+        out
+    }
 }
 
 /// One element goes in by `insert` or, at every second call, by `insert_all`, which must come to the same.
@@ -187,8 +225,7 @@ fn notes(batch: &Batch, edit: &SyntaxEdit) -> Vec<(u32, usize)> {
 
 /// The printed form of an accepted batch.
 fn print(batch: &Batch, edit: &SyntaxEdit, discarded: u64, climb_steps: u64) -> String {
-    let root = edit.new_root();
-    let elements = (0..root.tree_len()).map(|it| root.element(it)).collect::<Vec<_>>();
+    let elements = edit.new_root().descendants_with_tokens().collect::<Vec<_>>();
     let text = elements.iter().flat_map(|it| it.own_text()).map(|it| format!("{it:02x}")).collect::<String>();
     let changed = edit.changed_elements();
     let notes = notes(batch, edit);
@@ -204,17 +241,6 @@ fn print(batch: &Batch, edit: &SyntaxEdit, discarded: u64, climb_steps: u64) -> 
     }
     for (number, element) in notes {
         let _ = writeln!(out, "note {number} {element}");
-    }
-    out
-}
-
-/// `find_element` of every node of tree 0: its number, a colon, and the number found or nothing.
-fn find(batch: &Batch, old_root: &SyntaxNode, edit: &SyntaxEdit) -> String {
-    let mut out = "find".to_owned();
-    for (number, _) in batch.elements.iter().enumerate().filter(|(_, it)| it.tree == 0 && it.node) {
-        let node = old_root.element(number).into_node().expect("it is a node in the batch");
-        let found = edit.find_element(&node).map(|it| SyntaxElement::from(it).number().to_string());
-        let _ = write!(out, " {number}:{}", found.unwrap_or_default());
     }
     out
 }

@@ -5,13 +5,16 @@ const NODE: u32 = 1 << 31;
 const LIMITS: [(u64, u64); 7] = [(1, 16), (0, 2_048), (0, 16_384), (0, 256), (0, 1_024), (0, 1_024), (0, 256)];
 const MOST_DEPTH: usize = 64;
 
-pub struct Element {
+/// An element: `index` among its parent's children, `children` of its own, and the number `end` after all below it.
+pub struct Element<'a> {
     pub node: bool,
     pub kind: u16,
-    pub text: Vec<u8>,
+    pub text: &'a [u8],
     pub tree: usize,
     pub parent: Option<usize>,
-    pub children: Vec<usize>,
+    pub index: usize,
+    pub children: usize,
+    pub end: usize,
 }
 
 pub struct Call {
@@ -20,16 +23,28 @@ pub struct Call {
     pub listed: Vec<usize>,
 }
 
-pub struct Batch {
-    pub elements: Vec<Element>,
+pub struct Batch<'a> {
+    pub elements: Vec<Element<'a>>,
     pub roots: Vec<usize>,
     pub calls: Vec<Call>,
     pub mappings: Vec<(usize, usize)>,
     pub notes: Vec<(usize, u32)>,
 }
 
+impl Batch<'_> {
+    /// The numbers of an element's children.
+    pub fn children(&self, number: usize) -> impl ExactSizeIterator<Item = usize> {
+        let mut next = number + 1;
+        (0..self.elements[number].children).map(move |_| {
+            let child = next;
+            next = self.elements[child].end;
+            child
+        })
+    }
+}
+
 /// The batch, or the number of the line that refuses it.
-pub fn read(data: &[u8]) -> Result<Batch, u32> {
+pub fn read(data: &[u8]) -> Result<Batch<'_>, u32> {
     let sizes = sizes(data)?;
     let [trees, e, b, c, l, m, a] = sizes;
     let words = 2 * e + 2 * c + l + 2 * m + 2 * a;
@@ -80,8 +95,8 @@ fn sizes(data: &[u8]) -> Result<[usize; 7], u32> {
 }
 
 /// Line 5: the elements and the roots' numbers.
-fn spell(kinds: &[u32], measures: &[u32], mut text: &[u8], trees: usize) -> Option<(Vec<Element>, Vec<usize>)> {
-    let (mut elements, mut roots) = (Vec::<Element>::new(), Vec::new());
+fn spell<'a>(kinds: &[u32], measures: &[u32], mut text: &'a [u8], trees: usize) -> Option<(Vec<Element<'a>>, Vec<usize>)> {
+    let (mut elements, mut roots) = (Vec::<Element>::with_capacity(kinds.len()), Vec::new());
     // Nodes that still lack children, each with how many.
     let mut open = Vec::<(usize, u32)>::new();
     for (number, (&kind, &measure)) in kinds.iter().zip(measures).enumerate() {
@@ -89,31 +104,33 @@ fn spell(kinds: &[u32], measures: &[u32], mut text: &[u8], trees: usize) -> Opti
         if kind & !(NODE | 0xffff) != 0 || open.is_empty() && !node || open.len() >= MOST_DEPTH {
             return None;
         }
-        let parent = open.last().map(|it| it.0);
-        match parent {
-            Some(parent) => elements[parent].children.push(number),
-            None => roots.push(number),
-        }
-        if let Some((_, lacking)) = open.last_mut() {
-            *lacking -= 1;
-        }
-        let own = if node { 0 } else { measure as usize };
+        let (parent, index) = match open.last_mut() {
+            Some((above, lacking)) => {
+                *lacking -= 1;
+                (Some(*above), elements[*above].children - 1 - *lacking as usize)
+            }
+            None => {
+                roots.push(number);
+                (None, 0)
+            }
+        };
+        let (children, own) = if node { (measure as usize, 0) } else { (0, measure as usize) };
         let (own, rest) = text.split_at_checked(own)?;
         text = rest;
         let tree = roots.len() - 1;
-        elements.push(Element { node, kind: kind as u16, text: own.to_vec(), tree, parent, children: Vec::new() });
+        elements.push(Element { node, kind: kind as u16, text: own, tree, parent, index, children, end: number + 1 });
         if node {
             open.push((number, measure));
         }
-        while open.last().is_some_and(|it| it.1 == 0) {
-            open.pop();
+        while let Some((full, _)) = open.pop_if(|it| it.1 == 0) {
+            elements[full].end = number + 1;
         }
     }
     (open.is_empty() && roots.len() == trees && text.is_empty()).then_some((elements, roots))
 }
 
 /// Line 6: the calls.
-fn calls(words: &[u32], targets: &[u32], mut listed: &[u32], elements: &[Element]) -> Option<Vec<Call>> {
+fn calls(words: &[u32], targets: &[u32], mut listed: &[u32], elements: &[Element<'_>]) -> Option<Vec<Call>> {
     let mut calls = Vec::new();
     for (&word, &target) in words.iter().zip(targets) {
         let (own, rest) = listed.split_at_checked(word as usize >> 8)?;
@@ -128,7 +145,7 @@ fn calls(words: &[u32], targets: &[u32], mut listed: &[u32], elements: &[Element
     listed.is_empty().then_some(calls)
 }
 
-fn allowed(call: &Call, elements: &[Element]) -> bool {
+fn allowed(call: &Call, elements: &[Element<'_>]) -> bool {
     let numbers = call.listed.iter().chain([&call.target]);
     let Some(target) = elements.get(call.target) else { return false };
     if numbers.into_iter().any(|&it| it >= elements.len()) {
@@ -137,7 +154,7 @@ fn allowed(call: &Call, elements: &[Element]) -> bool {
     let first = call.listed.first().map(|&it| &elements[it]);
     let below_root = target.parent.is_some();
     match call.operation {
-        0 => target.node && !target.children.is_empty(),
+        0 => target.node && target.children > 0,
         1 | 4 => below_root,
         2 => call.listed.len() == 1 && (below_root || first.is_some_and(|it| it.node)),
         3 => below_root && first.is_none(),

@@ -1,76 +1,24 @@
-//! A small stand-in for rowan, with the meaning that document 01 gives it.
+//! A stand-in for rowan with the meaning that document 01 gives it.
 //!
 //! A syntax tree is the preorder list of its elements, and an element is known by its tree and its number in that list: two handles are equal
-//! if both agree, whatever the elements contain. Green trees are shared values without a place. Every new root is a new tree.
+//! if both agree, whatever the elements contain. Green trees are shared values without a place. Every new root is a new tree, written out whole,
+//! which rowan does not do: the green stand-in has rowan's costs.
 
 use std::{borrow::Borrow, fmt, hash, ops::Range, rc::Rc};
 
+#[path = "../shared/element.rs"]
+mod element;
+#[path = "../shared/seen.rs"]
+mod seen;
+#[path = "../shared/text.rs"]
 mod text;
+#[path = "../shared/watch.rs"]
 pub mod watch;
 
+pub use element::{NodeOrToken, Size, SyntaxKind};
 pub use text::{TextRange, TextSize};
 
-#[derive(Debug, Clone, Copy, PartialEq, Eq, PartialOrd, Ord, Hash)]
-pub struct SyntaxKind(pub u16);
-
-/// Kinds that the whitespace helpers of syntax_editor.rs name; no batch calls these helpers.
-impl SyntaxKind {
-    pub const ATTR: Self = Self(0xfff0);
-    pub const GENERIC_ARG_LIST: Self = Self(0xfff1);
-    pub const LIFETIME: Self = Self(0xfff2);
-    pub const USE: Self = Self(0xfff3);
-    pub const WHITESPACE: Self = Self(0xfff4);
-}
-
-#[derive(Debug, PartialEq, Eq, Hash)]
-pub enum NodeOrToken<N, T> {
-    Node(N),
-    Token(T),
-}
-
-impl<N, T> NodeOrToken<N, T> {
-    pub fn into_node(self) -> Option<N> {
-        match self {
-            NodeOrToken::Node(node) => Some(node),
-            NodeOrToken::Token(_) => None,
-        }
-    }
-
-    pub fn as_token(&self) -> Option<&T> {
-        match self {
-            NodeOrToken::Node(_) => None,
-            NodeOrToken::Token(token) => Some(token),
-        }
-    }
-}
-
-impl<N: Clone, T: Clone> Clone for NodeOrToken<N, T> {
-    fn clone(&self) -> Self {
-        match self {
-            NodeOrToken::Node(node) => NodeOrToken::Node(node.clone()),
-            NodeOrToken::Token(token) => NodeOrToken::Token(token.clone()),
-        }
-    }
-}
-
-impl<N: fmt::Display, T: fmt::Display> fmt::Display for NodeOrToken<N, T> {
-    fn fmt(&self, f: &mut fmt::Formatter<'_>) -> fmt::Result {
-        match self {
-            NodeOrToken::Node(node) => node.fmt(f),
-            NodeOrToken::Token(token) => token.fmt(f),
-        }
-    }
-}
-
 // ---------------------------------------------------------------- green trees
-
-/// How large a green tree is: elements, text bytes and depth, the top counted.
-#[derive(Debug, Clone, Copy, Default)]
-pub struct Size {
-    pub elements: usize,
-    pub text: usize,
-    pub depth: usize,
-}
 
 struct NodeData {
     kind: SyntaxKind,
@@ -98,14 +46,7 @@ impl GreenToken {
 impl GreenNode {
     pub fn new(kind: SyntaxKind, children: impl IntoIterator<Item = GreenElement>) -> Self {
         let children = children.into_iter().collect::<Vec<_>>();
-        let mut size = Size { elements: 1, text: 0, depth: 0 };
-        for child in &children {
-            let child = child.size();
-            size.elements = size.elements.saturating_add(child.elements);
-            size.text = size.text.saturating_add(child.text);
-            size.depth = size.depth.max(child.depth);
-        }
-        size.depth += 1;
+        let size = Size::of_node(children.iter().map(GreenElement::size));
         Self(GreenNodeData(Rc::new(NodeData { kind, children, size })))
     }
 }
@@ -114,7 +55,7 @@ impl GreenElement {
     fn size(&self) -> Size {
         match self {
             NodeOrToken::Node(node) => node.0.0.size,
-            NodeOrToken::Token(token) => Size { elements: 1, text: token.0.0.text.len(), depth: 1 },
+            NodeOrToken::Token(token) => Size::of_token(token.0.0.text.len()),
         }
     }
 
@@ -194,7 +135,7 @@ struct Entry {
 }
 
 struct Tree {
-    id: u32,
+    id: watch::Number,
     entries: Vec<Entry>,
     children: Vec<usize>,
 }
@@ -251,9 +192,13 @@ impl Handle {
     fn at(&self, number: usize) -> SyntaxElement {
         let handle = Handle { tree: Rc::clone(&self.tree), number };
         match self.tree.entries[number].green {
-            NodeOrToken::Node(_) => SyntaxElement::Node(SyntaxNode { handle, first_child: false }),
+            NodeOrToken::Node(_) => SyntaxElement::Node(SyntaxNode::of(handle)),
             NodeOrToken::Token(_) => SyntaxElement::Token(SyntaxToken { handle }),
         }
+    }
+
+    fn top(&self) -> SyntaxNode {
+        SyntaxNode::of(Handle { tree: Rc::clone(&self.tree), number: 0 })
     }
 
     fn parent(&self) -> Option<SyntaxNode> {
@@ -295,10 +240,10 @@ pub struct SyntaxToken {
     handle: Handle,
 }
 
-/// A node. `first_child` marks a handle that names the parent of a first-child position; it plays no part in equality.
+/// A node. The mark plays no part in equality.
 pub struct SyntaxNode {
     handle: Handle,
-    first_child: bool,
+    mark: watch::Mark,
 }
 
 pub type SyntaxElement = NodeOrToken<SyntaxNode, SyntaxToken>;
@@ -320,14 +265,14 @@ impl Eq for SyntaxToken {}
 impl Clone for SyntaxNode {
     #[track_caller]
     fn clone(&self) -> Self {
-        watch::cloned(self.handle.tree.id, self.is_childless());
-        Self { handle: self.handle.clone(), first_child: self.first_child }
+        watch::cloned(|| self.handle.tree.id, || self.is_childless());
+        Self { handle: self.handle.clone(), mark: self.mark }
     }
 }
 
 impl PartialEq for SyntaxNode {
     fn eq(&self, other: &Self) -> bool {
-        watch::compared(self.first_child || other.first_child);
+        watch::compared(self.mark, other.mark);
         self.handle == other.handle
     }
 }
@@ -362,11 +307,14 @@ impl SyntaxToken {
 }
 
 impl SyntaxNode {
+    fn of(handle: Handle) -> SyntaxNode {
+        SyntaxNode { handle, mark: watch::PLAIN }
+    }
+
     /// A new tree. During an edit this ends a step, whose limits are judged first.
     pub fn new_root(green: GreenNode) -> SyntaxNode {
-        watch::step_done(green.0.0.size);
-        let handle = Handle { tree: Rc::new(Tree::new(green)), number: 0 };
-        SyntaxNode { handle, first_child: false }
+        watch::step_done(|| green.0.0.size);
+        SyntaxNode::of(Handle { tree: Rc::new(Tree::new(green)), number: 0 })
     }
 
     pub fn green(&self) -> &GreenNodeData {
@@ -419,19 +367,17 @@ impl SyntaxNode {
     #[track_caller]
     pub fn ancestors(&self) -> impl Iterator<Item = SyntaxNode> + use<> {
         watch::ancestors_searched();
-        let top = SyntaxNode { handle: self.handle.clone(), first_child: false };
-        std::iter::successors(Some(top), |node| node.handle.parent())
+        std::iter::successors(Some(SyntaxNode::of(self.handle.clone())), |node| node.handle.parent())
     }
 
     pub fn tree_top(&self) -> SyntaxNode {
         watch::rewritten();
-        let handle = Handle { tree: Rc::clone(&self.handle.tree), number: 0 };
-        SyntaxNode { handle, first_child: false }
+        self.handle.top()
     }
 
     #[track_caller]
     pub fn children_with_tokens(&self) -> SyntaxElementChildren {
-        let landing = watch::is_landing();
+        let landing = watch::listed();
         SyntaxElementChildren { parent: self.handle.clone(), next: 0, landing }
     }
 
@@ -446,28 +392,28 @@ impl SyntaxNode {
 
     /// The node itself and every node below it, in preorder.
     pub fn descendants(&self) -> impl Iterator<Item = SyntaxNode> + use<> {
+        self.descendants_with_tokens().filter_map(SyntaxElement::into_node)
+    }
+
+    /// The node itself and every element below it, in preorder.
+    pub fn descendants_with_tokens(&self) -> impl Iterator<Item = SyntaxElement> + use<> {
         let handle = self.handle.clone();
         let end = handle.number + handle.entry().green.size().elements;
-        (handle.number..end).filter_map(move |number| handle.at(number).into_node())
+        (handle.number..end).map(move |number| handle.at(number))
     }
 
     fn is_childless(&self) -> bool {
         self.handle.entry().children.is_empty()
     }
 
-    /// The element of this node's tree that has the number.
-    pub fn element(&self, number: usize) -> SyntaxElement {
-        self.handle.at(number)
+    /// The child of that index, for the oracle, which knows that there is one.
+    pub fn child_at(&self, index: usize) -> SyntaxElement {
+        self.handle.child(index).expect("a child of the node")
     }
 
     /// The same node, marked as the parent of a first-child position.
     pub fn for_first_child(&self) -> SyntaxNode {
-        SyntaxNode { handle: self.handle.clone(), first_child: true }
-    }
-
-    /// Elements of this node's tree.
-    pub fn tree_len(&self) -> usize {
-        self.handle.tree.entries.len()
+        SyntaxNode { handle: self.handle.clone(), mark: watch::FIRST_CHILD }
     }
 }
 
@@ -498,8 +444,7 @@ impl SyntaxElement {
     }
 
     pub fn tree_top(&self) -> SyntaxNode {
-        let handle = Handle { tree: Rc::clone(&self.handle().tree), number: 0 };
-        SyntaxNode { handle, first_child: false }
+        self.handle().top()
     }
 
     pub fn prev_sibling_or_token(&self) -> Option<SyntaxElement> {
@@ -551,11 +496,11 @@ impl From<SyntaxToken> for SyntaxElement {
     }
 }
 
-/// The children of a node, first to last. `landing` says that a rewritten position looks for its place here.
+/// The children of a node, first to last.
 pub struct SyntaxElementChildren {
     parent: Handle,
     next: usize,
-    landing: bool,
+    landing: watch::Mark,
 }
 
 impl Iterator for SyntaxElementChildren {
@@ -568,8 +513,8 @@ impl Iterator for SyntaxElementChildren {
     fn nth(&mut self, n: usize) -> Option<SyntaxElement> {
         let child = self.parent.child(self.next + n);
         self.next += n + 1;
-        if let (true, Some(NodeOrToken::Node(node))) = (self.landing, &child) {
-            watch::landed(node.is_childless());
+        if let Some(NodeOrToken::Node(node)) = &child {
+            watch::landed(self.landing, || node.is_childless());
         }
         child
     }
