@@ -57,10 +57,10 @@ fn is_old_node(table: &[u32], source: &[u32], n: usize, k: usize) -> bool
     requires { ⌜ Wellformed n (now table) (now source) × (k < n) ⌝ }
     ensures { λ r. ⌜ r ≡ oldNode (view n (now (table .entry)) (now (source .entry))) k ⌝ }
 {
-    if !calls::is_node(source, k) {
+    if !element_table::is_node(source, k) {
         return false;
     }
-    calls::entry(table, k, 7) == 0
+    element_table::entry(table, k, element_table::TREE) == 0
 }
 
 // Where element `k` stands in the new tree, from the rows that the run of the batch leaves.
@@ -83,8 +83,8 @@ fn find_from(
     if !is_old_node(table, source, n, k) {
         return Outcome::Nothing;
     }
-    let kind = calls::row_word(source, k, 0);
-    let start = calls::entry(table, k, 4);
+    let kind = element_table::row_word(source, k, element_table::KIND);
+    let start = element_table::entry(table, k, element_table::START);
     match finding::find_in_tree(rows, d.rows, d.root, kind, start) {
         Found::Nothing => Outcome::Nothing,
         Found::At(e) => Outcome::At(e),

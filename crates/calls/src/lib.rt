@@ -11,6 +11,12 @@ ghost use Rattle.element_table.specs.View.{view};
 ghost use Rattle.element_table.specs.Wellformed.{Wellformed};
 ghost use Rattle.element_table.specs.Told.{childCount};
 ghost use Rattle.calls.specs.Fits.{countFits, callFits, runFits};
+use element_table::CHILD;
+use element_table::PARENT;
+use element_table::child_count;
+use element_table::entry;
+use element_table::is_node;
+use element_table::is_root;
 
 // The operation of a call word.
 pub fn operation_of(word: usize) -> usize
@@ -26,22 +32,6 @@ pub fn count_of(word: usize) -> usize
     word / 256
 }
 
-// Word `k` of element `e` in the element table.
-pub fn entry(table: &[u32], e: usize, k: usize) -> usize
-    requires { ⌜ (k < 8) × (8 * e + 8 ≤ length (now table)) ⌝ }
-    ensures { λ r. ⌜ (r ≡ getD (now (table .entry)) (8 * e + k) 0) × (r < 2 ^ 32) ⌝ }
-{
-    words::word(table, 8 * e + k)
-}
-
-// Word `k` of the row of element `e`.
-pub fn row_word(source: &[u32], e: usize, k: usize) -> usize
-    requires { ⌜ (k < 3) × (3 * e + 6 ≤ length (now source)) ⌝ }
-    ensures { λ r. ⌜ (r ≡ getD (now (source .entry)) (3 * suc e + k) 0) × (r < 2 ^ 32) ⌝ }
-{
-    words::word(source, 3 * e + 3 + k)
-}
-
 // The first of the `count` listed elements that stand at `from` in a batch, 0 if there is none.
 pub fn first_listed(b: &[u8], from: usize, count: usize) -> usize
     requires { ⌜ from + 4 * count ≤ length (now b) ⌝ }
@@ -53,40 +43,13 @@ pub fn first_listed(b: &[u8], from: usize, count: usize) -> usize
     words::read_word(b, from)
 }
 
-// Whether element `e` is a node.
-pub fn is_node(source: &[u32], e: usize) -> bool
-    requires { ⌜ 3 * e + 6 ≤ length (now source) ⌝ }
-    ensures { λ r. ⌜ r ≡ isNode (getD (now (source .entry)) (3 * suc e) 0) ⌝ }
-{
-    0x8000_0000 <= row_word(source, e, 0)
-}
-
-// Whether element `e` is a root.
-pub fn is_root(table: &[u32], e: usize) -> bool
-    requires { ⌜ 8 * e + 8 ≤ length (now table) ⌝ }
-    ensures { λ r. ⌜ r ≡ eqb (getD (now (table .entry)) (8 * e + 1) 0) 0 ⌝ }
-{
-    entry(table, e, 1) == 0
-}
-
-// How many children element `e` has.
-pub fn child_count(source: &[u32], e: usize) -> usize
-    requires { ⌜ 3 * e + 6 ≤ length (now source) ⌝ }
-    ensures { λ r. ⌜ r ≡ childCount (now (source .entry)) e ⌝ }
-{
-    if is_node(source, e) {
-        return row_word(source, e, 1);
-    }
-    0
-}
-
 // Whether `x` and `y` are children of one parent (or both roots), and `y` does not come before `x`.
 pub fn run_fits(table: &[u32], x: usize, y: usize) -> bool
     requires { ⌜ (8 * x + 8 ≤ length (now table)) × (8 * y + 8 ≤ length (now table)) ⌝ }
     ensures { λ r. ⌜ r ≡ runFits (now (table .entry)) x y ⌝ }
 {
-    if entry(table, x, 1) == entry(table, y, 1) {
-        return entry(table, x, 2) <= entry(table, y, 2);
+    if entry(table, x, PARENT) == entry(table, y, PARENT) {
+        return entry(table, x, CHILD) <= entry(table, y, CHILD);
     }
     false
 }

@@ -17,10 +17,10 @@ fn change_anew(rows: &[u32], n: usize, i: usize, x: usize, y: usize) -> Change
     requires { ⌜ (n ≤ 2048) × (x < n) × (y < n) × (i < 256) ⌝ }
     ensures { λ r. ⌜ ChangedEnds n (rowAt (now (rows .entry)) i) x y r ⌝ }
 {
-    let operation = edit_plan::field(rows, i, 0);
+    let operation = syntax_editor::field(rows, i, syntax_editor::OPERATION);
     let listed = Listed {
-        at: edit_plan::field(rows, i, 3),
-        count: edit_plan::field(rows, i, 4),
+        at: syntax_editor::field(rows, i, syntax_editor::LIST),
+        count: syntax_editor::field(rows, i, syntax_editor::COUNT),
     };
     syntax_editor::change_by(operation, x, y, listed)
 }
@@ -30,9 +30,13 @@ fn copy_fate(rows: &[u32], i: usize, out: &mut [u32])
     requires { ⌜ (i < 256) × (13 * i + 13 ≤ length (now out)) ⌝ }
     ensures { λ _. ⌜ now (out .exit) ≡ paste (now (out .entry)) (13 * i + 11) ((rowAt (now (rows .entry)) i) .fate ∷ (rowAt (now (rows .entry)) i) .owner ∷ []) 2 ⌝ }
 {
-    let fate = edit_plan::field(rows, i, 11);
-    let owner = edit_plan::field(rows, i, 12);
-    words::copy_in(out, 13 * i + 11, &[fate as u32, owner as u32]);
+    let fate = syntax_editor::field(rows, i, syntax_editor::FATE);
+    let owner = syntax_editor::field(rows, i, syntax_editor::OWNER);
+    words::copy_in(
+        out,
+        syntax_editor::WORDS * i + syntax_editor::FATE,
+        &[fate as u32, owner as u32],
+    );
 }
 
 // The row at place `i` of `rows` with the target `x`, the end `y` and the first listed element `z`, written at the same place of `out`.
@@ -62,7 +66,7 @@ pub fn copy_row(rows: &[u32], i: usize, out: &mut [u32])
     requires { ⌜ (i < 256) × (13 * i + 13 ≤ length (now rows)) × (13 * i + 13 ≤ length (now out)) ⌝ }
     ensures { λ _. ⌜ now (out .exit) ≡ paste (now (out .entry)) (13 * i) (drop (13 * i) (now (rows .entry))) 13 ⌝ }
 {
-    let from = 13 * i;
-    let to = from + 13;
+    let from = syntax_editor::WORDS * i;
+    let to = from + syntax_editor::WORDS;
     words::copy_in(out, from, &rows[from..to]);
 }

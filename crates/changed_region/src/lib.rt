@@ -13,17 +13,17 @@ ghost use Rattle.syntax_editor.specs.ChangeRowLaws.{rowAt, rowsWords};
 ghost use Rattle.changed_region.specs.Fates.{plannedRows};
 ghost use Rattle.changed_region.specs.Stacks.{outer, contains, stackTo, enclosing, Outward, stated};
 ghost use Rattle.changed_region.specs.Steps.{regionAround, nextRows, nextTops};
-use edit_plan::field;
+use syntax_editor::field;
 
 // Whether the range of the change at place `j` contains the one from `from` to `to`, ends included.
 fn contains_range(rows: &[u32], j: usize, from: usize, to: usize) -> bool
     requires { ⌜ j < 2 ^ 32 ⌝ }
     ensures { λ r. ⌜ r ≡ contains (rowAt (now (rows .entry)) j) from to ⌝ }
 {
-    if from < field(rows, j, 6) {
+    if from < field(rows, j, syntax_editor::FROM) {
         return false;
     }
-    to <= field(rows, j, 7)
+    to <= field(rows, j, syntax_editor::TO)
 }
 
 // The place of the region around the change at place `j`, told as one more; 0 if there is none.
@@ -31,10 +31,10 @@ fn outer_region(rows: &[u32], j: usize) -> usize
     requires { ⌜ j < 2 ^ 32 ⌝ }
     ensures { λ r. ⌜ r ≡ outer (rowAt (now (rows .entry)) j) ⌝ }
 {
-    if field(rows, j, 11) == 0 {
+    if field(rows, j, syntax_editor::FATE) == 0 {
         0
     } else {
-        field(rows, j, 12) + 1
+        field(rows, j, syntax_editor::OWNER) + 1
     }
 }
 
@@ -61,10 +61,14 @@ fn fate_in(rows: &[u32], p: usize) -> usize
     if p == 0 {
         return 0;
     }
-    if 1 < field(rows, p - 1, 11) {
+    if 1 < field(rows, p - 1, syntax_editor::FATE) {
         return 2;
     }
-    if field(rows, p - 1, 10) == 2 { 1 } else { 2 }
+    if field(rows, p - 1, syntax_editor::REGION) == 2 {
+        1
+    } else {
+        2
+    }
 }
 
 // One less, 0 of 0.
@@ -80,8 +84,8 @@ fn state_fate(rows: &mut [u32], k: usize, p: usize)
     ensures { λ _. ⌜ now (rows .exit) ≡ stated (now (rows .entry)) k (fate (stackTo (now (rows .entry)) k p)) ⌝ }
 {
     let f = fate_in(rows, p);
-    rows[13 * k + 11] = f as u32;
-    rows[13 * k + 12] = one_less(p) as u32;
+    rows[syntax_editor::WORDS * k + syntax_editor::FATE] = f as u32;
+    rows[syntax_editor::WORDS * k + syntax_editor::OWNER] = one_less(p) as u32;
 }
 
 // The last region of a tree.
@@ -110,7 +114,11 @@ fn last_region(rows: &[u32], k: usize, p: usize) -> usize
     requires { ⌜ (k < 256) × (p ≤ k) ⌝ }
     ensures { λ r. ⌜ (r ≡ cond (eqb (rowAt (now (rows .entry)) k .region) 0) p (suc k)) × (r ≤ 256) ⌝ }
 {
-    if field(rows, k, 10) == 0 { p } else { k + 1 }
+    if field(rows, k, syntax_editor::REGION) == 0 {
+        p
+    } else {
+        k + 1
+    }
 }
 
 // The place of the region around the change at place `k`, by the last regions of each tree; 0 if there is none.
@@ -118,8 +126,13 @@ fn region_around(rows: &[u32], k: usize, tops: &[u32]) -> usize
     requires { ⌜ (k < 256) × All (λ q. q ≤ k) (now tops) × Outward (now rows) k ⌝ }
     ensures { λ r. ⌜ (r ≡ regionAround (now (rows .entry)) (now (tops .entry)) k) × (r ≤ k) ⌝ }
 {
-    let top = top_of(tops, field(rows, k, 5));
-    enclosing_region(rows, top, field(rows, k, 6), field(rows, k, 7))
+    let top = top_of(tops, field(rows, k, syntax_editor::TREE));
+    enclosing_region(
+        rows,
+        top,
+        field(rows, k, syntax_editor::FROM),
+        field(rows, k, syntax_editor::TO),
+    )
 }
 
 // The change at place `k` gets its fate, and the stack of its tree becomes what it leaves.
@@ -129,7 +142,11 @@ fn plan_change(rows: &mut [u32], k: usize, tops: &mut [u32])
     ensures { λ _. ⌜ now (tops .exit) ≡ nextTops (now (rows .entry)) (now (tops .entry)) k ⌝ }
 {
     let p = region_around(rows, k, tops);
-    set_top(tops, field(rows, k, 5), last_region(rows, k, p));
+    set_top(
+        tops,
+        field(rows, k, syntax_editor::TREE),
+        last_region(rows, k, p),
+    );
     state_fate(rows, k, p);
 }
 

@@ -8,6 +8,30 @@ ghost use lib.Seq.{paste};
 ghost use Rattle.spelling.specs.Spelling.{elementsAt};
 ghost use Rattle.element_table.specs.Filling.{Accepted, Filled, ended, tableOf, rowsFrom};
 
+// The eight words of an element, in this order (specs/View.antt).
+pub const OFFSET: usize = 0;
+// Its parent + 1; 0 for a root.
+pub const PARENT: usize = 1;
+
+pub const CHILD: usize = 2;
+
+pub const DEPTH: usize = 3;
+// Where its text starts and ends in its own tree.
+pub const START: usize = 4;
+
+pub const END: usize = 5;
+// The element after its subtree.
+pub const AFTER: usize = 6;
+
+pub const TREE: usize = 7;
+
+// The three words of a row.
+pub const KIND: usize = 0;
+
+pub const MEASURE: usize = 1;
+
+pub const TEXT: usize = 2;
+
 // An open element: how many of its children are to come, its number + 1 (0 for all the trees), the number of its next child.
 struct Open {
     left: usize,
@@ -34,8 +58,8 @@ fn close(table: &mut [u32], owner: usize, end: usize, after: usize)
         return;
     }
     let at = 8 * (owner - 1);
-    table[at + 5] = end as u32;
-    table[at + 6] = after as u32;
+    table[at + END] = end as u32;
+    table[at + AFTER] = after as u32;
 }
 
 // The words of all elements in the table, and their rows behind the first row of the source. Each turn closes the innermost open element,
@@ -110,4 +134,49 @@ pub fn fill(
 {
     words::store3(source, 0, 0x8000_0000, trees, 0);
     fill_elements(b, kinds, measures, n, trees, table, source);
+}
+
+// ── What is read of it ──
+
+// Word `k` of element `e`.
+pub fn entry(table: &[u32], e: usize, k: usize) -> usize
+    requires { ⌜ (k < 8) × (8 * e + 8 ≤ length (now table)) ⌝ }
+    ensures { λ r. ⌜ (r ≡ getD (now (table .entry)) (8 * e + k) 0) × (r < 2 ^ 32) ⌝ }
+{
+    words::word(table, 8 * e + k)
+}
+
+// Word `k` of the row of element `e`.
+pub fn row_word(source: &[u32], e: usize, k: usize) -> usize
+    requires { ⌜ (k < 3) × (3 * e + 6 ≤ length (now source)) ⌝ }
+    ensures { λ r. ⌜ (r ≡ getD (now (source .entry)) (3 * suc e + k) 0) × (r < 2 ^ 32) ⌝ }
+{
+    words::word(source, 3 * e + 3 + k)
+}
+
+// Whether element `e` is a node.
+pub fn is_node(source: &[u32], e: usize) -> bool
+    requires { ⌜ 3 * e + 6 ≤ length (now source) ⌝ }
+    ensures { λ r. ⌜ r ≡ isNode (getD (now (source .entry)) (3 * suc e) 0) ⌝ }
+{
+    0x8000_0000 <= row_word(source, e, KIND)
+}
+
+// Whether element `e` is a root.
+pub fn is_root(table: &[u32], e: usize) -> bool
+    requires { ⌜ 8 * e + 8 ≤ length (now table) ⌝ }
+    ensures { λ r. ⌜ r ≡ eqb (getD (now (table .entry)) (8 * e + 1) 0) 0 ⌝ }
+{
+    entry(table, e, PARENT) == 0
+}
+
+// How many children element `e` has.
+pub fn child_count(source: &[u32], e: usize) -> usize
+    requires { ⌜ 3 * e + 6 ≤ length (now source) ⌝ }
+    ensures { λ r. ⌜ r ≡ childCount (now (source .entry)) e ⌝ }
+{
+    if is_node(source, e) {
+        return row_word(source, e, MEASURE);
+    }
+    0
 }

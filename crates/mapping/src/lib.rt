@@ -52,7 +52,7 @@ pub fn place_below(table: &[u32], n: usize, x: usize, e: usize, place: &mut [u32
     let mut at = e;
     let mut k: usize = 0;
     while at != x {
-        let p = calls::entry(table, at, 1);
+        let p = element_table::entry(table, at, element_table::PARENT);
         if p == 0 {
             return Below::Elsewhere;
         }
@@ -91,7 +91,7 @@ pub fn upmap_to_ancestor(
     let mut k: usize = 1;
     let mut outcome = Climb::Refused(9);
     loop {
-        let p = calls::entry(table, x, 1);
+        let p = element_table::entry(table, x, element_table::PARENT);
         if p == 0 {
             break;
         }

@@ -44,7 +44,7 @@ fn count_discarded(rows: &[u32], c: usize) -> usize
     let mut n: usize = 0;
     let mut i: usize = 0;
     while i < c {
-        if 1 < edit_plan::field(rows, i, 11) {
+        if 1 < syntax_editor::field(rows, i, syntax_editor::FATE) {
             n += 1;
             i += 1;
         } else {

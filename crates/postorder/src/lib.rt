@@ -6,7 +6,7 @@ ghost use lib.ListN.{length, take, drop, replicate};
 ghost use Rattle.edit_plan.specs.Sorting.{rankedPlaces};
 ghost use Rattle.postorder.specs.Order.{runningPlaces};
 ghost use Rattle.postorder.specs.Links.{OwnerOf, Links, ownedBy, linkedTo, dependents};
-use edit_plan::field;
+use syntax_editor::field;
 use words::word;
 
 // The owner of the change at place `k`, told as one more; 0 of a change without owner, 257 of one that never runs.
@@ -14,14 +14,14 @@ fn owner_of(rows: &[u32], k: usize) -> usize
     requires { ⌜ k < 2 ^ 32 ⌝ }
     ensures { λ r. ⌜ OwnerOf (now (rows .entry)) k r ⌝ }
 {
-    let fate = field(rows, k, 11);
+    let fate = field(rows, k, syntax_editor::FATE);
     if fate == 0 {
         return 0;
     }
     if fate != 1 {
         return 257;
     }
-    let owner = field(rows, k, 12);
+    let owner = field(rows, k, syntax_editor::OWNER);
     if owner < 256 {
         return owner + 1;
     }

@@ -1,6 +1,8 @@
 // Recording: from the calls of an accepted batch to change rows, editor after editor.
 use syntax_editor::Numbers;
 use syntax_editor::Spot;
+use syntax_editor::TARGET;
+use syntax_editor::WORDS;
 ghost use mathlib.Core.Path.{_≡_};
 ghost use mathlib.Core.List.{zip};
 ghost use Prim.Native.Nat.{_+_, _*_, _^_, _≤_, _<_};
@@ -38,10 +40,10 @@ fn meets(rows: &[u32], k: usize, target: usize) -> bool
     ensures { λ r. ⌜ r ≡ meetsSingle target (rowAt (now (rows .entry)) k) ⌝ }
 {
     // The target first: most rows differ there.
-    if target != words::word(rows, 13 * k + 1) {
+    if target != words::word(rows, WORDS * k + TARGET) {
         return false;
     }
-    is_single(words::word(rows, 13 * k))
+    is_single(words::word(rows, WORDS * k))
 }
 
 // The place of the first row that a change of this target, whose operation merges, meets, from `start` on; `count` if there is none.
@@ -80,7 +82,7 @@ fn record_change(rows: &mut [u32], start: usize, count: usize, m: Numbers, s: Sp
         syntax_editor::write_row(rows, k, m, s);
         return count + 1;
     }
-    if words::word(rows, 13 * k) == 3 {
+    if words::word(rows, WORDS * k) == 3 {
         return count;
     }
     syntax_editor::write_row(rows, k, m, s);

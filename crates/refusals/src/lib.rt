@@ -102,13 +102,13 @@ fn mapping_fits(table: &[u32], source: &[u32], n: usize, input: usize, output: u
     if n <= output {
         return false;
     }
-    if !calls::is_node(source, input) {
+    if !element_table::is_node(source, input) {
         return false;
     }
-    if !calls::is_node(source, output) {
+    if !element_table::is_node(source, output) {
         return false;
     }
-    !calls::is_root(table, output)
+    !element_table::is_root(table, output)
 }
 
 // Line 7, of the mappings.

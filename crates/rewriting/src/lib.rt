@@ -94,11 +94,16 @@ fn upmap_dependent(
     requires { ⌜ Dependent n (wordsAt (now b) listed l) (rowAt (now rows) k) (rowAt (now rows) i) ⌝ }
     ensures { λ r. ⌜ OwnedEnds n (now (table .entry)) (now (source .entry)) (now (map .entry)) (wordsAt (now (b .entry)) listed l) (rowAt (now (rows .entry)) k) (rowAt (now (rows .entry)) i) r ⌝ }
 {
-    let input = edit_plan::field(rows, k, 1);
-    let output = listed_element(b, listed, l, edit_plan::field(rows, k, 3));
-    let operation = edit_plan::field(rows, i, 0);
-    let target = edit_plan::field(rows, i, 1);
-    let end = edit_plan::field(rows, i, 2);
+    let input = syntax_editor::field(rows, k, syntax_editor::TARGET);
+    let output = listed_element(
+        b,
+        listed,
+        l,
+        syntax_editor::field(rows, k, syntax_editor::LIST),
+    );
+    let operation = syntax_editor::field(rows, i, syntax_editor::OPERATION);
+    let target = syntax_editor::field(rows, i, syntax_editor::TARGET);
+    let end = syntax_editor::field(rows, i, syntax_editor::END);
     upmap_ends(table, source, map, n, input, output, operation, target, end)
 }
 
@@ -122,8 +127,8 @@ fn write_judged(
     requires { ⌜ NewEnds n (wordsAt (now b) listed l) (rowAt (now rows) i) x y ⌝ }
     ensures { λ r. ⌜ RowRewritten (judgedRow (view n (now (table .entry)) (now (source .entry))) (wordsAt (now (b .entry)) listed l) (rowAt (now (rows .entry)) i) (x, y, steps)) i (now (out .entry)) (now (out .exit)) r ⌝ }
 {
-    let operation = edit_plan::field(rows, i, 0);
-    let list = edit_plan::field(rows, i, 3);
+    let operation = syntax_editor::field(rows, i, syntax_editor::OPERATION);
+    let list = syntax_editor::field(rows, i, syntax_editor::LIST);
     let z = judged_by(b, listed, l, operation, list, y);
     if calls::call_fits(table, source, n, operation, x, z) {
         change_row::write_row(table, source, n, rows, i, x, y, z, out);
@@ -179,8 +184,8 @@ fn rewrite_row(
     requires { ⌜ Fated n (wordsAt (now b) listed l) (now rows) i ⌝ }
     ensures { λ r. ⌜ RowRewritten (rewriteAt (view n (now (table .entry)) (now (source .entry))) (mappedBy (now (map .entry))) (wordsAt (now (b .entry)) listed l) (now (rows .entry)) i) i (now (out .entry)) (now (out .exit)) r ⌝ }
 {
-    if edit_plan::field(rows, i, 11) == 1 {
-        let k = edit_plan::field(rows, i, 12);
+    if syntax_editor::field(rows, i, syntax_editor::FATE) == 1 {
+        let k = syntax_editor::field(rows, i, syntax_editor::OWNER);
         return rewrite_dependent_target(table, source, map, n, b, listed, l, rows, i, k, out);
     }
     change_row::copy_row(rows, i, out);

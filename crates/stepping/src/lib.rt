@@ -15,10 +15,11 @@ ghost use Rattle.tree_state.specs.Store.{Open};
 ghost use Rattle.tree_state.specs.Applied.{Applied};
 ghost use Rattle.stepping.specs.Standing.{Standing};
 ghost use Rattle.stepping.specs.Stepping.{AboveBy, recordsBy, SteppedAt, Performs, listsIn, Stepped};
-use calls::entry;
-use edit_plan::field;
+use element_table::DEPTH;
+use element_table::entry;
 use preparing::Prepared;
 use preparing::prepare;
+use syntax_editor::field;
 use tree_state::Executed;
 use tree_state::TreeState;
 use tree_state::apply;
@@ -42,9 +43,9 @@ fn change_gap(
     requires { ⌜ ((rowAt (now changes) k) .target < length (now marks)) × ((rowAt (now changes) k) .end < length (now marks)) ⌝ }
     ensures { λ r. ⌜ SiteAt (now (rows .entry)) n (now (table .entry)) (now (marks .entry)) ((rowAt (now (changes .entry)) k) .operation) ((rowAt (now (changes .entry)) k) .target) ((rowAt (now (changes .entry)) k) .end) r ⌝ }
 {
-    let operation = field(changes, k, 0);
-    let x = field(changes, k, 1);
-    let y = field(changes, k, 2);
+    let operation = field(changes, k, syntax_editor::OPERATION);
+    let x = field(changes, k, syntax_editor::TARGET);
+    let y = field(changes, k, syntax_editor::END);
     find_gap(rows, n, table, marks, operation, x, y)
 }
 
@@ -53,9 +54,9 @@ fn depth_above(table: &[u32], n: usize, changes: &[u32], k: usize) -> usize
     requires { ⌜ Lines n (now table) × (k < 2 ^ 32) × ((rowAt (now changes) k) .target < n) ⌝ }
     ensures { λ r. ⌜ AboveBy (now (table .entry)) ((rowAt (now (changes .entry)) k) .operation) ((rowAt (now (changes .entry)) k) .target) r ⌝ }
 {
-    let x = field(changes, k, 1);
-    let depth = entry(table, x, 3);
-    if field(changes, k, 0) == 0 {
+    let x = field(changes, k, syntax_editor::TARGET);
+    let depth = entry(table, x, DEPTH);
+    if field(changes, k, syntax_editor::OPERATION) == 0 {
         return depth;
     }
     depth - 1
@@ -66,10 +67,10 @@ fn is_recorded(changes: &[u32], k: usize) -> bool
     requires { ⌜ k < 2 ^ 32 ⌝ }
     ensures { λ r. ⌜ r ≡ recordsBy (rowAt (now (changes .entry)) k) ⌝ }
 {
-    if field(changes, k, 11) != 0 {
+    if field(changes, k, syntax_editor::FATE) != 0 {
         return false;
     }
-    field(changes, k, 5) == 0
+    field(changes, k, syntax_editor::TREE) == 0
 }
 
 // ── One step ──
@@ -214,8 +215,8 @@ pub fn step(
         Site::At(g) => {
             let above = depth_above(table, marks.len(), changes, k);
             let recorded = is_recorded(changes, k);
-            let list = listed + 4 * field(changes, k, 3);
-            let count = field(changes, k, 4);
+            let list = listed + 4 * field(changes, k, syntax_editor::LIST);
+            let count = field(changes, k, syntax_editor::COUNT);
             step_at(
                 rows,
                 marks,

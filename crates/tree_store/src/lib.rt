@@ -8,8 +8,10 @@ ghost use Rattle.syntax_node.specs.Promises.{TreesBetween};
 ghost use Rattle.store_model.specs.Sums.{tooLargeBy};
 ghost use Rattle.tree_store.specs.Promises.{Prepared, GapOf, GapAfter, GapRun, RunSite, SiteAt};
 ghost use Rattle.tree_store.specs.Gaps.{markOrTop, parentMark};
-use calls::entry;
-use calls::is_root;
+use element_table::PARENT;
+use element_table::TREE;
+use element_table::entry;
+use element_table::is_root;
 use syntax_node::child_row;
 use syntax_node::children_between;
 use syntax_node::rows_after;
@@ -69,7 +71,7 @@ fn parent_row(table: &[u32], marks: &[u32], x: usize) -> usize
     requires { ⌜ Lines (length (now marks)) (now table) × (x < length (now marks)) ⌝ }
     ensures { λ r. ⌜ r ≡ parentMark (now (table .entry)) (now (marks .entry)) x ⌝ }
 {
-    let p = entry(table, x, 1);
+    let p = entry(table, x, PARENT);
     row_or_top(marks, p)
 }
 
@@ -171,7 +173,7 @@ fn replaced_site(rows: &[u32], n: usize, table: &[u32], marks: &[u32], x: usize)
     ensures { λ r. ⌜ SiteAt (now (rows .entry)) n (now (table .entry)) (now (marks .entry)) 2 x x r ⌝ }
 {
     if is_root(table, x) {
-        let t = entry(table, x, 7);
+        let t = entry(table, x, TREE);
         let top = child_row(rows, n, 0, t);
         let g = gap_of(rows, n, table, marks, x, top);
         return Site::At(g);

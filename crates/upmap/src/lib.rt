@@ -21,13 +21,13 @@ pub fn nth_child(table: &[u32], source: &[u32], n: usize, e: usize, i: usize) ->
     requires { ⌜ e < n ⌝ }
     ensures { λ r. ⌜ FoundChild n (now (table .entry)) (now (source .entry)) e i r ⌝ }
 {
-    if calls::child_count(source, e) <= i {
+    if element_table::child_count(source, e) <= i {
         return Found::Missing;
     }
     let mut c = e + 1;
     let mut j: usize = 0;
     while j < i {
-        c = calls::entry(table, c, 6);
+        c = element_table::entry(table, c, element_table::AFTER);
         j += 1;
     }
     Found::At(c)
@@ -75,10 +75,10 @@ pub fn land(
     let Found::At(to) = descend(table, source, n, r, numbers, k) else {
         return Found::Missing;
     };
-    if calls::is_node(source, to) {
+    if element_table::is_node(source, to) {
         return Found::At(to);
     }
-    if calls::is_node(source, e) {
+    if element_table::is_node(source, e) {
         return Found::Missing;
     }
     Found::At(to)
@@ -155,7 +155,7 @@ fn nearest_mapped(table: &[u32], map: &[u32], n: usize, e: usize) -> Found
 {
     let mut at = e;
     while words::word(map, at) == 0 {
-        let p = calls::entry(table, at, 1);
+        let p = element_table::entry(table, at, element_table::PARENT);
         if p == 0 {
             return Found::Missing;
         }
@@ -178,7 +178,7 @@ fn upmap_from(table: &[u32], source: &[u32], map: &[u32], n: usize, a: usize, e:
     ensures { λ r. ⌜ OneMove n (now (table .entry)) (now (source .entry)) (now (map .entry)) a e r ⌝ }
 {
     let output = mapping::upmap_node_single(map, n, a);
-    if calls::entry(table, output, 1) == a + 1 {
+    if element_table::entry(table, output, element_table::PARENT) == a + 1 {
         return Settled::Refused(10);
     }
     let mut place = [0u32; 64];

@@ -1,9 +1,9 @@
 -- `child_count` meets its contract. A token has no children, a node as many as its measure.
 -- Assumes nothing.
 use borrow.Author.Needs.{needs}
-use Rattle.calls.proofs.Judging.{count-of-node, count-of-token}
-use Rattle.calls.proofs.child_count.Statement.{statement}
-use Rattle.calls.proofs.child_count.Tie as tie
+use Rattle.element_table.proofs.Reading.{count-of-node, count-of-token}
+use Rattle.element_table.proofs.child_count.Statement.{statement}
+use Rattle.element_table.proofs.child_count.Tie as tie
 
 is-node-requires : tie.Need-is-node-requires
 is-node-requires c κs = search needs

@@ -1,9 +1,9 @@
 -- `row_word` meets its contract. Element e stands at row e + 1.
 -- Assumes nothing.
 use borrow.Author.Needs.{needs}
-use Rattle.calls.proofs.Judging.{row-at}
-use Rattle.calls.proofs.row_word.Statement.{statement}
-use Rattle.calls.proofs.row_word.Tie as tie
+use Rattle.element_table.proofs.Reading.{row-at}
+use Rattle.element_table.proofs.row_word.Statement.{statement}
+use Rattle.element_table.proofs.row_word.Tie as tie
 
 mul-word : tie.Need-mul-word
 mul-word c = search needs

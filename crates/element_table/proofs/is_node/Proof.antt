@@ -1,9 +1,9 @@
 -- `is_node` meets its contract. The kind word is the row's first.
 -- Assumes nothing.
 use borrow.Author.Needs.{needs}
-use Rattle.calls.proofs.Judging.{kind-at}
-use Rattle.calls.proofs.is_node.Statement.{statement}
-use Rattle.calls.proofs.is_node.Tie as tie
+use Rattle.element_table.proofs.Reading.{kind-at}
+use Rattle.element_table.proofs.is_node.Statement.{statement}
+use Rattle.element_table.proofs.is_node.Tie as tie
 
 row-word-requires : tie.Need-row-word-requires
 row-word-requires c κs = search needs

@@ -1,9 +1,9 @@
 -- `is_root` meets its contract. A root names no parent.
 -- Assumes nothing.
 use borrow.Author.Needs.{needs}
-use Rattle.calls.proofs.Judging.{root-at}
-use Rattle.calls.proofs.is_root.Statement.{statement}
-use Rattle.calls.proofs.is_root.Tie as tie
+use Rattle.element_table.proofs.Reading.{root-at}
+use Rattle.element_table.proofs.is_root.Statement.{statement}
+use Rattle.element_table.proofs.is_root.Tie as tie
 
 entry-requires : tie.Need-entry-requires
 entry-requires c κs = search needs
