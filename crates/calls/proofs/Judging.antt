@@ -120,3 +120,12 @@ module _ (n : ℕ) (w r : List ℕ) (op x y : ℕ) (t : Bool) (W : Wellformed n 
     pub fits-rest : (op ≡ 0 → ⊥) → (op ≡ 6 → ⊥) → (op ≡ 5 → ⊥) → t ≡ false → true ≡ callFits (view n w r) op x y
     unfolding callFits misplaced
     fits-rest a b c q = rw (root-told n w r (W .lines) x hx, ← e, q, ne-eqb op 0 a, ne-eqb op 6 b, ne-eqb op 5 c, and-false, and-false)
+
+module _ (w : List ℕ) (x y a b : ℕ) (ha : a ≡ getD w (8 * x + 1) 0) (hb : b ≡ getD w (8 * y + 1) 0) where
+  pub run-in-order : (c d : ℕ) → a ≡ b → c ≡ getD w (8 * x + 2) 0 → d ≡ getD w (8 * y + 2) 0 → leb c d ≡ runFits w x y
+  unfolding runFits
+  run-in-order c d q hc hd = rw (← ha, ← hb, eq-eqb a b q, hc, hd)
+
+  pub run-apart : (a ≡ b → ⊥) → false ≡ runFits w x y
+  unfolding runFits
+  run-apart q = rw (← ha, ← hb, ne-eqb a b q)

@@ -29,12 +29,3 @@ module _ (s : List ℕ) (e : ℕ) (t : Bool) (h : t ≡ isNode (getD s (3 * suc 
   pub count-of-token : t ≡ false → 0 ≡ childCount s e
   unfolding childCount
   count-of-token q = rw (← h, q)
-
-module _ (w : List ℕ) (x y a b : ℕ) (ha : a ≡ getD w (8 * x + 1) 0) (hb : b ≡ getD w (8 * y + 1) 0) where
-  pub run-in-order : (c d : ℕ) → a ≡ b → c ≡ getD w (8 * x + 2) 0 → d ≡ getD w (8 * y + 2) 0 → leb c d ≡ runFits w x y
-  unfolding runFits
-  run-in-order c d q hc hd = rw (← ha, ← hb, eq-eqb a b q, hc, hd)
-
-  pub run-apart : (a ≡ b → ⊥) → false ≡ runFits w x y
-  unfolding runFits
-  run-apart q = rw (← ha, ← hb, ne-eqb a b q)

@@ -1,11 +1,13 @@
 // The element table: see specs/View.antt for what its words tell.
 ghost use mathlib.Core.Path.{_≡_};
 ghost use mathlib.Core.Bool.{cond};
-ghost use Prim.Native.Nat.{_+_, _*_, _^_, _≤_, _<_};
+ghost use Prim.Native.Nat.{suc, _+_, _*_, _^_, _≤_, _<_};
 ghost use lib.Dec.{eqb};
-ghost use lib.ListN.{length};
+ghost use lib.ListN.{length, getD};
 ghost use lib.Seq.{paste};
+ghost use Rattle.definition.specs.Elements.{isNode};
 ghost use Rattle.spelling.specs.Spelling.{elementsAt};
+ghost use Rattle.element_table.specs.Told.{childCount};
 ghost use Rattle.element_table.specs.Filling.{Accepted, Filled, ended, tableOf, rowsFrom};
 
 // The eight words of an element, in this order (specs/View.antt).
