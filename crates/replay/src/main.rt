@@ -78,6 +78,27 @@ fn are_zero(a: &[u32], b: &[u32], c: &[u32]) -> bool {
     is_zero(c)
 }
 
+// Whether every work slice is all zeros.
+fn all_zero(
+    table: &[u32],
+    source: &[u32],
+    changes: &[u32],
+    notes: &[u32],
+    incoming: &[u32],
+    changed: &[u32],
+    marks: &[u32],
+    rows: &[u32],
+    prepared: &[u32],
+) -> bool {
+    if !are_zero(table, source, changes) {
+        return false;
+    }
+    if !are_zero(notes, incoming, changed) {
+        return false;
+    }
+    are_zero(marks, rows, prepared)
+}
+
 // What a result slice is to hold at `i`: the recorded result, and beyond it what it held.
 fn wanted(expected: &[u8], i: usize) -> u8 {
     if i < expected.len() {
@@ -152,16 +173,21 @@ fn run_job(job: Job, batch: &[u8], result: &mut [u8]) -> Served {
         &mut rows,
         &mut prepared,
     );
-    if !are_zero(&table, &source, &changes) {
-        return Served::Unclean;
+    if all_zero(
+        &table,
+        &source,
+        &changes,
+        &notes,
+        &incoming,
+        &changed,
+        &marks,
+        &rows,
+        &prepared,
+    ) {
+        Served::Told(told)
+    } else {
+        Served::Unclean
     }
-    if !are_zero(&notes, &incoming, &changed) {
-        return Served::Unclean;
-    }
-    if !are_zero(&marks, &rows, &prepared) {
-        return Served::Unclean;
-    }
-    Served::Told(told)
 }
 
 // Whether the edit of a batch, its result slice and its work slices are as recorded.
