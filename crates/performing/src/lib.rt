@@ -115,7 +115,7 @@ fn plan_and_run(
     let mut running = [0u32; 256];
     let mut first = [0u32; 768];
     let s = l.sizes;
-    let n = s.elements;
+    let elements = s.elements;
     let planned = plan(
         b,
         l,
@@ -143,7 +143,7 @@ fn plan_and_run(
             notes,
             incoming,
             changed,
-            &mut marks[0..n],
+            &mut marks[0..elements],
             rows,
             prepared,
         ),

@@ -1,6 +1,7 @@
 // Replays the recorded cases on standard input: every byte of the result, every work slice, and the elements found.
-use edit_algo::Answer;
-use edit_algo::Element;
+use edit_algo::serve;
+use work::Job;
+use work::Outcome;
 ghost use Prim.Native.Nat.{_^_, _<_, _≤_};
 
 // What the lent slices hold before a call.
@@ -15,6 +16,12 @@ const NONE: usize = 0xffff_ffff;
 enum Read {
     Word(usize),
     End,
+}
+
+// What a job came to, or that it left a work slice that is not all zeros.
+enum Served {
+    Told(Outcome),
+    Unclean,
 }
 
 // A byte as a number.
@@ -71,6 +78,27 @@ fn are_zero(a: &[u32], b: &[u32], c: &[u32]) -> bool {
     is_zero(c)
 }
 
+// Whether every work slice is all zeros.
+fn all_zero(
+    table: &[u32],
+    source: &[u32],
+    changes: &[u32],
+    notes: &[u32],
+    incoming: &[u32],
+    changed: &[u32],
+    marks: &[u32],
+    rows: &[u32],
+    prepared: &[u32],
+) -> bool {
+    if !are_zero(table, source, changes) {
+        return false;
+    }
+    if !are_zero(notes, incoming, changed) {
+        return false;
+    }
+    are_zero(marks, rows, prepared)
+}
+
 // What a result slice is to hold at `i`: the recorded result, and beyond it what it held.
 fn wanted(expected: &[u8], i: usize) -> u8 {
     if i < expected.len() {
@@ -92,34 +120,36 @@ fn holds(result: &[u8], expected: &[u8]) -> bool {
     true
 }
 
-// Whether an answer is the recorded one: a refusal, or 0 and the result's length.
-fn is_answer(answer: Answer, refusal: usize, length: usize) -> bool {
-    match answer {
-        Answer::Refused(number) => number == refusal,
-        Answer::Edited(n) => { if refusal == 0 { n == length } else { false } }
+// Whether the outcome of an edit is the recorded one: a refusal, or 0 and the result's length.
+fn is_answer(told: Outcome, refusal: usize, length: usize) -> bool {
+    match told {
+        Outcome::Refused(number) => number == refusal,
+        Outcome::Bytes(n) => { if refusal == 0 { n == length } else { false } }
+        Outcome::Nothing => false,
+        Outcome::At(n) => false,
     }
 }
 
-// Whether an element is the recorded one; a refused batch finds none.
-fn is_element(element: Element, refusal: usize, found: usize) -> bool {
-    match element {
-        Element::Refused(number) => number == refusal,
-        Element::Nothing => found == NONE,
-        Element::At(at) => at == found,
+// Whether a found element is the recorded one; a refused batch finds none.
+fn is_element(told: Outcome, refusal: usize, found: usize) -> bool {
+    match told {
+        Outcome::Refused(number) => number == refusal,
+        Outcome::Bytes(n) => false,
+        Outcome::Nothing => found == NONE,
+        Outcome::At(at) => at == found,
     }
 }
 
-// Whether an answer and the result slice are as recorded.
-fn is_recorded(answer: Answer, result: &[u8], refusal: usize, expected: &[u8]) -> bool {
-    if !is_answer(answer, refusal, expected.len()) {
+// Whether the outcome of an edit and the result slice are as recorded.
+fn is_recorded(told: Outcome, result: &[u8], refusal: usize, expected: &[u8]) -> bool {
+    if !is_answer(told, refusal, expected.len()) {
         return false;
     }
     holds(result, expected)
 }
 
-// Whether the edit of a batch, its result slice and its work slices are as recorded.
-fn edit_agrees(batch: &[u8], refusal: usize, expected: &[u8]) -> bool {
-    let mut result = [BYTE; 65536];
+// What a job comes to, with work slices that hold a pattern.
+fn run_job(job: Job, batch: &[u8], result: &mut [u8]) -> Served {
     let mut table = [WORD; 16384];
     let mut source = [WORD; 6147];
     let mut changes = [WORD; 3328];
@@ -129,9 +159,10 @@ fn edit_agrees(batch: &[u8], refusal: usize, expected: &[u8]) -> bool {
     let mut marks = [WORD; 2048];
     let mut rows = [WORD; 12291];
     let mut prepared = [WORD; 12288];
-    let answer = edit_algo::edit(
+    let told = serve(
+        job,
         batch,
-        &mut result,
+        result,
         &mut table,
         &mut source,
         &mut changes,
@@ -142,52 +173,39 @@ fn edit_agrees(batch: &[u8], refusal: usize, expected: &[u8]) -> bool {
         &mut rows,
         &mut prepared,
     );
-    if !is_recorded(answer, &result, refusal, expected) {
-        return false;
+    if all_zero(
+        &table,
+        &source,
+        &changes,
+        &notes,
+        &incoming,
+        &changed,
+        &marks,
+        &rows,
+        &prepared,
+    ) {
+        Served::Told(told)
+    } else {
+        Served::Unclean
     }
-    if !are_zero(&table, &source, &changes) {
+}
+
+// Whether the edit of a batch, its result slice and its work slices are as recorded.
+fn edit_agrees(batch: &[u8], refusal: usize, expected: &[u8]) -> bool {
+    let mut result = [BYTE; 65536];
+    let Served::Told(told) = run_job(Job::Edit, batch, &mut result) else {
         return false;
-    }
-    if !are_zero(&notes, &incoming, &changed) {
-        return false;
-    }
-    are_zero(&marks, &rows, &prepared)
+    };
+    is_recorded(told, &result, refusal, expected)
 }
 
 // Whether an element is found where it was recorded.
 fn find_agrees(batch: &[u8], number: usize, refusal: usize, found: usize) -> bool {
-    let mut table = [WORD; 16384];
-    let mut source = [WORD; 6147];
-    let mut changes = [WORD; 3328];
-    let mut notes = [WORD; 3072];
-    let mut incoming = [WORD; 3072];
-    let mut changed = [WORD; 1024];
-    let mut marks = [WORD; 2048];
-    let mut rows = [WORD; 12291];
-    let mut prepared = [WORD; 12288];
-    let element = edit_algo::find_element(
-        batch,
-        number,
-        &mut table,
-        &mut source,
-        &mut changes,
-        &mut notes,
-        &mut incoming,
-        &mut changed,
-        &mut marks,
-        &mut rows,
-        &mut prepared,
-    );
-    if !is_element(element, refusal, found) {
+    let mut none = [BYTE; 0];
+    let Served::Told(told) = run_job(Job::Find(number), batch, &mut none) else {
         return false;
-    }
-    if !are_zero(&table, &source, &changes) {
-        return false;
-    }
-    if !are_zero(&notes, &incoming, &changed) {
-        return false;
-    }
-    are_zero(&marks, &rows, &prepared)
+    };
+    is_element(told, refusal, found)
 }
 
 // The next element to find and where it was found: whether it is.

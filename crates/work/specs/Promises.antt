@@ -59,10 +59,6 @@ found b n = do
   w ← ran a p
   gives (findIn a.table w n)
 
-pub short-found : (work : List (List ℕ)) (b : List ℕ) (n : ℕ) → tooShort (lengths needed work) ≡ true → findElement (lengths needed work) b n ≡ refused 1
-unfolding findElement withWork _>>=_ refuse
-short-found work b n h = rw h refl
-
 pub long-found : (work : List (List ℕ)) (b : List ℕ) (n : ℕ) → tooShort (lengths needed work) ≡ false → findElement (lengths needed work) b n ≡ found b n
 unfolding findElement withWork found _>>=_ refuse
 long-found work b n h = rw h refl
