@@ -13,11 +13,11 @@ use Rattle.definition.specs.Batch.{batch}
 use Rattle.definition.specs.Elements.{Table, parent, child}
 use Rattle.definition.specs.Refusals.{Accepted, accepted}
 use Rattle.definition.specs.Recording.{Change, insert, replace, delete, replaceWithMany, replaceAll}
-use Rattle.definition.specs.Planning.{Planned, Fate, own, dependent, discarded}
+use Rattle.definition.specs.Planning.{Planned, Fate, own, dependent, discarded, Judgement, overlaps, fated}
 use Rattle.definition.specs.Rewriting.{mappedOr, climb, trail, land, moved, retarget, rewriteInto, rewriteOne, rewriting, rewritten, nearest, noteFrom, settle, settled}
 use Rattle.definition.specs.Running.{World, step, steps}
 use Rattle.definition.specs.Finishing.{Result, fitting, encoded}
-use Rattle.definition.specs.Answers.{Plan, plan, ran, edit, withWork, edited}
+use Rattle.definition.specs.Answers.{judgeChanges, disjoint, rewriteChanges, Plan, plan, ran, edit, withWork, edited}
 use Rattle.definition.specs.FindElement.{findElement}
 
 -- what is refused is refused by a number from 1 to 13
@@ -172,10 +172,15 @@ module _ (T : Table) (mapped : ℕ → Option ℕ) where
       chained _ _ (settled-numbered (suc i) ns) λ rest.
       given-numbered _
 
+disjoint-numbered : (j : Judgement) → Numbered (disjoint j)
+unfolding disjoint
+disjoint-numbered (overlaps i k) = refused-numbered 8 (omega arith) (omega arith)
+disjoint-numbered (fated ps) = given-numbered ps
+
 plan-numbered : (a : Accepted) → Numbered (plan a)
-unfolding plan rewritten
+unfolding plan rewriteChanges rewritten
 plan-numbered a =
-    chained _ _ (refuse-numbered 8 _ (omega arith) (omega arith)) λ u.
+    chained _ _ (disjoint-numbered (judgeChanges a)) λ ps.
     chained _ _ (rewriting-numbered _ _ _ _) λ ps.
     chained _ _ (settled-numbered _ _ _ _) λ notes.
     given-numbered _

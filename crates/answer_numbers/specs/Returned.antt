@@ -13,6 +13,7 @@ use Rattle.definition.specs.FindElement.{findElement}
 use Rattle.work.specs.Slices.{lengths, zeroed}
 use Rattle.work.specs.Promises.{leftIn, Edits, Finds}
 use Rattle.answer_numbers.specs.Numbered.{Numbered, edited-numbered, found-numbered}
+use Rattle.laws.specs.Limits.{mostBytes}
 use Rattle.answer_numbers.specs.Bounded.{edited-short, found-short}
 
 -- ── The promises ────────────────────────────────────────────────────────────────────────────────────────────
@@ -64,7 +65,7 @@ module _ (b held : List ℕ) (work : List (List ℕ)) (a : Answer ℕ) (holds : 
   unfolding Small _>>=_
   edits-small h = rw (h .answer) (go (edited (lengths work) b (length held)) (edited-numbered (lengths work) b (length held)) (λ bytes. edited-short (lengths work) b bytes (length held)))
     where
-      go : (o : Answer (List ℕ)) → Numbered o → ((bytes : List ℕ) → o ≡ gives bytes → length bytes ≤ 61464) → Small (o >>= λ bytes. gives (length bytes))
+      go : (o : Answer (List ℕ)) → Numbered o → ((bytes : List ℕ) → o ≡ gives bytes → length bytes ≤ mostBytes) → Small (o >>= λ bytes. gives (length bytes))
       go (refused n) h k = omega (arith, h .refusal .1)
       go (gives bytes) h k = omega (arith, k bytes refl)
 
