@@ -20,7 +20,7 @@ use Rattle.definition.specs.Answers.{plan, ran, edit, withWork, edited}
 use Rattle.definition.specs.FindElement.{alike, findIn, findElement}
 use Rattle.laws.specs.Answers.{given, gives-inj}
 use Rattle.laws.specs.Basics.{All-append}
-use Rattle.laws.specs.Limits.{encoded-within, ran-known}
+use Rattle.laws.specs.Limits.{mostBytes, encoded-within, ran-known}
 
 -- ── The bytes ───────────────────────────────────────────────────────────────────────────────────────────────
 
@@ -28,8 +28,8 @@ fitting-same : (room : ℕ) {r q : _} → fitting room r ≡ gives q → r ≡ q
 unfolding fitting
 fitting-same room e = given _ _ e λ u x e. gives-inj e
 
--- An answer has at most 61,464 bytes.
-pub edited-short : (work : List (ℕ × ℕ)) (b bytes : List ℕ) (room : ℕ) → edited work b room ≡ gives bytes → length bytes ≤ 61464
+-- An answer has at most as many bytes as the longest result.
+pub edited-short : (work : List (ℕ × ℕ)) (b bytes : List ℕ) (room : ℕ) → edited work b room ≡ gives bytes → length bytes ≤ mostBytes
 unfolding edited withWork
 edited-short work b bytes room e =
     given _ _ e λ u x e.

@@ -12,6 +12,7 @@ use mir.Val.{toZ, ofZ}
 use Rattle.definition.specs.Basics.{Answer, refused, gives, _>>=_}
 use Rattle.definition.specs.Answers.{edited}
 use Rattle.definition.specs.FindElement.{findElement}
+use Rattle.laws.specs.Limits.{mostBytes}
 use Rattle.work.specs.Slices.{needed, lengths, zeroed}
 use Rattle.work.specs.Promises.{leftIn}
 use Rattle.work.specs.Serving.{place, ofLength, ofPlace, Serves, serves-edits, serves-finds}
@@ -61,7 +62,7 @@ module _ {b held holds : List ℕ} {work left : List (List ℕ)} {r : Outcome} (
   unfolding Small ofLength _>>=_
   edit-small = rw length-told (go x (edited-numbered (lengths needed work) b (length held)) (λ bytes. edited-short (lengths needed work) b bytes (length held)))
     where
-      go : (o : Answer (List ℕ)) → ((n : ℕ) → o ≡ refused n → (1 ≤ n) × (n ≤ 13)) → ((bytes : List ℕ) → o ≡ gives bytes → length bytes ≤ 61464) → Small (ofLength (o >>= λ bytes. gives (length bytes)))
+      go : (o : Answer (List ℕ)) → ((n : ℕ) → o ≡ refused n → (1 ≤ n) × (n ≤ 13)) → ((bytes : List ℕ) → o ≡ gives bytes → length bytes ≤ mostBytes) → Small (ofLength (o >>= λ bytes. gives (length bytes)))
       go (refused n) h k = omega (arith, (h n refl) .1)
       go (gives bytes) h k = omega (arith, k bytes refl)
 
