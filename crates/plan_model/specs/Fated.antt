@@ -24,7 +24,7 @@ use Rattle.recording.specs.Recorded.{recordedAt, snd, recorded-changes}
 use Rattle.recording.specs.RecordedRows.{rowFor, changeRows}
 use Rattle.edit_plan.specs.Rows.{rowKey, rowFate, withFate, fate-stated, row-tells, key-told}
 use Rattle.edit_plan.specs.Sorting.{sorted-rows, sorted-changes}
-use Rattle.edit_plan.specs.Overlap.{rowsOverlap, overlap-told}
+use Rattle.plan_overlap.specs.Overlap.{rowsOverlap, overlap-told}
 use Rattle.changed_region.specs.Fates.{plannedRows, fates-told}
 use Rattle.change_row.specs.Stated.{changeBy, newOf, changeOf, planOf, Rewritable, fate-dependent}
 use Rattle.change_row.specs.Exact.{recorded-states, recorded-exact, exact-stated}

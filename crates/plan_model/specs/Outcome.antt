@@ -22,7 +22,7 @@ use Rattle.laws.specs.Plans.{plan-overlap, plan-fated}
 use Rattle.element_table.specs.Told.{length-view}
 use Rattle.layout.specs.declared.Layout.{Layout}
 use Rattle.syntax_editor.specs.ChangeRow.{ChangeRow}
-use Rattle.edit_plan.specs.Overlap.{rowsOverlap}
+use Rattle.plan_overlap.specs.Overlap.{rowsOverlap}
 use Rattle.settling.specs.Notes.{noteOf, settledAt, settled-told}
 use Rattle.change_row.specs.Stated.{planOf}
 use Rattle.rewriting.specs.Kept.{Kept}

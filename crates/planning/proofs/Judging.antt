@@ -11,9 +11,9 @@ use Rattle.definition.specs.Planning.{Region, around, fated}
 use Rattle.element_table.specs.Told.{length-view}
 use Rattle.syntax_editor.specs.ChangeRow.{ChangeRow, rowsOf}
 use Rattle.syntax_editor.specs.ChangeRowLaws.{rowsWords, rows-read, length-rowsOf}
-use Rattle.edit_plan.specs.Overlap.{rowsOverlap, replacements}
-use Rattle.edit_plan.specs.declared.Replacements.{Replacements}
-use Rattle.edit_plan.specs.declared.Replacements.the-variants.{Disjoint, Overlap as Disagree}
+use Rattle.plan_overlap.specs.Overlap.{rowsOverlap, replacements}
+use Rattle.plan_overlap.specs.declared.Replacements.{Replacements}
+use Rattle.plan_overlap.specs.declared.Replacements.the-variants.{Disjoint, Overlap as Disagree}
 use Rattle.changed_region.specs.Fates.{rowPushed, rowsFates, plannedRows}
 use Rattle.change_row.specs.Stated.{planOf}
 use Rattle.layout.specs.declared.Layout.{Layout}

@@ -1,7 +1,7 @@
 // Planning: from an accepted batch to the changes that run, in order, and the notes where they settle; refusals 8, 9 and 10. In two stages: what becomes of
 // each change (`judge_changes`), then where dependents and notes go.
-use edit_plan::Replacements;
 use layout::Layout;
+use plan_overlap::Replacements;
 use rewriting::Rewritten;
 use settling::Notes;
 ghost use mathlib.Core.Path.{_≡_};
@@ -100,7 +100,7 @@ pub fn judge_changes(
     ensures { λ r. ⌜ ChangesJudged (now (b .entry)) l (now (table .entry)) (now (source .entry)) (now (sorted .exit)) r ⌝ }
 {
     let c = record_and_sort(b, l, table, source, recorded, order, sorted);
-    match edit_plan::replacements_are_disjoint(sorted, c) {
+    match plan_overlap::replacements_are_disjoint(sorted, c) {
         Replacements::Overlap(j, k) => Judgement::Overlap(j, k),
         Replacements::Disjoint => {
             changed_region::plan_fates(sorted, c);

@@ -12,11 +12,11 @@ use Rattle.definition.specs.Elements.{Table}
 use Rattle.definition.specs.Recording.{Change}
 use Rattle.definition.specs.Planning.{rank, peers, exceeds, overlapping, overlap}
 use Rattle.syntax_editor.specs.ChangeRow.{ChangeRow, rowsOf}
 use Rattle.edit_plan.specs.Lists.{map-numbered, map-keep, map-first}
 use Rattle.syntax_editor.specs.ChangeRowLaws.{rowAt}
 use Rattle.edit_plan.specs.Rows.{Tells}
-use Rattle.edit_plan.specs.declared.Replacements.{Replacements}
-use Rattle.edit_plan.specs.declared.Replacements.the-variants.{Disjoint, Overlap}
+use Rattle.plan_overlap.specs.declared.Replacements.{Replacements}
+use Rattle.plan_overlap.specs.declared.Replacements.the-variants.{Disjoint, Overlap}
 
 -- ── On rows ─────────────────────────────────────────────────────────────────────────────────────────────────
 

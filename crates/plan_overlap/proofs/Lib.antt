@@ -1,0 +1,2 @@
+-- The invariants of the loops, and a turn of each.
+pub mod Overlaps

@@ -1,0 +1,2 @@
+-- Refusal 8 on change rows, and that it is what the definition says.
+pub mod Overlap
