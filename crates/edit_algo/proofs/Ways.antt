@@ -10,19 +10,19 @@ use lib.ListN.{length}
 use Rattle.definition.specs.Basics as basics
 use Rattle.definition.specs.Basics.{refused, gives, _>>=_, refuse}
 use Rattle.definition.specs.Answers.{tooShort, withWork}
-use Rattle.work.specs.Slices.{needed, lengths, zeros, zeroed}
-use Rattle.work.specs.Promises.{Edits, Finds, applied}
-use Rattle.work.specs.Serving.{reached, served, place, ofLength, ofPlace, Tells, Serves, serves-edits, serves-finds}
-use Rattle.work.specs.declared.Job.{Job}
-use Rattle.work.specs.declared.Job.the-variants.{Edit, Find}
-use Rattle.work.specs.declared.Outcome.{Outcome}
-use Rattle.work.specs.declared.Outcome.the-variants.{Refused as NotServed, Bytes, Nothing as NotThere, At as Stands}
-use Rattle.performing.specs.AtEnd.{Performs, PerformsWith, short, long}
-use Rattle.performing.specs.Ending.{ending, edit-ending, found-ending}
-use Rattle.performing.specs.declared.Performed.{Performed}
-use Rattle.performing.specs.declared.Performed.the-variants.{Refused as Stopped, Done}
-use Rattle.performing.specs.declared.Ended.{Ended}
-use Rattle.answering.specs.AtEnd.{unless, unless-refused, unless-done, ToAnswer}
+use Rattle.promises.specs.Slices.{needed, lengths, zeros, zeroed}
+use Rattle.promises.specs.Promises.{Edits, Finds, applied}
+use Rattle.promises.specs.Serving.{reached, served, place, ofLength, ofPlace, Tells, Serves, serves-edits, serves-finds}
+use Rattle.promises.specs.declared.Job.{Job}
+use Rattle.promises.specs.declared.Job.the-variants.{Edit, Find}
+use Rattle.promises.specs.declared.Outcome.{Outcome}
+use Rattle.promises.specs.declared.Outcome.the-variants.{Refused as NotServed, Bytes, Nothing as NotThere, At as Stands}
+use Rattle.edit_perform.specs.AtEnd.{Performs, PerformsWith, short, long}
+use Rattle.edit_perform.specs.Ending.{ending, edit-ending, found-ending}
+use Rattle.edit_perform.specs.declared.Performed.{Performed}
+use Rattle.edit_perform.specs.declared.Performed.the-variants.{Refused as Stopped, Done}
+use Rattle.edit_perform.specs.declared.Ended.{Ended}
+use Rattle.edit_answer.specs.AtEnd.{unless, unless-refused, unless-done, ToAnswer}
 use Rattle.edit_algo.specs.declared.Answer.{Answer}
 use Rattle.edit_algo.specs.declared.Answer.the-variants.{Refused, Edited}
 use Rattle.edit_algo.specs.declared.Element.{Element}

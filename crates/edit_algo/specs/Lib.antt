@@ -1,2 +1,2 @@
--- The answers of the public calls as document 01 numbers them; what is promised is told in `Promises` and `Serving` of work.
+-- The answers of the public calls as document 01 numbers them; what is promised is told in `Promises` and `Serving` of promises.
 pub mod Numbers

@@ -5,8 +5,8 @@ use mathlib.Core.Option.{Option, none, some}
 use Prim.Native.Nat.{ℕ}
 use Rattle.definition.specs.Basics as basics
 use Rattle.definition.specs.Basics.{gives, refused}
-use Rattle.work.specs.Serving.{ofLength, ofPlace}
-use Rattle.work.specs.declared.Outcome.{Outcome}
+use Rattle.promises.specs.Serving.{ofLength, ofPlace}
+use Rattle.promises.specs.declared.Outcome.{Outcome}
 use Rattle.edit_algo.specs.declared.Answer.{Answer}
 use Rattle.edit_algo.specs.declared.Answer.the-variants.{Refused, Edited}
 use Rattle.edit_algo.specs.declared.Element.{Element}

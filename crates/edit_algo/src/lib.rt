@@ -1,10 +1,10 @@
 // The public calls: one for every job, and the edit and the found element, each thin over it.
-use performing::perform;
-use work::Job;
-use work::Outcome;
+use edit_perform::perform;
+use promises::Job;
+use promises::Outcome;
 ghost use mathlib.Core.List.{_∷_, []};
-ghost use Rattle.work.specs.Promises.{Edits, Finds};
-ghost use Rattle.work.specs.Serving.{Serves};
+ghost use Rattle.promises.specs.Promises.{Edits, Finds};
+ghost use Rattle.promises.specs.Serving.{Serves};
 ghost use Rattle.edit_algo.specs.Numbers.{answerOf, elementOf, TellsLength, TellsPlace};
 
 // How many bytes the result has, or a refusal's number.
@@ -52,7 +52,7 @@ pub fn serve(
         rows,
         prepared,
     );
-    let told = answering::answer(
+    let told = edit_answer::answer(
         job,
         batch,
         done,
@@ -64,7 +64,7 @@ pub fn serve(
         prepared,
         result,
     );
-    work::clear_all(
+    promises::clear_all(
         table,
         source,
         changes,

@@ -8,7 +8,7 @@ use lib.ListN.{length, take, drop, length-append, length-drop}
 use lib.Seq.{take-paste, take-all, length-take-le, length-paste-head}
 use Rattle.io.specs.Counts.{Counts}
 use Rattle.definition.specs.Printed.{printed}
-use Rattle.printing.specs.Lines.{Put}
+use Rattle.edit_print.specs.Lines.{Put}
 use Rattle.edit_algo.specs.declared.Answer.{Answer}
 use Rattle.edit_program.specs.Told.{told, Tells}
 

@@ -11,21 +11,21 @@ use Rattle.definition.specs.Basics.{gives, refused, any}
 use Rattle.definition.specs.Finishing.{encoded}
 use Rattle.definition.specs.Answers.{tooShort}
 use Rattle.definition.specs.Printed.{print, printed}
-use Rattle.laws.specs.Limits.{edit-within}
-use Rattle.work.specs.Slices.{needed, lengths}
+use Rattle.definition_laws.specs.Limits.{edit-within}
+use Rattle.promises.specs.Slices.{needed, lengths}
 use Rattle.edit_algo.specs.declared.Answer.{Answer}
 use Rattle.edit_algo.specs.declared.Answer.the-variants.{Refused, Edited}
-use Rattle.work.specs.Promises.{Edits}
+use Rattle.promises.specs.Promises.{Edits}
 use Rattle.edit_algo.specs.Numbers.{answerOf}
-use Rattle.result_words.specs.Worded.{Bytes, edit-worded}
-use Rattle.result_words.specs.Decoded.{decoded}
-use Rattle.result_words.specs.Encoded.{decoded-encoded}
-use Rattle.printing.specs.Printable.{Printable, encoded-printable}
-use Rattle.printing.specs.Lines.{Put}
-use Rattle.promised.specs.Answered.{answerIn}
-use Rattle.promised.specs.Printing.{printed-run}
-use Rattle.promised.specs.Demand1.{demand-1}
-use Rattle.promised.specs.Demand3.{finished-read}
+use Rattle.result_laws.specs.Worded.{Bytes, edit-worded}
+use Rattle.result_laws.specs.Decoded.{decoded}
+use Rattle.result_laws.specs.Encoded.{decoded-encoded}
+use Rattle.edit_print.specs.Printable.{Printable, encoded-printable}
+use Rattle.edit_print.specs.Lines.{Put}
+use Rattle.promises_read.specs.Answered.{answerIn}
+use Rattle.promises_read.specs.Printing.{printed-run}
+use Rattle.promises_read.specs.Demand1.{demand-1}
+use Rattle.promises_read.specs.Demand3.{finished-read}
 
 -- the bytes of a result that is n bytes long are in the slice, and can be printed
 pub record Holds (n : ℕ) (result : List ℕ) (room : ℕ) : Type 0 where

@@ -3,7 +3,7 @@ use edit_algo::Answer;
 ghost use mathlib.Core.Path.{_≡_};
 ghost use Prim.Native.Nat.{_≤_};
 ghost use lib.ListN.{length};
-ghost use Rattle.printing.specs.Lines.{Put};
+ghost use Rattle.edit_print.specs.Lines.{Put};
 ghost use Rattle.edit_program.specs.Told.{Showable, told, Tells};
 ghost use Rattle.edit_program.specs.Responds.{Responds};
 
@@ -42,8 +42,8 @@ fn show(answer: Answer, result: &[u8], out: &mut [u8]) -> usize
     ensures { λ r. ⌜ Put (now (out .entry)) 0 (told answer (now (result .entry))) (now (out .exit)) r ⌝ }
 {
     match answer {
-        Answer::Refused(number) => printing::print_refusal(out, number),
-        Answer::Edited(n) => printing::print_result(out, &result[..n]),
+        Answer::Refused(number) => edit_print::print_refusal(out, number),
+        Answer::Edited(n) => edit_print::print_result(out, &result[..n]),
     }
 }
 
@@ -64,12 +64,12 @@ pub struct Response {
 }
 
 // Reads a batch and writes what is printed of it at the front of `out`. The bytes judged are the first `read` of the batch's buffer, as reading left it; that
-// these are the bytes that came on standard input is not promised (`batch_input::read_batch`).
+// these are the bytes that came on standard input is not promised (`program_input::read_batch`).
 pub fn respond(batch: &mut [u8], out: &mut [u8]) -> Response
     requires { ⌜ (65536 ≡ length (now batch)) × (180000 ≤ length (now out)) ⌝ }
     ensures { λ r. ⌜ Responds (now (batch .exit)) (r .read) (now (out .exit)) (r .written) ⌝ }
 {
-    let read = batch_input::read_batch(batch);
+    let read = program_input::read_batch(batch);
     let written = answer(batch, read, out);
     Response { read, written }
 }

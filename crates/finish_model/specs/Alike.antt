@@ -15,7 +15,7 @@ use Rattle.definition.specs.Elements.{Table, table, numbers, rows, rowsBelow, i
 use Rattle.definition.specs.Running.{World}
 use Rattle.definition.specs.Finishing.{newTree, newTable}
 use Rattle.definition.specs.FindElement.{alike, findIn}
-use Rattle.rows.specs.Row.{Row, kind, textLength, rowsOf, rowsIn, rowsAll}
+use Rattle.rows_model.specs.Row.{Row, kind, textLength, rowsOf, rowsIn, rowsAll}
 use Rattle.finish_model.specs.Finished.{firstTree}
 use Rattle.finish_model.specs.Numbers.{first-tree}
 

@@ -7,9 +7,9 @@ use lib.ListN.{getD}
 use Rattle.orders.specs.Lists.{pick}
 use Rattle.definition.specs.Basics.{rising}
 use Rattle.definition.specs.Finishing.{Result}
-use Rattle.rows.specs.Row.{Row, kind, measure, own, textLength}
-use Rattle.rows.specs.Place.{rowsAfter, subtree, inRun}
-use Rattle.store_model.specs.Store.{HeldNote, Store}
+use Rattle.rows_model.specs.Row.{Row, kind, measure, own, textLength}
+use Rattle.rows_model.specs.Place.{rowsAfter, subtree, inRun}
+use Rattle.run_model.specs.Store.{HeldNote, Store}
 
 -- ── Tree 0 ──────────────────────────────────────────────────────────────────────────────────────────────────
 

@@ -14,14 +14,14 @@ use Rattle.orders.specs.ListLaws.{some-inj, none-some, bind-some, get-lt, lt-ge
 use Rattle.definition.specs.Elements.{Table, table, row, rows, rowsBelow, noRow}
 use Rattle.definition.specs.Finishing.{newTree, newTable, numberAt}
 use Rattle.definition.specs.Running.{World}
-use Rattle.laws.specs.Kin.{resolve-down}
-use Rattle.laws.specs.Held.{Leads, number-found}
-use Rattle.rows.specs.Row.{Row, rowsOf, rowsIn, rowsAll, skip, textLength, bytes}
-use Rattle.rows.specs.Place.{size, place, rowsAfter, subtree, inRun}
-use Rattle.rows.specs.RowLaws.{skip-none, skip-tree, skip-le}
-use Rattle.rows.specs.PlaceLaws.{place-child, place-forest, after-at}
-use Rattle.rows.specs.Moves.{strip-place}
-use Rattle.rows.specs.Numbers.{element-row}
+use Rattle.definition_laws.specs.Kin.{resolve-down}
+use Rattle.definition_laws.specs.Held.{Leads, number-found}
+use Rattle.rows_model.specs.Row.{Row, rowsOf, rowsIn, rowsAll, skip, textLength, bytes}
+use Rattle.rows_model.specs.Place.{size, place, rowsAfter, subtree, inRun}
+use Rattle.rows_model.specs.RowLaws.{skip-none, skip-tree, skip-le}
+use Rattle.rows_model.specs.PlaceLaws.{place-child, place-forest, after-at}
+use Rattle.rows_model.specs.Moves.{strip-place}
+use Rattle.rows_model.specs.Numbers.{element-row}
 use Rattle.finish_model.specs.Finished.{firstTree, numberOf, starts, startOf}
 
 -- ── Tree 0 in rows ──────────────────────────────────────────────────────────────────────────────────────────

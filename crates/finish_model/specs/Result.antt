@@ -14,13 +14,13 @@ use Rattle.definition.specs.Planning.{Planned, isDiscarded}
 use Rattle.definition.specs.Rewriting.{Note}
 use Rattle.definition.specs.Running.{World}
 use Rattle.definition.specs.Finishing.{newTree, newTable, numberAt, changedElements, noteElements, Result, result}
-use Rattle.laws.specs.Sorting.{map-rising}
-use Rattle.laws.specs.Held.{Leads, Holds}
-use Rattle.rows.specs.Row.{Row, kind, measure, own, rowsOf, rowsAll}
-use Rattle.rows.specs.Place.{place}
-use Rattle.rows.specs.RowLaws.{kinds-preorder, measures-preorder, text-tree}
-use Rattle.store_model.specs.Store.{HeldNote, heldNote, store}
-use Rattle.store_model.specs.Parts.{pick-square}
+use Rattle.definition_laws.specs.Sorting.{map-rising}
+use Rattle.definition_laws.specs.Held.{Leads, Holds}
+use Rattle.rows_model.specs.Row.{Row, kind, measure, own, rowsOf, rowsAll}
+use Rattle.rows_model.specs.Place.{place}
+use Rattle.rows_model.specs.RowLaws.{kinds-preorder, measures-preorder, text-tree}
+use Rattle.run_model.specs.Store.{HeldNote, heldNote, store}
+use Rattle.run_model.specs.Parts.{pick-square}
 use Rattle.finish_model.specs.Finished.{numberOf, startOf, changedNumbers, noteNumbers, resultOf}
 use Rattle.finish_model.specs.Numbers.{first-tree, number-row, start-row}
 

@@ -14,22 +14,22 @@ use Rattle.definition.specs.Elements.{Table}
 use Rattle.definition.specs.Refusals.{Call}
 use Rattle.definition.specs.Recording.{firstChild, after, Change, insert, replace, delete, replaceWithMany, replaceAll, call, recorded}
 use Rattle.definition.specs.Planning.{Fate, dependent, Planned, target, key, sorted, overlap, nodeByNode, fates, withFates, planned}
-use Rattle.laws.specs.Basics.{map-All, getD-map}
-use Rattle.laws.specs.Right.{Right, judged, below-E}
-use Rattle.laws.specs.Sorting.{sort-all}
-use Rattle.laws.specs.Stages.{planned-changes, planned-fates}
-use Rattle.syntax_editor.specs.ChangeRow.{ChangeRow, rowsOf, operation, endOf, changeRow}
-use Rattle.syntax_editor.specs.ChangeRowLaws.{rowAt, length-rowsOf, row-among}
-use Rattle.recording.specs.Recorded.{recordedAt, snd, recorded-changes}
-use Rattle.recording.specs.RecordedRows.{rowFor, changeRows}
-use Rattle.edit_plan.specs.Rows.{rowKey, rowFate, withFate, fate-stated, row-tells, key-told}
-use Rattle.edit_plan.specs.Sorting.{sorted-rows, sorted-changes}
+use Rattle.definition_laws.specs.Basics.{map-All, getD-map}
+use Rattle.definition_laws.specs.Right.{Right, judged, below-E}
+use Rattle.definition_laws.specs.Sorting.{sort-all}
+use Rattle.definition_laws.specs.Stages.{planned-changes, planned-fates}
+use Rattle.record_changes.specs.ChangeRow.{ChangeRow, rowsOf, operation, endOf, changeRow}
+use Rattle.record_changes.specs.ChangeRowLaws.{rowAt, length-rowsOf, row-among}
+use Rattle.record_queue.specs.Recorded.{recordedAt, snd, recorded-changes}
+use Rattle.record_queue.specs.RecordedRows.{rowFor, changeRows}
+use Rattle.plan_sort.specs.Rows.{rowKey, rowFate, withFate, fate-stated, row-tells, key-told}
+use Rattle.plan_sort.specs.Sorting.{sorted-rows, sorted-changes}
 use Rattle.plan_overlap.specs.Overlap.{rowsOverlap, overlap-told}
-use Rattle.changed_region.specs.Fates.{plannedRows, fates-told}
-use Rattle.change_row.specs.Stated.{changeBy, newOf, changeOf, planOf, Rewritable, fate-dependent}
-use Rattle.change_row.specs.Exact.{recorded-states, recorded-exact, exact-stated}
-use Rattle.rewriting.specs.Rewritten.{noChange}
-use Rattle.rewriting.specs.Kept.{Kept}
+use Rattle.plan_changed_region.specs.Fates.{plannedRows, fates-told}
+use Rattle.record_rewritten.specs.Stated.{changeBy, newOf, changeOf, planOf, Rewritable, fate-dependent}
+use Rattle.record_rewritten.specs.Exact.{recorded-states, recorded-exact, exact-stated}
+use Rattle.plan_rewrite.specs.Rewritten.{noChange}
+use Rattle.plan_rewrite.specs.Kept.{Kept}
 use Rattle.plan_model.specs.Recorded.{Known}
 use Rattle.plan_model.specs.Owners.{Owned, fates-owned}
 

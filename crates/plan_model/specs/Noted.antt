@@ -13,12 +13,12 @@ use Rattle.definition.specs.Basics.{gives}
 use Rattle.definition.specs.Elements.{Table, table, row}
 use Rattle.definition.specs.Rewriting.{settle}
 use Rattle.definition.specs.Words.{words}
-use Rattle.laws.specs.Answers.{gives-inj, both-given}
-use Rattle.rows.specs.Place.{place}
-use Rattle.rows.specs.Numbers.{element-row}
-use Rattle.store_model.specs.Store.{HeldNote, heldNote}
-use Rattle.annotations.specs.Notes.{noteOf as noteRead, notesOf}
-use Rattle.settling.specs.Notes.{noteOf, settledAt, noteWords}
+use Rattle.definition_laws.specs.Answers.{gives-inj, both-given}
+use Rattle.rows_model.specs.Place.{place}
+use Rattle.rows_model.specs.Numbers.{element-row}
+use Rattle.run_model.specs.Store.{HeldNote, heldNote}
+use Rattle.run_annotations.specs.Notes.{noteOf as noteRead, notesOf}
+use Rattle.plan_notes.specs.Notes.{noteOf, settledAt, noteWords}
 
 -- a settled note (element, number, queue place) by its row: element e stands at row e + 1
 unfoldable pub noteHeld : ℕ × ℕ × ℕ → HeldNote

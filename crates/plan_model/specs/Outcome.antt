@@ -16,18 +16,18 @@ use Rattle.definition.specs.Planning.{Planned, isDiscarded, sorted, Judgement, 
 use Rattle.definition.specs.Rewriting.{Note, mapping, rewritten}
 use Rattle.definition.specs.Running.{begin, ranked, order}
 use Rattle.definition.specs.Answers.{judgeChanges, Plan, rewriteChanges, plan, performed, atFirst}
-use Rattle.laws.specs.Answers.{gives-inj}
-use Rattle.laws.specs.Stages.{judge-overlap, judge-disjoint}
-use Rattle.laws.specs.Plans.{plan-overlap, plan-fated}
-use Rattle.element_table.specs.Told.{length-view}
-use Rattle.layout.specs.declared.Layout.{Layout}
-use Rattle.syntax_editor.specs.ChangeRow.{ChangeRow}
+use Rattle.definition_laws.specs.Answers.{gives-inj}
+use Rattle.definition_laws.specs.Stages.{judge-overlap, judge-disjoint}
+use Rattle.definition_laws.specs.Plans.{plan-overlap, plan-fated}
+use Rattle.read_element_table.specs.Told.{length-view}
+use Rattle.read_layout.specs.declared.Layout.{Layout}
+use Rattle.record_changes.specs.ChangeRow.{ChangeRow}
 use Rattle.plan_overlap.specs.Overlap.{rowsOverlap}
-use Rattle.settling.specs.Notes.{noteOf, settledAt, settled-told}
-use Rattle.change_row.specs.Stated.{planOf}
-use Rattle.rewriting.specs.Kept.{Kept}
-use Rattle.rewriting.specs.Rewritten.{rewriteRows, toldRows, rewrite-told}
-use Rattle.store_model.specs.Store.{HeldNote, heldNote, store}
+use Rattle.plan_notes.specs.Notes.{noteOf, settledAt, settled-told}
+use Rattle.record_rewritten.specs.Stated.{planOf}
+use Rattle.plan_rewrite.specs.Kept.{Kept}
+use Rattle.plan_rewrite.specs.Rewritten.{rewriteRows, toldRows, rewrite-told}
+use Rattle.run_model.specs.Store.{HeldNote, heldNote, store}
 use Rattle.plan_model.specs.Fated.{sortedRows, fatedRows, overlap-sorted, fated-planned}
 use Rattle.plan_model.specs.Noted.{noteHeld, notes-held}
 use Rattle.plan_model.specs.Ready.{listedIn, callsIn, mappingsIn, notesIn, tableIn, acceptedIn, Facts}

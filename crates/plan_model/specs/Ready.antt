@@ -14,18 +14,18 @@ use Rattle.definition.specs.Basics.{gives, any}
 use Rattle.definition.specs.Elements.{Table, table}
 use Rattle.definition.specs.Refusals.{Call, calls, wrongCall, wrongMapping, wrongNote, Accepted, accepted}
 use Rattle.definition.specs.Words.{words}
-use Rattle.laws.specs.Accepted.{accepts}
-use Rattle.laws.specs.Right.{neither}
-use Rattle.element_table.specs.View.{view}
-use Rattle.element_table.specs.Told.{length-view}
-use Rattle.element_table.specs.Wellformed.{Wellformed}
-use Rattle.layout.specs.Layout.{Within, laid, arraysAt}
-use Rattle.layout.specs.declared.Layout.{Layout}
-use Rattle.batch.specs.Accepting.{accepted-parts}
-use Rattle.batch.specs.Leaving.{Leaves}
-use Rattle.recording.specs.Recorded.{recordedAt}
-use Rattle.recording.specs.CallList.{callsOf, Fit, accepted-calls}
-use Rattle.mapping.specs.Mapped.{Bounded, accepted-bounded}
+use Rattle.definition_laws.specs.Accepted.{accepts}
+use Rattle.definition_laws.specs.Right.{neither}
+use Rattle.read_element_table.specs.View.{view}
+use Rattle.read_element_table.specs.Told.{length-view}
+use Rattle.read_element_table.specs.Wellformed.{Wellformed}
+use Rattle.read_layout.specs.Layout.{Within, laid, arraysAt}
+use Rattle.read_layout.specs.declared.Layout.{Layout}
+use Rattle.read_batch.specs.Accepting.{accepted-parts}
+use Rattle.read_batch.specs.Leaving.{Leaves}
+use Rattle.record_queue.specs.Recorded.{recordedAt}
+use Rattle.record_queue.specs.CallList.{callsOf, Fit, accepted-calls}
+use Rattle.plan_mapping.specs.Mapped.{Bounded, accepted-bounded}
 use Rattle.plan_model.specs.Recorded.{Known, recorded-known, listed-elements}
 
 -- ── The parts of a batch ────────────────────────────────────────────────────────────────────────────────────

@@ -17,13 +17,13 @@ use Rattle.definition.specs.Elements.{Table}
 use Rattle.definition.specs.Refusals.{countOf, Call, callOf, calls, wrongCount, wrongCall}
 use Rattle.definition.specs.Recording.{Change, change, run, replaceWithMany, replaceAll}
 use Rattle.definition.specs.Running.{news}
-use Rattle.laws.specs.Basics.{All-append, map-All}
-use Rattle.laws.specs.Right.{Right, judged, change-right, change-lists}
-use Rattle.laws.specs.Stages.{recorded-all}
-use Rattle.recording.specs.Queueing.{Asks, through-all}
-use Rattle.recording.specs.Recorded.{newsAt, askedAt, allAsked, isDelete, meetsAt, mergedAt, recordedAt, snd, recorded-changes}
-use Rattle.recording.specs.CallList.{callAs, names-elements}
-use Rattle.recording.specs.Placed.{StandsIn, recorded-stand}
+use Rattle.definition_laws.specs.Basics.{All-append, map-All}
+use Rattle.definition_laws.specs.Right.{Right, judged, change-right, change-lists}
+use Rattle.definition_laws.specs.Stages.{recorded-all}
+use Rattle.record_queue.specs.Queueing.{Asks, through-all}
+use Rattle.record_queue.specs.Recorded.{newsAt, askedAt, allAsked, isDelete, meetsAt, mergedAt, recordedAt, snd, recorded-changes}
+use Rattle.record_queue.specs.CallList.{callAs, names-elements}
+use Rattle.record_queue.specs.Placed.{StandsIn, recorded-stand}
 
 -- ── The listed elements ─────────────────────────────────────────────────────────────────────────────────────
 

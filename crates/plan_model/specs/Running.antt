@@ -12,14 +12,14 @@ use Rattle.definition.specs.Basics.{keep, insertBy}
 use Rattle.definition.specs.Elements.{Table}
 use Rattle.definition.specs.Planning.{Planned, key}
 use Rattle.definition.specs.Running.{owned, ranked, order}
-use Rattle.laws.specs.Basics.{All-append, All-keep, All-flatMap}
-use Rattle.syntax_editor.specs.ChangeRow.{ChangeRow, rowsOf}
-use Rattle.syntax_editor.specs.ChangeRowLaws.{rowAt}
-use Rattle.edit_plan.specs.Rows.{rowKey, rowFate, key-told}
-use Rattle.edit_plan.specs.Sorting.{sortFrom, comesAt, rankedPlaces}
-use Rattle.postorder.specs.Order.{ordered, ownerTold, runs, runningPlaces, inOrder, order-told, rows-told}
-use Rattle.change_row.specs.Stated.{planOf}
-use Rattle.change_row.specs.Exact.{Exact, exact-tells}
+use Rattle.definition_laws.specs.Basics.{All-append, All-keep, All-flatMap}
+use Rattle.record_changes.specs.ChangeRow.{ChangeRow, rowsOf}
+use Rattle.record_changes.specs.ChangeRowLaws.{rowAt}
+use Rattle.plan_sort.specs.Rows.{rowKey, rowFate, key-told}
+use Rattle.plan_sort.specs.Sorting.{sortFrom, comesAt, rankedPlaces}
+use Rattle.plan_postorder.specs.Order.{ordered, ownerTold, runs, runningPlaces, inOrder, order-told, rows-told}
+use Rattle.record_rewritten.specs.Stated.{planOf}
+use Rattle.record_rewritten.specs.Exact.{Exact, exact-tells}
 
 -- ── Which places run ────────────────────────────────────────────────────────────────────────────────────────
 

@@ -1,7 +1,7 @@
 // Replays the recorded cases on standard input: every byte of the result, every work slice, and the elements found.
 use edit_algo::serve;
-use work::Job;
-use work::Outcome;
+use promises::Job;
+use promises::Outcome;
 ghost use Prim.Native.Nat.{_^_, _<_, _≤_};
 
 // What the lent slices hold before a call.

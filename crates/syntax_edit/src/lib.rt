@@ -1,8 +1,8 @@
 // The public calls for C and Rust: a slice is a pointer and a length, an outcome is one number.
 use edit_algo::serve;
-use work::Job;
+use promises::Job;
 ghost use mathlib.Core.List.{_∷_, []};
-ghost use Rattle.answer_numbers.specs.Returned.{Returns, ReturnsElement};
+ghost use Rattle.edit_numbers.specs.Returned.{Returns, ReturnsElement};
 
 // THE EDIT of a batch: the length of the answer, which stands at the front of `result`, or a refusal's number with a minus.
 // The nine others are work slices, which end as zeros.
@@ -36,7 +36,7 @@ pub extern "C" fn syntax_edit(
         rows,
         prepared,
     );
-    answer_numbers::number_of(told)
+    edit_numbers::number_of(told)
 }
 
 // The first node of the new tree with the kind and the text start of the old tree's node `number`: its number, −1000 if there is none, or a
@@ -72,5 +72,5 @@ pub extern "C" fn syntax_find_element(
         rows,
         prepared,
     );
-    answer_numbers::number_of(told)
+    edit_numbers::number_of(told)
 }

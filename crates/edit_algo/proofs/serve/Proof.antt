@@ -3,7 +3,7 @@
 use mathlib.Core.Path.{_∙_}
 use native.Mathlib.Omega.{arith}
 use borrow.Author.Needs.{needs}
-use Rattle.work.specs.Slices.{long-enough}
+use Rattle.promises.specs.Slices.{long-enough}
 use Rattle.edit_algo.proofs.Ways.{to-answer, job-performed, zeroed-same, serves-cleared}
 use Rattle.edit_algo.proofs.serve.Statement.{statement}
 use Rattle.edit_algo.proofs.serve.Tie as tie

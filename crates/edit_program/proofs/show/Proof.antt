@@ -5,8 +5,8 @@ use Rattle.edit_program.proofs.show.Statement.{statement}
 use Rattle.edit_program.proofs.show.Tie as tie
 use Rattle.edit_program.proofs.show.Reads as reads
 use Rattle.edit_program.proofs.show.Lts as lts
-use Rattle.printing.proofs.print_refusal.Reads as print-refusal-reads
-use Rattle.printing.proofs.print_result.Reads as print-result-reads
+use Rattle.edit_print.proofs.print_refusal.Reads as print-refusal-reads
+use Rattle.edit_print.proofs.print_result.Reads as print-result-reads
 
 enum-known-answer : tie.Need-enum-known-answer
 enum-known-answer c = search needs

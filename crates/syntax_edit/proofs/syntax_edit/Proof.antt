@@ -1,7 +1,7 @@
 -- `syntax_edit` meets its contract: the number of what `serve` answers.
 -- Assumes nothing.
 use borrow.Author.Needs.{needs}
-use Rattle.answer_numbers.specs.Returned.{edit-small, edit-returned}
+use Rattle.edit_numbers.specs.Returned.{edit-small, edit-returned}
 use Rattle.syntax_edit.proofs.syntax_edit.Statement.{statement}
 use Rattle.syntax_edit.proofs.syntax_edit.Tie as tie
 

@@ -1,7 +1,7 @@
 -- `syntax_find_element` meets its contract: the number of what `serve` answers, which is lent no room for bytes.
 -- Assumes nothing.
 use borrow.Author.Needs.{needs}
-use Rattle.answer_numbers.specs.Returned.{find-small, find-returned}
+use Rattle.edit_numbers.specs.Returned.{find-small, find-returned}
 use Rattle.syntax_edit.proofs.syntax_find_element.Statement.{statement}
 use Rattle.syntax_edit.proofs.syntax_find_element.Tie as tie
 

@@ -1,0 +1,65 @@
+-- Batches whose splices are apart, and one whose are not: by computation.
+-- Assumes nothing.
+use mathlib.Core.Path.{_≡_, refl}
+use mathlib.Core.Bool.{Bool, true, false}
+use mathlib.Core.List.{List, [], _∷_, _++_, flatMap}
+use Prim.Native.Nat.{ℕ}
+use Rattle.orders.specs.Tree.{text}
+use Rattle.orders.specs.Splices
+use Rattle.orders.specs.Check
+use Rattle.definition.specs.Basics.{Answer, gives, _>>=_}
+use Rattle.definition.specs.Refusals.{Call}
+use Rattle.definition.specs.Answers.{edit}
+use Rattle.definition.specs.Printed.{ascii}
+use Rattle.definition.specs.Computing.{computed}
+use Rattle.definition.specs.Examples.{Told, inLists, inBytes, nodeOf, tokenOf, call}
+use Rattle.definition_demand.specs.Aims.{replacesRoot}
+use Rattle.definition_demand.specs.Answered.{apartIn?, apartPlan?, apartBatch?, oneGoOf}
+
+-- calls on root(P(a, z), b), z an empty node, beside a tree of c, d and e: P is 1, a 2, z 3, b 4; c is 6, d 7, e 8, their root 5
+abbrev onP : List Call → Told
+onP calls = record {
+  trees = nodeOf 1 (nodeOf 2 (tokenOf 3 "a" ∷ nodeOf 4 [] ∷ []) ∷ tokenOf 3 "b" ∷ []) ∷ nodeOf 5 (tokenOf 3 "c" ∷ tokenOf 3 "d" ∷ tokenOf 3 "e" ∷ []) ∷ [];
+  calls = calls;
+  mappings = [];
+  notes = [];
+}
+
+-- c after P, d after a, b replaced by e: the splices are apart
+abbrev apart : Told
+apart = onP (call 1 1 (6 ∷ []) ∷ call 1 2 (7 ∷ []) ∷ call 2 4 (8 ∷ []) ∷ [])
+
+-- the run from a to z deleted, b replaced by e, c after a: the empty run behind a is strictly inside the run from a to z, and what comes there is deleted with it
+abbrev notApart : Told
+notApart = onP (call 5 2 (3 ∷ []) ∷ call 2 4 (8 ∷ []) ∷ call 1 2 (6 ∷ []) ∷ [])
+
+-- the root replaced: what comes in its place is no splice of tree 0
+abbrev rootReplaced : Told
+rootReplaced = onP (call 2 0 (5 ∷ []) ∷ [])
+
+-- P by R(P′(a)), P mapped to P′, c after a: c comes into R, in its own tree, and then R into tree 0. R is 9, P′ 10
+abbrev dependent : Told
+dependent = record {
+  trees = (onP []) .trees ++ (nodeOf 6 (nodeOf 2 (tokenOf 3 "a" ∷ []) ∷ []) ∷ []);
+  calls = call 2 1 (9 ∷ []) ∷ call 1 2 (6 ∷ []) ∷ [];
+  mappings = (1, 10) ∷ [];
+  notes = [];
+}
+
+-- of a batch: whether demand 3's last sentence speaks of it, its new text, and that of tree 0 rewritten in one go
+abbrev Compared : Type 0
+Compared = Answer Bool × Answer (List ℕ) × Answer (List ℕ)
+
+unfoldable pub compared : Told → Compared
+compared b = (apartBatch? (inBytes b), (edit (inBytes b) >>= λ r. gives (r .text)), (oneGoOf (inBytes b) >>= λ ts. gives (flatMap text ts)))
+
+-- Where it speaks, both texts are one; where splices are not apart, or the root is replaced, they differ.
+pub compares : (compared apart ≡ (gives true, gives (ascii "adce"), gives (ascii "adce")))
+    × (compared dependent ≡ (gives true, gives (ascii "acb"), gives (ascii "acb")))
+    × (compared notApart ≡ (gives false, gives (ascii "e"), gives (ascii "ce")))
+    × (compared rootReplaced ≡ (gives false, gives (ascii "cde"), gives (ascii "ab")))
+unfolding
+    computed inLists inBytes compared replacesRoot apartIn? apartPlan? apartBatch? oneGoOf
+    Check.each Check.pairs Check.enters? Check.run? Check.fits? Check.apart? Check.allApart?
+    Splices.samePath Splices.leftOf Splices.under Splices.fromRoot Splices.fromChild Splices.atRoot Splices.below Splices.insertByLeft Splices.leftToRight Splices.newChildren Splices.oneGo Splices.oneGoAll
+compares = (refl, refl, refl, refl)

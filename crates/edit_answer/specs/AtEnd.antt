@@ -1,0 +1,146 @@
+-- From what a run leaves to what each job answers.
+-- Assumes nothing.
+use mathlib.Core.Path.{_≡_, refl, sym, ap, _∙_}
+use mathlib.Core.Bool.{Bool, true, false, cond, _&&_}
+use mathlib.Core.List.{List, [], _∷_}
+use mathlib.Core.Option.{none, some}
+use Prim.Native.Nat.{ℕ, zero, suc, _+_, _*_, _≤_, _<_}
+use native.Mathlib.Nat.{zero-add}
+use native.Mathlib.Omega.{arith}
+use lib.ListN.{length, drop, take, getD}
+use lib.Dec.{eqb}
+use lib.Seq.{take-all}
+use Rattle.definition.specs.Basics.{Answer, refused, gives, _>>=_}
+use Rattle.definition.specs.Elements.{Table, isNode, node?, tree, row, noRow}
+use Rattle.definition.specs.Refusals.{Accepted, accepted}
+use Rattle.definition.specs.Answers.{plan, ran}
+use Rattle.definition_laws.specs.Answers.{gives-inj, given}
+use Rattle.read_element_table.specs.View.{view, rowAt, kindWord}
+use Rattle.read_element_table.specs.Wellformed.{Lines}
+use Rattle.read_element_table.specs.Told.{length-view, row-view, node-told, tree-told, start-told}
+use Rattle.rows_model.specs.Row.{firstRows, rowsOf}
+use Rattle.run_model.specs.Store as model
+use Rattle.run_model.specs.Store.{store}
+use Rattle.run_annotations.specs.Notes.{notesOf}
+use Rattle.run_tree_store.specs.Stored.{stored}
+use Rattle.finish_model.specs.Finished.{resultOf, firstTree}
+use Rattle.finish_model.specs.Alike.{findRow, find-in}
+use Rattle.finish_result.specs.Answered.{lengthOf, fitted, overFront, Answered, answered-result}
+use Rattle.finish_result.specs.declared.Finished.{Finished}
+use Rattle.edit_perform.specs.Ending.{End, ending, resultAt, edit-ending, foundAt, found-ending}
+use Rattle.edit_perform.specs.AtEnd.{AtEnd, Told}
+use Rattle.edit_perform.specs.declared.Ended.{Ended}
+use Rattle.edit_perform.specs.declared.Performed.{Performed}
+use Rattle.edit_perform.specs.declared.Performed.the-variants.{Refused, Done}
+use Rattle.promises.specs.Promises.{leftIn, applied, found}
+use Rattle.promises.specs.Serving.{reached, ofLength, outcome, written, Tells, edit-outcome, edit-written}
+use Rattle.promises.specs.declared.Job.the-variants.{Edit}
+
+-- ── The edit ────────────────────────────────────────────────────────────────────────────────────────────────
+
+applied-fitted : (b : List ℕ) (room : ℕ) (e : End) → ending b ≡ gives e → applied b room ≡ fitted room (resultAt e)
+unfolding applied fitted _>>=_
+applied-fitted b room e h = rw (edit-ending b, h) refl
+
+left-over : (held : List ℕ) (a : Answer (List ℕ)) → overFront held a ≡ leftIn held a
+unfolding overFront leftIn
+left-over held (refused n) = refl
+left-over held (gives bytes) = rw (take-all (length bytes) bytes (omega arith), zero-add (length bytes)) refl
+
+module _ {b rows notes changed held out : List ℕ} {d : Ended} (v : AtEnd b rows notes changed d) (a : Finished) where
+  -- what is answered from what the run leaves is the edit's answer
+  pub answered-edit : ((marks : List ℕ) → Answered held (resultOf (d .discarded) (d .climbs) (stored (drop (d .text) b) (d .rows) rows marks (notesOf (d .notes) notes) (take (d .changed) changed))) out a)
+      → Tells (reached Edit b (length held)) held (ofLength (lengthOf a)) out
+  unfolding resultAt reached
+  answered-edit f =
+      let e = v .end in
+      let g = f (v .marks) in
+      let h : Answered held (resultOf _ (e .planned .climbs) _) out a = rw (v .discarded, v .climbs) at g in
+      let r = answered-result (e .planned .changes) (e .planned .climbs) (e .world) (v .holds) (v .held) h in
+      let x = fitted (length held) (resultAt e) in
+      rw (applied-fitted b (length held) e (v .ends)) (record { answer = ap ofLength (r .answer) ∙ sym (edit-outcome x); result = r .result ∙ (left-over held x ∙ ap (leftIn held) (sym (edit-written x))) })
+
+-- ── find_element ────────────────────────────────────────────────────────────────────────────────────────────
+
+-- the run of the batch b has ended, and the rows are those of its trees
+pub record RowsAtEnd (b rows : List ℕ) (d : Ended) : Type 0 where
+  pub end : End
+  pub ends : ending b ≡ gives end
+  pub held : rowsOf (end .world .trees) ≡ firstRows (drop (d .text) b) (d .rows) rows
+  pub place : d .root ≡ 1
+  pub within : 3 * d .rows ≤ length rows
+  pub some : 1 ≤ d .rows
+  pub few : d .rows ≤ 4097
+
+pub rows-at-end : {b rows notes changed : List ℕ} {d : Ended} → AtEnd b rows notes changed d → RowsAtEnd b rows d
+unfolding store stored
+rows-at-end v = record { end = v .end; ends = v .ends; held = ap (λ (s : model.Store). s .rows) (v .held); place = v .place; within = v .rowsWithin; some = v .someRows; few = v .fewRows }
+
+getD-past : {A : Type 0} (l : List A) (k : ℕ) (d : A) → length l ≤ k → getD l k d ≡ d
+getD-past [] k d h = refl
+getD-past (x ∷ l) zero d h = absurd (omega arith)
+getD-past (x ∷ l) (suc k) d h = getD-past l k d (omega arith)
+
+-- a node of tree 0
+unfoldable pub oldNode : Table → ℕ → Bool
+oldNode T k = node? T k && eqb (tree T k) 0
+
+-- of the elements that words tell
+module _ (n : ℕ) (t s : List ℕ) (k : ℕ) where
+  pub none-there : n ≤ k → false ≡ oldNode (view n t s) k
+  unfolding oldNode node? row noRow isNode
+  none-there h = rw (getD-past (view n t s) k noRow (omega (arith, length-view n t s))) refl
+
+  module _ (h : k < n) (b : Bool) (e : b ≡ isNode (getD s (3 * suc k) 0)) where
+    pub no-node : b ≡ false → false ≡ oldNode (view n t s) k
+    unfolding oldNode
+    no-node q = rw (node-told n t s k h, sym e ∙ q) refl
+
+    pub node-there : Lines n t → b ≡ true → (x : ℕ) → x ≡ getD t (8 * k + 7) 0 → eqb x 0 ≡ oldNode (view n t s) k
+    unfolding oldNode
+    node-there L q x f = rw (node-told n t s k h, sym e ∙ q, tree-told n t s L k h, ← f) refl
+
+kind-told : (n : ℕ) (t s : List ℕ) (k : ℕ) → k < n → (row (view n t s) k) .kind ≡ getD s (3 * suc k) 0
+unfolding rowAt kindWord
+kind-told n t s k h = rw (row-view n t s k h) refl
+
+-- where it is found, by the rows of the new tree
+module _ {b rows t s : List ℕ} {d : Ended} (v : RowsAtEnd b rows d) (w : Told b t s (d .elements)) (k : ℕ) where
+  old-table : v .end .batch .table ≡ view (d .elements) t s
+  unfolding ending
+  old-table = given (accepted b) _ (v .ends) λ a x e. given (plan a) _ e λ p y e. given (ran a p) _ e λ u z e.
+      ap (λ (q : End). q .batch .table) (sym (gives-inj e)) ∙ (ap (λ (q : Accepted). q .table) (gives-inj (sym x ∙ w .accepts)) ∙ sym (w .table))
+
+  found-by : found b k ≡ gives (cond (oldNode (view (d .elements) t s) k) (findRow (firstTree (firstRows (drop (d .text) b) (d .rows) rows)) ((row (view (d .elements) t s) k) .kind) ((row (view (d .elements) t s) k) .start)) none)
+  unfolding foundAt oldNode _>>=_
+  found-by = found-ending b k ∙ rw (v .ends, find-in (v .end .batch .table) (v .end .world) k, old-table, v .held) refl
+
+  pub no-old-node : oldNode (view (d .elements) t s) k ≡ false → gives none ≡ found b k
+  no-old-node h = sym (found-by ∙ rw h refl)
+
+  pub old-node : oldNode (view (d .elements) t s) k ≡ true → k < d .elements → (kind start : ℕ) → kind ≡ getD s (3 * suc k) 0 → start ≡ getD t (8 * k + 4) 0
+      → gives (findRow (firstTree (firstRows (drop (d .text) b) (d .rows) rows)) kind start) ≡ found b k
+  old-node h low kind start e f = sym (found-by ∙ rw (h, kind-told (d .elements) t s k low, start-told (d .elements) t s k low, ← e, ← f) refl)
+
+-- ── Refused, or at the end of the run ───────────────────────────────────────────────────────────────────────
+
+-- the answer `a`, unless what is performed is refused
+unfoldable pub unless : {A : Type 0} → Performed → Answer A → Answer A
+unless (Refused k) a = refused k
+unless (Done d) a = a
+
+-- which is the refusal
+pub unless-refused : {A : Type 0} {p : Performed} {k : ℕ} → p ≡ Refused k → (a : Answer A) → unless p a ≡ refused k
+unfolding unless
+unless-refused e a = rw e refl
+
+-- or the answer
+pub unless-done : {A : Type 0} {p : Performed} {d : Ended} → p ≡ Done d → (a : Answer A) → unless p a ≡ a
+unfolding unless
+unless-done e a = rw e refl
+
+-- where the run has ended, every job can be answered
+pub record ToAnswer (b t s rows notes changed starts : List ℕ) (p : Performed) : Type 0 where
+  pub ends : (d : Ended) → p ≡ Done d → AtEnd b rows notes changed d
+  pub tells : (d : Ended) → p ≡ Done d → Told b t s (d .elements)
+  pub room : (d : Ended) → p ≡ Done d → 4096 ≤ length starts

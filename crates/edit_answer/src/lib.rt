@@ -1,0 +1,117 @@
+// From what a run leaves to what each job answers.
+use edit_perform::Ended;
+use edit_perform::Performed;
+use finish_result::Finished;
+use promises::Job;
+use promises::Outcome;
+use rows_syntax_node::Found;
+ghost use mathlib.Core.Path.{_≡_};
+ghost use Prim.Native.Nat.{_≤_, _<_};
+ghost use lib.ListN.{length};
+ghost use Rattle.read_element_table.specs.View.{view};
+ghost use Rattle.read_element_table.specs.Wellformed.{Wellformed};
+ghost use Rattle.edit_perform.specs.AtEnd.{AtEnd, Told};
+ghost use Rattle.promises.specs.Promises.{found};
+ghost use Rattle.promises.specs.Serving.{reached, ofPlace, Tells};
+ghost use Rattle.promises.specs.declared.Job.the-variants as asked;
+ghost use Rattle.edit_answer.specs.AtEnd.{RowsAtEnd, oldNode, unless, ToAnswer};
+
+// The result's bytes from what the run of the batch leaves, or 13. `starts` is for where each element's text starts.
+fn write_answer(
+    batch: &[u8],
+    d: Ended,
+    rows: &[u32],
+    notes: &mut [u32],
+    changed: &mut [u32],
+    starts: &mut [u32],
+    result: &mut [u8],
+) -> Outcome
+    requires { ⌜ AtEnd (now batch) (now rows) (now notes) (now changed) d ⌝ }
+    requires { ⌜ 4096 ≤ length (now starts) ⌝ }
+    ensures { λ r. ⌜ Tells (reached asked.Edit (now (batch .entry)) (length (now (result .entry)))) (now (result .entry)) r (now (result .exit)) ⌝ }
+{
+    let from = d.text;
+    let text = &batch[from..];
+    let end = finish_result::finish(
+        rows,
+        d.rows,
+        d.root,
+        notes,
+        d.notes,
+        changed,
+        d.changed,
+        starts,
+        text,
+        d.discarded,
+        d.climbs,
+        result,
+    );
+    match end {
+        Finished::Short => Outcome::Refused(13),
+        Finished::Bytes(n) => Outcome::Bytes(n),
+    }
+}
+
+// Whether element `k` of `n` is a node of tree 0.
+fn is_old_node(table: &[u32], source: &[u32], n: usize, k: usize) -> bool
+    requires { ⌜ Wellformed n (now table) (now source) × (k < n) ⌝ }
+    ensures { λ r. ⌜ r ≡ oldNode (view n (now (table .entry)) (now (source .entry))) k ⌝ }
+{
+    if !read_element_table::is_node(source, k) {
+        return false;
+    }
+    read_element_table::entry(table, k, read_element_table::TREE) == 0
+}
+
+// Where element `k` stands in the new tree, from the rows that the run of the batch leaves.
+fn find_from(
+    batch: &[u8],
+    d: Ended,
+    table: &[u32],
+    source: &[u32],
+    rows: &[u32],
+    k: usize,
+) -> Outcome
+    requires { ⌜ RowsAtEnd (now batch) (now rows) d ⌝ }
+    requires { ⌜ Told (now batch) (now table) (now source) (d .elements) ⌝ }
+    ensures { λ r. ⌜ r ≡ ofPlace (found (now (batch .entry)) k) ⌝ }
+{
+    let n = d.elements;
+    if n <= k {
+        return Outcome::Nothing;
+    }
+    if !is_old_node(table, source, n, k) {
+        return Outcome::Nothing;
+    }
+    let kind = read_element_table::row_word(source, k, read_element_table::KIND);
+    let start = read_element_table::entry(table, k, read_element_table::START);
+    match finish_find::find_in_tree(rows, d.rows, d.root, kind, start) {
+        Found::Nothing => Outcome::Nothing,
+        Found::At(e) => Outcome::At(e),
+    }
+}
+
+// What the job answers from what is performed: its refusal, or what follows from the end of the run.
+pub fn answer(
+    job: Job,
+    batch: &[u8],
+    done: Performed,
+    table: &[u32],
+    source: &[u32],
+    rows: &[u32],
+    notes: &mut [u32],
+    changed: &mut [u32],
+    starts: &mut [u32],
+    result: &mut [u8],
+) -> Outcome
+    requires { ⌜ ToAnswer (now batch) (now table) (now source) (now rows) (now notes) (now changed) (now starts) done ⌝ }
+    ensures { λ r. ⌜ Tells (unless done (reached job (now (batch .entry)) (length (now (result .entry))))) (now (result .entry)) r (now (result .exit)) ⌝ }
+{
+    match done {
+        Performed::Refused(n) => Outcome::Refused(n),
+        Performed::Done(d) => match job {
+            Job::Edit => write_answer(batch, d, rows, notes, changed, starts, result),
+            Job::Find(k) => find_from(batch, d, table, source, rows, k),
+        },
+    }
+}

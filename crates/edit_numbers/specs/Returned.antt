@@ -1,0 +1,105 @@
+-- What the exported calls return, as one number, and what they promise.
+-- Assumes nothing.
+use mathlib.Core.Path.{_≡_, refl, ap, _∙_}
+use mathlib.Core.List.{List}
+use mathlib.Core.Option.{Option, none, some}
+use Prim.Native.Nat.{ℕ, _≤_, _<_}
+use native.Mathlib.Omega.{arith}
+use lib.IntN.{ℤ, pos, negℤ}
+use lib.ListN.{length}
+use mir.Syntax.{w64}
+use mir.Val.{toZ, ofZ}
+use Rattle.definition.specs.Basics.{Answer, refused, gives, _>>=_}
+use Rattle.definition.specs.Answers.{edited}
+use Rattle.definition.specs.FindElement.{findElement}
+use Rattle.definition_laws.specs.Limits.{mostBytes}
+use Rattle.promises.specs.Slices.{needed, lengths, zeroed}
+use Rattle.promises.specs.Promises.{leftIn}
+use Rattle.promises.specs.Serving.{place, ofLength, ofPlace, Serves, serves-edits, serves-finds}
+use Rattle.promises.specs.declared.Job.the-variants.{Edit, Find}
+use Rattle.promises.specs.declared.Outcome.{Outcome}
+use Rattle.promises_read.specs.Refused.{edited-numbered, found-numbered}
+use Rattle.edit_numbers.specs.Bounded.{edited-short, found-short}
+use Rattle.edit_numbers.specs.Told.{numberOf, Small, number-read}
+
+-- ── The promises ────────────────────────────────────────────────────────────────────────────────────────────
+
+-- the length of the answer, or the refusal's number with a minus
+unfoldable pub returned : Answer (List ℕ) → ℤ
+returned (refused n) = negℤ (pos n)
+returned (gives bytes) = pos (length bytes)
+
+-- the element, −1000 for none, or the refusal's number with a minus
+unfoldable pub returnedElement : Answer (Option ℕ) → ℤ
+returnedElement (refused n) = negℤ (pos n)
+returnedElement (gives none) = negℤ (pos 1000)
+returnedElement (gives (some e)) = pos e
+
+-- THE PROMISE of `syntax_edit`, from the batch b, the result slice and the work slices as they were lent
+pub record Returns (b held : List ℕ) (work : List (List ℕ)) (r : ℤ) (holds : List ℕ) (left : List (List ℕ)) : Type 0 where
+  pub answer : r ≡ returned (edited (lengths needed work) b (length held))
+  -- "The result slice holds the finished answer and beyond it what it held, or on refusal all that it held."
+  pub result : holds ≡ leftIn held (edited (lengths needed work) b (length held))
+  -- "Work slices end as zeros."
+  pub zeros : left ≡ zeroed work
+
+-- THE PROMISE of `syntax_find_element`, from the batch b, the number n and the work slices as they were lent
+pub record ReturnsElement (b : List ℕ) (n : ℕ) (work : List (List ℕ)) (r : ℤ) (left : List (List ℕ)) : Type 0 where
+  pub element : r ≡ returnedElement (findElement (lengths needed work) b n)
+  pub zeros : left ≡ zeroed work
+
+-- ── From what is served ─────────────────────────────────────────────────────────────────────────────────────
+
+module _ {b held holds : List ℕ} {work left : List (List ℕ)} {r : Outcome} (s : Serves Edit b held work r holds left) where
+  abbrev x : Answer (List ℕ)
+  x = edited (lengths needed work) b (length held)
+
+  length-told : r ≡ ofLength (x >>= λ bytes. gives (length bytes))
+  length-told = let (a, e, k) = serves-edits s in e ∙ ap ofLength (k .answer)
+
+  -- what an edit tells is small
+  pub edit-small : Small r
+  unfolding Small ofLength _>>=_
+  edit-small = rw length-told (go x (edited-numbered (lengths needed work) b (length held)) (λ bytes. edited-short (lengths needed work) b bytes (length held)))
+    where
+      go : (o : Answer (List ℕ)) → ((n : ℕ) → o ≡ refused n → (1 ≤ n) × (n ≤ 13)) → ((bytes : List ℕ) → o ≡ gives bytes → length bytes ≤ mostBytes) → Small (ofLength (o >>= λ bytes. gives (length bytes)))
+      go (refused n) h k = omega (arith, (h n refl) .1)
+      go (gives bytes) h k = omega (arith, k bytes refl)
+
+  -- and its number is what is promised
+  pub edit-returned : (z : ℤ) → z ≡ numberOf r → Returns b held work (toZ w64 (ofZ w64 z)) holds left
+  unfolding numberOf ofLength returned _>>=_
+  edit-returned z q =
+      let (a, e, k) = serves-edits s in
+      record { answer = ap (λ (y : ℤ). toZ w64 (ofZ w64 y)) q ∙ (number-read r edit-small ∙ (ap numberOf length-told ∙ go x)); result = k .result; zeros = k .zeros }
+    where
+      go : (o : Answer (List ℕ)) → numberOf (ofLength (o >>= λ bytes. gives (length bytes))) ≡ returned o
+      go (refused n) = refl
+      go (gives bytes) = refl
+
+module _ {b held holds : List ℕ} {n : ℕ} {work left : List (List ℕ)} {r : Outcome} (s : Serves (Find n) b held work r holds left) where
+  abbrev y : Answer (Option ℕ)
+  y = findElement (lengths needed work) b n
+
+  place-told : r ≡ ofPlace y
+  place-told = let (a, e, k) = serves-finds s in e ∙ ap ofPlace (k .element)
+
+  -- what is told of an element is small
+  pub find-small : Small r
+  unfolding Small ofPlace place
+  find-small = rw place-told (go y (found-numbered (lengths needed work) b n) (found-short (lengths needed work) b n))
+    where
+      go : (o : Answer (Option ℕ)) → ((m : ℕ) → o ≡ refused m → (1 ≤ m) × (m ≤ 12)) → ((e : ℕ) → o ≡ gives (some e) → e < 4096) → Small (ofPlace o)
+      go (refused m) h k = omega (arith, (h m refl) .1)
+      go (gives none) h k = tt
+      go (gives (some e)) h k = omega (arith, k e refl)
+
+  -- and its number is what is promised
+  pub find-returned : (z : ℤ) → z ≡ numberOf r → ReturnsElement b n work (toZ w64 (ofZ w64 z)) left
+  unfolding numberOf ofPlace place returnedElement
+  find-returned z q = record { element = ap (λ (y : ℤ). toZ w64 (ofZ w64 y)) q ∙ (number-read r find-small ∙ (ap numberOf place-told ∙ go y)); zeros = s .zeros }
+    where
+      go : (o : Answer (Option ℕ)) → numberOf (ofPlace o) ≡ returnedElement o
+      go (refused m) = refl
+      go (gives none) = refl
+      go (gives (some e)) = refl

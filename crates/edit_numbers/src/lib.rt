@@ -1,0 +1,36 @@
+// An outcome as one number, for callers in C and Rust.
+use promises::Outcome;
+ghost use mathlib.Core.Path.{_≡_};
+ghost use Prim.Native.Nat.{_≤_};
+ghost use lib.IntN.{pos, negℤ};
+ghost use Rattle.edit_numbers.specs.Told.{Small, numberOf};
+
+// A refusal's number, with a minus.
+fn negative(n: usize) -> i64
+    requires { ⌜ n ≤ 65536 ⌝ }
+    ensures { λ r. ⌜ r ≡ negℤ (pos n) ⌝ }
+{
+    let m = n as i64;
+    -m
+}
+
+// A length or an element's number.
+fn positive(n: usize) -> i64
+    requires { ⌜ n ≤ 65536 ⌝ }
+    ensures { λ r. ⌜ r ≡ pos n ⌝ }
+{
+    n as i64
+}
+
+// The number of an outcome.
+pub fn number_of(told: Outcome) -> i64
+    requires { ⌜ Small told ⌝ }
+    ensures { λ r. ⌜ r ≡ numberOf told ⌝ }
+{
+    match told {
+        Outcome::Refused(n) => negative(n),
+        Outcome::Bytes(n) => positive(n),
+        Outcome::Nothing => -1000,
+        Outcome::At(n) => positive(n),
+    }
+}

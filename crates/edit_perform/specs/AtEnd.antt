@@ -1,0 +1,74 @@
+-- What is held at the end of a run, as the words tell it.
+-- Assumes nothing.
+use mathlib.Core.Path.{_≡_}
+use mathlib.Core.Bool.{true, false}
+use mathlib.Core.List.{List, map}
+use Prim.Native.Nat.{ℕ, _*_, _^_, _≤_, _<_}
+use lib.ListN.{length, take, drop}
+use Rattle.definition.specs.Basics.{refused, gives, keep}
+use Rattle.definition.specs.Planning.{isDiscarded}
+use Rattle.definition.specs.Refusals.{Accepted, accepted}
+use Rattle.definition.specs.Answers.{tooShort}
+use Rattle.definition_laws.specs.Held.{Holds}
+use Rattle.read_element_table.specs.View.{view}
+use Rattle.read_element_table.specs.Wellformed.{Wellformed}
+use Rattle.rows_model.specs.Row.{firstRows, bytes}
+use Rattle.rows_model.specs.Place.{markOf}
+use Rattle.run_annotations.specs.Notes.{notesOf}
+use Rattle.run_model.specs.Store.{store}
+use Rattle.run_tree_store.specs.Stored.{stored}
+use Rattle.promises.specs.Slices.{needed, lengths}
+use Rattle.edit_perform.specs.Ending.{End, ending}
+use Rattle.edit_perform.specs.declared.Ended.{Ended}
+use Rattle.edit_perform.specs.declared.Performed.{Performed}
+use Rattle.edit_perform.specs.declared.Performed.the-variants.{Refused, Done}
+
+-- the run of the batch b has ended, and the slices hold what it left, with these counts
+pub record AtEnd (b rows notes changed : List ℕ) (d : Ended) : Type 0 where
+  pub end : End
+  pub ends : ending b ≡ gives end
+  pub holds : Holds (end .world)
+  -- the current trees, the notes and the changed elements, by their rows
+  pub marks : List ℕ
+  pub held : store (end .world) ≡ stored (drop (d .text) b) (d .rows) rows marks (notesOf (d .notes) notes) (take (d .changed) changed)
+  pub discarded : d .discarded ≡ length (keep (λ p. isDiscarded (p .fate)) (end .planned .changes))
+  pub climbs : d .climbs ≡ end .planned .climbs
+  -- and nothing is larger than its slice
+  pub place : d .root ≡ 1
+  pub textWithin : d .text ≤ length b
+  pub rowsWithin : 3 * d .rows ≤ length rows
+  pub someRows : 1 ≤ d .rows
+  pub fewRows : d .rows ≤ 4097
+  pub fewBytes : (text : List ℕ) → bytes (firstRows text (d .rows) rows) < 2 ^ 32
+  pub notesWithin : 3 * d .notes ≤ length notes
+  pub fewNotes : d .notes < 2 ^ 16
+  pub changedWithin : d .changed ≤ length changed
+  pub fewChanged : d .changed < 2 ^ 16
+  pub fewDiscarded : d .discarded < 2 ^ 32
+  pub fewClimbs : d .climbs < 2 ^ 32
+
+-- the words t and s tell of the elements of the batch b
+pub record Told (b t s : List ℕ) (n : ℕ) : Type 0 where
+  pub batch : Accepted
+  pub accepts : accepted b ≡ gives batch
+  pub table : view n t s ≡ batch .table
+  pub formed : Wellformed n t s
+
+-- the run of the batch b has ended, and the marks are the rows where its elements stand
+pub record Marked (b marks : List ℕ) (d : Ended) : Type 0 where
+  pub end : End
+  pub ends : ending b ≡ gives end
+  pub long : d .elements ≤ length marks
+  pub told : take (d .elements) marks ≡ map (markOf (end .world .trees)) (end .world .paths)
+
+-- a run of the batch b: refused by the definition's number, or at the end of the run
+pub record Performs (b t s rows notes changed marks : List ℕ) (r : Performed) : Type 0 where
+  pub refuses : (k : ℕ) → r ≡ Refused k → ending b ≡ refused k
+  pub ends : (d : Ended) → r ≡ Done d → AtEnd b rows notes changed d
+  pub tells : (d : Ended) → r ≡ Done d → Told b t s (d .elements)
+  pub marked : (d : Ended) → r ≡ Done d → Marked b marks d
+
+-- THE PROMISE of performing with the work slices `work`: 1 where one of them is too short, or what a run answers
+pub data PerformsWith (work : List (List ℕ)) (b t s rows notes changed marks : List ℕ) (r : Performed) : Type 0 where
+  short : tooShort (lengths needed work) ≡ true → r ≡ Refused 1 → PerformsWith work b t s rows notes changed marks r
+  long : tooShort (lengths needed work) ≡ false → Performs b t s rows notes changed marks r → PerformsWith work b t s rows notes changed marks r

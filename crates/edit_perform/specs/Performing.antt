@@ -1,0 +1,199 @@
+-- The run of an accepted and planned batch, in words: what it asks for is there, and what it answers is the definition's.
+-- Assumes nothing.
+use mathlib.Core.Path.{_≡_, refl, sym, ap, subst, _∙_}
+use mathlib.Core.List.{List, []}
+use Prim.Native.Nat.{ℕ, _≤_, _<_}
+use native.Mathlib.Omega.{arith}
+use lib.ListN.{length, take, drop, length-map}
+use lib.Seq.{length-take-le, take-all}
+use Rattle.orders.specs.Lists.{All}
+use Rattle.orders.specs.ListLaws.{All-map₂}
+use Rattle.definition.specs.Basics.{Answer, refused, gives, _>>=_}
+use Rattle.definition.specs.Elements.{Table, table}
+use Rattle.definition.specs.Planning.{Planned}
+use Rattle.definition.specs.Running.{World, begin, news, records}
+use Rattle.orders.specs.Lists.{total}
+use Rattle.definition.specs.Answers.{Plan, plan, atFirst, performed, ran}
+use Rattle.definition.specs.Refusals.{Accepted, accepted}
+use Rattle.definition_laws.specs.Answers.{gives-inj, refused-gives}
+use Rattle.definition_laws.specs.Basics.{map-All}
+use Rattle.definition_laws.specs.Plans.{performed-right}
+use Rattle.definition_laws.specs.Right.{Right}
+use Rattle.definition_laws.specs.Limits.{performed-records, ran-changed, ran-known}
+use Rattle.rows_model.specs.Place.{place}
+use Rattle.read_element_table.specs.View.{view}
+use Rattle.plan_mapping.specs.Mapped.{wordsAt}
+use Rattle.record_changes.specs.ChangeRowLaws.{rowAt}
+use Rattle.record_rewritten.specs.Stated.{changeOf, planOf}
+use Rattle.plan_rewrite.specs.Kept.{Kept}
+use Rattle.read_layout.specs.declared.Layout.{Layout}
+use Rattle.read_batch.specs.Leaving.{Leaves}
+use Rattle.run_annotations.specs.Notes.{notesOf}
+use Rattle.run_model.specs.Store.{Store, store, storeSteps}
+use Rattle.run_model.specs.Step.{inRows, ran-store}
+use Rattle.run_tree_store.specs.Stored.{stored, storedFirst}
+use Rattle.plan_model.specs.Ready.{leaves-ready, ready-facts}
+use Rattle.plan_model.specs.Fated.{rows-each}
+use Rattle.plan_edit.specs.Answers.{PlanMade}
+use Rattle.plan_edit.specs.Left.{TellsPlan, plan-told}
+use Rattle.plan_edit.specs.declared.Counts.{Counts}
+use Rattle.plan_edit.specs.declared.Planned.the-variants.{Made as PlanIs}
+use Rattle.run_tree_state.specs.Applied.{executedIn}
+use Rattle.run_tree_state.specs.Store.{heldIn}
+use Rattle.run_tree_state.specs.declared.TreeState.{TreeState}
+use Rattle.run_tree_state.specs.declared.Executed.{Executed}
+use Rattle.run_tree_state.specs.declared.Executed.the-variants.{Refused, Done}
+use Rattle.run_execute.specs.Standing.{Begun, first-told, Standing}
+use Rattle.run_execute.specs.Opening.{rows-some, rows-few, notes-few, bytes-few}
+use Rattle.run_execute.specs.Stepping.{Performs}
+use Rattle.run_execute.specs.Running.{plansIn, listsAll, lists-total, Ran, marks-many}
+use Rattle.edit_perform.specs.Ending.{ending}
+use Rattle.edit_perform.specs.Beginning.{known, planned, begun}
+use Rattle.edit_perform.specs.AtEnd.{AtEnd, Marked}
+use Rattle.edit_perform.specs.declared.Ended.{Ended}
+
+module _ {b : List ℕ} {l : Layout} {t₀ s₀ t s : List ℕ} (v : Leaves b l t₀ s₀ t s) {changes running first : List ℕ} {c : Counts} (P : PlanMade b l t s changes running first (PlanIs c)) where
+  abbrev a : Accepted
+  a = v .what
+
+  abbrev E : ℕ
+  E = l .sizes .elements
+
+  abbrev listed : List ℕ
+  listed = wordsAt b (l .list) (l .sizes .listed)
+
+  abbrev ks : List ℕ
+  ks = take (c .runs) running
+
+  plan-of : (p : Plan) × TellsPlan b l changes running first c a p
+  plan-of = plan-told a (v .accepted) P
+
+  p : Plan
+  p = plan-of .0
+
+  m : TellsPlan b l changes running first c a p
+  unfolding p
+  m = plan-of .1
+
+  -- ── What the run asks for ──
+
+  -- what runs, by the rows at the places
+  runs-told : plansIn listed changes ks ≡ performed a p
+  unfolding plansIn wordsAt
+  runs-told = m .performed
+
+  pub begins : 16384 ≤ length t₀ → 6147 ≤ length s₀ → 6147 ≤ length s → 768 ≤ length first → Begun E t s first (l .sizes .notes)
+  begins = begun v p (m .plan) first (m .notes)
+
+  -- line 6 would refuse none of them
+  pub all-perform : All (λ k. Performs E (view E t s) listed (rowAt changes k)) ks
+  unfolding wordsAt plansIn planOf
+  all-perform = All-map₂ (λ k h r. record { kept = rows-each (Kept E (view E t s) listed) (c .changes) changes (P .within .kept) k h; right = r }) ks (P .within .low) rights
+    where
+      rights : All (λ k. Right (view E t s) (changeOf listed (rowAt changes k))) ks
+      rights =
+          map-All (λ q. Right (view E t s) (q .change)) (λ k. planOf listed (rowAt changes k)) ks
+          (subst (λ (ps : List Planned). All (λ q. Right (view E t s) (q .change)) ps) (sym runs-told)
+          (subst (λ (T : Table). All (λ q. Right T (q .change)) (performed a p)) (sym (v .told)) (performed-right a p (planned v p (m .plan)))))
+
+  -- there is room for what they record
+  pub room-recorded : listsAll (view E t s) listed changes ks ≤ 1024
+  room-recorded = omega (
+    arith,
+    lists-total (view E t s) listed changes ks,
+    ap (λ (T : Table). total (records T) (λ q. length (news (q .change))) (plansIn listed changes ks)) (v .told),
+    ap (total (records (a .table)) (λ q. length (news (q .change)))) runs-told,
+    performed-records b a p (known v) (planned v p (m .plan)),
+  )
+
+  pub all-elements : All (λ e. e < E) listed
+  unfolding wordsAt
+  all-elements = (ready-facts (leaves-ready v)) .elements
+
+  -- ── What it answers ──
+
+  module _ (lt : 16384 ≤ length t₀) (ls : 6147 ≤ length s₀) (ls′ : 6147 ≤ length s) (lf : 768 ≤ length first) {rows marks notes changed : List ℕ} {x : Executed}
+      (R : Ran E t s first (l .sizes .notes) listed changes ks rows marks notes changed x) where
+    text : List ℕ
+    text = drop (l .text) b
+
+    -- before the first step
+    first-world : storedFirst text E s (notesOf (l .sizes .notes) first) [] ≡ store (atFirst a p)
+    unfolding text atFirst begins begun
+    first-world = first-told (begins lt ls ls′ lf) ∙ ap (λ (T : Table). store (begin (a .trees) T (p .notes))) (sym ((known v) .table))
+
+    -- the run is the definition's
+    ran-told : executedIn text rows marks notes changed x ≡ inRows (ran a p)
+    ran-told =
+        R .answer text
+        ∙ (ap (λ (T : Table). storeSteps T (storedFirst text E s (notesOf (l .sizes .notes) first) []) (storedFirst text E s (notesOf (l .sizes .notes) first) []) (plansIn listed changes ks)) (v .told)
+        ∙ (ap (λ (f : Store). storeSteps (a .table) f f (plansIn listed changes ks)) first-world
+        ∙ (ap (storeSteps (a .table) (store (atFirst a p)) (store (atFirst a p))) runs-told ∙ ran-store b a p (known v) (planned v p (m .plan)))))
+
+    ended-by : (o : Answer World) → ran a p ≡ o → ending b ≡ (o >>= λ w. gives (record { batch = a; planned = p; world = w }))
+    unfolding ending _>>=_
+    ended-by o e = rw (v .accepted, m .plan, e) refl
+
+    -- refused at the same step
+    pub run-refused : (k : ℕ) → x ≡ Refused k → ending b ≡ refused k
+    unfolding executedIn _>>=_
+    run-refused k e = go (ran a p) refl (sym (ap (executedIn text rows marks notes changed) e) ∙ ran-told)
+      where
+        go : (o : Answer World) → ran a p ≡ o → refused k ≡ inRows o → ending b ≡ refused k
+        go (refused n) i j = let same : n ≡ k = cc in ended-by (refused n) i ∙ ap refused same
+        go (gives w) i j = refused-gives j
+
+    -- or what is held at the end is the definition's
+    pub run-ended : (r : TreeState) → x ≡ Done r → 3072 ≤ length notes
+        → AtEnd b rows notes changed (record { text = l .text; elements = E; root = r .root; rows = r .rows; notes = r .notes; changed = r .changed; discarded = c .discarded; climbs = c .climbs })
+    unfolding executedIn _>>=_ text store stored
+    run-ended r e ln = go (ran a p) refl (sym (ap (executedIn text rows marks notes changed) e) ∙ ran-told)
+      where
+        S : Standing E t s first (l .sizes .notes) r rows marks notes changed
+        S = R .standing r e
+
+        go : (o : Answer World) → ran a p ≡ o → gives (heldIn text r rows marks notes changed) ≡ inRows o
+            → AtEnd b rows notes changed (record { text = l .text; elements = E; root = r .root; rows = r .rows; notes = r .notes; changed = r .changed; discarded = c .discarded; climbs = c .climbs })
+        go (refused n) i j = refused-gives (sym j)
+        go (gives w) i j =
+            let K = ran-known b a p w (v .accepted) (m .plan) i in
+            let same : heldIn text r rows marks notes changed ≡ store w = gives-inj j in
+            record {
+              end = record { batch = a; planned = p; world = w };
+              ends = ended-by (gives w) i;
+              holds = K .holds;
+              marks = marks;
+              held = sym same;
+              discarded = m .discarded;
+              climbs = m .climbs;
+              place = S .place;
+              textWithin = omega (arith, v .within .text);
+              rowsWithin = S .long;
+              someRows = omega (arith, rows-some S);
+              fewRows = rows-few S;
+              fewBytes = λ x. omega (arith, S .measured x, bytes-few S);
+              notesWithin = omega (arith, notes-few S);
+              fewNotes = omega (arith, notes-few S);
+              changedWithin = S .held;
+              fewChanged = omega (arith, changed-few w same i);
+              fewDiscarded = omega (arith, P .within .fewer, P .within .few);
+              fewClimbs = omega (arith, P .within .climbs);
+            }
+          where
+            changed-few : (w : World) → heldIn text r rows marks notes changed ≡ store w → ran a p ≡ gives w → r .changed ≤ 1024
+            changed-few w same i =
+                omega (arith, length-take-le (r .changed) changed (S .held), ap (λ (y : Store). length (y .changed)) same, length-map (w .changed) (λ q. place q (w .trees)), ran-changed b a p w (known v) (planned v p (m .plan)) i)
+
+    -- and the marks are where the elements stand
+    pub run-marked : (r : TreeState) → x ≡ Done r → (d : Ended) → d .elements ≡ E → Marked b marks d
+    unfolding executedIn _>>=_ text store stored
+    run-marked r e d q = go (ran a p) refl (sym (ap (executedIn text rows marks notes changed) e) ∙ ran-told)
+      where
+        go : (o : Answer World) → ran a p ≡ o → gives (heldIn text r rows marks notes changed) ≡ inRows o → Marked b marks d
+        go (refused n) i j = refused-gives (sym j)
+        go (gives w) i j = record {
+          end = record { batch = a; planned = p; world = w };
+          ends = ended-by (gives w) i;
+          long = omega (arith, marks-many (R .standing r e));
+          told = take-all (d .elements) marks (omega (arith, marks-many (R .standing r e))) ∙ ap (λ (y : Store). y .marks) (gives-inj j);
+        }

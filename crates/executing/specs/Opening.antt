@@ -1,3 +1,0 @@
--- Bounds of what is held: passed on.
--- Assumes nothing.
-pub use Rattle.stepping.specs.Opening.{rows-some, rows-few, notes-few, bytes-few, marks-below}

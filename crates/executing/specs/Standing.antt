@@ -1,3 +1,0 @@
--- What the run starts from, and what is held between steps: passed on.
--- Assumes nothing.
-pub use Rattle.stepping.specs.Standing.{Begun, firstWorld, first-told, Now, now-first, Standing}

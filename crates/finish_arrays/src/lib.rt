@@ -1,0 +1,120 @@
+// Finishing: text starts, and the result's sizes and arrays written as bytes.
+ghost use mathlib.Core.Path.{_≡_};
+ghost use mathlib.Core.List.{List, map, flatMap, _∷_, []};
+ghost use Prim.Native.Nat.{ℕ, _+_, _*_, _/_, _^_, _≤_, _<_};
+ghost use lib.ListN.{length};
+ghost use lib.Seq.{paste};
+ghost use Rattle.definition.specs.Words.{written};
+ghost use Rattle.rows_model.specs.Row.{kind, measure, own, bytes, rowIn, triples};
+ghost use Rattle.finish_model.specs.Finished.{starts};
+
+// Where the text of each row of a tree starts.
+pub fn fill_starts(tree: &[u32], out: &mut [u32])
+    requires { ⌜ (length (now tree) ≤ 3 * length (now out)) × (length (now tree) < 3 * 2 ^ 16) × (bytes (triples [] (now tree)) < 2 ^ 32) ⌝ }
+    ensures { λ _. ⌜ ((text : List ℕ) → now (out .exit) ≡ paste (now (out .entry)) 0 (starts 0 (triples text (now (tree .entry)))) (length (now (tree .entry)) / 3)) ⌝ }
+{
+    let mut sum = 0;
+    let mut i = 0;
+    while 3 * i + 2 < tree.len() {
+        out[i] = sum as u32;
+        sum += rows_syntax_node::text_length(tree, i);
+        i += 1;
+    }
+}
+
+// The kind words of a tree are written at `at`.
+pub fn write_kinds(b: &mut [u8], at: usize, tree: &[u32])
+    requires { ⌜ (at + 4 * (length (now tree) / 3) ≤ length (now b)) × (length (now tree) < 3 * 2 ^ 16) ⌝ }
+    ensures { λ _. ⌜ ((text : List ℕ) → now (b .exit) ≡ paste (now (b .entry)) at (written (map kind (triples text (now (tree .entry))))) (4 * (length (now (tree .entry)) / 3))) ⌝ }
+{
+    let mut i = 0;
+    while 3 * i + 2 < tree.len() {
+        let kind = words::word(tree, 3 * i);
+        words::write_word(b, at + 4 * i, kind);
+        i += 1;
+    }
+}
+
+// The measures of a tree are written at `at`.
+pub fn write_measures(b: &mut [u8], at: usize, tree: &[u32])
+    requires { ⌜ (at + 4 * (length (now tree) / 3) ≤ length (now b)) × (length (now tree) < 3 * 2 ^ 16) ⌝ }
+    ensures { λ _. ⌜ ((text : List ℕ) → now (b .exit) ≡ paste (now (b .entry)) at (written (map measure (triples text (now (tree .entry))))) (4 * (length (now (tree .entry)) / 3))) ⌝ }
+{
+    let mut i = 0;
+    while 3 * i + 2 < tree.len() {
+        let measure = words::word(tree, 3 * i + 1);
+        words::write_word(b, at + 4 * i, measure);
+        i += 1;
+    }
+}
+
+// The six sizes are written at the front.
+pub fn write_sizes(
+    b: &mut [u8],
+    elements: usize,
+    text: usize,
+    changed: usize,
+    notes: usize,
+    discarded: usize,
+    climbs: usize,
+)
+    requires { ⌜ (24 ≤ length (now b)) × (elements < 2 ^ 32) × (text < 2 ^ 32) × (changed < 2 ^ 32) × (notes < 2 ^ 32) × (discarded < 2 ^ 32) × (climbs < 2 ^ 32) ⌝ }
+    ensures { λ _. ⌜ now (b .exit) ≡ paste (now (b .entry)) 0 (written (elements ∷ text ∷ changed ∷ notes ∷ discarded ∷ climbs ∷ [])) 24 ⌝ }
+{
+    let six = [
+        elements as u32,
+        text as u32,
+        changed as u32,
+        notes as u32,
+        discarded as u32,
+        climbs as u32,
+    ];
+    words::write_words(b, 0, &six);
+}
+
+// The own text of the element at row `i`: a node has none.
+fn own_text<'a>(tree: &[u32], i: usize, text: &'a [u8]) -> &'a [u8]
+    requires { ⌜ 3 * i + 2 < length (now tree) ⌝ }
+    ensures { λ r. ⌜ now r ≡ own (rowIn (now (text .entry)) (now (tree .entry)) i) ⌝ }
+{
+    let kind = words::word(tree, 3 * i);
+    if kind < 0x8000_0000 {
+        let from = words::word(tree, 3 * i + 2);
+        let to = from + words::word(tree, 3 * i + 1);
+        if to <= text.len() {
+            return &text[from..to];
+        }
+        return &text[0..0];
+    }
+    &text[0..0]
+}
+
+// The length of the text of a tree.
+pub fn text_size(tree: &[u32], text: &[u8]) -> usize
+    requires { ⌜ (length (now tree) < 3 * 2 ^ 16) × (bytes (triples [] (now tree)) < 2 ^ 32) ⌝ }
+    ensures { λ r. ⌜ (r ≡ length (flatMap own (triples (now (text .entry)) (now (tree .entry))))) × (r < 2 ^ 32) ⌝ }
+{
+    let mut sum = 0;
+    let mut i = 0;
+    while 3 * i + 2 < tree.len() {
+        let part = own_text(tree, i, text);
+        sum += part.len();
+        i += 1;
+    }
+    sum
+}
+
+// The text of a tree is written at `at`.
+pub fn write_text(b: &mut [u8], at: usize, tree: &[u32], text: &[u8])
+    requires { ⌜ (at + length (flatMap own (triples (now text) (now tree))) ≤ length (now b)) × (length (now tree) < 3 * 2 ^ 16) ⌝ }
+    ensures { λ _. ⌜ now (b .exit) ≡ paste (now (b .entry)) at (flatMap own (triples (now (text .entry)) (now (tree .entry)))) (length (flatMap own (triples (now (text .entry)) (now (tree .entry))))) ⌝ }
+{
+    let mut to = at;
+    let mut i = 0;
+    while 3 * i + 2 < tree.len() {
+        let part = own_text(tree, i, text);
+        words::copy_bytes(b, to, part);
+        to += part.len();
+        i += 1;
+    }
+}

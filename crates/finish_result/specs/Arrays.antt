@@ -1,0 +1,82 @@
+-- The arrays written one behind another, in two stages; one word of each note as an array; and that both stages write the result as bytes.
+-- Assumes nothing.
+use mathlib.Core.Path.{_≡_, refl, sym, ap, _∙_}
+use mathlib.Core.List.{List, [], _∷_, map, flatMap}
+use Prim.Native.Nat.{ℕ, zero, suc, _+_, _*_, _/_, _^_, _≤_, _<_}
+use native.Mathlib.Omega.{arith}
+use lib.ListN.{length, getD, drop, length-map}
+use lib.Seq.{paste, getD-drop}
+use Rattle.definition.specs.Words.{written}
+use Rattle.definition.specs.Finishing.{Result, sixSizes, encoded}
+use Rattle.definition_laws.specs.Basics.{getD-map}
+use Rattle.rows_model.specs.Row.{Row, kind, measure, own, triples}
+use Rattle.rows_model.specs.Words.{length-triples}
+use Rattle.run_model.specs.Store.{HeldNote}
+use Rattle.run_annotations.specs.Notes.{noteWords, noteOf, notesOf, noteAt, length-notesOf, note-among}
+use Rattle.finish_arrays.specs.Encoding.{encoded-length, encoded-written}
+use Rattle.finish_result.specs.InTree.{resultIn}
+
+-- ── One word of each note ───────────────────────────────────────────────────────────────────────────────────
+
+-- word j of each note that some words tell
+unfoldable pub noteColumn : ℕ → List ℕ → List ℕ
+noteColumn j w = map (λ n. getD (noteWords n) j 0) (notesOf (length w / 3) w)
+
+pub length-column : (j : ℕ) (w : List ℕ) → length (noteColumn j w) ≡ length w / 3
+unfolding noteColumn
+length-column j w = length-map (notesOf (length w / 3) w) (λ n. getD (noteWords n) j 0) ∙ length-notesOf (length w / 3) w
+
+pub column-at : (j : ℕ) (w : List ℕ) (i : ℕ) → j < 3 → i < length w / 3 → getD (noteColumn j w) i 0 ≡ getD w (3 * i + j) 0
+unfolding noteColumn noteWords noteAt noteOf
+column-at j w i h b =
+    let z : HeldNote = noteAt w i in
+    getD-map (λ n. getD (noteWords n) j 0) (notesOf (length w / 3) w) i 0 z (omega (arith, length-notesOf (length w / 3) w))
+    ∙ (ap (λ n. getD (noteWords n) j 0) (note-among w (length w / 3) i z b) ∙ (word-of j h ∙ getD-drop (3 * i) w j 0))
+  where
+    word-of : (j : ℕ) → j < 3 → getD (noteWords (noteAt w i)) j 0 ≡ getD (drop (3 * i) w) j 0
+    word-of zero h = refl
+    word-of (suc zero) h = refl
+    word-of (suc (suc zero)) h = refl
+    word-of (suc (suc (suc j))) h = absurd (omega arith)
+
+-- ── The arrays, in two stages ───────────────────────────────────────────────────────────────────────────────
+
+-- the sizes, then the kinds and measures of n elements
+unfoldable pub frontOver : List ℕ → List ℕ → List ℕ → ℕ → List ℕ → List ℕ
+frontOver sizes kinds measures n d = paste (paste (paste d 0 (written sizes) 24) 24 (written kinds) (4 * n)) (24 + 4 * n) (written measures) (4 * n)
+
+-- from `at` on the changed elements, the numbers and elements of m notes, and the text
+unfoldable pub restOver : ℕ → List ℕ → List ℕ → List ℕ → ℕ → List ℕ → List ℕ → List ℕ
+restOver at changed numbers noted m text d =
+    let c = length changed in
+    paste (paste (paste (paste d at (written changed) (4 * c)) (at + 4 * c) (written numbers) (4 * m)) (at + 4 * c + 4 * m) (written noted) (4 * m)) (at + 4 * c + 8 * m) text (length text)
+
+-- the result that words tell: the new tree's, the changed elements in order, and three for each note in order
+abbrev pub toldResult : ℕ → ℕ → List ℕ → List ℕ → List ℕ → List ℕ → Result
+toldResult discarded climbs tree text changed notes = resultIn discarded climbs (triples text tree) changed (notesOf (length notes / 3) notes)
+
+-- both stages write the result as bytes
+module _ (d tree text changed notes : List ℕ) (discarded climbs : ℕ) {size : ℕ} (p : (size ≡ length (flatMap own (triples text tree))) × (size < 2 ^ 32)) where
+  elements : (f : Row → ℕ) → length (map f (triples text tree)) ≡ length tree / 3
+  elements f = length-map (triples text tree) f ∙ length-triples text tree
+
+  annotated : (f : HeldNote → ℕ) → length (map f (notesOf (length notes / 3) notes)) ≡ length notes / 3
+  annotated f = length-map (notesOf (length notes / 3) notes) f ∙ length-notesOf (length notes / 3) notes
+
+  pub whole-length : 24 + 8 * (length tree / 3) + 4 * length changed + 8 * (length notes / 3) + size ≡ length (encoded (toldResult discarded climbs tree text changed notes))
+  unfolding resultIn
+  whole-length =
+      sym
+      (encoded-length (toldResult discarded climbs tree text changed notes)
+      ∙ omega (arith, elements kind, elements measure, annotated (λ n. n .number), annotated (λ n. n .row)))
+
+  pub whole-written : {a h : List ℕ} → length (encoded (toldResult discarded climbs tree text changed notes)) ≤ length d
+      → ((t : List ℕ) → a ≡ frontOver (length tree / 3 ∷ size ∷ length changed ∷ length notes / 3 ∷ discarded ∷ climbs ∷ []) (map kind (triples t tree)) (map measure (triples t tree)) (length tree / 3) d)
+      → h ≡ restOver (24 + 8 * (length tree / 3)) changed (noteColumn 1 notes) (noteColumn 0 notes) (length notes / 3) (flatMap own (triples text tree)) a
+      → h ≡ paste d 0 (encoded (toldResult discarded climbs tree text changed notes)) (length (encoded (toldResult discarded climbs tree text changed notes)))
+  unfolding resultIn frontOver restOver noteColumn noteWords sixSizes
+  whole-written {a} {h} room f r =
+      let R : Result = toldResult discarded climbs tree text changed notes in
+      let n : ℕ = length tree / 3 in
+      let six : _≡_ {A = List ℕ} (n ∷ size ∷ length changed ∷ length notes / 3 ∷ discarded ∷ climbs ∷ []) (sixSizes R) = rw (elements kind, annotated (λ n. n .number), p .0) in
+      encoded-written R d n (length notes / 3) room (elements kind) (elements measure) (annotated (λ n. n .number)) (annotated (λ n. n .row)) (ap (λ s. paste d 0 (written s) 24) six) refl (f text) refl refl refl r

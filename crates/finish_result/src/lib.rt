@@ -1,0 +1,176 @@
+// The result from what the run leaves: changed elements and notes in order, refusal 13, and the bytes.
+ghost use mathlib.Core.Path.{_≡_};
+ghost use mathlib.Core.List.{List, map, flatMap, _∷_, []};
+ghost use Prim.Native.Nat.{ℕ, _+_, _*_, _/_, _^_, _≤_, _<_};
+ghost use lib.ListN.{length, take};
+ghost use lib.Seq.{paste};
+ghost use Rattle.definition.specs.Words.{written};
+ghost use Rattle.rows_model.specs.Row.{kind, measure, own, bytes, triples, firstRows};
+ghost use Rattle.run_annotations.specs.Notes.{notesOf};
+ghost use Rattle.run_tree_store.specs.Stored.{stored};
+ghost use Rattle.finish_model.specs.Finished.{resultOf};
+ghost use Rattle.finish_result.specs.Answered.{Answered};
+ghost use Rattle.finish_result.specs.Arrays.{noteColumn, frontOver, restOver, toldResult};
+ghost use Rattle.finish_result.specs.InTree.{resultIn, changedBy, notesBy};
+use finish_arrays::fill_starts;
+use finish_arrays::text_size;
+use finish_arrays::write_kinds;
+use finish_arrays::write_measures;
+use finish_arrays::write_sizes;
+use finish_arrays::write_text;
+use finish_sort::sort_changed;
+use finish_sort::sort_notes;
+use rows_syntax_node::subtree;
+use words::word;
+use words::write_word;
+use words::write_words;
+
+// 13, or the length of the result's bytes.
+pub enum Finished {
+    Short,
+    Bytes(usize),
+}
+
+// ── The arrays ──
+
+// Word `j` of each note is written at `at`.
+fn write_column(b: &mut [u8], at: usize, notes: &[u32], j: usize)
+    requires { ⌜ (at + 4 * (length (now notes) / 3) ≤ length (now b)) × (j < 3) ⌝ }
+    ensures { λ _. ⌜ now (b .exit) ≡ paste (now (b .entry)) at (written (noteColumn j (now (notes .entry)))) (4 * (length (now (notes .entry)) / 3)) ⌝ }
+{
+    let m = notes.len() / 3;
+    let mut i = 0;
+    while i < m {
+        let w = word(notes, 3 * i + j);
+        write_word(b, at + 4 * i, w);
+        i += 1;
+    }
+}
+
+// The sizes, the kinds and the measures are written.
+fn write_front(
+    b: &mut [u8],
+    tree: &[u32],
+    size: usize,
+    changed: usize,
+    notes: usize,
+    discarded: usize,
+    climbs: usize,
+)
+    requires { ⌜ (24 + 8 * (length (now tree) / 3) ≤ length (now b)) × (length (now tree) < 3 * 2 ^ 16) ⌝ }
+    requires { ⌜ (size < 2 ^ 32) × (changed < 2 ^ 32) × (notes < 2 ^ 32) × (discarded < 2 ^ 32) × (climbs < 2 ^ 32) ⌝ }
+    ensures { λ _. ⌜ ((text : List ℕ) → now (b .exit) ≡ frontOver (length (now (tree .entry)) / 3 ∷ size ∷ changed ∷ notes ∷ discarded ∷ climbs ∷ []) (map kind (triples text (now (tree .entry)))) (map measure (triples text (now (tree .entry)))) (length (now (tree .entry)) / 3) (now (b .entry))) ⌝ }
+{
+    let n = tree.len() / 3;
+    write_sizes(b, n, size, changed, notes, discarded, climbs);
+    write_kinds(b, 24, tree);
+    write_measures(b, 24 + 4 * n, tree);
+}
+
+// The changed elements, the numbers and elements of the notes and the text are written from `at` on.
+fn write_rest(b: &mut [u8], at: usize, tree: &[u32], text: &[u8], changed: &[u32], notes: &[u32])
+    requires { ⌜ (at + 4 * length (now changed) + 8 * (length (now notes) / 3) + length (flatMap own (triples (now text) (now tree))) ≤ length (now b)) × (length (now tree) < 3 * 2 ^ 16) ⌝ }
+    ensures { λ _. ⌜ now (b .exit) ≡ restOver at (now (changed .entry)) (noteColumn 1 (now (notes .entry))) (noteColumn 0 (now (notes .entry))) (length (now (notes .entry)) / 3) (flatMap own (triples (now (text .entry)) (now (tree .entry)))) (now (b .entry)) ⌝ }
+{
+    let m = notes.len() / 3;
+    let numbers = at + 4 * changed.len();
+    write_words(b, at, changed);
+    write_column(b, numbers, notes, 1);
+    write_column(b, numbers + 4 * m, notes, 0);
+    write_text(b, numbers + 8 * m, tree, text);
+}
+
+// The result as bytes, from the rows of the new tree, its changed elements and its notes in order. Where the buffer is too short nothing is written.
+pub fn write_result(
+    tree: &[u32],
+    text: &[u8],
+    changed: &[u32],
+    notes: &[u32],
+    discarded: usize,
+    climbs: usize,
+    result: &mut [u8],
+) -> Finished
+    requires { ⌜ (length (now tree) < 3 * 2 ^ 16) × (bytes (triples [] (now tree)) < 2 ^ 32) × (length (now changed) < 2 ^ 32) × (length (now notes) < 2 ^ 32) × (discarded < 2 ^ 32) × (climbs < 2 ^ 32) ⌝ }
+    ensures { λ r. ⌜ Answered (now (result .entry)) (toldResult discarded climbs (now (tree .entry)) (now (text .entry)) (now (changed .entry)) (now (notes .entry))) (now (result .exit)) r ⌝ }
+{
+    let size = text_size(tree, text);
+    let n = tree.len() / 3;
+    let m = notes.len() / 3;
+    let total = 24 + 8 * n + 4 * changed.len() + 8 * m + size;
+    if result.len() < total {
+        return Finished::Short;
+    }
+    write_front(result, tree, size, changed.len(), m, discarded, climbs);
+    write_rest(result, 24 + 8 * n, tree, text, changed, notes);
+    Finished::Bytes(total)
+}
+
+// ── From what the run leaves ──
+
+// The changed elements and the notes of the new tree in order, then the result as bytes; `starts` says where each element's text starts.
+fn finish_tree(
+    tree: &[u32],
+    starts: &[u32],
+    notes: &mut [u32],
+    k: usize,
+    changed: &mut [u32],
+    c: usize,
+    text: &[u8],
+    discarded: usize,
+    climbs: usize,
+    result: &mut [u8],
+) -> Finished
+    requires { ⌜ (length (now tree) < 3 * 2 ^ 16) × (bytes (triples [] (now tree)) < 2 ^ 32) × (3 * k ≤ length (now notes)) × (k < 2 ^ 16) × (c ≤ length (now changed)) × (c < 2 ^ 16) × (discarded < 2 ^ 32) × (climbs < 2 ^ 32) ⌝ }
+    ensures { λ r. ⌜ Answered (now (result .entry)) (resultIn discarded climbs (triples (now (text .entry)) (now (tree .entry))) (changedBy (now (starts .entry)) (length (now (tree .entry)) / 3) (take c (now (changed .entry)))) (notesBy (now (starts .entry)) (length (now (tree .entry)) / 3) (notesOf k (now (notes .entry))))) (now (result .exit)) r ⌝ }
+{
+    let end = tree.len() / 3 + 1;
+    let from = sort_changed(changed, c, end, starts);
+    let first = 3 * sort_notes(notes, k, end, starts);
+    let last = 3 * k;
+    write_result(
+        tree,
+        text,
+        &changed[from..c],
+        &notes[first..last],
+        discarded,
+        climbs,
+        result,
+    )
+}
+
+// The result as bytes, from the rows of all trees, the row of tree 0's root, the notes by their rows and the changed rows, as the run leaves them; or 13.
+pub fn finish(
+    rows: &[u32],
+    n: usize,
+    root: usize,
+    notes: &mut [u32],
+    k: usize,
+    changed: &mut [u32],
+    c: usize,
+    starts: &mut [u32],
+    text: &[u8],
+    discarded: usize,
+    climbs: usize,
+    result: &mut [u8],
+) -> Finished
+    requires { ⌜ (3 * n ≤ length (now rows)) × (1 ≤ n) × (n < 2 ^ 16) × (n ≤ length (now starts) + 1) × (bytes (firstRows (now text) n (now rows)) < 2 ^ 32) ⌝ }
+    requires { ⌜ (3 * k ≤ length (now notes)) × (k < 2 ^ 16) × (c ≤ length (now changed)) × (c < 2 ^ 16) × (discarded < 2 ^ 32) × (climbs < 2 ^ 32) ⌝ }
+    requires { ⌜ root ≡ 1 ⌝ }
+    ensures { λ r. ⌜ ((marks : List ℕ) → Answered (now (result .entry)) (resultOf discarded climbs (stored (now (text .entry)) n (now (rows .entry)) marks (notesOf k (now (notes .entry))) (take c (now (changed .entry))))) (now (result .exit)) r) ⌝ }
+{
+    let tree = subtree(rows, n, root);
+    fill_starts(tree, starts);
+    let m = tree.len() / 3;
+    finish_tree(
+        tree,
+        &starts[..m],
+        notes,
+        k,
+        changed,
+        c,
+        text,
+        discarded,
+        climbs,
+        result,
+    )
+}

@@ -1,0 +1,81 @@
+-- The first stage: two changes overlap, or the sorted rows get their fates; refusal 8.
+-- Assumes nothing.
+use mathlib.Core.List.{List, [], _∷_, _++_, map}
+use mathlib.Core.Option.{Option, none, some}
+use mathlib.Core.Path.{_≡_, refl, sym, ap, _∙_, subst}
+use Prim.Native.Nat.{ℕ, suc, _*_}
+use native.Mathlib.Omega.{arith}
+use lib.ListN.{length, drop, getD, set, replicate}
+use Rattle.definition.specs.Basics.{gives}
+use Rattle.definition.specs.Planning.{Region, around, fated}
+use Rattle.read_element_table.specs.Told.{length-view}
+use Rattle.record_changes.specs.ChangeRow.{ChangeRow, rowsOf}
+use Rattle.record_changes.specs.ChangeRowLaws.{rowsWords, rows-read, length-rowsOf}
+use Rattle.plan_overlap.specs.Overlap.{rowsOverlap, replacements}
+use Rattle.plan_overlap.specs.declared.Replacements.{Replacements}
+use Rattle.plan_overlap.specs.declared.Replacements.the-variants.{Disjoint, Overlap as Disagree}
+use Rattle.plan_changed_region.specs.Fates.{rowPushed, rowsFates, plannedRows}
+use Rattle.record_rewritten.specs.Stated.{planOf}
+use Rattle.read_layout.specs.declared.Layout.{Layout}
+use Rattle.plan_model.specs.Fated.{fatedRows, fated-rows}
+use Rattle.plan_model.specs.Ready.{listedIn, callsIn, tableIn, Ready, ready-facts}
+use Rattle.plan_model.specs.Outcome.{judged-overlap, judged-fated, out-overlap}
+use Rattle.plan_edit.specs.Stages.{Sorted, judgedBy, ChangesJudged}
+use Rattle.plan_edit.specs.Answers.{plannedBy, PlanMade}
+use Rattle.plan_edit.specs.declared.Judgement.{Judgement}
+use Rattle.plan_edit.specs.declared.Judgement.the-variants.{Overlap, Fated}
+use Rattle.plan_edit.specs.declared.Planned.the-variants.{Refused}
+
+-- ── What the answer of line 8 tells ─────────────────────────────────────────────────────────────────────────
+
+overlaps : (o : Option (ℕ × ℕ)) (i j : ℕ) → replacements o ≡ Disagree i j → o ≡ some (i, j)
+unfolding replacements
+overlaps none i j e = absurd (let z : _≡_ {A = ℕ} 0 1 = cc in omega arith)
+overlaps (some p) i j e = let x : p .0 ≡ i = cc in let y : p .1 ≡ j = cc in λ k. some (x k, y k)
+
+disjoints : (o : Option (ℕ × ℕ)) → replacements o ≡ Disjoint → o ≡ none
+unfolding replacements
+disjoints none e = refl
+disjoints (some p) e = absurd (let z : _≡_ {A = ℕ} 0 1 = cc in omega arith)
+
+-- as many fates as rows
+length-fates : (k : ℕ) (stacks : List (List Region)) (rs : List ChangeRow) → length (rowsFates k stacks rs) ≡ length rs
+unfolding rowsFates
+length-fates k stacks [] = refl
+length-fates k stacks (r ∷ rs) =
+    ap suc (length-fates (suc k) (set stacks (r .tree) (rowPushed k r (around (r .from) (r .to) (getD stacks (r .tree) [])))) rs)
+
+length-planned : (rs : List ChangeRow) → length (plannedRows rs) ≡ length rs
+unfolding plannedRows
+length-planned rs = length-fates 0 (replicate 16 []) rs
+
+module _ {b : List ℕ} {l : Layout} {t s : List ℕ} (r : Ready b l t s) {c : ℕ} {w : List ℕ} (S : Sorted b l t s c w) {q : Replacements} (e : q ≡ replacements (rowsOverlap (rowsOf c w))) where
+  pub changes-overlap : (i j : ℕ) → q ≡ Disagree i j → (w′ : List ℕ) → ChangesJudged b l t s w′ (Overlap i j)
+  unfolding judgedBy
+  changes-overlap i j z w′ =
+      record { answer = sym (judged-overlap (ready-facts r) i j (ap rowsOverlap (sym (S .rows)) ∙ overlaps (rowsOverlap (rowsOf c w)) i j (sym e ∙ z))); within = tt }
+
+  pub changes-fated : q ≡ Disjoint → {w′ : List ℕ} → w′ ≡ rowsWords (plannedRows (rowsOf c w)) ++ drop (13 * c) w → ChangesJudged b l t s w′ (Fated c)
+  unfolding judgedBy fatedRows
+  changes-fated z {w′} f =
+      let T = tableIn l t s in
+      let n : ℕ = l .sizes .elements in
+      let facts = ready-facts r in
+      let rows : rowsOf c w′ ≡ fatedRows T (callsIn l b) =
+      ap (rowsOf c) f ∙ (rows-read (plannedRows (rowsOf c w)) (drop (13 * c) w) c (length-planned (rowsOf c w) ∙ length-rowsOf c w) ∙ ap plannedRows (S .rows)) in
+      let disjoint = ap rowsOverlap (sym (S .rows)) ∙ disjoints (rowsOverlap (rowsOf c w)) (sym e ∙ z) in
+      record {
+        answer = ap (λ (rs : List ChangeRow). gives (fated (map (planOf (listedIn l b)) rs))) rows ∙ sym (judged-fated facts disjoint);
+        within = fated-rows n T (listedIn l b) (length-view n t s) (callsIn l b) (facts .recorded) w′ c rows (S .few);
+      }
+
+-- 8: two changes overlap
+pub overlap-refused : {b : List ℕ} {l : Layout} {t s w : List ℕ} → Ready b l t s → (q : Judgement) (i j : ℕ) → ChangesJudged b l t s w q → q ≡ Overlap i j
+    → (changes running first : List ℕ) → PlanMade b l t s changes running first (Refused 8)
+unfolding plannedBy judgedBy
+overlap-refused {b} {l} {w = w} r q i j J z changes running first =
+    record { answer = sym (out-overlap (ready-facts r) i j (sym (J .answer) ∙ ap (λ (p : Judgement). gives (judgedBy (listedIn l b) w p)) z)); within = tt }
+
+-- none do: the second stage may go on
+pub judged-fates : {b : List ℕ} {l : Layout} {t s w : List ℕ} (q : Judgement) (c : ℕ) → ChangesJudged b l t s w q → q ≡ Fated c → ChangesJudged b l t s w (Fated c)
+judged-fates {b} {l} {t} {s} {w} q c J z = subst (ChangesJudged b l t s w) z J

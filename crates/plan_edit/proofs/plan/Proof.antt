@@ -1,0 +1,78 @@
+-- `plan` meets its contract. One law for refusal 8, one for what is left to the second stage.
+-- Assumes nothing.
+use borrow.Author.Needs.{needs}
+use Rattle.plan_edit.proofs.Judging.{overlap-refused, judged-fates}
+use Rattle.plan_edit.proofs.plan.Statement.{statement}
+use Rattle.plan_edit.proofs.plan.Tie as tie
+
+judge-changes-requires : tie.Need-judge-changes-requires
+judge-changes-requires c κs = search needs
+
+enum-told : tie.Need-enum-told
+enum-told c = search needs
+
+enum-known-c : tie.Need-enum-known-c
+enum-known-c c = search needs
+
+rewrite-and-settle-requires : tie.Need-rewrite-and-settle-requires
+rewrite-and-settle-requires c κs =
+    let p = c .before .before .before .before .before .before .before .before .before .before .before .before .before .before .before .before .before .before .before .before .before .before .before .before .before .before .before .before .before .pre in
+    let J = judged-fates _ _ (c .before .before .before .before .before .before .before .before .before .before .before .before .before .before .before .judge-changes .ensures) (c .before .before .before .before .before .before .before .c .given .1) in
+    (p .0, (J, (search needs, p .1 .2, search needs, p .1 .4, p .1 .5, p .1 .6)))
+
+same-length : tie.Need-same-length
+same-length c = search needs
+
+same-length-2 : tie.Need-same-length-2
+same-length-2 c = search needs
+
+same-length-3 : tie.Need-same-length-3
+same-length-3 c = search needs
+
+returns : tie.Need-returns
+returns c = overlap-refused (c .before .before .before .before .before .before .before .before .before .before .before .before .before .before .before .before .before .before .before .before .before .before .pre .0) _ _ _ (c .before .before .before .before .before .before .before .before .judge-changes .ensures) (c .enum-told .given .1) _ _ _
+
+same-length-4 : tie.Need-same-length-4
+same-length-4 c = search needs
+
+same-length-5 : tie.Need-same-length-5
+same-length-5 c = search needs
+
+same-length-6 : tie.Need-same-length-6
+same-length-6 c = search needs
+
+same-length-7 : tie.Need-same-length-7
+same-length-7 c = search needs
+
+same-length-8 : tie.Need-same-length-8
+same-length-8 c = search needs
+
+same-length-9 : tie.Need-same-length-9
+same-length-9 c = search needs
+
+same-length-10 : tie.Need-same-length-10
+same-length-10 c = search needs
+
+returns-2 : tie.Need-returns-2
+returns-2 c = search needs
+
+pub plan-spec : {M : Type 1} → statement M
+plan-spec =
+    tie.close
+    (tie.spec
+    judge-changes-requires
+    enum-told
+    enum-known-c
+    rewrite-and-settle-requires
+    same-length
+    same-length-2
+    same-length-3
+    returns
+    same-length-4
+    same-length-5
+    same-length-6
+    same-length-7
+    same-length-8
+    same-length-9
+    same-length-10
+    returns-2)

@@ -1,0 +1,61 @@
+-- What the promise of planning says of the definition's plan.
+-- Assumes nothing.
+use mathlib.Core.List.{List, map}
+use mathlib.Core.Path.{_≡_, sym, ap, _∙_}
+use Prim.Native.Nat.{ℕ}
+use lib.ListN.{length, take}
+use Rattle.definition.specs.Basics.{Answer, refused, gives, _>>=_, keep}
+use Rattle.definition.specs.Planning.{isDiscarded}
+use Rattle.definition.specs.Refusals.{Accepted, accepted}
+use Rattle.definition.specs.Answers.{Plan, plan, performed, atFirst}
+use Rattle.definition_laws.specs.Answers.{gives-inj, refused-gives, both-given}
+use Rattle.record_changes.specs.ChangeRow.{rowsOf}
+use Rattle.record_changes.specs.ChangeRowLaws.{rowAt}
+use Rattle.record_rewritten.specs.Stated.{planOf}
+use Rattle.run_annotations.specs.Notes.{notesOf}
+use Rattle.run_model.specs.Store.{store}
+use Rattle.read_layout.specs.declared.Layout.{Layout}
+use Rattle.plan_model.specs.Ready.{listedIn}
+use Rattle.plan_model.specs.Outcome.{Outcome, outcome, planning}
+use Rattle.plan_edit.specs.Answers.{plannedBy, outcomeIn, PlanMade}
+use Rattle.plan_edit.specs.declared.Counts.{Counts}
+use Rattle.plan_edit.specs.declared.Planned.the-variants.{Refused, Made}
+
+-- the words rows, places and notes tell the plan p of the accepted batch a
+pub record TellsPlan (b : List ℕ) (l : Layout) (rows places words : List ℕ) (c : Counts) (a : Accepted) (p : Plan) : Type 0 where
+  pub plan : plan a ≡ gives p
+  pub changes : map (planOf (listedIn l b)) (rowsOf (c .changes) rows) ≡ p .changes
+  pub performed : map (λ k. planOf (listedIn l b) (rowAt rows k)) (take (c .runs) places) ≡ performed a p
+  pub notes : notesOf (l .sizes .notes) words ≡ (store (atFirst a p)) .notes
+  pub discarded : c .discarded ≡ length (keep (λ q. isDiscarded q.fate) (p .changes))
+  pub climbs : c .climbs ≡ p .climbs
+
+planning-accepted : (b : List ℕ) (a : Accepted) → accepted b ≡ gives a → planning b ≡ (plan a >>= λ p. gives (outcome a p))
+unfolding planning _>>=_
+planning-accepted b a e = rw e
+
+-- what is refused, the definition refuses
+pub plan-refused : {b : List ℕ} {l : Layout} {t s changes running first : List ℕ} {k : ℕ} (a : Accepted) → accepted b ≡ gives a → PlanMade b l t s changes running first (Refused k) → plan a ≡ refused k
+unfolding plannedBy _>>=_
+plan-refused {b} {k = k} a e m = go (plan a) (m .answer ∙ planning-accepted b a e)
+  where
+    go : (o : Answer Plan) → refused k ≡ (o >>= λ p. gives (outcome a p)) → o ≡ refused k
+    go (refused n) z = let y : k ≡ n = cc in ap refused (sym y)
+    go (gives p) z = refused-gives z
+
+-- what is made is the definition's plan
+pub plan-told : {b : List ℕ} {l : Layout} {t s changes running first : List ℕ} {c : Counts} (a : Accepted) → accepted b ≡ gives a → PlanMade b l t s changes running first (Made c) → (p : Plan) × TellsPlan b l changes running first c a p
+unfolding plannedBy outcome
+plan-told {b} {l} {t} {s} {changes} {running} {first} {c} a e m =
+    let (p, g, z) = both-given (plan a) (λ p. gives (outcome a p)) (sym (m .answer ∙ planning-accepted b a e)) in
+    let o : outcomeIn l b changes running first c ≡ outcome a p = sym (gives-inj z) in (
+      p,
+      record {
+        plan = g;
+        changes = ap (λ (x : Outcome). x .changes) o;
+        performed = ap (λ (x : Outcome). x .running) o;
+        notes = ap (λ (x : Outcome). x .notes) o;
+        discarded = ap (λ (x : Outcome). x .discarded) o;
+        climbs = ap (λ (x : Outcome). x .climbs) o;
+      },
+    )

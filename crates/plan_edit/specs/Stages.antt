@@ -1,0 +1,65 @@
+-- What each stage of planning leaves for the next, of the batch b with the layout l, the words t and s telling of its elements.
+-- Assumes nothing.
+use mathlib.Core.List.{List, map}
+use mathlib.Core.Path.{_≡_}
+use Prim.Native.Nat.{ℕ, _≤_}
+use Rattle.orders.specs.Lists.{All}
+use Rattle.definition.specs.Basics.{Answer, gives}
+use Rattle.definition.specs.Planning.{Judgement as Judged, overlaps, fated}
+use Rattle.definition.specs.Rewriting.{mapping}
+use Rattle.record_changes.specs.ChangeRow.{ChangeRow, rowsOf}
+use Rattle.plan_mapping.specs.Mapped.{mappedBy, Mapped}
+use Rattle.record_rewritten.specs.Stated.{planOf}
+use Rattle.plan_rewrite.specs.Kept.{Kept}
+use Rattle.plan_rewrite.specs.Rewritten.{rewriteRows}
+use Rattle.plan_rewrite.specs.Answers.{rewrittenBy, stepsOf}
+use Rattle.plan_rewrite.specs.declared.Rewritten.{Rewritten}
+use Rattle.read_layout.specs.declared.Layout.{Layout}
+use Rattle.plan_model.specs.Fated.{sortedRows, RowsFated}
+use Rattle.plan_model.specs.Ready.{listedIn, callsIn, mappingsIn, tableIn}
+use Rattle.plan_model.specs.Outcome.{judging}
+use Rattle.plan_edit.specs.declared.Judgement.{Judgement}
+use Rattle.plan_edit.specs.declared.Judgement.the-variants.{Overlap, Fated}
+
+-- the words w hold the c recorded changes in sorted order
+pub record Sorted (b : List ℕ) (l : Layout) (t s : List ℕ) (c : ℕ) (w : List ℕ) : Type 0 where
+  pub few : c ≤ 256
+  pub rows : rowsOf c w ≡ sortedRows (tableIn l t s) (callsIn l b)
+
+-- what the answer of the first stage means, where the words w hold the rows with their fates
+unfoldable pub judgedBy : List ℕ → List ℕ → Judgement → Judged
+judgedBy listed w (Overlap j k) = overlaps j k
+judgedBy listed w (Fated c) = fated (map (planOf listed) (rowsOf c w))
+
+-- and what the second stage goes by
+abbrev pub JudgedWithin : List ℕ → Layout → List ℕ → List ℕ → List ℕ → Judgement → Type 0
+JudgedWithin b l t s w (Overlap j k) = Unit {0}
+JudgedWithin b l t s w (Fated c) = RowsFated (l .sizes .elements) (tableIn l t s) (listedIn l b) c w
+
+-- THE PROMISE of the first stage
+pub record ChangesJudged (b : List ℕ) (l : Layout) (t s w : List ℕ) (r : Judgement) : Type 0 where
+  pub answer : gives (judgedBy (listedIn l b) w r) ≡ judging b
+  pub within : JudgedWithin b l t s w r
+
+-- what becomes of rows, of which all that the second stage needs is known, by the mappings of the batch
+abbrev pub rewrites : List ℕ → Layout → List ℕ → List ℕ → List ChangeRow → Answer (List ChangeRow × ℕ)
+rewrites b l t s rows = rewriteRows (tableIn l t s) (mapping (mappingsIn l b)) (listedIn l b) rows rows
+
+-- the words w hold the rows with rewritten targets, as far as r does not refuse one; m is the array of mappings
+pub record Rewriting (b : List ℕ) (l : Layout) (t s m : List ℕ) (before : List ChangeRow) (c : ℕ) (w : List ℕ) (r : Rewritten) : Type 0 where
+  pub mapped : Mapped (l .sizes .elements) m
+  pub mappings : mappedBy m ≡ mapping (mappingsIn l b)
+  pub rows : rewrittenBy r (rowsOf c w) ≡ rewrites b l t s before
+  pub climbs : stepsOf r ≤ 1048576
+
+-- none is refused, after so many climb steps
+pub record Rewrote (b : List ℕ) (l : Layout) (t s m : List ℕ) (c steps : ℕ) (w : List ℕ) : Type 0 where
+  pub few : c ≤ 256
+  -- the rows as they were judged
+  pub before : List ChangeRow
+  pub judged : judging b ≡ gives (fated (map (planOf (listedIn l b)) before))
+  pub kept : All (Kept (l .sizes .elements) (tableIn l t s) (listedIn l b)) before
+  pub mapped : Mapped (l .sizes .elements) m
+  pub mappings : mappedBy m ≡ mapping (mappingsIn l b)
+  pub rewrote : rewrites b l t s before ≡ gives (rowsOf c w, steps)
+  pub climbs : steps ≤ 1048576

@@ -1,0 +1,280 @@
+// Planning: from an accepted batch to the changes that run, in order, and the notes where they settle; refusals 8, 9 and 10. In two stages: what becomes of
+// each change (`judge_changes`), then where dependents and notes go.
+use plan_notes::Notes;
+use plan_overlap::Replacements;
+use plan_rewrite::Rewritten;
+use read_layout::Layout;
+ghost use mathlib.Core.Path.{_≡_};
+ghost use Prim.Native.Nat.{_≤_};
+ghost use lib.ListN.{length};
+ghost use Rattle.record_changes.specs.ChangeRow.{rowsOf};
+ghost use Rattle.plan_mapping.specs.Mapped.{Mapped};
+ghost use Rattle.plan_notes.specs.Answers.{NotesSettled};
+ghost use Rattle.plan_model.specs.Ready.{notesIn, Ready};
+ghost use Rattle.plan_edit.specs.Counted.{discardedOf};
+ghost use Rattle.plan_edit.specs.Stages.{Sorted, ChangesJudged, Rewriting, Rewrote};
+ghost use Rattle.plan_edit.specs.Answers.{PlanMade};
+ghost use Rattle.plan_edit.specs.declared.Judgement.the-variants.{Fated};
+
+// Of a plan: how many change rows, how many of them run, how many are discarded, and the climb steps.
+pub struct Counts {
+    pub changes: usize,
+    pub runs: usize,
+    pub discarded: usize,
+    pub climbs: usize,
+}
+
+// What the first stage finds: two changes overlap, at these places of the sorted order, or each of so many changes has its fate.
+pub enum Judgement {
+    Overlap(usize, usize),
+    Fated(usize),
+}
+
+// A refusal, by its number, or a plan.
+pub enum Planned {
+    Refused(usize),
+    Made(Counts),
+}
+
+// How many of the `c` changes are discarded.
+fn count_discarded(rows: &[u32], c: usize) -> usize
+    requires { ⌜ c ≤ 256 ⌝ }
+    ensures { λ r. ⌜ (r ≡ discardedOf (rowsOf c (now (rows .entry)))) × (r ≤ c) ⌝ }
+{
+    let mut n: usize = 0;
+    let mut i: usize = 0;
+    while i < c {
+        if 1 < record_changes::field(rows, i, record_changes::FATE) {
+            n += 1;
+            i += 1;
+        } else {
+            i += 1;
+        }
+    }
+    n
+}
+
+// The calls are recorded, and their rows written to `sorted` in sorted order. How many there are.
+fn record_and_sort(
+    b: &[u8],
+    l: Layout,
+    table: &[u32],
+    source: &[u32],
+    recorded: &mut [u32],
+    order: &mut [u32],
+    sorted: &mut [u32],
+) -> usize
+    requires { ⌜ Ready (now b) l (now table) (now source) ⌝ }
+    requires { ⌜ (3328 ≤ length (now recorded)) × (256 ≤ length (now order)) × (3328 ≤ length (now sorted)) ⌝ }
+    ensures { λ r. ⌜ Sorted (now (b .entry)) l (now (table .entry)) (now (source .entry)) r (now (sorted .exit)) ⌝ }
+{
+    let s = l.sizes;
+    let c = record_queue::record_calls(
+        b,
+        l.words,
+        l.targets,
+        s.calls,
+        l.list,
+        s.listed,
+        s.elements,
+        table,
+        source,
+        recorded,
+    );
+    plan_sort::sort_rows(recorded, c, order, sorted);
+    c
+}
+
+// The first stage: the recorded changes in sorted order are judged, and unless two overlap, `sorted` holds their rows with what becomes of each.
+pub fn judge_changes(
+    b: &[u8],
+    l: Layout,
+    table: &[u32],
+    source: &[u32],
+    recorded: &mut [u32],
+    order: &mut [u32],
+    sorted: &mut [u32],
+) -> Judgement
+    requires { ⌜ Ready (now b) l (now table) (now source) ⌝ }
+    requires { ⌜ (3328 ≤ length (now recorded)) × (256 ≤ length (now order)) × (3328 ≤ length (now sorted)) ⌝ }
+    ensures { λ r. ⌜ ChangesJudged (now (b .entry)) l (now (table .entry)) (now (source .entry)) (now (sorted .exit)) r ⌝ }
+{
+    let c = record_and_sort(b, l, table, source, recorded, order, sorted);
+    match plan_overlap::replacements_are_disjoint(sorted, c) {
+        Replacements::Overlap(j, k) => Judgement::Overlap(j, k),
+        Replacements::Disjoint => {
+            plan_changed_region::plan_fates(sorted, c);
+            Judgement::Fated(c)
+        }
+    }
+}
+
+// The notes of a batch with this layout settle, and are written to `first`.
+fn settle(
+    b: &[u8],
+    l: Layout,
+    table: &[u32],
+    source: &[u32],
+    map: &[u32],
+    first: &mut [u32],
+) -> Notes
+    requires { ⌜ Ready (now b) l (now table) (now source) ⌝ }
+    requires { ⌜ Mapped (l .sizes .elements) (now map) × (768 ≤ length (now first)) ⌝ }
+    ensures { λ r. ⌜ NotesSettled (l .sizes .elements) (now (table .entry)) (now (source .entry)) (now (map .entry)) (notesIn l (now (b .entry))) (l .sizes .notes) (now (first .entry)) (now (first .exit)) r ⌝ }
+{
+    let s = l.sizes;
+    plan_notes::settle_notes(
+        b,
+        l.noted,
+        l.numbers,
+        s.notes,
+        table,
+        source,
+        map,
+        s.elements,
+        first,
+    )
+}
+
+// The notes settle, and the rewritten changes are put in running order: the plan, or 9 or 10 of a note.
+fn settle_and_order(
+    b: &[u8],
+    l: Layout,
+    table: &[u32],
+    source: &[u32],
+    map: &[u32],
+    changes: &[u32],
+    c: usize,
+    steps: usize,
+    order: &mut [u32],
+    running: &mut [u32],
+    first: &mut [u32],
+) -> Planned
+    requires { ⌜ Ready (now b) l (now table) (now source) ⌝ }
+    requires { ⌜ Rewrote (now b) l (now table) (now source) (now map) c steps (now changes) ⌝ }
+    requires { ⌜ (256 ≤ length (now order)) × (256 ≤ length (now running)) × (768 ≤ length (now first)) ⌝ }
+    ensures { λ r. ⌜ PlanMade (now (b .entry)) l (now (table .entry)) (now (source .entry)) (now (changes .entry)) (now (running .exit)) (now (first .exit)) r ⌝ }
+{
+    match settle(b, l, table, source, map, first) {
+        Notes::Refused(number) => Planned::Refused(number),
+        Notes::Settled => {
+            let runs = plan_postorder::running_order(changes, c, order, running);
+            let discarded = count_discarded(changes, c);
+            Planned::Made(Counts {
+                changes: c,
+                runs,
+                discarded,
+                climbs: steps,
+            })
+        }
+    }
+}
+
+// Dependents are rewritten into `changes`, by the mappings and the fated rows of `sorted`.
+fn rewrite(
+    b: &[u8],
+    l: Layout,
+    table: &[u32],
+    source: &[u32],
+    sorted: &[u32],
+    c: usize,
+    map: &mut [u32],
+    changes: &mut [u32],
+) -> Rewritten
+    requires { ⌜ Ready (now b) l (now table) (now source) ⌝ }
+    requires { ⌜ ChangesJudged (now b) l (now table) (now source) (now sorted) (Fated c) ⌝ }
+    requires { ⌜ (3328 ≤ length (now sorted)) × (2048 ≤ length (now map)) × (3328 ≤ length (now changes)) ⌝ }
+    ensures { λ r. ⌜ Rewriting (now (b .entry)) l (now (table .entry)) (now (source .entry)) (now (map .exit)) (rowsOf c (now (sorted .entry))) c (now (changes .exit)) r ⌝ }
+{
+    let s = l.sizes;
+    plan_mapping::fill_mapping(b, l.inputs, l.outputs, s.mappings, map);
+    plan_rewrite::rewrite_dependents(
+        table,
+        source,
+        map,
+        s.elements,
+        b,
+        l.list,
+        s.listed,
+        sorted,
+        c,
+        changes,
+    )
+}
+
+// The second stage: dependents are rewritten, then the notes settle: the plan, or 9 or 10.
+fn rewrite_and_settle(
+    b: &[u8],
+    l: Layout,
+    table: &[u32],
+    source: &[u32],
+    sorted: &[u32],
+    c: usize,
+    rewritten: &mut [u32],
+    order: &mut [u32],
+    running: &mut [u32],
+    map: &mut [u32],
+    first: &mut [u32],
+) -> Planned
+    requires { ⌜ Ready (now b) l (now table) (now source) ⌝ }
+    requires { ⌜ ChangesJudged (now b) l (now table) (now source) (now sorted) (Fated c) ⌝ }
+    requires { ⌜ (3328 ≤ length (now sorted)) × (3328 ≤ length (now rewritten)) × (256 ≤ length (now order)) × (256 ≤ length (now running)) × (2048 ≤ length (now map)) × (768 ≤ length (now first)) ⌝ }
+    ensures { λ r. ⌜ PlanMade (now (b .entry)) l (now (table .entry)) (now (source .entry)) (now (rewritten .exit)) (now (running .exit)) (now (first .exit)) r ⌝ }
+{
+    match rewrite(b, l, table, source, sorted, c, map, rewritten) {
+        Rewritten::Refused(number) => Planned::Refused(number),
+        Rewritten::Steps(k) => {
+            settle_and_order(
+                b,
+                l,
+                table,
+                source,
+                map,
+                rewritten,
+                c,
+                k,
+                order,
+                running,
+                first,
+            )
+        }
+    }
+}
+
+// Planning of an accepted batch: the change rows as they run, the places in running order and the notes where they settle, or the first refusal out of 8, 9 and 10.
+pub fn plan(
+    b: &[u8],
+    l: Layout,
+    table: &[u32],
+    source: &[u32],
+    recorded: &mut [u32],
+    sorted: &mut [u32],
+    changes: &mut [u32],
+    order: &mut [u32],
+    running: &mut [u32],
+    map: &mut [u32],
+    first: &mut [u32],
+) -> Planned
+    requires { ⌜ Ready (now b) l (now table) (now source) ⌝ }
+    requires { ⌜ (3328 ≤ length (now recorded)) × (3328 ≤ length (now sorted)) × (3328 ≤ length (now changes)) × (256 ≤ length (now order)) × (256 ≤ length (now running)) × (2048 ≤ length (now map)) × (768 ≤ length (now first)) ⌝ }
+    ensures { λ r. ⌜ PlanMade (now (b .entry)) l (now (table .entry)) (now (source .entry)) (now (changes .exit)) (now (running .exit)) (now (first .exit)) r ⌝ }
+{
+    match judge_changes(b, l, table, source, recorded, order, sorted) {
+        Judgement::Overlap(_, _) => Planned::Refused(8),
+        Judgement::Fated(c) => {
+            rewrite_and_settle(
+                b,
+                l,
+                table,
+                source,
+                sorted,
+                c,
+                changes,
+                order,
+                running,
+                map,
+                first,
+            )
+        }
+    }
+}

@@ -1,0 +1,16 @@
+-- What the promises of the public calls give a reader. Each theorem speaks of every call that keeps its promise (`Edits`, `Finds` of promises/specs/Promises.antt),
+-- and needs nothing of the code that makes the call.
+--     Refused    by which numbers each stage refuses
+--     Answered   the answer in the result slice, where what is lent suffices: the definition's
+--     Printing   what is printed of it
+--     Examples   THE EXAMPLES of document 01, as the calls answer them
+--     Demand1    DEMAND 1: what each lent slice holds then
+--     Demand3    DEMAND 3: an accepted batch whose splices are apart is answered with the one-go tree
+--     WrongEditors   the editors of the reviewer's checklist, each excluded by an example
+pub mod Refused
+pub mod Answered
+pub mod Printing
+pub mod Examples
+pub mod Demand1
+pub mod Demand3
+pub mod WrongEditors

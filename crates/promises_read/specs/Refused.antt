@@ -1,0 +1,336 @@
+-- Refused: by which numbers each stage refuses; so 13 comes only where the result slice has no room, and 1 only where a work slice is too short.
+-- Assumes nothing.
+use mathlib.Core.Path.{_≡_, refl, sym, ap, _∙_}
+use mathlib.Core.Bool.{Bool, true, false, not, _&&_, _||_}
+use mathlib.Core.List.{List, [], _∷_, _++_, map, zip}
+use mathlib.Core.Option.{Option, none, some}
+use Prim.Native.Nat.{ℕ, zero, suc, _≤_, _<_}
+use native.Mathlib.Omega.{arith}
+use lib.Dec.{ltb, eqb}
+use lib.ListN.{length, getD}
+use borrow.Author.Tests.{ltb-true, ltb-false, eqb-true, not-false}
+use Rattle.orders.specs.ListLaws.{bool-absurd, either-false}
+use Rattle.orders.specs.Tree.{Path}
+use Rattle.definition.specs.Basics.{Answer, refused, gives, _>>=_, refuse, orRefuse, any, among}
+use Rattle.definition.specs.Batch.{batch, sizes, beyond, whole}
+use Rattle.definition.specs.Elements.{Table, table, spelled, node?, parent, child, placeBelow, descend}
+use Rattle.definition.specs.Refusals.{calls, wrongCall, wrongMapping, wrongNote, Accepted, accepted}
+use Rattle.definition.specs.Recording.{Change, insert, replace, delete, replaceWithMany, replaceAll, call}
+use Rattle.definition.specs.Planning.{Fate, own, dependent, discarded, Planned, target, Judgement, overlaps, fated}
+use Rattle.definition.specs.Rewriting.{mapping, replacement, mappedOr, climb, trail, land, moved, retarget, rewriteInto, rewriteOne, rewriting, rewritten, nearest, isParent, noteFrom, settle, settled}
+use Rattle.definition.specs.Running.{World, place, yield, news, spliced, tooLarge, records, step, steps}
+use Rattle.definition.specs.Finishing.{Result, result, encoded, fitting}
+use Rattle.definition.specs.Answers.{judgeChanges, disjoint, rewriteChanges, Plan, plan, performed, atFirst, ran, edit, edited, tooShort, withWork}
+use Rattle.definition.specs.FindElement.{findIn, findElement}
+use Rattle.definition_laws.specs.Answers.{refused-gives}
+use Rattle.definition_laws.specs.Limits.{mostBytes, encoded-within}
+use Rattle.promises.specs.Slices.{needed, lengths}
+use Rattle.promises.specs.Promises.{Edits, Finds, applied, found, short-edited, long-edited, long-found}
+
+-- ── A refusal out of a list of numbers ──────────────────────────────────────────────────────────────────────
+
+-- what is refused is refused by one of the numbers ns
+abbrev pub By : {A : Type 0} → List ℕ → Answer A → Type 0
+By ns (refused k) = among ns k ≡ true
+By ns (gives a) = Unit
+
+-- the numbers by which lines 2 to 7 refuse, then planning, then the steps
+abbrev pub batchLines : List ℕ
+batchLines = 2 ∷ 3 ∷ 4 ∷ 5 ∷ 6 ∷ 7 ∷ []
+
+abbrev pub planLines : List ℕ
+planLines = 8 ∷ 9 ∷ 10 ∷ []
+
+abbrev pub stepLines : List ℕ
+stepLines = 11 ∷ 12 ∷ []
+
+-- those of a batch's edit
+abbrev pub editLines : List ℕ
+editLines = batchLines ++ planLines ++ stepLines
+
+-- THE NUMBERS that each public call can give: 1 for a work slice, 13 for the result slice
+abbrev pub editNumbers : List ℕ
+editNumbers = 1 ∷ 13 ∷ editLines
+
+abbrev pub findNumbers : List ℕ
+findNumbers = 1 ∷ editLines
+
+pub refused-inj : {A : Type 0} {j k : ℕ} → _≡_ {A = Answer A} (refused j) (refused k) → j ≡ k
+refused-inj e = cc
+
+-- one of the numbers has what none of them lacks
+one-of : (lacks : ℕ → Bool) (ns : List ℕ) (k : ℕ) → any lacks ns ≡ false → among ns k ≡ true → lacks k ≡ false
+unfolding among any
+one-of lacks [] k h e = bool-absurd e refl
+one-of lacks (n ∷ ns) k h e = let r = either-false (lacks n) (any lacks ns) h in go (eqb k n) refl e (r .0) (one-of lacks ns k (r .1))
+  where
+    go : (t : Bool) → eqb k n ≡ t → (t || any (eqb k) ns) ≡ true → lacks n ≡ false → (any (eqb k) ns ≡ true → lacks k ≡ false) → lacks k ≡ false
+    go true q e this later = rw (eqb-true k n q) this
+    go false q e this later = later e
+
+-- a refusal's number is within the bounds of its list
+pub by-number : {A : Type 0} (ns : List ℕ) (lo hi k : ℕ) (o : Answer A) → any (λ n. ltb n lo || ltb hi n) ns ≡ false → By ns o → o ≡ refused k → (lo ≤ k) × (k ≤ hi)
+by-number ns lo hi k o w h e =
+    let r = either-false (ltb k lo) (ltb hi k) (one-of (λ n. ltb n lo || ltb hi n) ns k w (rw e at h)) in
+    (ltb-false k lo (r .0), ltb-false hi k (r .1))
+
+-- a longer list
+by-more : {A : Type 0} (few more : List ℕ) (o : Answer A) → any (λ k. not (among more k)) few ≡ false → By few o → By more o
+by-more few more (refused k) w h = not-false (among more k) (one-of (λ k. not (among more k)) few k w h)
+by-more few more (gives x) w h = tt
+
+module _ (ns : List ℕ) where
+  by-then : {A B : Type 0} (o : Answer A) (f : A → Answer B) → By ns o → ((a : A) → By ns (f a)) → By ns (o >>= f)
+  unfolding _>>=_
+  by-then (refused k) f h k′ = h
+  by-then (gives a) f h k′ = k′ a
+
+  by-refuse : (n : ℕ) (b : Bool) → among ns n ≡ true → By ns (refuse n b)
+  unfolding refuse
+  by-refuse n true h = h
+  by-refuse n false h = tt
+
+  by-or : {A : Type 0} (n : ℕ) (o : Option A) → among ns n ≡ true → By ns (orRefuse n o)
+  unfolding orRefuse
+  by-or n none h = h
+  by-or n (some a) h = tt
+
+-- ── Lines 2 to 7 ────────────────────────────────────────────────────────────────────────────────────────────
+
+-- Lines 2 to 7 refuse by 2 to 7.
+pub accepted-by : (b : List ℕ) → By batchLines (accepted b)
+unfolding accepted batch among any
+accepted-by b =
+    by-then batchLines (batch b) _
+    (by-then batchLines (refuse 2 (ltb (length b) 28)) _ (by-refuse batchLines 2 _ refl) λ u.
+    by-then batchLines (refuse 3 (beyond (sizes b))) _ (by-refuse batchLines 3 _ refl) λ u.
+    by-then batchLines (refuse 4 (not (eqb (length b) (whole (sizes b))))) _ (by-refuse batchLines 4 _ refl) λ u. tt)
+    λ B.
+    by-then batchLines (orRefuse 5 (spelled B)) _ (by-or batchLines 5 _ refl) λ ts.
+    by-then batchLines (orRefuse 6 (calls (zip B.calls B.targets) B.listed)) _ (by-or batchLines 6 _ refl) λ cs.
+    by-then batchLines (refuse 6 (any (wrongCall (table 0 0 ts)) cs)) _ (by-refuse batchLines 6 _ refl) λ u.
+    by-then batchLines (refuse 7 (any (wrongMapping (table 0 0 ts)) (zip B.inputs B.outputs) || any (wrongNote (table 0 0 ts)) (zip B.noted B.numbers))) _ (by-refuse batchLines 7 _ refl) λ u. tt
+
+-- ── Lines 8 to 10 ───────────────────────────────────────────────────────────────────────────────────────────
+
+either : {A : Type 0} (b : Bool) (a later : Answer A) → By planLines a → By planLines later → By {A = A} planLines (elim b as (λ b. Answer A) [ true ↦ a | false ↦ later ])
+either true a later h k = h
+either false a later h k = k
+
+module _ (T : Table) (mapped : ℕ → Option ℕ) where
+  climb-by : (n r x : ℕ) (p : Path) → By planLines (climb T mapped n r x p)
+  unfolding climb among any
+  climb-by zero r x p = go (parent T x)
+    where
+      go : (o : Option ℕ) → By {A = Path} planLines (elim o as (λ o. Answer Path) [ none ↦ refused 9 | some q ↦ refused 10 ])
+      go none = refl
+      go (some q) = refl
+  climb-by (suc n) r x p = go (parent T x) (λ y. climb-by n r y (child T y ∷ p))
+    where
+      go : (o : Option ℕ) → ((y : ℕ) → By planLines (climb T mapped n r y (child T y ∷ p))) →
+          By {A = Path} planLines (elim o as (λ o. Answer Path) [
+            | none ↦ refused 9
+            | some q ↦ elim (eqb q r) as (λ b. Answer Path) [ true ↦ gives p | false ↦ climb T mapped n r (mappedOr T mapped q) (child T (mappedOr T mapped q) ∷ p) ]
+          ])
+      go none h = refl
+      go (some q) h = either (eqb q r) (gives p) (climb T mapped n r (mappedOr T mapped q) (child T (mappedOr T mapped q) ∷ p)) tt (h (mappedOr T mapped q))
+
+  trail-by : (x r : ℕ) → By planLines (trail T mapped x r)
+  unfolding trail
+  trail-by x r =
+      let y = mappedOr T mapped x in
+      either (eqb x r) (gives []) (climb T mapped (length T) r y (child T y ∷ [])) tt (climb-by (length T) r y (child T y ∷ []))
+
+  land-by : (e r : ℕ) (p : Path) → By planLines (land T mapped e r p)
+  unfolding land among any
+  land-by e r p =
+      by-then planLines (orRefuse 9 (descend T r p)) _ (by-or planLines 9 _ refl) λ to.
+      by-then planLines (refuse 9 (node? T e && not (node? T to))) _ (by-refuse planLines 9 _ refl) λ u. tt
+
+  moved-by : (x r e : ℕ) → By planLines (moved T mapped x r e)
+  unfolding moved among any
+  moved-by x r e =
+      by-then planLines (orRefuse 9 (placeBelow T x e)) _ (by-or planLines 9 _ refl) λ p.
+      by-then planLines (trail T mapped x r) _ (trail-by x r) λ q.
+      by-then planLines (land T mapped e r (q ++ p)) _ (land-by e r (q ++ p)) λ to. tt
+
+  retarget-by : (f : ℕ → Answer (ℕ × ℕ)) → ((e : ℕ) → By planLines (f e)) → (c : Change) → By planLines (retarget T mapped f c)
+  unfolding retarget
+  retarget-by f h (insert p x l) = by-then planLines (f x) _ (h x) λ m. tt
+  retarget-by f h (replace x y) = by-then planLines (f x) _ (h x) λ m. tt
+  retarget-by f h (delete x) = by-then planLines (f x) _ (h x) λ m. tt
+  retarget-by f h (replaceWithMany x l) = by-then planLines (f x) _ (h x) λ m. tt
+  retarget-by f h (replaceAll x y l) = by-then planLines (f x) _ (h x) λ m. by-then planLines (f y) _ (h y) λ k. tt
+
+  rewriteOne-by : (cs : List Change) (f : Fate) (c : Change) → By planLines (rewriteOne T mapped cs f c)
+  unfolding rewriteOne rewriteInto among any
+  rewriteOne-by cs own c = tt
+  rewriteOne-by cs (dependent k) c =
+      let owner = getD cs k (delete 0) in
+      let f = moved T mapped (target owner) (replacement owner) in
+      by-then planLines (retarget T mapped f c) _ (retarget-by f (λ e. moved-by (target owner) (replacement owner) e) c) λ m.
+      by-then planLines (refuse 9 (wrongCall T (call (m .0)))) _ (by-refuse planLines 9 _ refl) λ u. tt
+  rewriteOne-by cs (discarded k) c = tt
+
+  rewriting-by : (cs : List Change) (ps : List Planned) → By planLines (rewriting T mapped cs ps)
+  unfolding rewriting
+  rewriting-by cs [] = tt
+  rewriting-by cs (p ∷ ps) = by-then planLines (rewriting T mapped cs ps) _ (rewriting-by cs ps) λ later. by-then planLines (rewriteOne T mapped cs p.fate p.change) _ (rewriteOne-by cs p.fate p.change) λ m. tt
+
+  noteFrom-by : (a e : ℕ) → By planLines (noteFrom T mapped a e)
+  unfolding noteFrom among any
+  noteFrom-by a e =
+      by-then planLines (refuse 10 (isParent T mapped a (mappedOr T mapped a))) _ (by-refuse planLines 10 _ refl) λ u.
+      by-then planLines (orRefuse 9 (placeBelow T a e)) _ (by-or planLines 9 _ refl) λ p. land-by e (mappedOr T mapped a) p
+
+  settle-by : (n e : ℕ) → By planLines (settle T mapped n e)
+  unfolding settle among any
+  settle-by zero e = go (nearest T mapped e)
+    where
+      go : (o : Option ℕ) → By {A = ℕ} planLines (elim o as (λ o. Answer ℕ) [ none ↦ gives e | some a ↦ refused 10 ])
+      go none = tt
+      go (some a) = refl
+  settle-by (suc n) e = go (nearest T mapped e) (λ to. settle-by n to)
+    where
+      go : (o : Option ℕ) → ((to : ℕ) → By planLines (settle T mapped n to)) → By {A = ℕ} planLines (elim o as (λ o. Answer ℕ) [ none ↦ gives e | some a ↦ noteFrom T mapped a e >>= λ to. settle T mapped n to ])
+      go none h = tt
+      go (some a) h = by-then planLines (noteFrom T mapped a e) _ (noteFrom-by a e) h
+
+  settled-by : (i : ℕ) (ns : List (ℕ × ℕ)) → By planLines (settled T mapped i ns)
+  unfolding settled
+  settled-by i [] = tt
+  settled-by i (n ∷ ns) = by-then planLines (settle T mapped (length T) (n .0)) _ (settle-by (length T) (n .0)) λ e. by-then planLines (settled T mapped (suc i) ns) _ (settled-by (suc i) ns) λ rest. tt
+
+disjoint-by : (j : Judgement) → By planLines (disjoint j)
+unfolding disjoint among any
+disjoint-by (overlaps i k) = refl
+disjoint-by (fated ps) = tt
+
+-- Planning refuses by 8 to 10.
+pub plan-by : (a : Accepted) → By planLines (plan a)
+unfolding plan rewriteChanges rewritten among any
+plan-by a =
+    let T = a .table in
+    let mapped = mapping a.mappings in
+    by-then planLines (disjoint (judgeChanges a)) _ (disjoint-by (judgeChanges a)) λ ps.
+    by-then planLines (rewritten T mapped ps) _ (rewriting-by T mapped (map (λ p. p .change) ps) ps) λ rs.
+    by-then planLines (settled T mapped 0 a.notes) _ (settled-by T mapped 0 a.notes) λ notes. tt
+
+-- ── Lines 11 and 12 ─────────────────────────────────────────────────────────────────────────────────────────
+
+-- Steps refuse by 11 and 12.
+pub steps-by : (T : Table) (first w : World) (ps : List Planned) → By stepLines (steps T first w ps)
+unfolding steps step among any
+steps-by T first w [] = tt
+steps-by T first w (p ∷ ps) =
+    by-then stepLines (step T first w p) _
+    (by-then stepLines (orRefuse 11 (place T w p.change)) _ (by-or stepLines 11 _ refl) λ r.
+    by-then stepLines (refuse 12 (tooLarge (spliced r (map (yield first w) (news p.change)) (records T p) w))) _ (by-refuse stepLines 12 _ refl) λ u. tt)
+    λ next. steps-by T first next ps
+
+-- ── The edit ────────────────────────────────────────────────────────────────────────────────────────────────
+
+-- Whatever is told of what a batch's run leaves: the batch is refused by 2 to 12.
+stages-by : {A : Type 0} (b : List ℕ) (tell : Accepted → Plan → World → A) → By editLines (accepted b >>= λ a. plan a >>= λ p. ran a p >>= λ w. gives (tell a p w))
+unfolding ran among any
+stages-by b tell =
+    by-then editLines (accepted b) _ (by-more batchLines editLines (accepted b) refl (accepted-by b)) λ a.
+    by-then editLines (plan a) _ (by-more planLines editLines (plan a) refl (plan-by a)) λ p.
+    by-then editLines (ran a p) _ (by-more stepLines editLines (ran a p) refl (steps-by a.table (atFirst a p) (atFirst a p) (performed a p))) λ w. tt
+
+-- The edit of a batch refuses by 2 to 12.
+pub edit-by : (b : List ℕ) → By editLines (edit b)
+unfolding edit
+edit-by b = stages-by b (λ a p w. result p.changes p.climbs w)
+
+-- ── `find_element` ──────────────────────────────────────────────────────────────────────────────────────────
+
+-- both are refused, by one number, or neither
+abbrev pub Alike : {A B : Type 0} → Answer A → Answer B → Type 0
+Alike (refused j) (refused k) = j ≡ k
+Alike (refused j) (gives b) = ⊥
+Alike (gives a) (refused k) = ⊥
+Alike (gives a) (gives b) = Unit
+
+alike-then : {A B C : Type 0} (o : Answer A) (f : A → Answer B) (g : A → Answer C) → ((a : A) → Alike (f a) (g a)) → Alike (o >>= f) (o >>= g)
+unfolding _>>=_
+alike-then (refused k) f g h = refl
+alike-then (gives a) f g h = h a
+
+-- "the batch's refusals come first": `find_element` is refused just where the edit is.
+pub found-alike : (b : List ℕ) (n : ℕ) → Alike (found b n) (edit b)
+unfolding found edit
+found-alike b n = alike-then (accepted b) _ _ λ a. alike-then (plan a) _ _ λ p. alike-then (ran a p) _ _ λ w. tt
+
+-- ── The public calls ────────────────────────────────────────────────────────────────────────────────────────
+
+-- `edit` refuses by one of its numbers.
+pub edited-by : (work : List (ℕ × ℕ)) (b : List ℕ) (room : ℕ) → By editNumbers (edited work b room)
+unfolding edited withWork fitting among any
+edited-by work b room =
+    by-then editNumbers (refuse 1 (tooShort work)) _ (by-refuse editNumbers 1 _ refl) λ u.
+    by-then editNumbers (edit b) _ (by-more editLines editNumbers (edit b) refl (edit-by b)) λ r.
+    by-then editNumbers (fitting room r) _ (by-then editNumbers (refuse 13 (ltb room (length (encoded r)))) _ (by-refuse editNumbers 13 _ refl) λ u. tt) λ r. tt
+
+-- So they are from 1 to 13.
+pub edited-numbered : (work : List (ℕ × ℕ)) (b : List ℕ) (room k : ℕ) → edited work b room ≡ refused k → (1 ≤ k) × (k ≤ 13)
+unfolding any
+edited-numbered work b room k e = by-number editNumbers 1 13 k (edited work b room) refl (edited-by work b room) e
+
+-- `find_element` refuses by one of its numbers.
+pub found-by : (work : List (ℕ × ℕ)) (b : List ℕ) (n : ℕ) → By findNumbers (findElement work b n)
+unfolding findElement withWork found among any
+found-by work b n =
+    by-then findNumbers (refuse 1 (tooShort work)) _ (by-refuse findNumbers 1 _ refl) λ u.
+    by-more editLines findNumbers (found b n) refl (stages-by b (λ a p w. findIn a.table w n))
+
+-- So they are from 1 to 12.
+pub found-numbered : (work : List (ℕ × ℕ)) (b : List ℕ) (n k : ℕ) → findElement work b n ≡ refused k → (1 ≤ k) × (k ≤ 12)
+unfolding any
+found-numbered work b n k e = by-number findNumbers 1 12 k (findElement work b n) refl (found-by work b n) e
+
+-- why a call is refused: for a work slice, for the batch, or for the result slice
+pub data Why (b held : List ℕ) (work : List (List ℕ)) : ℕ → Type 0 where
+  workShort : tooShort (lengths needed work) ≡ true → Why b held work 1
+  wrong : {k : ℕ} → 2 ≤ k → k ≤ 12 → edit b ≡ refused k → Why b held work k
+  resultShort : (R : Result) → edit b ≡ gives R → length held < length (encoded R) → Why b held work 13
+
+-- A call that keeps its promise and refuses has one of these reasons.
+pub refused-why : (b held : List ℕ) (work : List (List ℕ)) (r : Answer ℕ) (holds : List ℕ) (left : List (List ℕ)) → Edits b held work r holds left → (k : ℕ) → r ≡ refused k → Why b held work k
+unfolding applied fitting refuse any _>>=_
+refused-why b held work r holds left p k e = go (tooShort (lengths needed work)) refl
+  where
+    -- the number, from the bytes that are wanted
+    number : (want : Answer (List ℕ)) → edited (lengths needed work) b (length held) ≡ want → (want >>= λ bytes. gives (length bytes)) ≡ refused k
+    number want q = ap (λ x. x >>= λ bytes. gives (length bytes)) (sym q) ∙ (sym (p .answer) ∙ e)
+
+    fit : Result → Answer (List ℕ)
+    fit R = fitting (length held) R >>= λ S. gives (encoded S)
+
+    room : (R : Result) → edit b ≡ gives R → edited (lengths needed work) b (length held) ≡ fit R → (t : Bool) → ltb (length held) (length (encoded R)) ≡ t → Why b held work k
+    room R x q true t = rw (← refused-inj (number (refused 13) (q ∙ rw t refl))) (resultShort R x (ltb-true (length held) (length (encoded R)) t))
+    room R x q false t = refused-gives (sym (number (gives (encoded R)) (q ∙ rw t refl)))
+
+    answer : (o : Answer Result) → edit b ≡ o → edited (lengths needed work) b (length held) ≡ (o >>= fit) → Why b held work k
+    answer (refused j) x q =
+        let z : edit b ≡ refused k = x ∙ ap {B = Answer Result} refused (refused-inj (number (refused j) q)) in
+        let (low, high) = by-number editLines 2 12 k (edit b) refl (edit-by b) z in
+        wrong low high z
+    answer (gives R) x q = room R x q (ltb (length held) (length (encoded R))) refl
+
+    go : (t : Bool) → tooShort (lengths needed work) ≡ t → Why b held work k
+    go true t = rw (← refused-inj (number (refused 1) (short-edited work b (length held) t))) (workShort t)
+    go false t = answer (edit b) refl (long-edited work b (length held) t)
+
+-- With room for the most bytes that a result has 13 never comes.
+pub never-13 : (b held : List ℕ) (work : List (List ℕ)) (r : Answer ℕ) (holds : List ℕ) (left : List (List ℕ)) → Edits b held work r holds left → mostBytes ≤ length held → r ≡ refused 13 → ⊥
+never-13 b held work r holds left p h e = go 13 refl (refused-why b held work r holds left p 13 e)
+  where
+    go : (k : ℕ) → k ≡ 13 → Why b held work k → ⊥
+    go k z (workShort t) = omega arith
+    go k z (wrong low high x) = omega arith
+    go k z (resultShort R x l) = omega (arith, encoded-within b R x)
+
+-- So every call of `find_element` that keeps its promise, with no work slice too short, is refused just where the edit of the batch is.
+pub find-refused : (b : List ℕ) (n : ℕ) (work : List (List ℕ)) (r : Answer (Option ℕ)) (left : List (List ℕ)) → Finds b n work r left → tooShort (lengths needed work) ≡ false → Alike r (edit b)
+find-refused b n work r left p h = rw (p .element, long-found work b n h) (found-alike b n)

@@ -1,0 +1,54 @@
+-- Line 6 of one call, in two parts: the operation with its count, and where the call stands. Numbers of E or more are judged where they are read.
+-- Assumes nothing.
+use mathlib.Core.Bool.{Bool, true, false, not, _&&_, _||_}
+use mathlib.Core.List.{List, [], _∷_, headD}
+use mathlib.Core.Path.{_≡_, refl}
+use Prim.Native.Nat.{ℕ, _+_, _*_, _<_}
+use lib.ListN.{length, getD}
+use lib.Dec.{eqb, leb, ltb}
+use borrow.Author.Tests.{lt-leb}
+use Rattle.orders.specs.Lists.{All}
+use Rattle.orders.specs.ListLaws.{bool-absurd}
+use Rattle.definition.specs.Basics.{any}
+use Rattle.definition.specs.Elements.{Table}
+use Rattle.definition.specs.Refusals.{Call, wrongCount, misplaced, wrongCall}
+use Rattle.read_element_table.specs.View.{view}
+use Rattle.read_element_table.specs.Told.{length-view}
+
+-- the operation is known, and may list so many elements
+unfoldable pub countFits : ℕ → ℕ → Bool
+countFits op count = not (ltb 6 op || wrongCount op count)
+
+-- a call of the operation op with target x and first listed element y stands where it may
+unfoldable pub callFits : Table → ℕ → ℕ → ℕ → Bool
+callFits T op x y = not (misplaced T op x y)
+
+-- ── Both parts make line 6 ──────────────────────────────────────────────────────────────────────────────────
+
+none-beyond : (n : ℕ) (l : List ℕ) → All (λ e. e < n) l → any (λ e. leb n e) l ≡ false
+unfolding any
+none-beyond n [] h = refl
+none-beyond n (e ∷ l) h = rw (lt-leb n e (h .0), none-beyond n l (h .1))
+
+twice : (a : Bool) → a ≡ not (not a)
+twice true = refl
+twice false = refl
+
+parts : (a b c d : Bool) → c ≡ false → (a || b || c || d) ≡ not (not (a || b) && not d)
+parts true b c d q = refl
+parts false true c d q = refl
+parts false false true d q = bool-absurd refl q
+parts false false false d q = twice d
+
+pub judged : (n : ℕ) (w r : List ℕ) (c : Call) → All (λ e. e < n) (c .target ∷ c .listed) → wrongCall (view n w r) c ≡ not (countFits (c .operation) (length (c .listed)) && callFits (view n w r) (c .operation) (c .target) (headD (c .listed) 0))
+unfolding wrongCall countFits callFits
+judged n w r c h =
+    let T : Table = view n w r in
+    parts (ltb 6 (c .operation)) (wrongCount (c .operation) (length (c .listed))) (any (λ e. leb (length T) e) (c .target ∷ c .listed)) (misplaced T (c .operation) (c .target) (headD (c .listed) 0))
+    (rw (length-view n w r) (none-beyond n (c .target ∷ c .listed) h))
+
+-- ── By the words ────────────────────────────────────────────────────────────────────────────────────────────
+
+-- two children of one parent, or two roots, not reversed
+unfoldable pub runFits : List ℕ → ℕ → ℕ → Bool
+runFits table x y = eqb (getD table (8 * x + 1) 0) (getD table (8 * y + 1) 0) && leb (getD table (8 * x + 2) 0) (getD table (8 * y + 2) 0)

@@ -1,0 +1,56 @@
+-- `all_below` meets its contract. The words passed are below the number.
+-- Assumes nothing.
+use borrow.Author.Needs.{needs}
+use Prim.Native.Nat.{_-_}
+use Rattle.read_names.proofs.Passing.{Below, below-start, below-met, below-next, below-all}
+use Rattle.read_names.proofs.all_below.Statement.{statement}
+use Rattle.read_names.proofs.all_below.Tie as tie
+
+abbrev Inv-loop : tie.InvT-loop
+Inv-loop b from count n i₀ i = Below b from count n i
+
+abbrev μ-loop : tie.MeasureT-loop
+μ-loop b from count n i₀ i = count - i
+
+loop-holds : tie.Need-loop-holds Inv-loop μ-loop
+loop-holds c = search (below-start, needs)
+
+mul-read-word : tie.Need-mul-read-word Inv-loop μ-loop
+mul-read-word c = search needs
+
+add-read-word : tie.Need-add-read-word Inv-loop μ-loop
+add-read-word c = search needs
+
+read-word-requires : tie.Need-read-word-requires Inv-loop μ-loop
+read-word-requires c κs = search needs
+
+returns : tie.Need-returns Inv-loop μ-loop
+returns c = search (below-met, needs)
+
+add-i : tie.Need-add-i Inv-loop μ-loop
+add-i c = search needs
+
+loop-less : tie.Need-loop-less Inv-loop μ-loop
+loop-less c = search needs
+
+loop-again : tie.Need-loop-again Inv-loop μ-loop
+loop-again c = search (below-next, needs)
+
+returns-2 : tie.Need-returns-2 Inv-loop μ-loop
+returns-2 c = search (below-all, needs)
+
+pub all-below-spec : {M : Type 1} → statement M
+all-below-spec =
+    tie.close
+    (tie.spec
+    Inv-loop
+    μ-loop
+    loop-holds
+    mul-read-word
+    add-read-word
+    read-word-requires
+    returns
+    add-i
+    loop-less
+    loop-again
+    returns-2)

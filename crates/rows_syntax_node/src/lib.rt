@@ -1,0 +1,256 @@
+// Rows of three words in preorder: the kind word, the measure, and where a token's text starts in the text of all.
+ghost use mathlib.Core.Path.{_≡_};
+ghost use mathlib.Core.List.{List};
+ghost use Prim.Native.Nat.{ℕ, _+_, _-_, _*_, _%_, _^_, _≤_, _<_, max};
+ghost use lib.ListN.{length, getD};
+ghost use Rattle.orders.specs.Lists.{All};
+ghost use Rattle.rows_model.specs.Row.{firstRows};
+ghost use Rattle.rows_model.specs.Place.{follow};
+ghost use Rattle.rows_syntax_node.specs.Promises.{Counted, Measured, After, ChildAt, TreesIn, TreesBetween, Bytes, Height, Part, Appended, Spliced, Moved, Shifted, found};
+use words::copy_in;
+use words::splice_words;
+use words::word;
+
+// ── One row ──
+
+// The number of children of the element at row `i`: a token has none.
+pub fn child_count(rows: &[u32], i: usize) -> usize
+    requires { ⌜ 3 * i + 2 < length (now rows) ⌝ }
+    ensures { λ r. ⌜ Counted (now (rows .entry)) i r ⌝ }
+{
+    let k = word(rows, 3 * i);
+    if k < 0x8000_0000 {
+        return 0;
+    }
+    word(rows, 3 * i + 1)
+}
+
+// The length of the own text of the element at row `i`: a node has none.
+pub fn text_length(rows: &[u32], i: usize) -> usize
+    requires { ⌜ 3 * i + 2 < length (now rows) ⌝ }
+    ensures { λ r. ⌜ Measured (now (rows .entry)) i r ⌝ }
+{
+    let k = word(rows, 3 * i);
+    if k < 0x8000_0000 {
+        return word(rows, 3 * i + 1);
+    }
+    0
+}
+
+// ── Places ──
+
+// The row after the next `owed` trees from row `at` on, of `n` rows: each row is one element owed less, and a node's row owes its children.
+pub fn rows_after(rows: &[u32], n: usize, at: usize, owed: usize) -> usize
+    requires { ⌜ (3 * n ≤ length (now rows)) × (n < 2 ^ 16) × (at ≤ n) × (owed < 2 ^ 32) ⌝ }
+    ensures { λ r. ⌜ After (now (rows .entry)) n at owed r ⌝ }
+{
+    let mut i = at;
+    let mut o = owed;
+    while 0 < o {
+        if n <= i {
+            return i;
+        }
+        let m = child_count(rows, i);
+        o = o - 1 + m;
+        i += 1;
+    }
+    i
+}
+
+// The row of child `i` of the node at row `parent`.
+pub fn child_row(rows: &[u32], n: usize, parent: usize, i: usize) -> usize
+    requires { ⌜ (3 * n ≤ length (now rows)) × (n < 2 ^ 16) × (parent < n) × (i < 2 ^ 32) ⌝ }
+    ensures { λ r. ⌜ ChildAt (now (rows .entry)) n parent i r ⌝ }
+{
+    rows_after(rows, n, parent + 1, i)
+}
+
+// The element at row `at` with all that is below it: its preorder run.
+pub fn subtree(rows: &[u32], n: usize, at: usize) -> &[u32]
+    requires { ⌜ (3 * n ≤ length (now rows)) × (n < 2 ^ 16) × (at ≤ n) ⌝ }
+    ensures { λ r. ⌜ Part (now (rows .entry)) n at (now r) ⌝ }
+{
+    let end = rows_after(rows, n, at, 1);
+    let from = 3 * at;
+    let to = 3 * end;
+    &rows[from..to]
+}
+
+pub enum Found {
+    At(usize),
+    Nothing,
+}
+
+// The row to which a path leads from row 0.
+pub fn resolve(rows: &[u32], n: usize, path: &[u32]) -> Found
+    requires { ⌜ (3 * n ≤ length (now rows)) × (n < 2 ^ 16) ⌝ }
+    ensures { λ r. ⌜ ((text : List ℕ) → r ≡ found (follow (firstRows text n (now (rows .entry))) 0 (now (path .entry)))) ⌝ }
+{
+    let mut at = 0;
+    let mut j = 0;
+    while j < path.len() {
+        if n <= at {
+            return Found::Nothing;
+        }
+        let i = word(path, j);
+        if child_count(rows, at) <= i {
+            return Found::Nothing;
+        }
+        at = child_row(rows, n, at, i);
+        j += 1;
+    }
+    if n <= at {
+        return Found::Nothing;
+    }
+    Found::At(at)
+}
+
+// ── A run of rows, as a slice of its own ──
+
+// The number of trees of a run.
+pub fn trees_in(run: &[u32]) -> usize
+    requires { ⌜ length (now run) < 3 * 2 ^ 16 ⌝ }
+    ensures { λ r. ⌜ TreesIn (now (run .entry)) r ⌝ }
+{
+    let mut trees = 0;
+    let mut o = 0;
+    let mut i = 0;
+    while 3 * i + 2 < run.len() {
+        let m = child_count(run, i);
+        if o == 0 {
+            trees += 1;
+            o = m;
+            i += 1;
+        } else {
+            o = o - 1 + m;
+            i += 1;
+        }
+    }
+    trees
+}
+
+// How many siblings the rows `p` up to `q` are.
+pub fn children_between(rows: &[u32], n: usize, p: usize, q: usize) -> usize
+    requires { ⌜ (3 * n ≤ length (now rows)) × (n < 2 ^ 16) × (p ≤ q) × (q ≤ n) ⌝ }
+    ensures { λ r. ⌜ TreesBetween (now (rows .entry)) n p q r ⌝ }
+{
+    let from = 3 * p;
+    let to = 3 * q;
+    trees_in(&rows[from..to])
+}
+
+// The length of the text of a run.
+pub fn text_bytes(run: &[u32]) -> usize
+    requires { ⌜ length (now run) < 3 * 2 ^ 16 ⌝ }
+    ensures { λ r. ⌜ Bytes (now (run .entry)) r ⌝ }
+{
+    let mut sum = 0;
+    let mut i = 0;
+    while 3 * i + 2 < run.len() {
+        sum += text_length(run, i);
+        i += 1;
+    }
+    sum
+}
+
+fn larger(a: usize, b: usize) -> usize
+    ensures { λ r. ⌜ r ≡ max a b ⌝ }
+{
+    if a <= b {
+        return b;
+    }
+    a
+}
+
+// The greatest depth in a run, or 65 where it is more than 64.
+pub fn height(run: &[u32]) -> usize
+    requires { ⌜ length (now run) < 3 * 2 ^ 16 ⌝ }
+    ensures { λ r. ⌜ Height (now (run .entry)) r ⌝ }
+{
+    // What each open node still owes, and below them more than there are rows.
+    let mut left = [0usize; 65];
+    left[0] = run.len();
+    let mut depth = 0;
+    let mut most = 0;
+    let mut i = 0;
+    while 3 * i + 2 < run.len() {
+        let x = left[depth];
+        if x == 0 {
+            depth -= 1;
+        } else {
+            if 64 <= depth {
+                return 65;
+            }
+            left[depth] = x - 1;
+            depth += 1;
+            left[depth] = child_count(run, i);
+            most = larger(most, depth);
+            i += 1;
+        }
+    }
+    most
+}
+
+// ── Rows written ──
+
+// A run written behind the first `n` rows. The new number of rows.
+pub fn append_rows(rows: &mut [u32], n: usize, run: &[u32]) -> usize
+    requires { ⌜ (3 * n + length (now run) ≤ length (now rows)) × (n < 2 ^ 16) × (length (now run) % 3 ≡ 0) ⌝ }
+    ensures { λ r. ⌜ Appended (now (rows .entry)) n (now (run .entry)) (now (rows .exit)) r ⌝ }
+{
+    copy_in(rows, 3 * n, run);
+    n + run.len() / 3
+}
+
+// The rows `p` up to `q`, `removed` children of the node at row `parent`, give way to a run of `gain` trees. The new number of rows.
+pub fn splice_rows(
+    rows: &mut [u32],
+    n: usize,
+    parent: usize,
+    p: usize,
+    q: usize,
+    removed: usize,
+    run: &[u32],
+    gain: usize,
+) -> usize
+    requires { ⌜ (3 * n ≤ length (now rows)) × (n < 2 ^ 16) × (parent < p) × (p ≤ q) × (q ≤ n) ⌝ }
+    requires { ⌜ (length (now run) % 3 ≡ 0) × (3 * (n - (q - p)) + length (now run) ≤ length (now rows)) ⌝ }
+    requires { ⌜ (2147483648 ≤ getD (now rows) (3 * parent) 0) × (removed ≤ getD (now rows) (3 * parent + 1) 0) × (getD (now rows) (3 * parent + 1) 0 + gain < 2 ^ 32) ⌝ }
+    ensures { λ r. ⌜ Spliced (now (rows .entry)) n parent p q removed (now (run .entry)) gain (now (rows .exit)) r ⌝ }
+{
+    let m = word(rows, 3 * parent + 1);
+    rows[3 * parent + 1] = (m + gain - removed) as u32;
+    splice_words(rows, 3 * n, 3 * p, 3 * q, run);
+    n - (q - p) + run.len() / 3
+}
+
+// ── Marks ──
+
+// What becomes of a mark where the rows `p` up to `q` give way to `m` others.
+fn moved_word(x: u32, p: u32, q: u32, m: u32) -> u32
+    requires { ⌜ (p ≤ q) × (q < 2 ^ 16) × (m < 2 ^ 16) × (x < 2 ^ 16) ⌝ }
+    ensures { λ r. ⌜ Moved p q m x r ⌝ }
+{
+    if x < p {
+        return x;
+    }
+    if x < q {
+        return 0;
+    }
+    x + m - (q - p)
+}
+
+// The same for every mark. All is in words, so that the loop becomes vector code.
+pub fn shift_marks(marks: &mut [u32], p: usize, q: usize, m: usize)
+    requires { ⌜ (p ≤ q) × (q < 2 ^ 16) × (m < 2 ^ 16) × All (λ x. x < 2 ^ 16) (now marks) ⌝ }
+    ensures { λ _. ⌜ Shifted (now (marks .entry)) p q m (now (marks .exit)) ⌝ }
+{
+    let from = p as u32;
+    let to = q as u32;
+    let count = m as u32;
+    let mut i = 0;
+    while i < marks.len() {
+        marks[i] = moved_word(marks[i], from, to, count);
+        i += 1;
+    }
+}

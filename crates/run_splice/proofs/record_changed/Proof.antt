@@ -1,0 +1,21 @@
+-- `record_changed` meets its contract.
+-- Assumes nothing.
+use borrow.Author.Needs.{needs}
+use Rattle.run_splice.proofs.Turns.{recorded-all, recorded-none, room-recorded}
+use Rattle.run_splice.proofs.record_changed.Statement.{statement}
+use Rattle.run_splice.proofs.record_changed.Tie as tie
+
+add-changed-requires : tie.Need-add-changed-requires
+add-changed-requires c κs = search (room-recorded, needs)
+
+same-length : tie.Need-same-length
+same-length c = search needs
+
+returns : tie.Need-returns
+returns c = search (recorded-all, needs)
+
+returns-2 : tie.Need-returns-2
+returns-2 c = search (recorded-none, needs)
+
+pub record-changed-spec : {M : Type 1} → statement M
+record-changed-spec = tie.close (tie.spec add-changed-requires same-length returns returns-2)

@@ -1,0 +1,210 @@
+-- One performed change: what its row tells is what the definition's step goes by.
+-- Assumes nothing.
+use mathlib.Core.Path.{_≡_, refl, sym, ap, _∙_, subst}
+use mathlib.Core.Bool.{Bool, true, false, cond, _&&_}
+use mathlib.Core.List.{List, [], map}
+use mathlib.Core.Option.{Option, none, some}
+use Prim.Native.Nat.{ℕ, zero, suc, _+_, _-_, _*_, _^_, _≤_, _<_}
+use native.Mathlib.Omega.{arith}
+use lib.ListN.{length, getD, take, drop}
+use lib.Dec.{eqb}
+use borrow.Author.Tests.{ne-eqb}
+use Rattle.orders.specs.Lists.{All}
+use Rattle.definition.specs.Basics.{refused, orRefuse, _>>=_}
+use Rattle.definition.specs.Elements.{Table, tree, depth}
+use Rattle.definition.specs.Planning.{own, dependent, discarded, Planned, target}
+use Rattle.definition.specs.Recording.{Change}
+use Rattle.definition.specs.Running.{news, owned, records}
+use Rattle.definition.specs.Words.{words}
+use Rattle.definition_laws.specs.Right.{right-sits}
+use Rattle.words.specs.Bytes.{length-words}
+use Rattle.run_model.specs.Store as model
+use Rattle.run_model.specs.Store.{Store, partOf, gap, depthAbove, splicedStore, storeStep}
+use Rattle.read_element_table.specs.View.{view}
+use Rattle.read_element_table.specs.Wellformed.{Lines}
+use Rattle.read_element_table.specs.Told.{depth-told}
+use Rattle.plan_mapping.specs.Mapped.{wordsAt}
+use Rattle.record_changes.specs.ChangeRow.{ChangeRow, operation, endOf, changeRow, rowOf}
+use Rattle.record_changes.specs.ChangeRowLaws.{rowAt}
+use Rattle.plan_sort.specs.Rows.{rowFate, withFate}
+use Rattle.record_rewritten.specs.Stated.{changeBy, newOf, changeOf, planOf}
+use Rattle.record_rewritten.specs.Exact.{exact-tells}
+use Rattle.plan_rewrite.specs.Kept.{Kept}
+use Rattle.run_annotations.specs.Notes.{notesOf}
+use Rattle.run_tree_store.specs.Stored.{storedFirst}
+use Rattle.run_tree_store.specs.Gaps.{gapBy, gap-by, held, siteOf}
+use Rattle.run_tree_store.specs.Promises.{SiteAt}
+use Rattle.run_tree_store.specs.declared.Gap.{Gap}
+use Rattle.run_tree_store.specs.declared.Site.{Site}
+use Rattle.run_tree_store.specs.declared.Site.the-variants.{Gone, At}
+use Rattle.run_tree_state.specs.Store.{heldIn, gapTold, Open}
+use Rattle.run_tree_state.specs.Applied.{executedIn, judgedStore}
+use Rattle.run_tree_state.specs.declared.TreeState.{TreeState}
+use Rattle.run_tree_state.specs.declared.Executed.{Executed}
+use Rattle.run_tree_state.specs.declared.Executed.the-variants.{Refused}
+use Rattle.run_prepare.specs.Listed.{part-listed, news-listed}
+use Rattle.run_step.specs.Standing.{Standing}
+use Rattle.run_step.specs.Opening.{rows-some, rows-few, marks-below, gap-room}
+use Rattle.run_step.specs.Stepping.{AboveBy, recordsBy, Grown, yieldsIn, SteppedAt, Performs, listsIn, Stepped}
+
+-- ── The row ─────────────────────────────────────────────────────────────────────────────────────────────────
+
+module _ {n : ℕ} {T : Table} {listed : List ℕ} {r : ChangeRow} (k : Kept n T listed r) where
+  -- by the row's numbers the change goes where it goes
+  gap-row : (s : Store) → gapBy T s (r .operation) (r .target) (r .end) ≡ gap T s (changeOf listed r)
+  unfolding withFate changeRow
+  gap-row s =
+      let e = k .exact .same in
+      let c : Change = changeOf listed r in
+      let a : r .operation ≡ operation c = ap (λ (q : ChangeRow). q .operation) e in
+      let b : r .target ≡ target c = ap (λ (q : ChangeRow). q .target) e in
+      let d : r .end ≡ endOf c = ap (λ (q : ChangeRow). q .end) e in
+      ap (λ (o : ℕ). gapBy T s o (r .target) (r .end)) a ∙ (ap (λ (x : ℕ). gapBy T s (operation c) x (r .end)) b ∙ (ap (gapBy T s (operation c) (target c)) d ∙ gap-by T s c))
+
+  records-row : recordsBy r ≡ records T (planOf listed r)
+  unfolding recordsBy records planOf rowFate owned
+  records-row = go (eqb (r .fate) 0) ∙ ap (λ (t : ℕ). owned none (rowFate r) && eqb t 0) (exact-tells (k .exact) .treeTold)
+    where
+      inner : (b : Bool) → owned none (cond b (dependent (r .owner)) (discarded (r .owner))) ≡ false
+      inner true = refl
+      inner false = refl
+
+      go : (b : Bool) → (b && eqb (r .tree) 0) ≡ (owned none (cond b own (cond (eqb (r .fate) 1) (dependent (r .owner)) (discarded (r .owner)))) && eqb (r .tree) 0)
+      go true = refl
+      go false = rw (inner (eqb (r .fate) 1))
+
+above-by : (T : Table) (s : Store) (op x y z : ℕ) (new : List ℕ) → depthAbove T s (changeBy op x y z new) ≡ cond (eqb op 0) (depth T x) (depth T x - 1)
+unfolding changeBy depthAbove
+above-by T s zero x y z new = refl
+above-by T s (suc zero) x y z new = refl
+above-by T s (suc (suc zero)) x y z new = refl
+above-by T s (suc (suc (suc zero))) x y z new = refl
+above-by T s (suc (suc (suc (suc zero)))) x y z new = refl
+above-by T s (suc (suc (suc (suc (suc op))))) x y z new = rw (ne-eqb (suc (suc (suc (suc (suc op))))) 0 (λ q. omega arith))
+
+above-row : (n : ℕ) (lines source listed : List ℕ) (r : ChangeRow) (s : Store) (d : ℕ) → Lines n lines → r .target < n → AboveBy lines (r .operation) (r .target) d → d ≡ depthAbove (view n lines source) s (changeOf listed r)
+unfolding changeOf
+above-row n lines source listed r s d l t a =
+    a .depth
+    ∙ (ap (λ (x : ℕ). cond (eqb (r .operation) 0) x (x - 1)) (sym (depth-told n lines source l (r .target) t)) ∙ sym (above-by (view n lines source) s (r .operation) (r .target) (r .end) (getD listed (r .list) 0) (newOf listed r)))
+
+-- ── Where it goes ───────────────────────────────────────────────────────────────────────────────────────────
+
+site-at : (o : Option model.Gap) (g : Gap) → At g ≡ siteOf o → o ≡ some (gapTold g)
+unfolding siteOf held gapTold
+site-at none g e = let z : _≡_ {A = ℕ} 0 1 = cc in absurd (omega arith)
+site-at (some x) g e = let z : g ≡ held x = cc in ap {B = Option model.Gap} (λ y. some (gapTold y)) (sym z)
+
+site-gone : (o : Option model.Gap) → Gone ≡ siteOf o → o ≡ none
+unfolding siteOf
+site-gone none e = refl
+site-gone (some x) e = let z : _≡_ {A = ℕ} 0 1 = cc in absurd (omega arith)
+
+held-told : (g : Gap) → held (gapTold g) ≡ g
+unfolding held gapTold
+held-told g = refl
+
+-- ── The definition's step, part by part ─────────────────────────────────────────────────────────────────────
+
+step-gone : (T : Table) (first s : Store) (p : Planned) → gap T s (p .change) ≡ none → storeStep T first s p ≡ refused 11
+unfolding storeStep orRefuse _>>=_
+step-gone T first s p e = rw e
+
+step-found : (T : Table) (first s : Store) (p : Planned) (g : model.Gap) (above : ℕ) (recorded : Bool) (l : List ℕ) → gap T s (p .change) ≡ some g → above ≡ depthAbove T s (p .change) → recorded ≡ records T p → news (p .change) ≡ l
+    → storeStep T first s p ≡ judgedStore above (map (partOf first s) l) (splicedStore g (map (partOf first s) l) recorded s)
+unfolding storeStep orRefuse judgedStore _>>=_
+step-found T first s p g above recorded l e a r n = rw (e, a, r, n)
+
+-- ── The step ────────────────────────────────────────────────────────────────────────────────────────────────
+
+module _ {lines source first : List ℕ} {a : ℕ} {s : TreeState} {rows marks notes changed : List ℕ} (v : Standing (length marks) lines source first a s rows marks notes changed)
+    (b : List ℕ) (listed l : ℕ) (changes : List ℕ) (k : ℕ)
+    (x : (listed + 4 * l ≤ length b) × (l ≤ 1024) × All (λ e. e < length marks) (wordsAt b listed l) × (k < 2 ^ 32))
+    (u : Performs (length marks) (view (length marks) lines source) (wordsAt b listed l) (rowAt changes k)) where
+  abbrev T : Table
+  T = view (length marks) lines source
+
+  abbrev L : List ℕ
+  L = wordsAt b listed l
+
+  abbrev R : ChangeRow
+  R = rowAt changes k
+
+  long-listed : length L ≡ l
+  unfolding wordsAt
+  long-listed = length-words l (drop listed b)
+
+  pub asks-gap : ((3 * s .rows ≤ length rows) × (s .rows < 2 ^ 16) × (0 < s .rows) × All (λ m. m < s .rows) marks)
+      × ((Lines (length marks) lines × (k < 2 ^ 32)) × ((R .target < length marks) × (R .end < length marks)))
+  asks-gap = ((v .long, omega (arith, rows-few v), rows-some v, marks-below v), ((v .begun .formed, x .3), (u .kept .stated .target, u .kept .stated .end)))
+
+  pub asks-depth : Lines (length marks) lines × (k < 2 ^ 32) × (R .target < length marks)
+  asks-depth = (v .begun .formed, x .3, u .kept .stated .target)
+
+  pub list-within : {list : ℕ} → (list ≡ getD (drop (13 * k) changes) 3 0) × (list < 2 ^ 32) → listed + 4 * list ≤ length b
+  unfolding rowAt rowOf
+  list-within e = omega (arith, e .0, u .kept .stated .within, long-listed, x .0)
+
+  module _ {site : Site} (w : SiteAt rows (s .rows) lines marks (R .operation) (R .target) (R .end) site) where
+    gap-site : (text : List ℕ) → site ≡ siteOf (gap T (heldIn text s rows marks notes changed) (changeOf L R))
+    gap-site text = w .site text source (notesOf (s .notes) notes) (take (s .changed) changed) ∙ ap siteOf (gap-row (u .kept) (heldIn text s rows marks notes changed))
+
+    pub performed-gone : site ≡ Gone → Stepped lines source first a L R s rows marks notes changed rows marks notes changed (Refused 11)
+    unfolding executedIn planOf
+    performed-gone e = record {
+      answer = λ text. sym (step-gone T (storedFirst text (length marks) source (notesOf a first) []) (heldIn text s rows marks notes changed) (planOf L R) (site-gone _ (sym e ∙ gap-site text)));
+      grown = λ t q. let z : _≡_ {A = ℕ} 0 1 = cc in absurd (omega arith);
+    }
+
+    module _ {g : Gap} {above : ℕ} {recorded : Bool} {list count : ℕ}
+        (e : site ≡ At g)
+        (ea : AboveBy lines (R .operation) (R .target) above)
+        (er : recorded ≡ recordsBy R)
+        (el : (list ≡ getD (drop (13 * k) changes) 3 0) × (list < 2 ^ 32))
+        (ec : (count ≡ getD (drop (13 * k) changes) 4 0) × (count < 2 ^ 32)) where
+      gap-here : (text : List ℕ) → gap T (heldIn text s rows marks notes changed) (changeOf L R) ≡ some (gapTold g)
+      gap-here text = site-at _ g (sym e ∙ gap-site text)
+
+      list-is : list ≡ R .list
+      unfolding rowAt rowOf
+      list-is = el .0
+
+      count-is : count ≡ R .count
+      unfolding rowAt rowOf
+      count-is = ec .0
+
+      many : count ≡ length (news (changeOf L R))
+      many = count-is ∙ u .kept .stated .counted
+
+      recorded-is : recorded ≡ records T (planOf L R)
+      recorded-is = er ∙ records-row (u .kept)
+
+      news-are : news (changeOf L R) ≡ words count (drop (listed + 4 * list) b)
+      news-are = news-listed (length marks) b listed l R (u .kept .stated) ∙ ap (λ (c : ℕ). words c (drop (listed + 4 * R .list) b)) (sym count-is) ∙ ap (λ (i : ℕ). words count (drop (listed + 4 * i) b)) (sym list-is)
+
+      pub listed-low : (listed + 4 * list + 4 * count ≤ length b) × (count ≤ 1024) × All (λ e. e < length marks) (words count (drop (listed + 4 * list) b))
+      listed-low =
+          let h : list + count ≤ l = omega (arith, list-is, count-is, u .kept .stated .within, long-listed) in
+          (omega (arith, x .0), omega (arith, x .1), part-listed b listed l list count h (λ e. e < length marks) (x .2))
+
+      pub opens : 3072 ≤ length notes → s .changed + listsIn T L R ≤ length changed → Open s rows marks notes changed g recorded count
+      unfolding listsIn planOf
+      opens long room =
+          subst (λ (h : Gap). Open s rows marks notes changed h recorded count) (held-told g)
+          (gap-room v (changeOf L R) (right-sits T (changeOf L R) (u .right)) (gapTold g) (gap-here (v .begun .text)) recorded count (listed-low .1) long
+          (rw (recorded-is, many) room))
+
+      pub performed : {rows′ marks′ notes′ changed′ : List ℕ} {r : Executed} → SteppedAt s rows marks notes changed source first a g above recorded (words count (drop (listed + 4 * list) b)) rows′ marks′ notes′ changed′ r
+          → Stepped lines source first a L R s rows marks notes changed rows′ marks′ notes′ changed′ r
+      unfolding yieldsIn planOf listsIn
+      performed {rows′} {marks′} {notes′} {changed′} {r} y = record {
+        answer = λ text.
+            y .answer text
+            ∙ sym
+            (step-found T (storedFirst text (length marks) source (notesOf a first) []) (heldIn text s rows marks notes changed) (planOf L R) (gapTold g) above recorded (words count (drop (listed + 4 * list) b))
+            (gap-here text)
+            (above-row (length marks) lines source L R (heldIn text s rows marks notes changed) above (v .begun .formed) (u .kept .stated .target) ea)
+            recorded-is
+            news-are);
+        grown = λ t q. subst (λ (m : ℕ). Grown s m rows′ t) (rw (recorded-is, ← news-are)) (y .grown t q);
+      }
