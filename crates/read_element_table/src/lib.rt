@@ -19,9 +19,9 @@ pub const CHILD: usize = 2;
 
 pub const DEPTH: usize = 3;
 // Where its text starts and ends in its own tree.
-pub const START: usize = 4;
+pub const TEXT_START: usize = 4;
 
-pub const END: usize = 5;
+pub const TEXT_END: usize = 5;
 // The element after its subtree.
 pub const AFTER: usize = 6;
 
@@ -60,7 +60,7 @@ fn close(table: &mut [u32], owner: usize, end: usize, after: usize)
         return;
     }
     let at = 8 * (owner - 1);
-    table[at + END] = end as u32;
+    table[at + TEXT_END] = end as u32;
     table[at + AFTER] = after as u32;
 }
 
