@@ -210,6 +210,15 @@ intoQ = record {
   notes = [];
 }
 
+-- calls on root(Y, Z), both empty: Y is 1, Z 2; c is 4, d 5, their root 3; R(Z′), Z′ empty too: R is 6, Z′ 7
+abbrev onEmpty : List (ℕ × ℕ) → List Call → Told
+onEmpty mappings calls = record {
+  trees = root (X [] ∷ X [] ∷ []) ∷ other (c ∷ d ∷ []) ∷ R (X [] ∷ []) ∷ [];
+  calls = calls;
+  mappings = mappings;
+  notes = [];
+}
+
 -- each further example, and what is told of it
 abbrev pub further : List (Told × Short)
 further =
@@ -236,6 +245,22 @@ further =
     ∷ (intoQ, becomes (root (R (X (a ∷ c ∷ []) ∷ []) ∷ R (X (a ∷ c ∷ []) ∷ []) ∷ [])) (1 ∷ []) 0)
     -- delete b, b as first child of X: its path is lost, so it yields its original
     ∷ (onS (call 3 3 [] ∷ call 0 1 (3 ∷ []) ∷ []), becomes (root (X (b ∷ a ∷ []) ∷ [])) (2 ∷ []) 0)
+    -- "A first-child position in a childless node is allowed, with an empty range at the node's own start, also after rewriting." (document 02, Note 1)
+    -- c into an empty root
+    ∷ (record { trees = root [] ∷ other (c ∷ []) ∷ []; calls = call 0 0 (2 ∷ []) ∷ []; mappings = []; notes = [] }, becomes (root (c ∷ [])) (1 ∷ []) 0)
+    -- c into Y, then d into Y: the later one is left
+    ∷ (onEmpty [] (call 0 1 (4 ∷ []) ∷ call 0 1 (5 ∷ []) ∷ []), becomes (root (X (d ∷ c ∷ []) ∷ X [] ∷ [])) (2 ∷ 3 ∷ []) 0)
+    -- delete Y, c into Y
+    ∷ (onEmpty [] (call 3 1 [] ∷ call 0 1 (4 ∷ []) ∷ []), becomes (root (X [] ∷ [])) [] 1)
+    -- delete Z, c into Y: both stand at one offset, so Z's region contains the insertion
+    ∷ (onEmpty [] (call 3 2 [] ∷ call 0 1 (4 ∷ []) ∷ []), becomes (root (X [] ∷ [])) [] 1)
+    -- root(Y, X(a)): delete Y, which is empty, c as first child of X: the position is at the start of X, where Y ends
+    ∷ (record { trees = root (X [] ∷ X (a ∷ []) ∷ []) ∷ other (c ∷ []) ∷ []; calls = call 3 1 [] ∷ call 0 2 (5 ∷ []) ∷ []; mappings = []; notes = [] }, becomes (root (X (a ∷ []) ∷ [])) [] 1)
+    -- Z by R, Z mapped to Z′, c into Z: it lands in Z′, which is empty; c into Y: dependent too, and Y is not below Z
+    ∷ (onEmpty ((2, 7) ∷ []) (call 2 2 (6 ∷ []) ∷ call 0 2 (4 ∷ []) ∷ []), becomes (root (X [] ∷ R (X (c ∷ []) ∷ []) ∷ [])) (2 ∷ []) 0)
+    ∷ (onEmpty ((2, 7) ∷ []) (call 2 2 (6 ∷ []) ∷ call 0 1 (4 ∷ []) ∷ []), refused 9)
+    -- c into the token d: a token is no parent
+    ∷ (onEmpty [] (call 0 5 (4 ∷ []) ∷ []), refused 6)
     ∷ []
 
 -- X by R, X mapped to X′, c after a; notes 2 on a, 1 on b, 2 on X: one climb step, and the notes of X and a move into R

@@ -29,7 +29,8 @@ rank (delete x) = 2
 rank (replaceWithMany x l) = 2
 
 module _ (T : Table) where
-  -- the start of its range: "An insertion has an empty range: at the end of its target, or at the start of the first child" (which is where its parent starts)
+  -- the start of its range: "An insertion has an empty range: at the end of its target, or at the start of the first child"; of a node
+  -- without children "at the node's own start" (document 02, Note 1), which is where the first child starts if there is one
   unfoldable pub from : Change → ℕ
   from (insert firstChild x l) = (row T x) .start
   from (insert after x l) = (row T x) .end

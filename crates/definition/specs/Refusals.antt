@@ -9,7 +9,7 @@ use lib.Dec.{leb, ltb, eqb}
 use Rattle.orders.specs.Tree.{Tree}
 use Rattle.definition.specs.Basics.{Answer, gives, _>>=_, refuse, orRefuse, any, among}
 use Rattle.definition.specs.Batch.{batch}
-use Rattle.definition.specs.Elements.{Table, row, node?, root?, parent, child, spelled, table}
+use Rattle.definition.specs.Elements.{Table, node?, root?, parent, child, spelled, table}
 
 -- ── Calls ───────────────────────────────────────────────────────────────────────────────────────────────────
 
@@ -56,20 +56,17 @@ sameParent (some p) none = false
 sameParent (some p) (some q) = eqb p q
 
 module _ (T : Table) where
-  -- an element without children
-  unfoldable pub childless : ℕ → Bool
-  childless e = eqb (length ((row T e) .children)) 0
-
   -- "a run whose ends have different parents or are reversed"
   unfoldable pub wrongRun : ℕ → ℕ → Bool
   wrongRun from to = not (sameParent (parent T from) (parent T to)) || ltb (child T to) (child T from)
 
-  -- 6, of where a call stands, by its operation, its target x and the first element y that it lists: "a token as parent, a childless parent under 0, a root under
-  -- 1, 3, 4 or 5, a token replacing a root, or a run whose ends have different parents or are reversed, a 6 whose target is not 0"
+  -- 6, of where a call stands, by its operation, its target x and the first element y that it lists: "a token as parent, .. a root under 1, 3, 4 or 5, a token
+  -- replacing a root, or a run whose ends have different parents or are reversed, a 6 whose target is not 0". Document 01's "a childless parent under 0" is gone:
+  -- "A first-child position in a childless node is allowed, with an empty range at the node's own start, also after rewriting. Lines 6 and 9 of the refusals lose
+  -- that condition." (document 02, Note 1)
   unfoldable pub misplaced : ℕ → ℕ → ℕ → Bool
   misplaced op x y =
       (eqb op 0 && not (node? T x))
-      || (eqb op 0 && childless x)
       || (among (1 ∷ 3 ∷ 4 ∷ 5 ∷ []) op && root? T x)
       || (eqb op 2 && root? T x && not (node? T y))
       || (eqb op 5 && wrongRun x y)

@@ -46,6 +46,10 @@ dependent = record {
   notes = [];
 }
 
+-- c into z, then d into z, and e after z: splices into a parent without children, apart from the one beside it
+abbrev intoEmpty : Told
+intoEmpty = onP (call 0 3 (6 ∷ []) ∷ call 0 3 (7 ∷ []) ∷ call 1 3 (8 ∷ []) ∷ [])
+
 -- of a batch: whether demand 3's last sentence speaks of it, its new text, and that of tree 0 rewritten in one go
 abbrev Compared : Type 0
 Compared = Answer Bool × Answer (List ℕ) × Answer (List ℕ)
@@ -56,10 +60,11 @@ compared b = (apartBatch? (inBytes b), (edit (inBytes b) >>= λ r. gives (r .tex
 -- Where it speaks, both texts are one; where splices are not apart, or the root is replaced, they differ.
 pub compares : (compared apart ≡ (gives true, gives (ascii "adce"), gives (ascii "adce")))
     × (compared dependent ≡ (gives true, gives (ascii "acb"), gives (ascii "acb")))
+    × (compared intoEmpty ≡ (gives true, gives (ascii "adceb"), gives (ascii "adceb")))
     × (compared notApart ≡ (gives false, gives (ascii "e"), gives (ascii "ce")))
     × (compared rootReplaced ≡ (gives false, gives (ascii "cde"), gives (ascii "ab")))
 unfolding
     computed inLists inBytes compared replacesRoot apartIn? apartPlan? apartBatch? oneGoOf
     Check.each Check.pairs Check.enters? Check.run? Check.fits? Check.apart? Check.allApart?
     Splices.samePath Splices.leftOf Splices.under Splices.fromRoot Splices.fromChild Splices.atRoot Splices.below Splices.insertByLeft Splices.leftToRight Splices.newChildren Splices.oneGo Splices.oneGoAll
-compares = (refl, refl, refl, refl)
+compares = (refl, refl, refl, refl, refl)

@@ -14,7 +14,7 @@ use Rattle.orders.specs.ListLaws.{bool-absurd, All-map}
 pub use Rattle.orders.specs.ListLaws.{either-false as neither, none-passes}
 use Rattle.definition.specs.Basics.{any, among}
 use Rattle.definition.specs.Elements.{Table, node?, root?, parent, child}
-use Rattle.definition.specs.Refusals.{Call, wrongCount, sameParent, childless, wrongRun, misplaced, wrongCall}
+use Rattle.definition.specs.Refusals.{Call, wrongCount, sameParent, wrongRun, misplaced, wrongCall}
 use Rattle.definition.specs.Recording.{firstChild, after, Change, insert, replace, delete, replaceWithMany, replaceAll, run, change, call}
 use Rattle.definition.specs.Running.{news}
 
@@ -26,7 +26,6 @@ pub record Judged (T : Table) (c : Call) : Type 0 where
   pub count : wrongCount c.operation (length c.listed) ≡ false
   pub within : any (λ e. leb (length T) e) (c .target ∷ c .listed) ≡ false
   pub isNode : (eqb c.operation 0 && not (node? T c.target)) ≡ false
-  pub hasChild : (eqb c.operation 0 && childless T c.target) ≡ false
   pub noRoot : (among (1 ∷ 3 ∷ 4 ∷ 5 ∷ []) c.operation && root? T c.target) ≡ false
   pub byNode : (eqb c.operation 2 && root? T c.target && not (node? T (headD c.listed 0))) ≡ false
   pub run : (eqb c.operation 5 && wrongRun T c.target (headD c.listed 0)) ≡ false
@@ -41,13 +40,12 @@ judged T c e =
     let (m, i) = neither _ _ m in
     let (m, h) = neither _ _ m in
     let (m, g) = neither _ _ m in
-    let (m, f) = neither _ _ m in
-    let (k, d) = neither _ _ m in
-    record { known = z; count = a; within = b; isNode = k; hasChild = d; noRoot = f; byNode = g; run = h; editor = i }
+    let (k, f) = neither _ _ m in
+    record { known = z; count = a; within = b; isNode = k; noRoot = f; byNode = g; run = h; editor = i }
 
 pub unjudged : (T : Table) (c : Call) → Judged T c → wrongCall T c ≡ false
 unfolding wrongCall misplaced
-unjudged T c j = rw (j .known, j .count, j .within, j .isNode, j .hasChild, j .noRoot, j .byNode, j .run, j .editor)
+unjudged T c j = rw (j .known, j .count, j .within, j .isNode, j .noRoot, j .byNode, j .run, j .editor)
 
 pub below-E : (T : Table) (l : List ℕ) → any (λ e. leb (length T) e) l ≡ false → All (λ e. e < length T) l
 below-E T l e = All-map (λ x h. leb-false (length T) x h) l (none-passes (λ x. leb (length T) x) l e)
@@ -128,7 +126,7 @@ module _ (T : Table) where
       let (a, b) = neither (leb (length T) x) (leb (length T) y || any (λ e. leb (length T) e) l) (j .within) in
       let (b, c) = neither (leb (length T) y) (any (λ e. leb (length T) e) l) b in
       unjudged T (record { operation = 4; target = x; listed = l })
-      (record { known = refl; count = refl; within = rw (a, c); isNode = refl; hasChild = refl; noRoot = j .noRoot; byNode = refl; run = refl; editor = refl })
+      (record { known = refl; count = refl; within = rw (a, c); isNode = refl; noRoot = j .noRoot; byNode = refl; run = refl; editor = refl })
 
   -- a change recorded for a call that is not refused
   pub change-right : (c : Call) → wrongCall T c ≡ false → eqb c.operation 6 ≡ false → Right T (change c)

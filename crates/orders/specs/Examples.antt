@@ -1,7 +1,7 @@
 -- Small cases by computation: all orders of four splices, and what fails where splices are not apart.
 -- Assumes nothing.
 use mathlib.Core.Path.{_≡_, refl}
-use mathlib.Core.Bool.{Bool, false}
+use mathlib.Core.Bool.{Bool, true, false}
 use mathlib.Core.List.{List, [], _∷_, _++_, map, List·Permᴰ}
 use mathlib.Core.Option.{Option·map, Option, none, some, bind}
 use lib.ListN.{length, replicate}
@@ -87,6 +87,19 @@ four-demanded order r = demand old four order four-apart r
 moved-parent : result (exchange 0 [] 0 1 [] ∷ exchange 1 (2 ∷ []) 1 1 (7 ∷ []) ∷ []) ≡ result (exchange 1 (2 ∷ []) 1 1 (7 ∷ []) ∷ exchange 0 [] 0 1 [] ∷ [])
 unfolding result oldPaths text performs perform runNow performAt start inserted deleted leftIn leftOf total samePath begin splice adjust modify zone bind list forest
 moved-parent = refl
+
+-- root(Z, 4), Z without children
+abbrev bare : Tree ℕ
+bare = node 0 (cons (node 0 nil) (cons (letter 4) nil))
+
+-- two splices into Z, and one before it
+abbrev three : List (Splice ℕ)
+three = exchange 0 (0 ∷ []) 0 0 (7 ∷ []) ∷ exchange 1 (0 ∷ []) 0 0 (8 ∷ []) ∷ exchange 2 [] 0 0 (9 ∷ []) ∷ []
+
+-- a parent without children is a parent like any other: they are apart, and each order and the one go make 9, Z(8, 7), 4
+empty-parent : (allApart? bare three ≡ true) × (map (λ l. text ((performs l (begin bare)) .tree)) (orders three) ≡ replicate 6 (9 ∷ 8 ∷ 7 ∷ 4 ∷ [])) × (text (oneGo three bare) ≡ 9 ∷ 8 ∷ 7 ∷ 4 ∷ [])
+unfolding allApart? each pairs fits? run? apart? enters? resolve oneGo atRoot below pick fromRoot fromChild under leftToRight insertByLeft newChildren orders everywhere each-everywhere text performs perform runNow performAt start inserted deleted leftIn leftOf total samePath begin splice adjust modify zone bind list forest
+empty-parent = (refl, refl, refl)
 
 -- ── Where they are not apart ────────────────────────────────────────────────────────────────────────────────
 

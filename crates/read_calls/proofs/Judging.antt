@@ -15,7 +15,7 @@ use Rattle.definition.specs.Elements.{Table, isNode}
 use Rattle.definition.specs.Refusals.{wrongCount, sameParent, wrongRun, misplaced}
 use Rattle.read_element_table.specs.View.{view}
 use Rattle.read_element_table.specs.Wellformed.{Wellformed}
-use Rattle.read_element_table.specs.Told.{elementOf, childCount, node-told, parent-told, root-told, child-told, childless-told}
+use Rattle.read_element_table.specs.Told.{elementOf, childCount, node-told, parent-told, root-told, child-told}
 use Rattle.read_calls.specs.Fits.{countFits, callFits, runFits}
 
 -- ── Tests ───────────────────────────────────────────────────────────────────────────────────────────────────
@@ -71,15 +71,6 @@ same-parent zero (suc k) = sym (eqb·zero-suc k)
 same-parent (suc j) zero = sym (eqb·suc-zero j)
 same-parent (suc j) (suc k) = sym (eqb·suc-suc j k)
 
--- no token has children
-parents : (r : List ℕ) (x : ℕ) → ltb 0 (childCount r x) ≡ not (not (isNode (getD r (3 * suc x) 0)) || eqb (childCount r x) 0)
-unfolding childCount
-parents r x = go (isNode (getD r (3 * suc x) 0)) (getD r (3 * suc x + 1) 0)
-  where
-    go : (a : Bool) (m : ℕ) → ltb 0 (cond a m 0) ≡ not (not a || eqb (cond a m 0) 0)
-    go true m = above-zero m
-    go false m = refl
-
 both : (a b : Bool) → (a && not b) ≡ not (not a || b)
 both true b = refl
 both false b = refl
@@ -95,9 +86,9 @@ among-others (suc (suc (suc (suc (suc zero))))) h a b c = refl
 among-others (suc (suc (suc (suc (suc (suc zero)))))) h a b c = absurd (b refl)
 among-others (suc (suc (suc (suc (suc (suc (suc k))))))) h a b c = absurd (omega arith)
 
-pub fits-first-child : (n : ℕ) (w r : List ℕ) (op x y k : ℕ) → x < n → op ≡ 0 → k ≡ childCount r x → ltb 0 k ≡ callFits (view n w r) op x y
+pub fits-first-child : (n : ℕ) (w r : List ℕ) (op x y : ℕ) (u : Bool) → x < n → op ≡ 0 → u ≡ isNode (getD r (3 * suc x) 0) → u ≡ callFits (view n w r) op x y
 unfolding callFits misplaced among any
-fits-first-child n w r op x y k hx h e = rw (h, node-told n w r x hx, childless-told n w r x hx) (ap (ltb 0) e ∙ (parents r x ∙ simp or-false))
+fits-first-child n w r op x y u hx h e = rw (h, node-told n w r x hx) (e ∙ simp (or-false, twice))
 
 pub fits-editor : (T : Table) (op x y : ℕ) → op ≡ 6 → eqb x 0 ≡ callFits T op x y
 unfolding callFits misplaced among any

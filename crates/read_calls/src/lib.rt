@@ -87,7 +87,7 @@ pub fn call_fits(
     ensures { λ r. ⌜ r ≡ callFits (view n (now (table .entry)) (now (source .entry))) operation target first ⌝ }
 {
     if operation == 0 {
-        return 0 < child_count(source, target);
+        return is_node(source, target);
     }
     if operation == 6 {
         return target == 0;

@@ -12,7 +12,6 @@ use lib.Dec.{eqb, eqb·suc-zero}
 use Rattle.orders.specs.Tree.{last}
 use Rattle.orders.specs.TreeLaws.{last-child}
 use Rattle.definition.specs.Elements.{noRow, row, node?, root?, parent, depth, tree, child, isNode}
-use Rattle.definition.specs.Refusals.{childless}
 use Rattle.read_element_table.specs.View.{upFrom, field, lineFrom, pathTo, kindWord, measureWord, siblings, rowAt, view}
 use Rattle.read_element_table.specs.Wellformed.{Lines}
 
@@ -185,7 +184,3 @@ module _ (n : ℕ) (w r : List ℕ) (e : ℕ) (h : e < n) where
   pub children-told : (row (view n w r) e) .children ≡ siblings w r (childCount r e) (suc e)
   unfolding rowAt kindWord measureWord childCount
   children-told = rw (row-view n w r e h)
-
-  pub childless-told : childless (view n w r) e ≡ eqb (childCount r e) 0
-  unfolding childless
-  childless-told = rw children-told (ap (λ (k : ℕ). eqb k 0) (length-siblings w r (childCount r e) (suc e)))

@@ -5,8 +5,8 @@ use Rattle.read_calls.proofs.Judging.{fits-first-child, fits-editor, fi
 use Rattle.read_calls.proofs.call_fits.Statement.{statement}
 use Rattle.read_calls.proofs.call_fits.Tie as tie
 
-child-count-requires : tie.Need-child-count-requires
-child-count-requires c κs = search needs
+is-node-requires : tie.Need-is-node-requires
+is-node-requires c κs = search needs
 
 returns : tie.Need-returns
 returns c = search (fits-first-child, needs)
@@ -17,8 +17,8 @@ returns-2 c = search (fits-editor, needs)
 is-root-requires : tie.Need-is-root-requires
 is-root-requires c κs = search needs
 
-is-node-requires : tie.Need-is-node-requires
-is-node-requires c κs = search needs
+is-node-requires-2 : tie.Need-is-node-requires-2
+is-node-requires-2 c κs = search needs
 
 returns-3 : tie.Need-returns-3
 returns-3 c = search (fits-root-by, needs)
@@ -39,11 +39,11 @@ pub call-fits-spec : {M : Type 1} → statement M
 call-fits-spec =
     tie.close
     (tie.spec
-    child-count-requires
+    is-node-requires
     returns
     returns-2
     is-root-requires
-    is-node-requires
+    is-node-requires-2
     returns-3
     returns-4
     run-fits-requires
