@@ -1,6 +1,8 @@
-"""What document 01 asks of a program where the Rust answers so."""
+"""What is asked of a program where the Rust answers so."""
 
-from batches import decode_arrays
+import landed
+from batches import decode_arrays, old_nodes
+from rust import found
 
 GONE = "an edit target must still be present"
 THE_RUST = ("edit_algo.rs:", "mapping.rs:", "syntax_editor.rs:")
@@ -12,11 +14,16 @@ def refused(number):
     return "refused %d\n" % number
 
 
-def expected(answer):
-    """What the program must print, as far as the Rust tells."""
+def failed_on_childless(answer):
+    """Whether the Rust failed on comparing a first-child position in a childless node. Then Note 1 stands in its place, and the model alone judges."""
+    return answer.printed == "childless\n"
+
+
+def expected(batch, answer):
+    """What the program must print, as far as the Rust tells, else as the model does."""
     word = answer.printed.split()[0]
-    if answer.remark.startswith("childless"):
-        return refused(9)  # document 01's own rule: the Rust's answer is not compared
+    if failed_on_childless(answer):
+        return landed.edit_program(batch)
     if word == "panic" and answer.remark.startswith(THE_RUST):
         return refused(11 if answer.remark.endswith(GONE) else 9)
     if word == "panic" or answer.remark == "touched":
@@ -24,11 +31,16 @@ def expected(answer):
     return {"overlap": refused(8), "loop": refused(10), "large": refused(12)}.get(word, answer.printed)
 
 
+def expected_finds(batch, answer):
+    """What `find_element` must give for each node of tree 0, by its number, of a batch that is accepted."""
+    if failed_on_childless(answer):
+        return {number: landed.find_element(batch, number) for number in old_nodes(batch)}
+    return found(answer.remark)
+
+
 def source(answer):
     """Who vouches for what is expected."""
-    if answer.remark.startswith("childless"):
-        return "document"
-    return {"refused": "reader", "large": "trees"}.get(answer.printed.split()[0], "Rust")
+    return {"refused": "reader", "large": "trees", "childless": "model"}.get(answer.printed.split()[0], "Rust")
 
 
 def may_hold_many_notes(batch):
@@ -43,7 +55,7 @@ def may_hold_many_notes(batch):
 
 def verdict(batch, answer, printed):
     """Whether what a program printed agrees with the Rust's answer."""
-    want = expected(answer)
+    want = expected(batch, answer)
     if printed == want:
         return AGREED
     if printed == refused(12) and want not in map(refused, range(2, 11)) and may_hold_many_notes(batch):

@@ -108,3 +108,16 @@ def decode_arrays(data):
         arrays.append(list(unpack_from("<%dI" % length, data, at)))
         at += 4 * length
     return trees, arrays, data[at:]
+
+
+def old_nodes(data):
+    """The numbers of tree 0's nodes, of bytes that pass lines 2 to 5."""
+    _, (kinds, measures, *_), _ = decode_arrays(data)
+    out, number, owed = [], 0, 1
+    while owed:
+        owed -= 1
+        if kinds[number] >= NODE:
+            out.append(number)
+            owed += measures[number]
+        number += 1
+    return out

@@ -2,10 +2,10 @@
 
 from collections import Counter
 
-from agree import AGREED, DIFFERENT, NOTES, expected, source, verdict
+from agree import AGREED, DIFFERENT, NOTES, expected, expected_finds, source, verdict
 from batches import decode_arrays
 from program import Stream
-from rust import Rust, found
+from rust import Rust
 from shrink import describe, shrink
 
 LABELS = ["ok"] + ["refused %d" % number for number in range(2, 13)]
@@ -60,29 +60,28 @@ class Comparison:
             small = shrink(batch, self.differs)
             self.smallest.setdefault(small, []).append(number)
         elif how == AGREED and printed.startswith("ok"):
-            for old, got, new in self.finds(number, batch, found(answer.remark), streamed):
+            for old, got, new in self.finds(number, batch, expected_finds(batch, answer), streamed):
                 self.facts["find_element calls compared"] += 1
                 self.facts["find_element calls that find none"] += got is None
                 if got != new:
                     self.smallest.setdefault(batch, []).append("%d, find_element %d" % (number, old))
 
-    def finds(self, number, batch, rust, streamed):
-        """`find_element`: the number asked for, what the program gives, what the Rust gives. All that a stream tells, where a number that is no node of
+    def finds(self, number, batch, wanted, streamed):
+        """`find_element`: the number asked for, what the program gives, what is wanted. All that a stream tells, where a number that is no node of
         tree 0 gets none; else one node of tree 0 for every fourth batch."""
         if streamed is not None:
-            return [(old, got, rust.get(old)) for old, got in streamed.items()]
+            return [(old, got, wanted.get(old)) for old, got in streamed.items()]
         if self.find is None or number % 4:
             return []
-        old = list(rust)[number // 4 % len(rust)]
-        return [(old, self.find(batch, old), rust[old])]
+        old = list(wanted)[number // 4 % len(wanted)]
+        return [(old, self.find(batch, old), wanted[old])]
 
     def note(self, batch, answer, printed, how):
         facts = self.facts
         facts["judged by " + {"Rust": "the Rust", "reader": "the oracle's reader (lines 2 to 7)",
               "trees": "what the Rust's trees hold (line 12)",
-              "document": "document 01 alone (childless first-child position)"}[source(answer)]] += how != NOTES  # fmt: skip
+              "model": "the model alone (the Rust fails on comparing a first-child position in a childless node)"}[source(answer)]] += how != NOTES  # fmt: skip
         facts["refused 12 for tracked notes on the way, which the Rust does not show"] += how == NOTES
-        facts["childless first-child position that the Rust accepts"] += source(answer) == "document" and answer.printed.startswith("ok")
         facts["overlap whose report itself panics in the Rust"] += answer.remark.startswith("report panicked")
         if printed.startswith("ok"):
             _, _, changed, notes, discarded, climbs = map(int, printed.split("\n", 1)[0].split()[1:])
@@ -101,7 +100,7 @@ class Comparison:
             for line in describe(batch):
                 print("    " + line)
             print("  the program: " + self.program(batch).replace("\n", "; "))
-            print("  asked for:   " + expected(answer).replace("\n", "; "))
+            print("  asked for:   " + expected(batch, answer).replace("\n", "; "))
             print("  the Rust:    " + answer.printed.replace("\n", "; ") + answer.remark)
         for name in LABELS + sorted(set(self.table) - set(LABELS)):
             print("%8d  %s" % (self.table[name], "accepted" if name == "ok" else name))

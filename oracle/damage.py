@@ -210,6 +210,7 @@ def token_as_parent(d, p):
 
 
 def childless_parent(d, p):
+    """No fault: Note 1 allows it."""
     if p.childless():
         p.add_call(FIRST, d.choose(p.childless()), [0])
 

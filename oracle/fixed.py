@@ -124,7 +124,7 @@ def line_6():
         (DELETE, s.x, [s.c], "call 3 lists one"),
         (RUN, s.x, [], "call 5 without an end"),
         (FIRST, s.b, [s.c], "call 0 with a token as parent"),
-        (FIRST, z, [s.c], "call 0 with a childless parent"),
+        (FIRST, z, [s.c], "call 0 with a childless parent, which is allowed"),
         (AFTER, s.root, [s.c], "call 1 on a root"),
         (AFTER, s.trees[1], [], "call 1 on another tree's root"),
         (DELETE, s.root, [], "call 3 on a root"),
@@ -348,11 +348,11 @@ def landings():
     yield "a token lands on a node", batch([a], [node(5, token(2, b"z"))], REPLACE, a)
     yield "a node lands on a token", batch([inner], [token(2, b"z")], REPLACE, inner)
     yield "a missing step", batch([token(2, b"1"), a], [token(2, b"z")], AFTER, a)
-    yield "a first-child position lands in a childless node: the Rust accepts it", batch([a], [], FIRST)
+    yield "a first-child position lands in a childless node", batch([a], [], FIRST)
     yield "a place below a mapped node", batch([inner], [node(5, token(2, b"z"))], AFTER, inner.children[0])
     compared = batch([a], [], FIRST)
     compared.calls.append((FIRST, compared.trees[0].children[0], [compared.trees[2]]))
-    yield "two first-child positions land in one childless node: the Rust compares them and fails", compared
+    yield "two first-child positions land in one childless node, the later left: the Rust fails on comparing them", compared
     looping = batch([a], [], FIRST)
     looping.mappings.append((looping.trees[1], looping.trees[1].children[0]))
     looping.notes.append((looping.trees[1], 1))
@@ -570,7 +570,63 @@ def every_size():
     return Batch(trees, calls, maps, [(tokens[i], 1 + i % 7) for i in range(256)])
 
 
+# ---------------------------------------------------------------- Note 1: insertion into an empty node
+
+
+def empty_nodes():
+    """Where there is one change, or the position has children before rewriting, the Rust compares nothing and vouches."""
+    a, b, c, d = token(2, b"a"), token(3, b"b"), token(4, b"c"), token(5, b"d")
+    y, z = node(6), node(7)
+    other = node(8, c, d)
+    into = (FIRST, z, [c])
+    empty, beside, both = [node(1), other], [node(1, a, z, b), other], [node(1, y, z), other]
+    yield "an insertion into an empty root", Batch(empty, [(FIRST, empty[0], [c, d])], notes=[(empty[0], 1), (d, 2)])
+    yield "nothing is inserted into an empty root", Batch(empty, [(FIRST, empty[0], [])])
+    yield "an insertion into an empty node between tokens", Batch(beside, [into], notes=[(z, 1), (c, 1), (b, 1)])
+    yield "an empty node goes into itself", Batch(beside, [(FIRST, z, [z, z])], notes=[(z, 1)])
+    apart = [node(1, a, b), node(8, c, z)]
+    yield "an insertion into another tree's empty node", Batch(apart, [into])
+    yield "an empty node at depth 63 takes a token", Batch([chain(62, z), other], [into])
+    yield "an empty node at depth 64 takes none: depth 65 after a step", Batch([chain(63, z), other], [into])
+    yield "two insertions into one empty node, the later left", Batch(beside, [into, (FIRST, z, [d])])
+    yield "two editors insert into one empty node, the later left", Batch(beside, [into, OTHER, (FIRST, z, [d])])
+    yield "insertions before, into and after an empty node", Batch(beside, [(AFTER, z, [c]), (AFTER, a, [d]), into])
+    yield "an insertion into an empty node that is listed elsewhere", Batch(beside, [into, (AFTER, b, [z])], notes=[(c, 1)])
+    yield "an insertion into another tree's empty node, and both listed", Batch(apart, [into, (AFTER, a, [z, apart[1]])], notes=[(c, 1)])
+    yield "a deleted empty node discards an insertion into it", Batch(beside, [(DELETE, z, []), into])
+    yield "a deleted empty node discards an insertion into it, and c after it is gone", Batch(beside, [(DELETE, z, []), into, (AFTER, z, [c])])
+    yield "a run of empty nodes discards an insertion into one of them", Batch(both, [(RUN, y, [z, d]), into])
+    yield "deleting an empty node discards an insertion into its empty neighbour", Batch(both, [(DELETE, z, []), (FIRST, y, [c])])
+    yield "an insertion into an empty node beside an overlap", Batch(beside, [into, (RUN, a, [b]), (DELETE, b, [])])
+    yield "an empty root is replaced, and then an insertion into it is gone", Batch(empty, [(FIRST, empty[0], [c]), (REPLACE, empty[0], [other])])
+    yield from landings_in_empty_nodes()
+
+
+def landings_in_empty_nodes():
+    c, d = token(4, b"c"), token(5, b"d")
+    other = node(8, c, d)
+    y, z, copy = node(6), node(7), node(7)
+    r = node(9, token(2, b"r"), copy)
+    neighbours, calls = [node(1, y, z), r, other], [(REPLACE, z, [r]), (FIRST, z, [c])]
+    yield "an empty node is replaced by one with an empty copy, and takes an insertion there", Batch(neighbours, calls, [(z, copy)], [(c, 1)])
+    yield "an empty node is replaced, nothing mapped, with an insertion into it", Batch(neighbours, calls)
+    yield "an empty node is replaced with an insertion into its empty neighbour", Batch(neighbours, [calls[0], (FIRST, y, [c])], [(z, copy)])
+    for what, inside, landing in (
+        ("an insertion lands in an empty node below the mapped one", node(5, token(2, b"i")), node(5)),
+        ("an insertion into an empty node lands in one with children", node(5), node(5, token(2, b"j"))),
+        ("an insertion into an empty node lands on a token", node(5), token(2, b"j")),
+    ):
+        x, copy = node(6, token(2, b"a"), inside), node(6, token(2, b"a"), landing)
+        r = node(9, copy)
+        yield what, Batch([node(1, x, token(3, b"b")), r, other], [(REPLACE, x, [r]), (FIRST, inside, [c])], [(x, copy)])
+    x, middle, last = node(6, token(2, b"a")), node(6, token(2, b"a")), node(6)
+    trees = [node(1, x), node(9, middle), node(9, last), other]
+    calls = [(REPLACE, x, [trees[1]]), (REPLACE, middle, [trees[2]]), (FIRST, middle, [c])]
+    yield "an insertion into a copy lands in an empty one of a further tree", Batch(trees, calls, [(x, middle), (middle, last)])
+
+
 def all_cases():
-    for part in (printed, marked, lines_2_to_4, line_5, line_6, line_7, recording, planning, dependents, endless, notes, running, limits):
+    parts = (printed, marked, lines_2_to_4, line_5, line_6, line_7, recording, planning, dependents, endless, notes, running, limits, empty_nodes)
+    for part in parts:
         for what, batch in part():
             yield what, encode(batch) if isinstance(batch, Batch) else batch

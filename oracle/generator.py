@@ -317,6 +317,23 @@ def emptied(d):
     return batch
 
 
+def templates(d):
+    """Insertions into empty nodes: alone, beside other calls, and in a replaced node."""
+    style = small_style(d)
+    style.empty_node = 0.6
+    batch = Batch([some_tree(d, style, d.below(3)) for _ in range(d.between(2, 4))])
+    inner = [it for it in batch.trees[0].below() if it.is_node and it is not batch.trees[0]]
+    if inner and d.chance(0.4):
+        nested(d, style, batch, d.choose(inner), 2)
+    calls = Calls(d, batch, EVEN)
+    empty = [it for it in calls.old if it.is_node and not it.children] or [it for it in calls.all if it.is_node]
+    for _ in range(d.weighted(((1, 4), (2, 2), (3, 1)))):
+        batch.calls.append((FIRST, d.choose(empty), calls.listed(calls.count())))
+    calls.add(d.weighted(((0, 4), (1, 2), (4, 1))))
+    batch.calls = d.shuffled(batch.calls)
+    return batch
+
+
 def tangled(d):
     """Chains with mappings that make no sense added to them or put in their place."""
     batch = chains(d) if d.chance(0.7) else free(d)
@@ -399,7 +416,7 @@ def large(d):
     return batch
 
 
-SORTS = ((free, 22), (crowded, 12), (moving, 12), (chains, 34), (tangled, 12), (emptied, 2), (growing, 1.2), (exact, 0.4), (large, 0.4))
+SORTS = ((templates, 3), (free, 19), (crowded, 12), (moving, 12), (chains, 34), (tangled, 12), (emptied, 2), (growing, 1.2), (exact, 0.4), (large, 0.4))
 
 
 def add_editors(d, batch):
@@ -418,7 +435,7 @@ def generate(seed, number):
     """The batch of this number: what sort it is, and its bytes."""
     d = Draws(seed, number)
     damaged = d.chance(0.1)
-    sort = d.weighted(SORTS[:6] if damaged else SORTS)
+    sort = d.weighted(SORTS[:7] if damaged else SORTS)
     batch = sort(d)
     add_editors(d, batch)
     add_notes(d, batch)

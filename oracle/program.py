@@ -6,8 +6,8 @@ from pathlib import Path
 
 from rust import ROOT, Partner, found
 
-# Document 01 as a program, in the shared tools beside the repository.
-MODEL = str(ROOT.parent / "shared" / "tools" / "model.py")
+# The documents as a program, at the level of what has landed.
+MODEL = str(ROOT / "oracle" / "landed.py")
 
 
 def load_module(path):

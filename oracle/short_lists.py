@@ -50,7 +50,7 @@ def calls_on(stage, targets, pool, most):
     out, put = [], lists(pool, most)
     for number in targets:
         target = stage.elements[number]
-        if target.children:
+        if target.is_node:
             out += [(FIRST, number, numbers) for numbers in put]
         if target.is_root:
             out += [(REPLACE, number, (new,)) for new in pool if stage.elements[new].is_node]

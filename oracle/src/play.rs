@@ -26,9 +26,16 @@ pub struct Answer {
     pub remark: String,
 }
 
+/// Where a panic arose and what it said; `childless` if the Rust asked for the range of a first-child position in a childless node.
+#[derive(Default)]
+struct Panic {
+    childless: bool,
+    remark: String,
+}
+
 thread_local! {
-    /// Where the last panic arose and what it said.
-    static PANIC: RefCell<String> = RefCell::default();
+    /// The last one.
+    static PANIC: RefCell<Panic> = RefCell::default();
 }
 
 /// Edits are watched from now on; to be said once.
@@ -38,11 +45,13 @@ pub fn watch_edits() {
 
 /// Panics are kept for the answer and not written out.
 pub fn catch_panics() {
-    set_hook(Box::new(|info| {
+    let target_range = places::target_range();
+    set_hook(Box::new(move |info| {
         let place = info.location().map(|it| (it.file().rsplit('/').next().unwrap_or(""), it.line()));
         let (file, line) = place.unwrap_or_default();
         let said = info.payload_as_str().unwrap_or("");
-        PANIC.set(format!("{file}:{line} {said}"));
+        let childless = info.location().is_some_and(|it| target_range.holds(it));
+        PANIC.set(Panic { childless, remark: format!("{file}:{line} {said}") });
     }));
 }
 
@@ -60,7 +69,6 @@ pub fn answer(data: &[u8], sharing: Sharing) -> Answer {
     watch::begin(batch.elements.len() as u64, recorded, batch.notes.len() as u64);
     let outcome = catch_unwind(AssertUnwindSafe(|| editor.finish()));
     let seen = watch::end();
-    let childless = if seen.childless { "childless " } else { "" };
     let (printed, remark) = match outcome {
         _ if seen.reported => ("overlap\n".to_owned(), report(outcome.ok())),
         Ok(_) if player.too_many_notes() => ("large\n".to_owned(), "notes".to_owned()),
@@ -68,16 +76,19 @@ pub fn answer(data: &[u8], sharing: Sharing) -> Answer {
         Err(payload) => match payload.downcast::<watch::Stop>() {
             Ok(why) if matches!(*why, watch::Stop::Loop) => ("loop\n".to_owned(), String::new()),
             Ok(_) => ("large\n".to_owned(), "trees".to_owned()),
-            Err(_) => ("panic\n".to_owned(), PANIC.take()),
+            Err(_) => {
+                let Panic { childless, remark } = PANIC.take();
+                (if childless { "childless\n" } else { "panic\n" }.to_owned(), remark)
+            }
         },
     };
-    Answer { printed, remark: format!("{childless}{remark}") }
+    Answer { printed, remark }
 }
 
 /// How the report of overlapping changes went: an untouched tree with nothing listed, or a panic of its own.
 fn report(edit: Option<SyntaxEdit>) -> String {
     match edit {
-        None => format!("report panicked: {}", PANIC.take()),
+        None => format!("report panicked: {}", PANIC.take().remark),
         Some(edit) if edit.new_root() == edit.old_root() && edit.changed_elements().is_empty() => "untouched".to_owned(),
         Some(_) => "touched".to_owned(),
     }
@@ -180,7 +191,7 @@ impl Player<'_> {
         let target = self.element(call.target);
         let mut listed = call.listed.iter().map(|&it| self.element(it)).collect::<Vec<_>>();
         match call.operation {
-            0 => insert(editor, Position::first_child_of(&self.node(call.target).for_first_child()), listed, place),
+            0 => insert(editor, Position::first_child_of(&self.node(call.target)), listed, place),
             1 => insert(editor, Position::after(target), listed, place),
             2 => editor.replace(target, listed.remove(0)),
             3 => editor.delete(target),

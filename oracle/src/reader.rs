@@ -154,7 +154,7 @@ fn allowed(call: &Call, elements: &[Element<'_>]) -> bool {
     let first = call.listed.first().map(|&it| &elements[it]);
     let below_root = target.parent.is_some();
     match call.operation {
-        0 => target.node && target.children > 0,
+        0 => target.node,
         1 | 4 => below_root,
         2 => call.listed.len() == 1 && (below_root || first.is_some_and(|it| it.node)),
         3 => below_root && first.is_none(),

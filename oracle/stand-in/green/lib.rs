@@ -4,7 +4,7 @@
 //! one green pointer and one offset. With `--cfg watch` an edit is watched as over the numbered stand-in; without it nothing is watched and nothing
 //! is paid for it. Where rowan's way is not known, the cheaper one is taken.
 
-use std::{fmt, hash};
+use std::fmt;
 
 #[path = "../shared/element.rs"]
 mod element;
@@ -30,10 +30,9 @@ pub struct SyntaxToken {
     red: Red,
 }
 
-/// A node. The mark plays no part in equality.
+#[derive(PartialEq, Eq, Hash)]
 pub struct SyntaxNode {
     red: Red,
-    mark: watch::Mark,
 }
 
 pub type SyntaxElement = NodeOrToken<SyntaxNode, SyntaxToken>;
@@ -44,23 +43,8 @@ const _: () = assert!(size_of::<SyntaxElement>() == 16);
 impl Clone for SyntaxNode {
     #[cfg_attr(watch, track_caller)]
     fn clone(&self) -> Self {
-        watch::cloned(|| self.red.tree(), || self.is_childless());
-        Self { red: self.red.clone(), mark: self.mark }
-    }
-}
-
-impl PartialEq for SyntaxNode {
-    fn eq(&self, other: &Self) -> bool {
-        watch::compared(self.mark, other.mark);
-        self.red == other.red
-    }
-}
-
-impl Eq for SyntaxNode {}
-
-impl hash::Hash for SyntaxNode {
-    fn hash<H: hash::Hasher>(&self, state: &mut H) {
-        self.red.hash(state);
+        watch::cloned(|| self.red.tree());
+        Self { red: self.red.clone() }
     }
 }
 
@@ -88,7 +72,7 @@ impl SyntaxToken {
 
 impl SyntaxNode {
     fn of(red: Red) -> SyntaxNode {
-        SyntaxNode { red, mark: watch::PLAIN }
+        SyntaxNode { red }
     }
 
     /// A new tree. During an edit this ends a step, whose limits are judged first.
@@ -119,7 +103,6 @@ impl SyntaxNode {
     }
 
     pub fn text_range(&self) -> TextRange {
-        watch::rewritten();
         self.red.range()
     }
 
@@ -138,17 +121,14 @@ impl SyntaxNode {
     }
 
     pub fn tree_top(&self) -> SyntaxNode {
-        watch::rewritten();
         SyntaxNode::of(self.red.top().clone())
     }
 
-    #[cfg_attr(watch, track_caller)]
     pub fn children_with_tokens(&self) -> SyntaxElementChildren {
-        SyntaxElementChildren { parent: self.red.clone(), next: 0, last: None, landing: watch::listed() }
+        SyntaxElementChildren { parent: self.red.clone(), next: 0, last: None }
     }
 
     pub fn first_child_or_token(&self) -> Option<SyntaxElement> {
-        watch::rewritten();
         self.red.child(0).map(Red::element)
     }
 
@@ -173,18 +153,9 @@ impl SyntaxNode {
         })
     }
 
-    fn is_childless(&self) -> bool {
-        self.green().children().is_empty()
-    }
-
     /// The child of that index, for the oracle, which knows that there is one.
     pub fn child_at(&self, index: usize) -> SyntaxElement {
         self.red.child(index).expect("a child of the node").element()
-    }
-
-    /// The same node, marked as the parent of a first-child position.
-    pub fn for_first_child(&self) -> SyntaxNode {
-        SyntaxNode { red: self.red.clone(), mark: watch::FIRST_CHILD }
     }
 }
 
@@ -205,7 +176,6 @@ impl SyntaxElement {
     }
 
     pub fn text_range(&self) -> TextRange {
-        watch::rewritten();
         self.red().range()
     }
 
@@ -272,7 +242,6 @@ pub struct SyntaxElementChildren {
     parent: Red,
     next: usize,
     last: Option<Red>,
-    landing: watch::Mark,
 }
 
 impl SyntaxElementChildren {
@@ -306,11 +275,7 @@ impl Iterator for SyntaxElementChildren {
 
     fn nth(&mut self, n: usize) -> Option<SyntaxElement> {
         self.advance(n);
-        let child = self.last.clone()?.element();
-        if let NodeOrToken::Node(node) = &child {
-            watch::landed(self.landing, || node.is_childless());
-        }
-        Some(child)
+        self.last.clone().map(Red::element)
     }
 }
 

@@ -4,9 +4,6 @@ use crate::Size;
 pub use crate::seen::{Lines, Places, Seen, Stop};
 
 pub type Number = ();
-pub type Mark = ();
-pub const PLAIN: Mark = ();
-pub const FIRST_CHILD: Mark = ();
 
 pub fn install(_: Places) {}
 pub fn reset() {}
@@ -17,11 +14,7 @@ pub fn end() -> Seen {
 
 pub(crate) fn next_tree() -> Number {}
 pub(crate) fn step_done(_: impl FnOnce() -> Size) {}
-pub(crate) fn cloned(_: impl FnOnce() -> Number, _: impl FnOnce() -> bool) {}
-pub(crate) fn compared(_: Mark, _: Mark) {}
-pub(crate) fn listed() -> Mark {}
-pub(crate) fn landed(_: Mark, _: impl FnOnce() -> bool) {}
-pub(crate) fn rewritten() {}
+pub(crate) fn cloned(_: impl FnOnce() -> Number) {}
 pub(crate) fn parent_taken() {}
 pub(crate) fn ancestors_searched() {}
 pub(crate) fn text_written() {}

@@ -177,6 +177,8 @@ impl PartialEq for Handle {
     }
 }
 
+impl Eq for Handle {}
+
 impl hash::Hash for Handle {
     fn hash<H: hash::Hasher>(&self, state: &mut H) {
         state.write_u32(self.tree.id);
@@ -235,53 +237,23 @@ fn append_text(green: &GreenElement, text: &mut Vec<u8>) {
     }
 }
 
-#[derive(Hash)]
+#[derive(Clone, PartialEq, Eq, Hash)]
 pub struct SyntaxToken {
     handle: Handle,
 }
 
-/// A node. The mark plays no part in equality.
+#[derive(PartialEq, Eq, Hash)]
 pub struct SyntaxNode {
     handle: Handle,
-    mark: watch::Mark,
 }
 
 pub type SyntaxElement = NodeOrToken<SyntaxNode, SyntaxToken>;
 
-impl Clone for SyntaxToken {
-    fn clone(&self) -> Self {
-        Self { handle: self.handle.clone() }
-    }
-}
-
-impl PartialEq for SyntaxToken {
-    fn eq(&self, other: &Self) -> bool {
-        self.handle == other.handle
-    }
-}
-
-impl Eq for SyntaxToken {}
-
 impl Clone for SyntaxNode {
     #[track_caller]
     fn clone(&self) -> Self {
-        watch::cloned(|| self.handle.tree.id, || self.is_childless());
-        Self { handle: self.handle.clone(), mark: self.mark }
-    }
-}
-
-impl PartialEq for SyntaxNode {
-    fn eq(&self, other: &Self) -> bool {
-        watch::compared(self.mark, other.mark);
-        self.handle == other.handle
-    }
-}
-
-impl Eq for SyntaxNode {}
-
-impl hash::Hash for SyntaxNode {
-    fn hash<H: hash::Hasher>(&self, state: &mut H) {
-        self.handle.hash(state);
+        watch::cloned(|| self.handle.tree.id);
+        Self { handle: self.handle.clone() }
     }
 }
 
@@ -308,7 +280,7 @@ impl SyntaxToken {
 
 impl SyntaxNode {
     fn of(handle: Handle) -> SyntaxNode {
-        SyntaxNode { handle, mark: watch::PLAIN }
+        SyntaxNode { handle }
     }
 
     /// A new tree. During an edit this ends a step, whose limits are judged first.
@@ -350,7 +322,6 @@ impl SyntaxNode {
     }
 
     pub fn text_range(&self) -> TextRange {
-        watch::rewritten();
         self.handle.entry().range
     }
 
@@ -371,18 +342,14 @@ impl SyntaxNode {
     }
 
     pub fn tree_top(&self) -> SyntaxNode {
-        watch::rewritten();
         self.handle.top()
     }
 
-    #[track_caller]
     pub fn children_with_tokens(&self) -> SyntaxElementChildren {
-        let landing = watch::listed();
-        SyntaxElementChildren { parent: self.handle.clone(), next: 0, landing }
+        SyntaxElementChildren { parent: self.handle.clone(), next: 0 }
     }
 
     pub fn first_child_or_token(&self) -> Option<SyntaxElement> {
-        watch::rewritten();
         self.handle.child(0)
     }
 
@@ -402,18 +369,9 @@ impl SyntaxNode {
         (handle.number..end).map(move |number| handle.at(number))
     }
 
-    fn is_childless(&self) -> bool {
-        self.handle.entry().children.is_empty()
-    }
-
     /// The child of that index, for the oracle, which knows that there is one.
     pub fn child_at(&self, index: usize) -> SyntaxElement {
         self.handle.child(index).expect("a child of the node")
-    }
-
-    /// The same node, marked as the parent of a first-child position.
-    pub fn for_first_child(&self) -> SyntaxNode {
-        SyntaxNode { handle: self.handle.clone(), mark: watch::FIRST_CHILD }
     }
 }
 
@@ -427,7 +385,6 @@ impl SyntaxElement {
     }
 
     pub fn text_range(&self) -> TextRange {
-        watch::rewritten();
         self.handle().entry().range
     }
 
@@ -500,7 +457,6 @@ impl From<SyntaxToken> for SyntaxElement {
 pub struct SyntaxElementChildren {
     parent: Handle,
     next: usize,
-    landing: watch::Mark,
 }
 
 impl Iterator for SyntaxElementChildren {
@@ -513,9 +469,6 @@ impl Iterator for SyntaxElementChildren {
     fn nth(&mut self, n: usize) -> Option<SyntaxElement> {
         let child = self.parent.child(self.next + n);
         self.next += n + 1;
-        if let Some(NodeOrToken::Node(node)) = &child {
-            watch::landed(self.landing, || node.is_childless());
-        }
         child
     }
 }

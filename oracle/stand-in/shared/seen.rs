@@ -1,6 +1,6 @@
 //! What is watched in an edit, and what an edit shows.
 
-use std::ops::Range;
+use std::{ops::Range, panic::Location};
 
 /// Where a function of the Rust stands.
 pub struct Lines {
@@ -8,12 +8,16 @@ pub struct Lines {
     pub lines: Range<u32>,
 }
 
+impl Lines {
+    pub fn holds(&self, location: &Location<'_>) -> bool {
+        self.lines.contains(&location.line()) && location.file().ends_with(self.file)
+    }
+}
+
 /// The functions that are watched, by their names.
 pub struct Places {
-    pub upmap_child: Lines,
     pub upmap_to_ancestor: Lines,
     pub upmap_element: Lines,
-    pub rewrite_dependent_target: Lines,
     pub execute: Lines,
 }
 
@@ -32,8 +36,6 @@ pub struct Seen {
     pub climb_steps: u64,
     /// Changes performed.
     pub steps: u64,
-    /// A first-child position was rewritten into a childless node.
-    pub childless: bool,
     /// The report of overlapping changes was begun.
     pub reported: bool,
 }

@@ -1,0 +1,45 @@
+"""The model: document 01 as the requests of document 02 that have landed leave it, as a program.
+
+`model.py` of the shared tools is document 01; `notes.py` there is every request on top of it, by level."""
+
+import sys
+from functools import lru_cache
+from pathlib import Path
+from types import ModuleType
+
+# Notes 1 to LEVEL of document 02 have landed.
+LEVEL = 1
+TOOLS = Path(__file__).resolve().parent.parent.parent / "shared" / "tools"
+
+
+def texts():
+    """The two modules' texts, the lower one first."""
+    return {name: (TOOLS / (name + ".py")).read_text() for name in ("model", "notes")}
+
+
+def built(texts):
+    """The module `notes` over the module `model`, made from these texts."""
+    for name, text in texts.items():
+        module = sys.modules[name] = ModuleType(name)
+        exec(compile(text, name, "exec"), module.__dict__)
+    # Printing a batch's answer and finding elements in it take one edit.
+    module.edit = lru_cache(maxsize=1)(module.edit)
+    return module
+
+
+notes = built(texts())
+
+
+def edit_program(batch, model=notes):
+    """What the edit program prints."""
+    return model.edit_program(batch, level=LEVEL)
+
+
+def result(batch):
+    """The result's bytes, or a refusal."""
+    return notes.result(batch, level=LEVEL)
+
+
+def find_element(batch, number):
+    """The element of the new tree, None, or a refusal."""
+    return notes.find_element(batch, number, level=LEVEL)
