@@ -40,7 +40,7 @@ def token(kind, text=b""):
 
 
 class Batch:
-    """`read_calls` are (operation, target, listed); operation 6 has no target. `mappings` are (input, output), `notes` (element, number)."""
+    """`calls` are (operation, target, listed); operation 6 has no target. `mappings` are (input, output), `notes` (element, number)."""
 
     def __init__(self, trees, calls=(), mappings=(), notes=()):
         self.trees, self.calls, self.mappings, self.notes = list(trees), list(calls), list(mappings), list(notes)

@@ -14,7 +14,7 @@ fn case(name: &str, elements: usize, calls: usize, builder: &BatchBuilder) -> Ca
     Case { name: name.to_owned(), elements, calls, batch }
 }
 
-/// A tree of about `elements` (groups of a node and seven tokens) and one of four, with `read_calls` of four sorts spread over it: an insertion, a
+/// A tree of about `elements` (groups of a node and seven tokens) and one of four, with `calls` of four sorts spread over it: an insertion, a
 /// replacement, a deletion, a run.
 fn mixed(name: &str, elements: usize, calls: usize, notes: usize) -> Case {
     let mut it = BatchBuilder::new();

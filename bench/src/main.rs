@@ -17,9 +17,9 @@ struct Peer {
     /// Whether it tells discarded changes and climb steps; else it is not watched, and both are printed as nothing.
     watched: bool,
     printed: fn(&[u8]) -> String,
-    /// `finish_arrays` alone: the trees are built and the calls recorded before.
+    /// `finish` alone: the trees are built and the calls recorded before.
     finish: fn(&[u8], &mut Clock),
-    /// The batch's bytes read, trees built, calls recorded, and `finish_arrays`.
+    /// The batch's bytes read, trees built, calls recorded, and `finish`.
     whole: fn(&[u8], &mut Clock),
 }
 
@@ -40,7 +40,7 @@ macro_rules! peer {
 
 const PEERS: [Peer; 3] = [peer!(numbered, true), peer!(green, false), peer!(straight, false)];
 
-/// The times of one batch, in nanoseconds. `finish_arrays` and `whole` are those of the peers.
+/// The times of one batch, in nanoseconds. `finish` and `whole` are those of the peers.
 struct Times {
     calls: usize,
     ours: f64,

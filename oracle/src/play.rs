@@ -88,13 +88,13 @@ fn trees(batch: &Batch, sharing: Sharing) -> Vec<SyntaxNode> {
     green_roots(batch, sharing).into_iter().map(SyntaxNode::new_root).collect()
 }
 
-/// All that goes before `finish_arrays`: a batch read, its trees built, its calls recorded. The trees are kept, as a user of the editor keeps its own.
+/// All that goes before `finish`: a batch read, its trees built, its calls recorded. The trees are kept, as a user of the editor keeps its own.
 pub struct Recorded {
     editor: SyntaxEditor,
     trees: Vec<SyntaxNode>,
 }
 
-/// What `finish_arrays` gives, with the trees.
+/// What `finish` gives, with the trees.
 pub struct Finished {
     pub edit: SyntaxEdit,
     pub trees: Vec<SyntaxNode>,
