@@ -1,0 +1,6 @@
+pub mod Words
+pub mod Changed
+pub mod Moving
+pub mod Splice
+pub mod Run
+pub mod Numbers
