@@ -4,3 +4,5 @@ pub mod Moving
 pub mod Splice
 pub mod Run
 pub mod Numbers
+pub mod Dropped
+pub mod Account

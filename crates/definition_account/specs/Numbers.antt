@@ -168,7 +168,7 @@ module _ (w : World) where
     abbrev T : Table
     T = table 0 0 ts
 
-    present-leads : (x : ℕ) (p : Path) → present w x ≡ some p → Leads w.trees p
+    pub present-leads : (x : ℕ) (p : Path) → present w x ≡ some p → Leads w.trees p
     present-leads x p e =
         let l = present-within ts w k x p e in
         let (y, s, t) = present-kind ts w (k .follows) x p l e in
