@@ -6,3 +6,5 @@ pub mod Run
 pub mod Numbers
 pub mod Dropped
 pub mod Account
+pub mod Moved
+pub mod Tokens

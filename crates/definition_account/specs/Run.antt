@@ -74,7 +74,7 @@ module _ (ts : List (Tree ℕ)) where
     abbrev first : World
     first = begin ts T notes
 
-    first-present : (x : ℕ) → x < length T → present first x ≡ some ((row T x) .path)
+    pub first-present : (x : ℕ) → x < length T → present first x ≡ some ((row T x) .path)
     unfolding begin present row
     first-present x h = getD-map (λ r. some (r .path)) T x none noRow h
 
