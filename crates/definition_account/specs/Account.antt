@@ -10,9 +10,9 @@ use native.Mathlib.Omega.{arith}
 use lib.Dec.{eqb}
 use lib.ListN.{length}
 use borrow.Author.Tests.{not-true, eq-eqb}
-use Rattle.orders.specs.Lists.{any, All}
+use Rattle.orders.specs.Lists.{All}
 use Rattle.orders.specs.ListLaws.{bool-absurd, none-some, some-inj, none-passes, All-map}
-use Rattle.orders.specs.Tree.{Tree, node, forest, Path}
+use Rattle.orders.specs.Tree.{Tree, forest, Path}
 use Rattle.orders.specs.Splices as Splices
 use Rattle.orders.specs.Splices.{Splice, State, EntersDeleted}
 use Rattle.definition.specs.Basics.{gives}
@@ -30,10 +30,10 @@ use Rattle.definition_laws.specs.Moves.{stay-keeps}
 use Rattle.definition_laws.specs.Right.{Right, right-sits}
 use Rattle.definition_laws.specs.Running.{follows-begin}
 use Rattle.definition_laws.specs.Held.{Leads, Holds, begin-holds, steps-hold, number-found}
-use Rattle.definition_laws.specs.Limits.{Ran, ran-known}
+use Rattle.definition_laws.specs.Limits.{ran-known}
 use Rattle.definition_demand.specs.Aims.{replacesRoot}
 use Rattle.definition_demand.specs.Tree0.{Tree0}
-use Rattle.definition_demand.specs.Run.{splicesIn0, Made, run-made}
+use Rattle.definition_demand.specs.Run.{splicesIn0, run-made}
 use Rattle.definition_account.specs.Words.{ChangedApart, Full, wentTo, ChangedApartInNew, dependentIn0, keepsRoot, noDependentIn0, EachOneOf, NowhereIfDeleted, FullAccount}
 use Rattle.definition_account.specs.Run.{Kept, Recorded, first-kept, first-full, steps-kept}
 use Rattle.definition_account.specs.Numbers.{present-leads, apart-in-new, full-each}

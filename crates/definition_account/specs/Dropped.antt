@@ -1,10 +1,10 @@
 -- Which old paths are dropped: just those that enter a child that some splice deletes, whether or not the splices are apart.
 -- Assumes nothing.
 use mathlib.Core.Path.{_≡_, refl, sym, ap, _∙_}
-use mathlib.Core.List.{List, [], _∷_, _++_, append-assoc, head-eq-of-cons-eq, List·Memᴰ, List·Memᴰ·head, List·Memᴰ·tail, List·Memᴰ·cases-cons, List·Memᴰ·not-nil, append-cancel-left}
+use mathlib.Core.List.{List, [], _∷_, _++_, append-assoc, head-eq-of-cons-eq, List·Memᴰ·head, List·Memᴰ·tail, List·Memᴰ·cases-cons, List·Memᴰ·not-nil, append-cancel-left}
 use mathlib.Core.Logic.{_⊎_, inl, inr, _↔_}
-use mathlib.Core.Option.{Option, none, some, Option·map, bind}
-use Prim.Native.Nat.{ℕ, zero, suc, _≤_, _<_}
+use mathlib.Core.Option.{Option, none, some, bind}
+use Prim.Native.Nat.{ℕ, suc, _≤_, _<_}
 use native.Mathlib.Omega.{arith}
 use lib.ListN.{length}
 use Rattle.orders.specs.Lists.{All}
@@ -129,9 +129,10 @@ module _ {A : Type 0} where
 
       one : (r : Run) → runByTarget (now .path) s (T .0) ≡ some r → (final .path e ≡ none) ↔ (((performAt r s now) .path e ≡ none) ⊎ EntersDeleted S e) → (final .path e ≡ none) ↔ ((now .path e ≡ none) ⊎ EntersDeleted (s ∷ S) e)
       one r x ih =
-          let (to, from) = this r x (now .path e) refl in
-          ((λ z. elim (ih .0 z) [ inl y ↦ elim (to y) [ inl q ↦ inl q | inr q ↦ inr (head-in q) ] | inr y ↦ inr (tail-in y) ]),
-          λ z. elim z [ inl y ↦ ih .1 (inl (from (inl y))) | inr y ↦ back y ])
+          let (to, from) = this r x (now .path e) refl in (
+            (λ z. elim (ih .0 z) [ inl y ↦ elim (to y) [ inl q ↦ inl q | inr q ↦ inr (head-in q) ] | inr y ↦ inr (tail-in y) ]),
+            λ z. elim z [ inl y ↦ ih .1 (inl (from (inl y))) | inr y ↦ back y ],
+          )
         where
           back : EntersDeleted (s ∷ S) e → final .path e ≡ none
           back d = elim (List·Memᴰ·cases-cons (d .one)) [

@@ -11,7 +11,7 @@ use lib.ListN.{length, length-map}
 use borrow.Author.Tests.{eqb-false}
 use Rattle.orders.specs.Lists.{All, pick}
 use Rattle.orders.specs.ListLaws.{pick-none, pick-some}
-use Rattle.orders.specs.Tree.{Tree, Path, adjust, shift}
+use Rattle.orders.specs.Tree.{Tree, Path, adjust}
 use Rattle.orders.specs.TreeLaws.{adjust-out, adjust-shift, shift-before}
 use Rattle.definition.specs.Basics.{gives}
 use Rattle.definition.specs.Elements.{Table, table, row, tree}

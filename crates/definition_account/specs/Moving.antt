@@ -1,18 +1,18 @@
 -- Paths that move, seen from where they come to: two never meet, what is below stays below, none comes to where something new is put.
 -- Assumes nothing.
 use mathlib.Core.Path.{_≡_, refl, sym, ap, _∙_}
-use mathlib.Core.Bool.{Bool, true, false, cond}
+use mathlib.Core.Bool.{Bool, true, false}
 use mathlib.Core.List.{[], _∷_, _++_, append-assoc, append-nil, head-eq-of-cons-eq, tail-eq-of-cons-eq}
-use mathlib.Core.Logic.{_⊎_, inl, inr}
-use mathlib.Core.Option.{Option, none, some, Option·map, bind}
-use Prim.Native.Nat.{ℕ, zero, suc, _+_, _-_, _≤_, _<_}
+use mathlib.Core.Logic.{inl, inr}
+use mathlib.Core.Option.{Option, none, some, Option·map}
+use Prim.Native.Nat.{ℕ, zero, suc, _+_, _≤_, _<_}
 use native.Mathlib.Omega.{arith}
 use lib.Dec.{eqb}
 use lib.ListN.{length, take, drop, take-append-drop, length-append}
 use borrow.Author.Tests.{eqb-true, eqb-false}
-use Rattle.orders.specs.ListLaws.{some-inj, none-some, map-some, lt-or-le, Zone, before, inside, after, zone?}
+use Rattle.orders.specs.ListLaws.{some-inj, none-some, map-some, lt-or-le, before, inside, after, zone?}
 use Rattle.orders.specs.Tree.{Path, adjust, shift, front, last}
-use Rattle.orders.specs.TreeLaws.{front-same, last-same, front-last, shift-before, shift-inside, shift-after, adjust-root, adjust-shift, adjust-in, adjust-out, adjust-length}
+use Rattle.orders.specs.TreeLaws.{front-same, last-same, front-last, shift-before, shift-inside, shift-after, adjust-root, adjust-shift, adjust-in, adjust-out}
 use Rattle.definition_laws.specs.Moves.{Keeps}
 
 -- the same front of two paths, if the fronts are equally long

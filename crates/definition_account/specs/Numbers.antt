@@ -3,13 +3,13 @@
 use mathlib.Core.Path.{_≡_, refl, sym, ap, _∙_, subst}
 use mathlib.Core.Bool.{Bool, true, false, cond}
 use mathlib.Core.List.{List, [], _∷_, _++_, map, head-eq-of-cons-eq, tail-eq-of-cons-eq, List·Memᴰ, List·Memᴰ·head, List·Memᴰ·tail, List·Memᴰ·cases-cons, List·Memᴰ·not-nil}
-use mathlib.Core.Logic.{_⊎_, inl, inr, _↔_}
+use mathlib.Core.Logic.{_⊎_, inl, inr}
 use mathlib.Core.Option.{Option, none, some, bind}
-use Prim.Native.Nat.{ℕ, zero, suc, _+_, _≤_, _<_}
+use Prim.Native.Nat.{ℕ, suc, _+_, _≤_, _<_}
 use native.Mathlib.Omega.{arith}
 use lib.Dec.{eqb}
 use lib.ListN.{length, take, getElem?}
-use borrow.Author.Tests.{eqb-true, eqb-false, eq-eqb}
+use borrow.Author.Tests.{eqb-true, eq-eqb}
 use Rattle.orders.specs.Lists.{All, Pairs, pick, total}
 use Rattle.orders.specs.ListLaws.{bool-absurd, some-inj, none-some, bind-some, get-lt, lt-or-le, mem-pick, All-map, All-map₂, All-mem, All-pick, All-perm, Pairs-with, Pairs-pick, Pairs-perm, total-none, total-perm}
 use Rattle.orders.specs.Tree.{Tree, node, forest, list, children, Path, resolve, strip}
@@ -17,7 +17,7 @@ use Rattle.orders.specs.TreeLaws.{strip-append, strip-some, resolve-child}
 use Rattle.definition.specs.Basics.{isSome, keep, numbered}
 use Rattle.definition.specs.Elements.{Table, table, row, tree, placeBelow, descend}
 use Rattle.definition.specs.Running.{World, present}
-use Rattle.definition.specs.Finishing.{newTree, newTable, numberAt, changedElements}
+use Rattle.definition.specs.Finishing.{newTree, newTable, numberAt}
 use Rattle.definition_laws.specs.Kin.{path-leads, path-tells, path-long, depth-path, resolve-down}
 use Rattle.definition_laws.specs.Running.{present-kind, present-depth}
 use Rattle.definition_laws.specs.Held.{Leads, Holds, number-found}

@@ -1,7 +1,7 @@
 -- EVERY RUN keeps changed elements apart from each other and from old ones: the steps of any plan, whatever planned them, from the first to the last.
 -- Assumes nothing.
 use mathlib.Core.Path.{_≡_, refl, sym, ap, _∙_, subst}
-use mathlib.Core.Bool.{Bool, true, false, cond, _&&_}
+use mathlib.Core.Bool.{Bool, true, false, cond}
 use mathlib.Core.List.{List, [], _∷_, _++_, map, headD, head-eq-of-cons-eq}
 use mathlib.Core.Logic.{_⊎_, inl, inr}
 use mathlib.Core.Option.{Option, none, some, bind}
@@ -10,7 +10,7 @@ use native.Mathlib.Omega.{arith}
 use lib.ListN.{length, getD, length-map}
 use Rattle.orders.specs.Lists.{All}
 use Rattle.orders.specs.ListLaws.{some-inj, none-some, map-some}
-use Rattle.orders.specs.Tree.{Tree, Path, resolve, adjust, front, last}
+use Rattle.orders.specs.Tree.{Tree, Path, adjust, front, last}
 use Rattle.orders.specs.TreeLaws.{front-child, adjust-root}
 use Rattle.definition.specs.Basics.{Answer, refused, gives, refuse, orRefuse}
 use Rattle.definition.specs.Elements.{Table, table, row, noRow, root?, tree}
@@ -181,14 +181,15 @@ module _ (ts : List (Tree ℕ)) where
         let s = right-sits T p.change c in
         let new = map (yield first w) (news p.change) in
         let n = length-map (news p.change) (yield first w) in
-        let o = goes w k p.change r s (d .there) in
-        (record {
-          follows = step-follows ts first f₀ w next p (k .follows) c e;
-          home = subst (Home T) (d .leaves) (home-next w k p.change r new n o (records T p));
-          apart = subst ChangedApart (d .leaves) (spliced-apart w r new (records T p) (at-element w k p.change r new n o) (k .apart));
-        },
-        λ h f. subst Full (d .leaves) (spliced-full w r new (records T p) ((place-fits ts w (k .follows) p.change r s (d .there)) .run) (was-home w k p.change r new n o)
-        (λ i s g z l. h (comes-home w k p.change r new n o i s g z l)) f))
+        let o = goes w k p.change r s (d .there) in (
+          record {
+            follows = step-follows ts first f₀ w next p (k .follows) c e;
+            home = subst (Home T) (d .leaves) (home-next w k p.change r new n o (records T p));
+            apart = subst ChangedApart (d .leaves) (spliced-apart w r new (records T p) (at-element w k p.change r new n o) (k .apart));
+          },
+          λ h f. subst Full (d .leaves) (spliced-full w r new (records T p) ((place-fits ts w (k .follows) p.change r s (d .there)) .run) (was-home w k p.change r new n o)
+              (λ i s g z l. h (comes-home w k p.change r new n o i s g z l)) f),
+        )
 
     -- ── All steps ──
 

@@ -7,10 +7,10 @@ use mathlib.Core.Logic.{_⊎_, inl, inr}
 use mathlib.Core.Option.{Option, none, some, bind}
 use Prim.Native.Nat.{ℕ, zero, suc, _+_, _<_}
 use native.Mathlib.Omega.{arith}
-use lib.ListN.{length, getD, getElem?, length-map, length-append}
+use lib.ListN.{length, getD, length-map, length-append}
 use Rattle.orders.specs.Lists.{All, Pairs, pick}
-use Rattle.orders.specs.ListLaws.{bind-some, get-lt, mem-pick, All-map, All-map₂, All-pick, Pairs-pick}
-use Rattle.orders.specs.Tree.{Tree, Path, resolve, adjust, HasRun, front, last}
+use Rattle.orders.specs.ListLaws.{bind-some, get-lt, mem-pick, All-map₂, All-pick, Pairs-pick}
+use Rattle.orders.specs.Tree.{Path, resolve, adjust, HasRun, front, last}
 use Rattle.orders.specs.TreeLaws.{front-same, last-same, front-last, Origin, kept, came, splice-origin}
 use Rattle.definition.specs.Running.{World, present, Yield, Run, placed, spliced}
 use Rattle.definition_laws.specs.Basics.{All-append}
@@ -26,9 +26,10 @@ filled-all : (Q : Path → Type 0) (q : Path) (a : ℕ) (new : List Yield) → (
 unfolding placed
 filled-all Q q a [] k = tt
 filled-all Q q a (y ∷ new) k =
-    let z : a + 0 ≡ a = omega arith in
-    (subst (λ (m : ℕ). Q (q ++ (m ∷ []))) z (k 0 (omega arith)),
-    filled-all Q q (suc a) new (λ i h. let z : a + suc i ≡ suc a + i = omega arith in subst (λ (m : ℕ). Q (q ++ (m ∷ []))) z (k (suc i) (omega arith))))
+    let z : a + 0 ≡ a = omega arith in (
+      subst (λ (m : ℕ). Q (q ++ (m ∷ []))) z (k 0 (omega arith)),
+      filled-all Q q (suc a) new (λ i h. let z : a + suc i ≡ suc a + i = omega arith in subst (λ (m : ℕ). Q (q ++ (m ∷ []))) z (k (suc i) (omega arith))),
+    )
 
 -- two children of one parent
 children-aside : (q : Path) (i j : ℕ) → i < j → Aside (q ++ (i ∷ [])) (q ++ (j ∷ []))

@@ -5,7 +5,7 @@ use mathlib.Core.Bool.{Bool}
 use mathlib.Core.List.{List, [], _∷_, map}
 use mathlib.Core.Option.{Option, none, some}
 use Prim.Native.Nat.{ℕ}
-use lib.ListN.{length, length-map}
+use lib.ListN.{length-map}
 use Rattle.orders.specs.Lists.{All}
 use Rattle.orders.specs.ListLaws.{some-inj}
 use Rattle.orders.specs.Tree.{Tree, token, Path, resolve, adjust, splice, HasRun, strip}
@@ -20,7 +20,7 @@ use Rattle.definition_laws.specs.Spelling.{Worded}
 use Rattle.definition_laws.specs.Right.{Right, right-sits}
 use Rattle.definition_laws.specs.Running.{place-fits}
 use Rattle.definition_account.specs.Splice.{was-before}
-use Rattle.definition_account.specs.Run.{Performs, performs, Kept, step-kept, first-kept}
+use Rattle.definition_account.specs.Run.{performs, Kept, step-kept, first-kept}
 use Rattle.definition_account.specs.Account.{Performed}
 
 -- where an element of the batch is that was a token at first, there is that token: its kind word and its text
