@@ -164,6 +164,12 @@ ran-performed bytes a p w x y e =
       ran = subst (λ (T : Table). steps T (begin a.trees T p.notes) (begin a.trees T p.notes) (performed a p) ≡ gives w) t e;
     }
 
+-- the invariant, of every batch that is not refused
+pub ran-apart : (bytes : List ℕ) (a : Accepted) (p : Plan) (w : World) → accepted bytes ≡ gives a → plan a ≡ gives p → ran a p ≡ gives w → ChangedApart w × ChangedApartInNew w
+ran-apart bytes a p w x y e =
+    let h = ran-performed bytes a p w x y e in
+    (performed-apart a.trees p.notes (performed a p) w h, performed-apart-in-new a.trees p.notes (performed a p) w h)
+
 -- "It holds for an accepted batch that does not replace the root and has no dependent change ending in tree 0."
 pub note-13 : (bytes : List ℕ) (a : Accepted) (p : Plan) (w : World) → accepted bytes ≡ gives a → plan a ≡ gives p → ran a p ≡ gives w
     → keepsRoot a.table (performed a p) ≡ true → noDependentIn0 a.table (performed a p) ≡ true → FullAccount a.table (splices a p) w

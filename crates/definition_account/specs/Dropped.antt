@@ -18,13 +18,13 @@ use Rattle.definition_account.specs.Moving.{keeps-above, keeps-below, ad
 
 module _ {A : Type 0} (path : Path → Option Path) (k : Keeps path) (s : Splice A) where
   -- where a path through a child of the parent of s goes
-  record Through (u : Path) (c : ℕ) (rest p : Path) : Type 0 where
+  record Through (u : Path) (c : ℕ) (p : Path) : Type 0 where
     number : ℕ
     behind : Path
     at : path (s .parent ++ (c ∷ [])) ≡ some (u ++ (number ∷ []))
     is : p ≡ u ++ (number ∷ behind)
 
-  through : (u : Path) (c : ℕ) (rest p : Path) → path (s .parent) ≡ some u → path (s .parent ++ (c ∷ rest)) ≡ some p → Through u c rest p
+  through : (u : Path) (c : ℕ) (rest p : Path) → path (s .parent) ≡ some u → path (s .parent ++ (c ∷ rest)) ≡ some p → Through u c p
   through u c rest p e g =
       let (d, t, x, y, l) = keeps-above path k (s .parent ++ (c ∷ [])) rest p (ap path (append-assoc (s .parent) (c ∷ []) rest) ∙ g) in
       let (u′, m, v, z) = k .child (s .parent) d c x in

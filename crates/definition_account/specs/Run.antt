@@ -9,7 +9,7 @@ use Prim.Native.Nat.{ℕ, zero, suc, _+_, _<_}
 use native.Mathlib.Omega.{arith}
 use lib.ListN.{length, getD, length-map}
 use Rattle.orders.specs.Lists.{All}
-use Rattle.orders.specs.ListLaws.{some-inj, none-some, map-some}
+use Rattle.orders.specs.ListLaws.{some-inj, none-some, map-some, All-map}
 use Rattle.orders.specs.Tree.{Tree, Path, adjust, front, last}
 use Rattle.orders.specs.TreeLaws.{front-child, adjust-root}
 use Rattle.definition.specs.Basics.{Answer, refused, gives, refuse, orRefuse}
@@ -211,6 +211,12 @@ module _ (ts : List (Tree ℕ)) where
         go : (o : Answer World) → step T first w p ≡ o → ((next : World) → Kept next → All (λ (m : World × Planned). Kept (m .0)) (met T first next ps)) → All (λ (m : World × Planned). Kept (m .0)) (elim o as (λ o. List (World × Planned)) [ refused n ↦ [] | gives next ↦ met T first next ps ])
         go (refused n) e f = tt
         go (gives next) e f = f next ((step-kept w next p k (c .0) e) .0)
+
+  -- FROM THE FIRST STEP TO THE LAST that is met: changed elements never nest or repeat, and no surviving old path is at or below one
+  pub every-step-apart : (notes : List Note) (ps : List Planned) → All Worded ts → All (λ p. Right T p.change) ps → All (λ (m : World × Planned). ChangedApart (m .0)) (met T (begin ts T notes) (begin ts T notes) ps)
+  every-step-apart notes ps h c =
+      let k = first-kept notes h in
+      All-map (λ m a. a .apart) (met T (begin ts T notes) (begin ts T notes) ps) (met-kept (begin ts T notes) (k .follows .worded) ps (begin ts T notes) k c)
 
   -- ── What is then known of present paths ──
 

@@ -65,11 +65,11 @@ Full w = (q : Path) (v : Tree ℕ) → resolve (0 ∷ q) w.trees ≡ some v → 
 unfoldable pub wentTo : World → ℕ → Option ℕ
 wentTo w x = bind (present w x) (numberAt (newTable w))
 
--- the same invariant in the words of the result
+-- the same in the words of the result: by the array of changed elements
 pub record ChangedApartInNew (w : World) : Type 0 where
-  -- of two places in the array of changed elements, neither has an element at or below the other's
+  -- none of them is at or below another
   pub aside : Pairs (λ c d. (placeBelow (newTable w) c d ≡ none) × (placeBelow (newTable w) d c ≡ none)) (changedElements (newTable w) w)
-  -- where an element of the batch went is not at or below a changed one
+  -- where an element of the batch went is at or below none
   pub bare : (x n : ℕ) → wentTo w x ≡ some n → All (λ c. placeBelow (newTable w) c n ≡ none) (changedElements (newTable w) w)
   -- two elements of the batch never go to one place
   pub once : (x y n : ℕ) → wentTo w x ≡ some n → wentTo w y ≡ some n → x ≡ y
