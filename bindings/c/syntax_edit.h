@@ -5,8 +5,8 @@
  * An answer is six sizes (elements, text bytes, changed, notes, discarded changes, climb steps), kinds, measures, changed elements, note numbers,
  * note elements, text.
  *
- * Who owns what: the caller owns every buffer. Nothing is allocated and nothing is kept after a call returns. No two buffers may overlap, and each
- * must have the length that is passed with it; beyond that a call has no precondition, whatever the batch and the work memory hold.
+ * Who owns what: the caller owns every buffer. Nothing is allocated and nothing is kept after a call returns. A call has no precondition but that lent
+ * buffers do not overlap and that each has the length that is passed with it, whatever the batch and the work memory hold.
  *
  * What is promised, for every content and every length:
  *  - the batch is only read;
@@ -88,7 +88,7 @@ int64_t syntax_find_element(
     uint32_t *rows, size_t rows_length,
     uint32_t *prepared, size_t prepared_length);
 
-/* All work memory, 233 KiB; static or on the heap, and one for each thread that edits at the same time. It need not be cleared. */
+/* All work memory, 233 KiB in nine slices; static or on the heap, and one for each thread that edits at the same time. It need not be cleared. */
 typedef struct syntax_work {
     uint32_t table[SYNTAX_TABLE];
     uint32_t source[SYNTAX_SOURCE];

@@ -1,7 +1,8 @@
 //! A safe wrapper of the proved syntax tree editor (`libsyntax_edit.a`).
 //!
 //! A [`Batch`] (trees, calls, mappings, notes) is laid out by a [`BatchBuilder`]; an [`Editor`], which owns the work memory, answers it with an
-//! [`Answer`] (the new tree, its changed elements, its notes) or a [`Refusal`]. No call has a precondition: every batch of bytes gets one of the two.
+//! [`Answer`] (the new tree, its changed elements, its notes) or a [`Refusal`]: every batch of bytes gets one of the two. The library's calls have no
+//! precondition but that lent buffers do not overlap, which references see to here. An editor has 233 KiB of work memory in nine slices.
 
 mod answer;
 mod batch;

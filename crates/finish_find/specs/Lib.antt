@@ -1,1 +1,1 @@
--- What the functions promise is told in finish_model (`findRow`) and syntax_node (`found`).
+-- What the functions promise is told in finish_model (`findRow`) and rows_syntax_node (`found`).

@@ -20,7 +20,7 @@ use Rattle.plan_changed_region.specs.Fates.{rowRegion}
 
 -- ── Stacks ──────────────────────────────────────────────────────────────────────────────────────────────────
 
--- the place of the region around a change, told as one more; 0 if there is none
+-- the place of the region around a change, index + 1; 0 = none
 unfoldable pub outer : ChangeRow → ℕ
 outer r = cond (eqb r.fate 0) 0 (suc r.owner)
 
@@ -28,7 +28,7 @@ outer r = cond (eqb r.fate 0) 0 (suc r.owner)
 unfoldable pub regionAt : List ℕ → ℕ → Region
 regionAt w j = rowRegion j (rowFate (rowAt w j)) (rowAt w j)
 
--- the stack whose last region is at the place p, told as one more, among the rows before place k
+-- the stack whose last region is at the place p (index + 1; 0 = none), among the rows before place k
 unfoldable pub stackTo : List ℕ → ℕ → ℕ → List Region
 stackTo w zero p = []
 stackTo w (suc j) p = cond (eqb p (suc j)) (regionAt w j ∷ stackTo w j (outer (rowAt w j))) (stackTo w j p)
@@ -37,7 +37,7 @@ stackTo w (suc j) p = cond (eqb p (suc j)) (regionAt w j ∷ stackTo w j (outer 
 unfoldable pub contains : ChangeRow → ℕ → ℕ → Bool
 contains r a b = leb r.from a && leb b r.to
 
--- of that stack, the last region that contains the range from a to b: its place, told as one more; 0 if there is none
+-- of that stack, the last region that contains the range from a to b: its place, index + 1; 0 = none
 unfoldable pub enclosing : ℕ → ℕ → List ℕ → ℕ → ℕ → ℕ
 enclosing a b w zero p = 0
 enclosing a b w (suc j) p =

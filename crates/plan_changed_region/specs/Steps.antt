@@ -19,7 +19,7 @@ use Rattle.plan_changed_region.specs.Stacks.{outer, regionAt, stackTo, e
 
 -- ── One change ──────────────────────────────────────────────────────────────────────────────────────────────
 
--- the place of the region around the row at place k, told as one more, by the places of the last regions of each tree
+-- the place of the region around the row at place k (index + 1; 0 = none), by the places of the last regions of each tree
 unfoldable pub regionAround : List ℕ → List ℕ → ℕ → ℕ
 regionAround w tops k = let r = rowAt w k in enclosing r.from r.to w k (getD tops r.tree 0)
 

@@ -1,5 +1,5 @@
 // What becomes of each change: own, dependent or discarded, by the regions of earlier changes. The region around a change is the one that its fate
-// names, so the rows' own words hold the stacks: a stack is the place of its last region, told as one more, and each region's owner is the one below.
+// names, so the rows' own words hold the stacks: a stack is the place of its last region (index + 1; 0 = none), and each region's owner is the one below.
 ghost use mathlib.Core.Path.{_≡_};
 ghost use mathlib.Core.Bool.{cond};
 ghost use mathlib.Core.List.{_++_};
@@ -26,7 +26,7 @@ fn contains_range(rows: &[u32], j: usize, from: usize, to: usize) -> bool
     to <= field(rows, j, record_changes::TO)
 }
 
-// The place of the region around the change at place `j`, told as one more; 0 if there is none.
+// The place of the region around the change at place `j`, index + 1; 0 = none.
 fn outer_region(rows: &[u32], j: usize) -> usize
     requires { ⌜ j < 2 ^ 32 ⌝ }
     ensures { λ r. ⌜ r ≡ outer (rowAt (now (rows .entry)) j) ⌝ }
@@ -38,7 +38,8 @@ fn outer_region(rows: &[u32], j: usize) -> usize
     }
 }
 
-// Of the stack whose last region is at the place `top`: the last region that contains the range from `from` to `to`; 0 if none does.
+// Rust: `rposition` over the regions in EditPlan::build. Of the stack whose last region is at the place `top`: the last region that contains the range from
+// `from` to `to`, index + 1; 0 if none does.
 fn enclosing_region(rows: &[u32], top: usize, from: usize, to: usize) -> usize
     requires { ⌜ (top ≤ 256) × Outward (now rows) top ⌝ }
     ensures { λ r. ⌜ r ≡ enclosing from to (now (rows .entry)) top top ⌝ }
@@ -53,7 +54,8 @@ fn enclosing_region(rows: &[u32], top: usize, from: usize, to: usize) -> usize
     0
 }
 
-// The fate of a change whose region around it is at the place `p`: 0 own, 1 dependent, 2 discarded.
+// Rust: NestedChanges. The fate of a change whose region around it is at the place `p`: 0 own, 1 dependent, 2 discarded. Only a node that is replaced by a
+// node, and is not discarded itself, has one counterpart into which inner targets can be mapped; else inner changes are dropped.
 fn fate_in(rows: &[u32], p: usize) -> usize
     requires { ⌜ p ≤ 256 ⌝ }
     ensures { λ r. ⌜ (r ≡ fateOf (fate (stackTo (now (rows .entry)) p p))) × (r < 3) ⌝ }
@@ -109,7 +111,8 @@ fn set_top(tops: &mut [u32], tree: usize, top: usize)
     }
 }
 
-// The last region of its tree after the change at place `k`, whose region around it is at the place `p`.
+// Rust: ChangedRegion::for_change, pushed if there is one. The last region of its tree after the change at place `k`, whose region around it is at the
+// place `p`.
 fn last_region(rows: &[u32], k: usize, p: usize) -> usize
     requires { ⌜ (k < 256) × (p ≤ k) ⌝ }
     ensures { λ r. ⌜ (r ≡ cond (eqb (rowAt (now (rows .entry)) k .region) 0) p (suc k)) × (r ≤ 256) ⌝ }
@@ -150,7 +153,7 @@ fn plan_change(rows: &mut [u32], k: usize, tops: &mut [u32])
     state_fate(rows, k, p);
 }
 
-// Each of `n` sorted changes gets its fate: words 11 and 12 of its row.
+// Rust: EditPlan::build, the loop that fills PlanEntry. Each of `n` sorted changes gets its fate: the words FATE and OWNER of its row.
 pub fn plan_fates(rows: &mut [u32], n: usize)
     requires { ⌜ (13 * n ≤ length (now rows)) × (n ≤ 256) ⌝ }
     ensures { λ _. ⌜ now (rows .exit) ≡ rowsWords (plannedRows (rowsOf n (now (rows .entry)))) ++ drop (13 * n) (now (rows .entry)) ⌝ }

@@ -1,5 +1,5 @@
 // Planning: from an accepted batch to the changes that run, in order, and the notes where they settle; refusals 8, 9 and 10. In two stages: what becomes of
-// each change (`judge_changes`), then where dependents and notes go.
+// each change (`judge_changes`), then where dependents and notes go. Nothing is edited meanwhile: the run need not think of overlaps, owners or order again.
 use plan_notes::Notes;
 use plan_overlap::Replacements;
 use plan_rewrite::Rewritten;
@@ -85,7 +85,8 @@ fn record_and_sort(
     c
 }
 
-// The first stage: the recorded changes in sorted order are judged, and unless two overlap, `sorted` holds their rows with what becomes of each.
+// Rust: EditPlan::build, up to the fates. The first stage: the recorded changes in sorted order are judged, and unless two overlap, `sorted` holds their
+// rows with what becomes of each.
 pub fn judge_changes(
     b: &[u8],
     l: Layout,
@@ -241,7 +242,8 @@ fn rewrite_and_settle(
     }
 }
 
-// Planning of an accepted batch: the change rows as they run, the places in running order and the notes where they settle, or the first refusal out of 8, 9 and 10.
+// Rust: EditPlan::build, with TreeStore::with_annotations. Planning of an accepted batch: the change rows as they run, the places in running order and the
+// notes where they settle, or the first refusal out of 8, 9 and 10.
 pub fn plan(
     b: &[u8],
     l: Layout,

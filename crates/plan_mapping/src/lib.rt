@@ -8,7 +8,8 @@ ghost use Rattle.read_element_table.specs.Wellformed.{Lines};
 ghost use Rattle.plan_mapping.specs.Mapped.{wordsAt, mappedBy, Mapped, Bounded, mappingWords};
 ghost use Rattle.plan_mapping.specs.Answers.{Placed, Climbed};
 
-// The array of the `m` mappings of the batch `b` whose inputs and outputs stand at these places: the later mapping of one input wins.
+// Rust: SyntaxMapping::add_mapping, SyntaxMapping::merge. The array of the `m` mappings of the batch `b` whose inputs and outputs stand at these places:
+// the later mapping of one input wins.
 pub fn fill_mapping(b: &[u8], inputs: usize, outputs: usize, m: usize, map: &mut [u32])
     requires { ⌜ (inputs + 4 * m ≤ length (now b)) × (outputs + 4 * m ≤ length (now b)) ⌝ }
     requires { ⌜ Bounded (length (now map)) 2048 (zip (wordsAt (now b) inputs m) (wordsAt (now b) outputs m)) ⌝ }
@@ -24,7 +25,7 @@ pub fn fill_mapping(b: &[u8], inputs: usize, outputs: usize, m: usize, map: &mut
     }
 }
 
-// The mapped node of element `e`, or `e`.
+// Rust: SyntaxMapping::upmap_node_single. The mapped node of element `e`, or `e`: one step along the mappings.
 pub fn upmap_node_single(map: &[u32], n: usize, e: usize) -> usize
     requires { ⌜ Mapped n (now map) ⌝ }
     requires { ⌜ e < n ⌝ }
@@ -43,7 +44,7 @@ pub enum Below {
     Elsewhere,
 }
 
-// The child numbers from `x` down to `e`. They are written to `place`, upward.
+// Rust: `to_first_upmap` in SyntaxMapping::upmap_child. The child numbers from `x` down to `e`. They are written to `place`, upward, and so read backward.
 pub fn place_below(table: &[u32], n: usize, x: usize, e: usize, place: &mut [u32; 64]) -> Below
     requires { ⌜ Lines n (now table) ⌝ }
     requires { ⌜ (x < n) × (e < n) × (length (now place) ≡ 64) ⌝ }
@@ -69,7 +70,8 @@ pub enum Climb {
     Refused(usize),
 }
 
-// The climb from `input`, or its mapped node, to the first parent that is `output`. The child numbers met are written to `trail`, upward.
+// Rust: SyntaxMapping::upmap_to_ancestor. The climb from `input`, or its mapped node, to the first parent that is `output`. The child numbers met are
+// written to `trail`, upward. Where the Rust would climb for ever, more than `n` steps must repeat: 10.
 pub fn upmap_to_ancestor(
     table: &[u32],
     map: &[u32],

@@ -15,8 +15,8 @@ pub enum Notes {
     Refused(usize),
 }
 
-// Each of the `k` notes settles, in order, and three words are written: the row of its element in the batch's rows, its number, its queue
-// place. The first that is refused ends it.
+// Rust: TreeStore::with_annotations. Each of the `k` notes settles, in order, and three words are written: the row of its element in the batch's rows, its
+// number, its queue place. The first that is refused ends it.
 pub fn settle_notes(
     b: &[u8],
     noted: usize,

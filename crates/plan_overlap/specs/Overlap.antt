@@ -100,7 +100,7 @@ removersBefore w (suc j) = cond (removes (rowAt w j)) ((j, rowAt w j) ∷ remove
 unfoldable pub peerBefore : List ℕ → ℕ → Option (ℕ × ChangeRow)
 peerBefore w k = first (λ s. rowPeers (rowAt w k) (s .1)) (removersBefore w k)
 
--- a place told as one more, 0 if there is none
+-- a place as index + 1; 0 = none
 unfoldable pub placeAfter : Option (ℕ × ChangeRow) → ℕ
 placeAfter none = 0
 placeAfter (some s) = suc (s .0)

@@ -1,4 +1,4 @@
--- The changes of each owner, linked: `first` tells the first change of an owner and `next` the one after a change, each as one more; 0 if there is none.
+-- The changes of each owner, linked: `first` tells the first change of an owner and `next` the one after a change, each as index + 1; 0 = none.
 -- Assumes nothing.
 use mathlib.Core.Path.{_≡_}
 use mathlib.Core.List.{List, [], _∷_, _++_, flatMap}
@@ -8,7 +8,7 @@ use lib.Dec.{eqb}
 use Rattle.definition.specs.Basics.{keep}
 use Rattle.plan_postorder.specs.Order.{ownedAt}
 
--- o is the owner of the row at place k, told as one more, 0 if it has none; 257 if it is discarded or no place below 256 owns it
+-- o is the owner of the row at place k, index + 1; 0 = none, 257 if it is discarded or no place below 256 owns it
 pub record OwnerOf (w : List ℕ) (k o : ℕ) : Type 0 where
   pub inside : o ≤ 257
   pub owns : (p : ℕ) → p ≤ 256 → ownedAt w p k ≡ eqb o p

@@ -24,7 +24,7 @@ unfoldable pub ordered : {A : Type 0} → (Option ℕ → A → Bool) → (A →
 ordered owns place qs zero owner = []
 ordered owns place qs (suc n) owner = flatMap (λ q. ordered owns place qs n (some (place q)) ++ (q ∷ [])) (keep (owns owner) qs)
 
--- an owner told as one more, 0 if there is none
+-- an owner as index + 1; 0 = none
 unfoldable pub ownerTold : ℕ → Option ℕ
 ownerTold zero = none
 ownerTold (suc k) = some k

@@ -9,7 +9,7 @@ ghost use Rattle.plan_postorder.specs.Links.{OwnerOf, Links, ownedBy, li
 use record_changes::field;
 use words::word;
 
-// The owner of the change at place `k`, told as one more; 0 of a change without owner, 257 of one that never runs.
+// Rust: PlanEntry::parent. The owner of the change at place `k`, index + 1; 0 = none, 257 of a change that never runs.
 fn owner_of(rows: &[u32], k: usize) -> usize
     requires { ⌜ k < 2 ^ 32 ⌝ }
     ensures { λ r. ⌜ OwnerOf (now (rows .entry)) k r ⌝ }
@@ -28,8 +28,8 @@ fn owner_of(rows: &[u32], k: usize) -> usize
     257
 }
 
-// The ranked changes of each owner are linked, from the last to the first: `first` tells the first one of an owner and `next` the one after a change, as one
-// more; 0 if there is none.
+// Rust: `children` and `roots` in EditPlan::build. The ranked changes of each owner are linked, from the last to the first: `first` has the first one of
+// an owner and `next` the one after a change, index + 1; 0 = none. Links are made once, so that no owner looks through all changes.
 fn link_dependents(
     rows: &[u32],
     n: usize,
@@ -51,8 +51,8 @@ fn link_dependents(
     }
 }
 
-// The changes of an owner, told as one more, are appended to `running` at `at`, each after its own dependents; of 0, those without an owner. Of all
-// changes `left` are not yet visited. Where the next one is to be appended.
+// Rust: EditPlan::append_postorder. The changes of an owner (index + 1; 0 = none) are appended to `running` at `at`, each after its own dependents: these
+// edit the replacement before it goes in. Of all changes `left` are not yet visited, which falls with each call. Where the next one is to be appended.
 fn append_postorder(
     first: &[u32; 258],
     next: &[u32; 256],

@@ -107,7 +107,8 @@ fn upmap_dependent(
     upmap_ends(table, source, map, n, input, output, operation, target, end)
 }
 
-// The row at place `i` is written with the target `x` and the end `y` if line 6 takes the rewritten call.
+// The row at place `i` is written with the target `x` and the end `y` if line 6 takes the rewritten call. The Rust does not ask: it
+// panics where it needs such a target's parent or range, or goes on (docs/DIFFERENCES.md, 2).
 fn write_judged(
     table: &[u32],
     source: &[u32],
@@ -137,7 +138,8 @@ fn write_judged(
     Rewritten::Refused(9)
 }
 
-// The change at place `i`, which depends on the one at place `k`, is written with the ends that it has in the replacement.
+// Rust: EditPlan::rewrite_dependent_target. The change at place `i`, which depends on the one at place `k`, is written with the ends that it has in the
+// replacement.
 fn rewrite_dependent_target(
     table: &[u32],
     source: &[u32],
@@ -192,8 +194,9 @@ fn rewrite_row(
     Rewritten::Steps(0)
 }
 
-// The `c` sorted rows with their fates are written to `out`, dependents with their targets in the replacement: from the last to the first,
-// each by its owner's own target and replacement, which `rows` keeps.
+// Rust: EditPlan::build, the loop over dependents. The `c` sorted rows with their fates are written to `out`, dependents with their targets in the replacement:
+// from the last to the first, so from the innermost outward, each by its owner's own target and replacement: in a chain A, B, C the change C goes into B's
+// replacement before B itself is mapped into A's. `rows` keeps the owners as they were, so that this holds in any order.
 pub fn rewrite_dependents(
     table: &[u32],
     source: &[u32],

@@ -124,7 +124,7 @@ fn upmap_below(
     }
 }
 
-// Where `child` goes when `input` is replaced by `output`.
+// Rust: SyntaxMapping::upmap_child, SyntaxMapping::upmap_child_element. Where `child` goes when `input` is replaced by `output`. Where the Rust panics: 9.
 pub fn upmap_child(
     table: &[u32],
     source: &[u32],
@@ -170,7 +170,8 @@ pub enum Settled {
     Refused(usize),
 }
 
-// One move of `e`, which stands at or below `a`, to the same place under the output of `a`.
+// One move of `e`, which stands at or below `a`, to the same place under the output of `a`. The Rust maps to the parent of the output; where that is `a`
+// itself, nothing moves and it loops: 10.
 fn upmap_from(table: &[u32], source: &[u32], map: &[u32], n: usize, a: usize, e: usize) -> Settled
     requires { ⌜ Wellformed n (now table) (now source) ⌝ }
     requires { ⌜ Mapped n (now map) ⌝ }
@@ -191,7 +192,8 @@ fn upmap_from(table: &[u32], source: &[u32], map: &[u32], n: usize, a: usize, e:
     Settled::At(to)
 }
 
-// Where a note on `e` settles: it moves until neither its element nor an ancestor is mapped.
+// Rust: SyntaxMapping::upmap_element. Where a note on `e` settles: it moves until neither its element nor an ancestor is mapped; more than `n` moves must
+// repeat.
 pub fn upmap_element(table: &[u32], source: &[u32], map: &[u32], n: usize, e: usize) -> Settled
     requires { ⌜ Wellformed n (now table) (now source) ⌝ }
     requires { ⌜ Mapped n (now map) ⌝ }

@@ -1,4 +1,4 @@
--- What the promises of the public calls give a reader. Each theorem speaks of every call that keeps its promise (`Edits`, `Finds` of promises/specs/Promises.antt),
+-- Corollaries of the public contracts. Each theorem speaks of every call that keeps its promise (`Edits`, `Finds` of promises/specs/Promises.antt),
 -- and needs nothing of the code that makes the call.
 --     Refused    by which numbers each stage refuses
 --     Answered   the answer in the result slice, where what is lent suffices: the definition's

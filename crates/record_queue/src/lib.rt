@@ -24,7 +24,7 @@ pub struct Queue {
     pub count: usize,
 }
 
-// Whether an operation is 2 or 3: only these merge.
+// Whether an operation is 2 or 3: only these merge (Rust: Change::Replace, which is both).
 fn is_single(operation: usize) -> bool
     ensures { λ r. ⌜ r ≡ isSingle operation ⌝ }
 {
@@ -72,7 +72,8 @@ fn place_of(rows: &[u32], start: usize, count: usize, operation: usize, target: 
     single_place(rows, start, count, target)
 }
 
-// A change is recorded among the rows from `start` on; how many rows there are then.
+// Rust: SyntaxEditor::replace, SyntaxEditor::delete, which look for a replacement of the same element. A change is recorded among the rows from `start`
+// on, over the one it meets unless that is a delete, which stays; how many rows there are then.
 fn record_change(rows: &mut [u32], start: usize, count: usize, m: Numbers, s: Spot) -> usize
     requires { ⌜ (start ≤ count) × (count < 256) × (13 * count + 13 ≤ length (now rows)) × NumbersFit m × SpotFits s ⌝ }
     ensures { λ r. ⌜ Put (rowWith m s) start count (now (rows .entry)) r (now (rows .exit)) ⌝ }
@@ -89,7 +90,8 @@ fn record_change(rows: &mut [u32], start: usize, count: usize, m: Numbers, s: Sp
     count
 }
 
-// A call is recorded, whose `listed` elements stand at `from` in the batch and at `at` in its list: the present editor's first row, and how many rows there are.
+// A call is recorded, whose `listed` elements stand at `from` in the batch and at `at` in its list: the present editor's first row, and how many rows
+// there are.
 fn record_call(
     b: &[u8],
     from: usize,
@@ -123,7 +125,8 @@ fn record_call(
     Queue { start, count: next }
 }
 
-// The calls of an accepted batch are recorded: `calls` call words, their targets and the `listed` elements stand at `words`, `targets` and `list`. How many rows there are.
+// Rust: SyntaxEditor::merge, which appends the queue of a further editor without merging. The calls of an accepted batch are recorded: `calls` call words,
+// their targets and the `listed` elements stand at `words`, `targets` and `list`. How many rows there are.
 pub fn record_calls(
     b: &[u8],
     words: usize,

@@ -39,7 +39,8 @@ fn copy_fate(rows: &[u32], i: usize, out: &mut [u32])
     );
 }
 
-// The row at place `i` of `rows` with the target `x`, the end `y` and the first listed element `z`, written at the same place of `out`.
+// The row at place `i` of `rows` with the target `x`, the end `y` and the first listed element `z`, written at the same place of `out`. Tree, range and
+// depth are those of the new target: the running order goes by them.
 pub fn write_row(
     table: &[u32],
     source: &[u32],

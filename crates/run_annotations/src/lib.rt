@@ -12,7 +12,7 @@ use words::word;
 
 // ── Changed rows ──
 
-// The changed row at `i` goes behind the first `r`, moved; one of the rows that give way is left out.
+// Rust: SyntaxPath::adjust_for_splice, here of a row. The changed row at `i` goes behind the first `r`, moved; one of the rows that give way is left out.
 fn move_row(changed: &mut [u32], i: usize, r: usize, p: usize, q: usize, m: usize) -> usize
     requires { ⌜ (r ≤ i) × (i < length (now changed)) × (p ≤ q) × (q < 2 ^ 16) × (m < 2 ^ 16) × (getD (now changed) i 0 < 2 ^ 16) ⌝ }
     ensures { λ n. ⌜ RowMoved (now (changed .entry)) i r p q m (now (changed .exit)) n ⌝ }
@@ -29,7 +29,8 @@ fn move_row(changed: &mut [u32], i: usize, r: usize, p: usize, q: usize, m: usiz
     r + 1
 }
 
-// The first `k` changed rows where the rows `p` up to `q` give way to `m` others; what is left comes to the front.
+// Rust: `changed.retain_mut` in TreeState::splice. The first `k` changed rows where the rows `p` up to `q` give way to `m` others; what is left comes to
+// the front.
 pub fn move_changed(changed: &mut [u32], k: usize, p: usize, q: usize, m: usize) -> usize
     requires { ⌜ (k ≤ length (now changed)) × (p ≤ q) × (q < 2 ^ 16) × (m < 2 ^ 16) × All (λ x. x < 2 ^ 16) (take k (now changed)) ⌝ }
     ensures { λ r. ⌜ RowsMoved (now (changed .entry)) k p q m (now (changed .exit)) r ⌝ }
@@ -87,7 +88,8 @@ fn move_note(notes: &mut [u32], i: usize, r: usize, p: usize, q: usize, m: usize
     r + 1
 }
 
-// The first `k` notes where the rows `p` up to `q` give way to `m` others; what is left comes to the front.
+// Rust: `annotations.retain_mut` in TreeState::splice. The first `k` notes where the rows `p` up to `q` give way to `m` others; what is left comes to the
+// front.
 pub fn move_notes(notes: &mut [u32], k: usize, p: usize, q: usize, m: usize) -> usize
     requires { ⌜ (3 * k ≤ length (now notes)) × (p ≤ q) × (q < 2 ^ 16) × (m < 2 ^ 16) × All (λ n. n .row < 2 ^ 16) (notesOf k (now notes)) ⌝ }
     ensures { λ r. ⌜ NotesMoved (now (notes .entry)) k p q m (now (notes .exit)) r ⌝ }
@@ -147,7 +149,8 @@ fn take_note(
     c + 1
 }
 
-// Of the first `k` notes those in the rows `p` up to `q` go behind the first `count` of `out`, where `p` comes to stand at the row `at`.
+// Rust: `annotations_below` in TreeStore::prepare_element. Of the first `k` notes those in the rows `p` up to `q` go behind the first `count` of `out`,
+// where `p` comes to stand at the row `at`.
 pub fn notes_in(
     notes: &[u32],
     k: usize,

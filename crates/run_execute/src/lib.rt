@@ -30,7 +30,7 @@ fn number_marks(marks: &mut [u32])
     }
 }
 
-// The batch's own rows, each element at its row, the notes as first moved, and nothing changed.
+// Rust: TreeState::new, of all trees at once. The batch's own rows, each element at its row, the notes as first moved, and nothing changed.
 fn begin(
     rows: &mut [u32],
     marks: &mut [u32],
@@ -122,7 +122,8 @@ fn run_steps(
     Executed::Done(s)
 }
 
-// The performed changes, which are at the first `r` places in `running`, from the batch's own trees: 11 or 12 as met, or what is held at the end.
+// Rust: TreeStore::execute, which analyses nothing further. The performed changes, which are at the first `r` places in `running`, from the batch's own
+// trees: 11 or 12 as met, or what is held at the end.
 pub fn execute(
     rows: &mut [u32],
     marks: &mut [u32],

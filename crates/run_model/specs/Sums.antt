@@ -1,4 +1,4 @@
--- How many rows and text bytes a splice makes, told before it from sums, and that where a change goes lies within the rows.
+-- How many rows and text bytes a splice makes, decided before it from totals, and that where a change goes lies within the rows.
 -- Assumes nothing.
 use mathlib.Core.Path.{_≡_, refl, sym, ap, _∙_}
 use mathlib.Core.Bool.{Bool, _||_}
@@ -87,7 +87,7 @@ deep-enough above n = elim (lt-or-le n 65) [
   | inr w ↦ let e : min 65 n ≡ 65 = omega arith in lt-ltb 64 (above + n) (omega arith) ∙ sym (rw e (lt-ltb 64 (above + 65) (omega arith)))
 ]
 
--- Whether a step makes too much is told before it, from sums.
+-- Whether a step makes too much is decided before it, from totals.
 pub too-large-sums : (above : ℕ) (g : Gap) (new : List Part) (recorded : Bool) (s : Store) → g .from ≤ g .to → g .to ≤ length s.rows
     → storeTooLarge above new (splicedStore g new recorded s)
     ≡ tooLargeBy (length s.rows - (g .to - g .from) + length (newRows new)) (bytes s.rows + bytes (newRows new) - bytes (between g.from g.to s.rows)) (length ((splicedStore g new recorded s) .notes)) (above + min 65 (height (newRows new)))

@@ -43,7 +43,8 @@ fn element_notes(
     notes_in(notes, k, m, m + size, at, incoming, c, 1024)
 }
 
-// What element `e` yields goes behind the first `m` prepared rows and the first `c` incoming notes; prepared row 0 comes to stand at the row `at`.
+// Rust: TreeStore::prepare_element. What element `e` yields goes behind the first `m` prepared rows and the first `c` incoming notes; prepared row 0 comes
+// to stand at the row `at`.
 fn prepare_element<'a>(
     rows: &'a [u32],
     n: usize,
@@ -78,8 +79,8 @@ fn prepare_element<'a>(
     }
 }
 
-// What the `count` elements listed at `list` in the batch `b` yield: all are prepared before the step's splice, and prepared row 0 comes to stand at
-// the row `at`.
+// Rust: `replacement` in TreeStore::execute. What the `count` elements listed at `list` in the batch `b` yield: all are prepared before the step's splice,
+// which may remove them, and prepared row 0 comes to stand at the row `at`.
 pub fn prepare<'a>(
     rows: &'a [u32],
     n: usize,

@@ -17,7 +17,8 @@ use words::word;
 
 // ── Rows and marks ──
 
-// The rows `p` up to `q`, `lost` children of the node at row `parent`, give way to a run of `gain` trees, and every mark moves with them. The new number of rows.
+// Rust: TreeState::splice, of the tree and its edits. The rows `p` up to `q`, `lost` children of the node at row `parent`, give way to a run of `gain`
+// trees, and every mark moves with them: where the Rust replays all edits on a path, a mark says at once where its element stands. The new number of rows.
 pub fn splice(
     rows: &mut [u32],
     n: usize,
@@ -92,7 +93,8 @@ pub fn splice_notes(
 
 // ── Changed rows ──
 
-// The rows at which parts of some sizes come to stand, the first at `at`, go behind the first `k` changed rows if the change records. The new number of changed rows.
+// The rows at which parts of some sizes come to stand, the first at `at`, go behind the first `k` changed rows if the change records. The new number of
+// changed rows.
 fn record_changed(changed: &mut [u32], k: usize, at: usize, recorded: bool, sizes: &[u32]) -> usize
     requires { ⌜ (k + cond recorded (length (now sizes)) 0 ≤ length (now changed)) × (at < 2 ^ 16) × (length (now sizes) < 2 ^ 12) × All (λ x. x < 2 ^ 16) (now sizes) ⌝ }
     ensures { λ r. ⌜ Recorded (now (changed .entry)) k at recorded (now (sizes .entry)) (now (changed .exit)) r ⌝ }

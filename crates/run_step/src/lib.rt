@@ -62,7 +62,8 @@ fn depth_above(table: &[u32], n: usize, changes: &[u32], k: usize) -> usize
     depth - 1
 }
 
-// Whether what the change at place `k` puts in is recorded as changed: it depends on no other, and goes into tree 0.
+// Rust: PlannedChange::record_as_changed. Whether what the change at place `k` puts in is recorded as changed: it depends on no other (else its owner's
+// is), and goes into tree 0.
 fn is_recorded(changes: &[u32], k: usize) -> bool
     requires { ⌜ k < 2 ^ 32 ⌝ }
     ensures { λ r. ⌜ r ≡ recordsBy (rowAt (now (changes .entry)) k) ⌝ }
@@ -182,7 +183,7 @@ fn step_at(
     }
 }
 
-// One performed change, the one at place `k`: 11, 12, or what is held then.
+// Rust: the body of TreeStore::execute. One performed change, the one at place `k`: 11, 12, or what is held then.
 pub fn step(
     rows: &mut [u32],
     marks: &mut [u32],

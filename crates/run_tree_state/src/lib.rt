@@ -1,5 +1,5 @@
-// The state of a run: where the root of tree 0 stands, and how much is held; lent to each splice step, which rows, marks, notes and changed rows go through together. 12 is
-// decided before anything is written.
+// The state of a run: where the root of tree 0 stands, and how much is held; lent to each splice step, which rows, marks, notes and changed rows go
+// through together. 12 is decided before anything is written.
 ghost use mathlib.Core.Path.{_≡_};
 ghost use mathlib.Core.List.{List};
 ghost use Prim.Native.Nat.{ℕ, _+_, _-_, _*_, _/_, _^_, _≤_, _<_};
@@ -21,7 +21,8 @@ use run_tree_store::too_large;
 
 // ── All that is held ──
 
-// Where the root of tree 0 stands, and how much is held: rows, their text bytes, notes, changed rows.
+// Rust: TreeState, one for each tree; here all trees stand in one slice of rows. Where the root of tree 0 stands, and how much is held: rows, their text bytes,
+// notes, changed rows.
 pub struct TreeState {
     pub root: usize,
     pub rows: usize,
@@ -30,7 +31,8 @@ pub struct TreeState {
     pub changed: usize,
 }
 
-// The covered splice, by value: the rows of the gap give way to a run of parts of these sizes, with `c` notes that come in; what is held then has `bytes` text bytes.
+// The covered splice, by value: the rows of the gap give way to a run of parts of these sizes, with `c` notes that come in; what is held then has `bytes`
+// text bytes.
 fn splice_store(
     s: TreeState,
     rows: &mut [u32],
@@ -120,8 +122,8 @@ fn replace_store(
 }
 
 // ── The state, lent to each splice step ──
-// Two thin functions over `&mut TreeState`, proved by hand: the covered splice does the work. A function that lends a record is not walked by the prover, nor is its caller,
-// so above each stands one by value, and the run calls that.
+// Two thin functions over `&mut TreeState`, proved by hand: the covered splice does the work. A function that lends a record is not walked by the prover,
+// nor is its caller, so above each stands one by value, and the run calls that.
 
 // Rust: TreeState::splice. The state is lent, and the covered function's answer is stored in it.
 fn splice(

@@ -20,7 +20,8 @@ use words::word;
 
 // ── What a listed element yields ──
 
-// The rows of element `e` with all that is below it: a run of the current rows while its mark is there, else of the batch's own.
+// Rust: TreeStore::prepare_element. The rows of element `e` with all that is below it: a run of the current rows while its mark is there, else of the
+// batch's own.
 pub fn prepared_rows<'a>(
     rows: &'a [u32],
     n: usize,
@@ -166,7 +167,7 @@ fn run_site(
     Site::At(g)
 }
 
-// Where a call 2 on the element `x` goes: a root is found by counting, and needs no mark.
+// Where a call 2 on the element `x` goes: a root is found by counting, and needs no mark, since its mark is gone once it was replaced before.
 fn replaced_site(rows: &[u32], n: usize, table: &[u32], marks: &[u32], x: usize) -> Site
     requires { ⌜ (3 * n ≤ length (now rows)) × (n < 2 ^ 16) × (0 < n) × All (λ m. m < n) (now marks) ⌝ }
     requires { ⌜ Lines (length (now marks)) (now table) × (x < length (now marks)) ⌝ }
@@ -186,7 +187,8 @@ fn replaced_site(rows: &[u32], n: usize, table: &[u32], marks: &[u32], x: usize)
     Site::At(g)
 }
 
-// Where a change goes, by its operation, its target `x` and its end `y`: gone if a mark that it needs is.
+// Rust: TreeState::apply, what it finds before it splices (TreeState::map_original_element). Where a change goes, by its operation, its target `x` and its end
+// `y`: gone if a mark that it needs is, where the Rust panics.
 pub fn find_gap(
     rows: &[u32],
     n: usize,
