@@ -1,4 +1,4 @@
--- Laws on lists: what passes a test, lists joined, pairs of two lists' elements, an element by its place.
+-- Laws on lists: what passes a test, numbers one after another, lists joined, pairs of two lists' elements, an element by its place.
 -- Assumes nothing.
 use mathlib.Core.Path.{_≡_, refl, sym, ap, _∙_}
 use mathlib.Core.Bool.{Bool, true, false, cond}
@@ -9,7 +9,7 @@ use native.Mathlib.Omega.{arith}
 use lib.ListN.{length, take, drop, getD, take-append-drop}
 use Rattle.orders.specs.Lists.{more, pick, All, total}
 use Rattle.orders.specs.Tree.{modify}
-use Rattle.orders.specs.ListLaws.{some-inj, none-some, map-append}
+use Rattle.orders.specs.ListLaws.{some-inj, none-some}
 use Rattle.definition.specs.Basics.{keep, first}
 
 -- ── What passes a test ──────────────────────────────────────────────────────────────────────────────────────
@@ -22,6 +22,24 @@ module _ {A : Type 0} (p : A → Bool) where
   pub keep-no : (x : A) (l : List A) → p x ≡ false → keep p (x ∷ l) ≡ keep p l
   unfolding keep pick
   keep-no x l e = rw e
+
+-- ── Numbers one after another ───────────────────────────────────────────────────────────────────────────────
+
+-- n numbers, from k on
+unfoldable pub upFrom : ℕ → ℕ → List ℕ
+upFrom k zero = []
+upFrom k (suc n) = k ∷ upFrom (suc k) n
+
+pub up-at : (k n e : ℕ) → e < n → getD (upFrom k n) e 0 ≡ k + e
+unfolding upFrom
+up-at k zero e h = absurd (omega arith)
+up-at k (suc n) zero h = omega arith
+up-at k (suc n) (suc e) h = up-at (suc k) n e (omega arith) ∙ omega arith
+
+pub up-long : (k n : ℕ) → length (upFrom k n) ≡ n
+unfolding upFrom
+up-long k zero = refl
+up-long k (suc n) = ap suc (up-long (suc k) n)
 
 -- ── A property of each element ──────────────────────────────────────────────────────────────────────────────
 
@@ -77,11 +95,6 @@ module _ {A B : Type 0} (f : A → List B) where
   unfolding flatMap
   flatMap-map g [] = refl
   flatMap-map g (x ∷ l) = ap {B = List B} (λ r. f (g x) ++ r) (flatMap-map g l)
-
-  pub map-flatMap : {C : Type 0} (g : B → C) (l : List A) → map g (flatMap f l) ≡ flatMap (λ x. map g (f x)) l
-  unfolding flatMap
-  map-flatMap g [] = refl
-  map-flatMap {C} g (x ∷ l) = map-append g (f x) (flatMap f l) ∙ ap {B = List C} (λ r. map g (f x) ++ r) (map-flatMap g l)
 
 -- ── Pairs ───────────────────────────────────────────────────────────────────────────────────────────────────
 

@@ -4,7 +4,7 @@ use mathlib.Core.Path.{_≡_, refl, sym, ap, _∙_, subst}
 use mathlib.Core.Bool.{Bool, true, false, _&&_}
 use mathlib.Core.List.{List, [], _∷_, _++_, List·Memᴰ, List·Memᴰ·head, List·Memᴰ·tail}
 use mathlib.Core.Logic.{_⊎_, inl, inr, ⊎-elim}
-use mathlib.Core.Option.{Option, none, some, Option·map, bind}
+use mathlib.Core.Option.{Option, none, some, bind}
 use Prim.Native.Nat.{ℕ, zero, suc, _+_, _-_, _≤_, _<_}
 use native.Mathlib.Omega.{arith}
 use lib.Dec.{leb, ltb}
@@ -12,11 +12,11 @@ use lib.ListN.{length, take, getElem?}
 use borrow.Author.Tests.{leb-true, le-leb, lt-leb, lt-ltb, le-ltb}
 use Rattle.orders.specs.ListLaws.{bool-absurd, both-true, some-inj, none-some, map-some, bind-some, lt-or-le, any-mem, mem-any}
 use Rattle.orders.specs.Tree.{Tree, list, forest, Path, elements, elementsOf, textOf, children, front, last}
-use Rattle.orders.specs.TreeLaws.{list-forest, forest-list, front-last}
+use Rattle.orders.specs.TreeLaws.{front-last}
 use Rattle.definition.specs.Basics.{any}
 use Rattle.definition.specs.Elements.{Table, table, row, parent, child}
 use Rattle.definition.specs.Refusals.{sameParent}
-use Rattle.definition_laws.specs.Rows.{Element, rowOf, before, childOf, elementAt, rootOf, element, row-element, Behind, row-below, child-within, Reached, reach-tree}
+use Rattle.definition_laws.specs.Rows.{Element, rowOf, before, childOf, elementAt, rootOf, element, row-below, child-within, reach-tree}
 use Rattle.definition_laws.specs.Kin.{child-is, element-append, element-path, element-below, element-child, elementAt-one, Stands, row-told, element-stands, stands, stands-within, line-above, root-kin, child-kin, parent-is}
 use Rattle.definition_laws.specs.Right.{same-parent, parent-same}
 

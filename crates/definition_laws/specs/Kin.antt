@@ -89,11 +89,6 @@ element-tree ts t p w = rw (list-forest ts) (go (getElem? ts t))
     go (some c) = elementAt-tree _ p
 
 -- the numbers of trees one behind another
-pub numbers-length : (cs : Trees ℕ) (n : ℕ) → length (numbers n cs) ≡ length (list cs)
-unfolding numbers list
-numbers-length nil n = refl
-numbers-length (cons c cs) n = ap suc (numbers-length cs (n + elements c))
-
 pub get-numbers : (cs : Trees ℕ) (n i : ℕ) → getElem? (numbers n cs) i ≡ Option·map (λ (c : Tree ℕ). n + elementsOf (forest (take i (list cs)))) (getElem? (list cs) i)
 unfolding numbers list forest elements
 get-numbers nil n i = refl

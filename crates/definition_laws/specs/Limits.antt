@@ -168,7 +168,8 @@ pub record Within (r : Result) : Type 0 where
   pub discarded : r .discarded ≤ 256
   pub climbs : r .climbs ≤ 1048576
 
-keep-length : {A : Type 0} (p : A → Bool) (l : List A) → length (keep p l) ≤ length l
+-- no more pass than there are
+pub keep-length : {A : Type 0} (p : A → Bool) (l : List A) → length (keep p l) ≤ length l
 unfolding keep
 keep-length p l = pick-length (λ x. cond (p x) (some x) none) l
 

@@ -46,11 +46,6 @@ module _ {A : Type 0} where
   deepest-each n [] h = omega arith
   deepest-each n (x ∷ xs) h = omega (arith, h .0, deepest-each n xs (h .1))
 
-  pub each-deepest : (n : ℕ) (xs : List (Tree A)) → deepestOf (forest xs) ≤ n → All (λ x. deepest x ≤ n) xs
-  unfolding deepest forest
-  each-deepest n [] h = tt
-  each-deepest n (x ∷ xs) h = (omega arith, each-deepest n xs (omega arith))
-
 -- ── As many elements as in preorder ─────────────────────────────────────────────────────────────────────────
 
 mutual

@@ -1,7 +1,7 @@
 -- An outcome as one number, and that a number that is returned is read as it was meant.
 -- Assumes nothing.
 use mathlib.Core.Path.{_≡_}
-use Prim.Native.Nat.{ℕ, _≤_}
+use Prim.Native.Nat.{_≤_}
 use native.Mathlib.Omega.{arith}
 use lib.IntN.{ℤ, pos, negℤ}
 use mir.Syntax.{w64}

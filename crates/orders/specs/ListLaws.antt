@@ -226,13 +226,6 @@ module _ {A : Type 0} (f : A → A) where
   take-modify-before (suc c) (x ∷ xs) zero h = absurd (not-suc-le-zero h)
   take-modify-before (suc c) (x ∷ xs) (suc i) h = ap {B = List A} (λ r. x ∷ r) (take-modify-before c xs i (le-of-suc-le-suc h))
 
-  pub drop-modify : (c : ℕ) (xs : List A) (i n : ℕ) → c + n ≡ i → drop c (modify i f xs) ≡ modify n f (drop c xs)
-  unfolding modify
-  drop-modify zero xs i n e = ap (λ k. modify k f xs) (omega arith)
-  drop-modify (suc c) [] i n e = refl
-  drop-modify (suc c) (x ∷ xs) zero n e = absurd (omega arith)
-  drop-modify (suc c) (x ∷ xs) (suc i) n e = drop-modify c xs i n (omega arith)
-
   pub drop-modify-before : (c : ℕ) (xs : List A) (i : ℕ) → i < c → drop c (modify i f xs) ≡ drop c xs
   unfolding modify
   drop-modify-before zero xs i h = absurd (not-suc-le-zero h)

@@ -7,7 +7,7 @@ use Prim.Native.Nat.{ℕ, zero, suc, _+_, _-_, _*_, _≤_, _<_}
 use native.Mathlib.Nat.{sub-zero, sub-self}
 use native.Mathlib.Numerals.{add-one}
 use native.Mathlib.Omega.{arith}
-use lib.ListN.{length, getD, set, drop, replicate, length-set, take-append-drop, List·getD-eq-default}
+use lib.ListN.{length, getD, set, drop, replicate, length-set, take-append-drop}
 use lib.Seq.{set-out, drop-drop}
 use lib.Dec.{leb, eqb}
 use borrow.Author.Tests.{eq-eqb, ne-eqb, le-leb, lt-leb}
@@ -128,9 +128,6 @@ unfolding stated
 stated-by w k p f o h e q = rw (stack-lift w k p h, owner-at w p, e, q)
 
 -- ── The last region of each tree ────────────────────────────────────────────────────────────────────────────
-
-pub top-past : (tops : List ℕ) (t : ℕ) → length tops ≤ t → 0 ≡ getD tops t 0
-top-past tops t h = sym (List·getD-eq-default tops 0 h)
 
 pub set-past : (tops : List ℕ) (t x : ℕ) → length tops ≤ t → tops ≡ set tops t x
 set-past tops t x h = sym (set-out tops t x h)

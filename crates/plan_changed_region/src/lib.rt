@@ -73,13 +73,6 @@ fn fate_in(rows: &[u32], p: usize) -> usize
     }
 }
 
-// One less, 0 of 0.
-fn one_less(p: usize) -> usize
-    ensures { λ r. ⌜ r ≡ p - 1 ⌝ }
-{
-    if p == 0 { 0 } else { p - 1 }
-}
-
 // The fate of the change at place `k`, whose region around it is at the place `p`, is written into its row.
 fn state_fate(rows: &mut [u32], k: usize, p: usize)
     requires { ⌜ (13 * k + 13 ≤ length (now rows)) × (k < 256) × (p ≤ k) ⌝ }
@@ -87,7 +80,7 @@ fn state_fate(rows: &mut [u32], k: usize, p: usize)
 {
     let f = fate_in(rows, p);
     rows[record_changes::WORDS * k + record_changes::FATE] = f as u32;
-    rows[record_changes::WORDS * k + record_changes::OWNER] = one_less(p) as u32;
+    rows[record_changes::WORDS * k + record_changes::OWNER] = record_changes::less_one(p) as u32;
 }
 
 // The last region of a tree.

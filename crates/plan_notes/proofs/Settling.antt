@@ -9,7 +9,6 @@ use lib.ListN.{length, drop, length-append}
 use lib.Seq.{paste, paste-zero}
 use Rattle.orders.specs.Lists.{All}
 use Rattle.definition.specs.Basics.{Answer, refused, gives, _>>=_}
-use Rattle.definition.specs.Rewriting.{settle}
 use Rattle.definition.specs.Words.{word, words}
 use Rattle.definition_laws.specs.Basics.{All-append}
 use Rattle.words.specs.Parts.{paste-paste}

@@ -10,7 +10,7 @@ use lib.ListN.{length, getD, set, take, drop, length-set, length-append, take-ap
 use lib.Seq.{length-take-le, take-at, drop-at, drop-drop, take-suc-set, drop-set-lt}
 use Rattle.plan_sort.specs.Sorting.{rankedPlaces, length-ranked}
 use Rattle.plan_postorder.specs.Order.{ordered, ownerTold, ownedAt, runs, runningPlaces}
-use Rattle.plan_postorder.specs.Sums.{kept-most}
+use Rattle.definition_laws.specs.Limits.{keep-length}
 use Rattle.plan_postorder.specs.Counting.{joined-same, running-most, runs-all}
 use Rattle.plan_postorder.specs.Links.{Linked, Links, ownedBy, chain, linkedTo, linkedRuns, dependents}
 
@@ -196,7 +196,7 @@ module _ (w first next : List ℕ) (n : ℕ) (v : Links (ownedBy w (rankedPlaces
   ranked = rankedPlaces w n
 
   linked-kept : (o : ℕ) → o ≤ 256 → linkedTo first next o ≡ ownedBy w ranked o
-  linked-kept o h = chain-linked next 256 (getD first o 0) (ownedBy w ranked o) (v .told o h) (omega (arith, kept-most (ownedAt w o) ranked, length-ranked w n))
+  linked-kept o h = chain-linked next 256 (getD first o 0) (ownedBy w ranked o) (v .told o h) (omega (arith, keep-length (ownedAt w o) ranked, length-ranked w n))
 
   pub links-kept : Links (linkedTo first next) first next
   links-kept = record { firsts = v .firsts; nexts = v .nexts; told = λ o h. rw (linked-kept o h) (v .told o h) }

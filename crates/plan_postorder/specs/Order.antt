@@ -115,12 +115,7 @@ module _ (T : Table) {X : Type 0} (row : X → ChangeRow) (plan : X → Planned)
         ∙ (ap (λ (qs : List (ℕ × ChangeRow)). ordered ownsRow (λ q. q .0) qs n none) ranked-told
         ∙ sym (map-ordered rowedAt owns (λ q. q .0) ownsRow (λ q. q .0) (λ o q. rw (fated (q .1))) (λ q. refl) (falling keyed (numbered 0 xs)) n none))
 
-    -- the places that are computed, and the rows there
-    pub places-told : runningPlaces w n ≡ map (λ q. q .0) (inOrder xs n)
-    places-told =
-        sym (map-id (runningPlaces w n))
-        ∙ (sym (map-map (λ (q : ℕ × ChangeRow). q .0) rowAtPlace (runningPlaces w n)) ∙ (ap (map (λ (q : ℕ × ChangeRow). q .0)) both-told ∙ map-map (λ (q : ℕ × ChangeRow). q .0) rowedAt (inOrder xs n)))
-
+    -- the rows at the places that are computed
     pub rows-told : map (rowAt w) (runningPlaces w n) ≡ map (λ q. row (q .1)) (inOrder xs n)
     rows-told =
         sym (map-map (λ (q : ℕ × ChangeRow). q .1) rowAtPlace (runningPlaces w n)) ∙ (ap (map (λ (q : ℕ × ChangeRow). q .1)) both-told ∙ map-map (λ (q : ℕ × ChangeRow). q .1) rowedAt (inOrder xs n))

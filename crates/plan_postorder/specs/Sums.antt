@@ -68,13 +68,3 @@ length-kept {X} {Y} p g (x ∷ l) = rw (keep-cons p x l) (go (p x) (length-kept 
     go : (b : Bool) → length (flatMap g (keep p l)) ≡ total p (λ x. length (g x)) l → length (flatMap g (cond b (x ∷ keep p l) (keep p l))) ≡ cond b (length (g x)) 0 + total p (λ x. length (g x)) l
     go true e = rw (length-append (g x) (flatMap g (keep p l)), e)
     go false e = rw (zero-add) e
-
--- no more pass than there are
-pub kept-most : {X : Type 0} (p : X → Bool) (l : List X) → length (keep p l) ≤ length l
-unfolding keep pick
-kept-most p [] = omega arith
-kept-most {X} p (x ∷ l) = rw (keep-cons p x l) (go (p x) (kept-most p l))
-  where
-    go : (b : Bool) → length (keep p l) ≤ length l → length (cond b (x ∷ keep p l) (keep p l)) ≤ length (x ∷ l)
-    go true h = omega arith
-    go false h = omega arith

@@ -1,8 +1,8 @@
 -- Each answer of `count_fits` and `call_fits`, from the tests that led there.
 -- Assumes nothing.
-use mathlib.Core.Bool.{Bool, true, false, cond, not, _&&_, _||_}
+use mathlib.Core.Bool.{Bool, true, false, not, _&&_, _||_}
 use mathlib.Core.List.{List, [], _∷_}
-use mathlib.Core.Path.{_≡_, refl, sym, ap, _∙_}
+use mathlib.Core.Path.{_≡_, refl, sym, _∙_}
 use Prim.Native.Nat.{ℕ, zero, suc, _+_, _*_, _≤_, _<_}
 use native.Mathlib.Omega.{arith}
 use lib.ListN.{getD}
@@ -15,7 +15,7 @@ use Rattle.definition.specs.Elements.{Table, isNode}
 use Rattle.definition.specs.Refusals.{wrongCount, sameParent, wrongRun, misplaced}
 use Rattle.read_element_table.specs.View.{view}
 use Rattle.read_element_table.specs.Wellformed.{Wellformed}
-use Rattle.read_element_table.specs.Told.{elementOf, childCount, node-told, parent-told, root-told, child-told}
+use Rattle.read_element_table.specs.Told.{elementOf, node-told, parent-told, root-told, child-told}
 use Rattle.read_calls.specs.Fits.{countFits, callFits, runFits}
 
 -- ── Tests ───────────────────────────────────────────────────────────────────────────────────────────────────

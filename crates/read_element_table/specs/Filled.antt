@@ -2,7 +2,7 @@
 -- Assumes nothing.
 use mathlib.Core.Path.{_≡_, refl, sym, ap, _∙_}
 use mathlib.Core.Bool.{Bool, true, false, cond, not, _&&_, _||_}
-use mathlib.Core.List.{List, [], _∷_, _++_, map, zip, append-nil}
+use mathlib.Core.List.{List, [], _∷_, _++_, zip, append-nil}
 use mathlib.Core.Option.{Option, none, some}
 use Prim.Native.Nat.{ℕ, _+_, _*_, _≤_, _<_}
 use native.Mathlib.Omega.{arith}
@@ -11,7 +11,7 @@ use lib.Dec.{leb, ltb, eqb}
 use lib.ListN.{length, getD, take, drop, length-map}
 use lib.Seq.{paste, take-all, take-at, length-paste}
 use Rattle.orders.specs.ListLaws.{bind-some, some-inj, none-some, bool-absurd}
-use Rattle.orders.specs.Tree.{Tree, node, forest, deepest, label, measure, preorders, elementsOf}
+use Rattle.orders.specs.Tree.{Tree, node, forest, deepest, elementsOf}
 use Rattle.orders.specs.TreeLaws.{list-forest}
 use Rattle.definition.specs.Basics.{any, isSome}
 use Rattle.definition.specs.Words.{words}
@@ -23,9 +23,9 @@ use Rattle.read_element_table.specs.View.{view, field}
 use Rattle.rows_model.specs.Row.{nod, rowsOf, firstRows}
 use Rattle.words.specs.Bytes.{length-words}
 use Rattle.read_spelling.specs.Spelling.{elementsAt, accepts}
-use Rattle.read_spelling.specs.SpellingLaws.{kindsOf, measuresOf, kinds-zip, measures-zip, grown, spelled-grown, accepts-spelled}
+use Rattle.read_spelling.specs.SpellingLaws.{kinds-zip, grown, spelled-grown, accepts-spelled}
 use Rattle.read_element_table.specs.Filling.{tableOf, sourceOf, Filled}
-use Rattle.read_spelling.specs.Preorder.{kinds-flats, measures-flats, length-flats, Spelt, spelt}
+use Rattle.read_spelling.specs.Preorder.{length-flats, Spelt, spelt}
 use Rattle.read_element_table.specs.FillingLaws.{wordsAll, length-all, table-words, length-source}
 use Rattle.read_element_table.specs.ViewLaws.{told-all}
 use Rattle.read_element_table.specs.Wellformed.{Wellformed}
@@ -82,14 +82,6 @@ module _ (b : Batch) (ts : List (Tree ℕ)) (h : spelled b ≡ some ts) where
   module _ (l : length (b .kinds) ≡ length (b .measures)) where
     s : Spelt (elementsIn b) (b .text) ts
     s = spelled-spelt
-
-    pub spelled-kinds : map label (preorders (forest ts)) ≡ b .kinds
-    unfolding elementsIn
-    spelled-kinds = sym (kinds-flats (forest ts)) ∙ (ap kindsOf (s .elements) ∙ kinds-zip (b .kinds) (b .measures) l)
-
-    pub spelled-measures : map measure (preorders (forest ts)) ≡ b .measures
-    unfolding elementsIn
-    spelled-measures = sym (measures-flats (forest ts)) ∙ (ap measuresOf (s .elements) ∙ measures-zip (b .kinds) (b .measures) l)
 
     count : length (elementsIn b) ≡ length (b .kinds)
     unfolding elementsIn
@@ -201,12 +193,7 @@ module _ (b : Batch) (input : List ℕ) (kinds measures n : ℕ) (ek : b .kinds 
   alike : length (b .kinds) ≡ length (b .measures)
   alike = long ∙ sym (rw em (length-words n (drop measures input)))
 
-  -- line 5 accepts just if trees are spelled
-  pub accepts-elements : accepts (b .trees) (length (b .text)) (elementsAt input kinds measures n) ≡ isSome (spelled b)
-  unfolding elementsIn
-  accepts-elements = rw (← elements-in) (accepts-spelled b alike)
-
-  -- and what is filled then tells of the trees
+  -- where trees are spelled, what is filled tells of them
   pub filled-tells : {ts : List (Tree ℕ)} {t₀ s₀ t s : List ℕ} → spelled b ≡ some ts → Filled (b .trees) n (elementsAt input kinds measures n) t₀ s₀ t s → n ≤ 2048 → 8 * n ≤ length t₀ → 3 * (n + 1) ≤ length s₀ → Tells b ts n t s
   filled-tells {ts} {t₀} {s₀} {t} {s} h f few lt ls =
       let wt : t ≡ paste t₀ 0 (tableOf (b .trees) (elementsIn b)) (8 * length (b .kinds)) = rw (elements-in, long) (f .words) in

@@ -12,7 +12,8 @@ use lib.Dec.{eqb, eqb·suc-zero}
 use Rattle.orders.specs.Tree.{last}
 use Rattle.orders.specs.TreeLaws.{last-child}
 use Rattle.definition.specs.Elements.{noRow, row, node?, root?, parent, depth, tree, child, isNode}
-use Rattle.read_element_table.specs.View.{upFrom, field, lineFrom, pathTo, kindWord, measureWord, siblings, rowAt, view}
+use Rattle.definition_laws.specs.Basics.{upFrom}
+use Rattle.read_element_table.specs.View.{field, lineFrom, pathTo, kindWord, measureWord, siblings, rowAt, view}
 use Rattle.read_element_table.specs.Wellformed.{Lines}
 
 -- the element that a word names: 0 none, e + 1 element e

@@ -2,25 +2,13 @@
 -- Eight words an element: text offset, parent + 1 (0 for a root), child number (a root's is its tree's number), depth, text start and end in its own tree,
 -- the element after its subtree, tree number. Three words a row: kind word, measure, text offset; element e stands at row e + 1.
 -- Assumes nothing.
-use mathlib.Core.Path.{_≡_, _∙_}
 use mathlib.Core.Bool.{cond}
 use mathlib.Core.List.{List, [], _∷_, _++_, map}
-use Prim.Native.Nat.{ℕ, zero, suc, _+_, _*_, _<_}
-use native.Mathlib.Omega.{arith}
+use Prim.Native.Nat.{ℕ, zero, suc, _+_, _*_}
 use lib.ListN.{getD}
 use Rattle.orders.specs.Tree.{Path}
 use Rattle.definition.specs.Elements.{Row, Table, isNode}
-
--- n numbers, from k on
-unfoldable pub upFrom : ℕ → ℕ → List ℕ
-upFrom k zero = []
-upFrom k (suc n) = k ∷ upFrom (suc k) n
-
-pub up-at : (k n e : ℕ) → e < n → getD (upFrom k n) e 0 ≡ k + e
-unfolding upFrom
-up-at k zero e h = absurd (omega arith)
-up-at k (suc n) zero h = omega arith
-up-at k (suc n) (suc e) h = up-at (suc k) n e (omega arith) ∙ omega arith
+use Rattle.definition_laws.specs.Basics.{upFrom}
 
 module _ (words rows : List ℕ) where
   -- word k of element e

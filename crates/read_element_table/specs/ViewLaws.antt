@@ -12,7 +12,8 @@ use lib.Seq.{getD-drop, drop-drop, drop-at}
 use Rattle.orders.specs.ListLaws.{map-append}
 use Rattle.orders.specs.Tree.{Tree, Trees, node, token, nil, cons, list, forest, Path, elements, elementsOf, text, textOf}
 use Rattle.definition.specs.Elements.{isNode, numbers, rows, rowsBelow, table}
-use Rattle.read_element_table.specs.View.{upFrom, field, lineFrom, pathTo, kindWord, measureWord, siblings, rowAt}
+use Rattle.definition_laws.specs.Basics.{upFrom}
+use Rattle.read_element_table.specs.View.{field, lineFrom, pathTo, kindWord, measureWord, siblings, rowAt}
 use Rattle.read_spelling.specs.Spelling.{lengthOf}
 use Rattle.read_element_table.specs.Filling.{rowsFrom, sourceOf}
 use Rattle.read_spelling.specs.Preorder.{flat, flats, flat-node, flat-token, flats-cons, length-flat, Worded, WordedAll}

@@ -14,7 +14,7 @@ use Rattle.orders.specs.Tree.{Tree, Trees, node, token, nil, cons, list, forest
 use Rattle.orders.specs.TreeLaws.{list-forest}
 use Rattle.definition.specs.Elements.{isNode, pieces, plant, grow}
 use Rattle.read_spelling.specs.Spelling.{lengthOf}
-use Rattle.read_spelling.specs.SpellingLaws.{kindsOf, measuresOf, grown, pieceAt, grown-more}
+use Rattle.read_spelling.specs.SpellingLaws.{grown, pieceAt, grown-more}
 
 -- ── The elements of trees ───────────────────────────────────────────────────────────────────────────────────
 
@@ -40,23 +40,6 @@ flat-token k own = refl
 pub flats-cons : (c : Tree ℕ) (cs : Trees ℕ) → flats (cons c cs) ≡ flat c ++ flats cs
 unfolding flat flats preorders
 flats-cons c cs = map-append element (preorder c) (preorders cs)
-
--- kind words and measures alone
-pub kinds-flats : (cs : Trees ℕ) → kindsOf (flats cs) ≡ map label (preorders cs)
-unfolding flats element
-kinds-flats cs = go (preorders cs)
-  where
-    go : (l : List (Tree ℕ)) → kindsOf (map element l) ≡ map label l
-    go [] = refl
-    go (t ∷ l) = ap (λ z. label t ∷ z) (go l)
-
-pub measures-flats : (cs : Trees ℕ) → measuresOf (flats cs) ≡ map measure (preorders cs)
-unfolding flats element
-measures-flats cs = go (preorders cs)
-  where
-    go : (l : List (Tree ℕ)) → measuresOf (map element l) ≡ map measure l
-    go [] = refl
-    go (t ∷ l) = ap (λ z. measure t ∷ z) (go l)
 
 mutual
   unfolding elements elementsOf flats preorders

@@ -259,12 +259,9 @@ fills-over bytes (e ∷ es) s sum h = go (settled s) (fills-over bytes es)
     go (zero ∷ s′) ih = refl
     go (suc l ∷ s′) ih = rw (ih (childrenOf (e .0) (e .1) ∷ l ∷ s′) (sum + lengthOf (e .0) (e .1)) (omega arith)) (and-no (stands (e .0) (suc (length s′))))
 
--- the kind words of elements, and the measures
+-- the kind words of elements
 abbrev pub kindsOf : List (ℕ × ℕ) → List ℕ
 kindsOf es = map (λ e. e .0) es
-
-abbrev pub measuresOf : List (ℕ × ℕ) → List ℕ
-measuresOf es = map (λ e. e .1) es
 
 -- no element is left
 closed : (s : List ℕ) → noneOpen (settled s) ≡ shared s []
@@ -359,13 +356,6 @@ unfolding zip
 kinds-zip [] ms h = refl
 kinds-zip (k ∷ ks) [] h = absurd (omega arith)
 kinds-zip (k ∷ ks) (m ∷ ms) h = ap (λ l. k ∷ l) (kinds-zip ks ms (omega arith))
-
-pub measures-zip : (ks ms : List ℕ) → length ks ≡ length ms → measuresOf (zip ks ms) ≡ ms
-unfolding zip
-measures-zip [] [] h = refl
-measures-zip [] (m ∷ ms) h = absurd (omega arith)
-measures-zip (k ∷ ks) [] h = absurd (omega arith)
-measures-zip (k ∷ ks) (m ∷ ms) h = ap (λ l. m ∷ l) (measures-zip ks ms (omega arith))
 
 -- trees that stand as roots
 roots : (ts : List (Tree ℕ)) → allStanding 1 ts ≡ not (any startsWithToken ts || any (λ t. ltb 64 (deepest t)) ts)

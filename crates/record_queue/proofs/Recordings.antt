@@ -4,14 +4,14 @@ use mathlib.Core.Bool.{Bool, true, false, cond, not, _&&_, and-true, and-false}
 use mathlib.Core.List.{List, [], _∷_, _++_, headD, zip}
 use mathlib.Core.Option.{Option, Option·map}
 use mathlib.Core.Path.{_≡_, refl, sym, ap, _∙_}
-use Prim.Native.Nat.{ℕ, suc, _+_, _-_, _*_, _/_, _%_, _^_, _≤_, _<_}
+use Prim.Native.Nat.{ℕ, suc, _+_, _-_, _*_, _^_, _≤_, _<_}
 use native.Mathlib.Numerals.{add-one}
 use native.Mathlib.Omega.{arith}
 use lib.ListN.{length, getD, take, drop, length-drop, drop-of-length-le, take-append-drop}
 use lib.Seq.{paste, getD-drop, split-at, drop-drop, drop-paste}
 use lib.Dec.{eqb}
 use borrow.Author.Tests.{eq-eqb, ne-eqb, not-true, not-false}
-use Rattle.record_changes.specs.ChangeRow.{ChangeRow, rowWords, rowOf, rowsOf}
+use Rattle.record_changes.specs.ChangeRow.{ChangeRow, rowWords, rowOf, rowsOf, changeRow}
 use Rattle.record_changes.specs.ChangeRowLaws.{rowAt, length-row, length-rowsOf, rows-written, row-among, row-set, row-added}
 use Rattle.record_queue.specs.Queueing.{place, place-none, place-passed, place-found, put, put-found, put-new, through, through-editor, through-put, through-end}
 use Rattle.definition.specs.Elements.{Table}
@@ -20,7 +20,6 @@ use Rattle.definition.specs.Refusals.{Call, operationOf, countOf}
 use Rattle.orders.specs.Lists.{All}
 use Rattle.words.specs.Bytes.{length-words, take-words, drop-words}
 use Rattle.definition.specs.Recording.{change}
-use Rattle.record_changes.specs.ChangeRow.{changeRow}
 use Rattle.record_changes.specs.Numbers.{placeNumber, numbersOf, asChange, runAsked, changeAsked, rowWith, NumbersFit}
 use Rattle.record_changes.specs.Spots.{spotOf, Named}
 use Rattle.record_queue.specs.Recorded.{newsAt, askedAt, allAsked}

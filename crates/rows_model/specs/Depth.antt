@@ -4,7 +4,7 @@ use mathlib.Core.Path.{_≡_, refl, sym, ap, _∙_}
 use mathlib.Core.List.{List, [], _∷_}
 use mathlib.Core.Logic.{inl, inr}
 use mathlib.Core.Option.{some}
-use Prim.Native.Nat.{ℕ, suc, _+_, _-_, _≤_, min, max}
+use Prim.Native.Nat.{ℕ, suc, _+_, _-_, _≤_, max}
 use native.Mathlib.Omega.{arith}
 use lib.Dec.{ltb}
 use lib.ListN.{length, take, drop, getElem?}
@@ -73,10 +73,3 @@ module _ {A : Type 0} where
           | inl w ↦ lt-ltb d _ (omega (arith, r .0, r .1)) ∙ sym (lt-ltb d _ w)
           | inr w ↦ le-ltb d _ (omega (arith, r .0, r .1)) ∙ sym (le-ltb d _ w)
         ]
-
--- a height that is told as 65 where it is more than 64 is judged alike
-pub capped : (d h : ℕ) → ltb 64 (d + min 65 h) ≡ ltb 64 (d + h)
-capped d h = elim (lt-or-le 64 (d + h)) [
-  | inl w ↦ lt-ltb 64 (d + min 65 h) (omega arith) ∙ sym (lt-ltb 64 (d + h) w)
-  | inr w ↦ le-ltb 64 (d + min 65 h) (omega arith) ∙ sym (le-ltb 64 (d + h) w)
-]

@@ -8,10 +8,9 @@ use native.Mathlib.Omega.{arith}
 use lib.ListN.{length, take, drop, getElem?}
 use lib.Seq.{length-take-le, take-append-add, take-append-le}
 use Rattle.orders.specs.Lists.{more, pick, All}
-use Rattle.orders.specs.Tree.{Tree, node, list, Path, resolve, label, adjust, shift, splice, HasRun, forest, strip, front, last}
+use Rattle.orders.specs.Tree.{Tree, node, list, Path, resolve, label, adjust, shift, splice, HasRun, forest, strip}
 use Rattle.orders.specs.ListLaws.{some-inj, before, inside, after, zone?, get-lt, get-left, get-right, All-over}
-use Rattle.orders.specs.TreeLaws.{shift-before, shift-inside, shift-after, adjust-root, adjust-in, resolve-append, resolve-forest, resolve-splice, spliceIn, label-spliceIn, strip-append, front-child, front-last}
-use Rattle.definition_laws.specs.Moves.{adjust-keeps}
+use Rattle.orders.specs.TreeLaws.{shift-before, shift-inside, shift-after, adjust-root, adjust-in, resolve-splice, spliceIn, label-spliceIn, strip-append}
 use Rattle.rows_model.specs.Place.{sizeAll, place, mark, markOf, movedMark, Held}
 use Rattle.rows_model.specs.RowLaws.{sizeAll-append}
 use Rattle.rows_model.specs.PlaceLaws.{place-forest, place-child, place-down, run-after}
@@ -23,12 +22,6 @@ use Rattle.rows_model.specs.Moves.{adjust-place}
 pub kept : (q : Path) (t : Tree ℕ) (a b : ℕ) (new : List (Tree ℕ)) (e : Path) (v : Tree ℕ) (e′ : Path) → HasRun t q a b → resolve e t ≡ some v → adjust q a b (length new) e ≡ some e′
     → (w : Tree ℕ) × (resolve e′ (splice q a b new t) ≡ some w) × (label w ≡ label v)
 kept q t a b new e v e′ h f s = (spliceIn a b new (strip e q) v, resolve-splice a b new q t e v e′ h f s, label-spliceIn a b new (strip e q) v)
-
--- its parent: that survives too, and is the parent still
-pub adjust-front : (a b n : ℕ) (q : Path) (i : ℕ) (e e′ : Path) → adjust q a b n (i ∷ e) ≡ some e′ → adjust q a b n (front (i ∷ e)) ≡ some (front e′)
-adjust-front a b n q i e e′ s =
-    let (r, k, f, z) = adjust-keeps q a b n .child (front (i ∷ e)) e′ (last (i ∷ e)) (ap (adjust q a b n) (front-last i e) ∙ s) in
-    f ∙ ap {B = Option Path} some (sym (ap front z ∙ front-child r k))
 
 -- ── Marks ───────────────────────────────────────────────────────────────────────────────────────────────────
 
@@ -55,9 +48,6 @@ module _ (q : Path) (t : Tree ℕ) (a b : ℕ) (new : List (Tree ℕ)) (h : HasR
       ≡ map (movedMark (place (q ++ (a ∷ [])) t) (place (q ++ (b ∷ [])) t) (sizeAll new)) (map (markOf t) os)
   marks-follow [] w = refl
   marks-follow (o ∷ os) w = cc (mark-follows o (w .0), marks-follow os (w .1))
-
-  pub all-held : (os : List (Option Path)) → All (Held t) os → All (Held (splice q a b new t)) (map (λ o. bind o (adjust q a b (length new))) os)
-  all-held os w = All-over (λ o. bind o (adjust q a b (length new))) (Held t) (Held (splice q a b new t)) held-after os w
 
   -- the places of those paths of a list that survive
   pub places-follow : (es : List Path) → All (λ e. Held t (some e)) es
@@ -112,10 +102,6 @@ module _ (q : Path) (t : Tree ℕ) (a b : ℕ) (new : List (Tree ℕ)) (h : HasR
     among =
         let l = length-take-le a (list (h .children)) (omega (arith, h .ordered, h .within)) in
         get-right (take a (list (h .children))) (new ++ drop b (list (h .children))) (a + i) i (omega arith) ∙ (get-left new (drop b (list (h .children))) i (get-lt new i g) ∙ g)
-
-    pub new-resolve : resolve (q ++ ((a + i) ∷ r)) (splice q a b new t) ≡ resolve r y
-    unfolding bind
-    new-resolve = resolve-append q ((a + i) ∷ r) (splice q a b new t) ∙ rw parent-is (resolve-forest (h .kind) (take a (list (h .children)) ++ (new ++ drop b (list (h .children)))) (a + i) r y among)
 
     pub new-place : place (q ++ ((a + i) ∷ r)) (splice q a b new t) ≡ place (q ++ (a ∷ [])) t + sizeAll (take i new) + place r y
     new-place =

@@ -13,11 +13,11 @@ use lib.Dec.{ltb}
 use borrow.Author.Tests.{lt-ltb, le-ltb}
 use lib.Seq.{take-at, drop-at, take-add, length-take-le}
 use Rattle.orders.specs.Tree.{Tree, Trees, node, token, list, forest, Path, resolve, modify, splice, HasRun}
-use Rattle.orders.specs.ListLaws.{some-inj, none-some, bind-some, lt-or-le, lt-get, get-lt, get-none, get-right, length-cut, length-modify, modify-right, parts, part-out}
+use Rattle.orders.specs.ListLaws.{some-inj, none-some, bind-some, lt-or-le, lt-get, get-none, get-right, length-cut, length-modify, modify-right, parts, part-out}
 use Rattle.orders.specs.TreeLaws.{list-forest, resolve-child, resolve-append}
-use Rattle.rows_model.specs.Row.{Row, nod, rowOf, rowsOf, rowsIn, rowsAll, skip, treesIn, bytes}
+use Rattle.rows_model.specs.Row.{Row, nod, rowOf, rowsOf, rowsIn, rowsAll, skip, bytes}
 use Rattle.rows_model.specs.Place.{size, sizeAll, orZero, place, runOf, rowsAfter, childRow, follow, between, subtree, remeasure, spliceRows}
-use Rattle.rows_model.specs.RowLaws.{rowsIn-list, rows-node, rows-append, sizeAll-append, rows-get, rows-modify, size-pos, bytes-append, skip-none, skip-tree, skip-all, trees-count}
+use Rattle.rows_model.specs.RowLaws.{rowsIn-list, rows-node, rows-append, sizeAll-append, rows-get, rows-modify, size-pos, bytes-append, skip-none, skip-tree, skip-all}
 
 -- ── Places below a child ────────────────────────────────────────────────────────────────────────────────────
 
@@ -195,20 +195,6 @@ follow-path p t = follow-at p [] t t refl
 
 -- ── The rows around a run of children ───────────────────────────────────────────────────────────────────────
 
--- the run up to a child with it, the empty run behind a child, and the one before the first
-pub run-to : (q : Path) (i j : ℕ) (t d : Tree ℕ) → resolve (q ++ (j ∷ [])) t ≡ some d → i ≤ j → HasRun t q i (suc j)
-run-to q i j t d g h =
-    let (k, cs, z, y) = parent-of q j t d g in
-    record { kind = k; children = cs; found = z; ordered = omega arith; within = get-lt (list cs) j y }
-
-pub run-behind : (q : Path) (i : ℕ) (t c : Tree ℕ) → resolve (q ++ (i ∷ [])) t ≡ some c → HasRun t q (suc i) (suc i)
-run-behind q i t c f =
-    let (k, cs, z, y) = parent-of q i t c f in
-    record { kind = k; children = cs; found = z; ordered = omega arith; within = get-lt (list cs) i y }
-
-pub run-first : (q : Path) (t : Tree ℕ) (k : ℕ) (cs : Trees ℕ) → resolve q t ≡ some (node k cs) → HasRun t q 0 0
-run-first q t k cs f = record { kind = k; children = cs; found = f; ordered = omega arith; within = omega arith }
-
 -- a run of the root's own children: under the root of all, whole trees
 pub run-root : (k : ℕ) (cs : Trees ℕ) (a b : ℕ) → a ≤ b → b ≤ length (list cs) → HasRun (node k cs) [] a b
 unfolding resolve
@@ -325,10 +311,6 @@ module _ (q : Path) (t : Tree ℕ) (a b : ℕ) (h : HasRun t q a b) where
   size-splice new =
       let f : size (splice q a b new t) ≡ length (site .before) + suc (length (site .left) + (sizeAll new + length (site .right))) = ap length (site .is new) ∙ simp length-append in
       omega (arith, size-was, run-long)
-
-  -- the number of trees of the run: what the parent's measure loses
-  pub run-trees : treesIn (between (place (q ++ (a ∷ [])) t) (place (q ++ (b ∷ [])) t) (rowsOf t)) ≡ b - a
-  run-trees = rw run-rows (trees-count (runOf h) ∙ site .trees)
 
   -- the length of the text
   pub bytes-splice : (new : List (Tree ℕ)) → bytes (rowsOf (splice q a b new t)) + bytes (between (place (q ++ (a ∷ [])) t) (place (q ++ (b ∷ [])) t) (rowsOf t)) ≡ bytes (rowsOf t) + bytes (rowsAll new)

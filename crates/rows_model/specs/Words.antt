@@ -96,10 +96,10 @@ module _ (text : List ℕ) (k m o : ℕ) where
 
 -- ── Many words ──────────────────────────────────────────────────────────────────────────────────────────────
 
-thrice : (n j : ℕ) → 3 * suc n + j ≡ suc (suc (suc (3 * n + j)))
+pub thrice : (n j : ℕ) → 3 * suc n + j ≡ suc (suc (suc (3 * n + j)))
 thrice n j = omega arith
 
-thrice₀ : (n : ℕ) → 3 * suc n ≡ suc (suc (suc (3 * n)))
+pub thrice₀ : (n : ℕ) → 3 * suc n ≡ suc (suc (suc (3 * n)))
 thrice₀ n = omega arith
 
 module _ (t : List ℕ) where

@@ -14,9 +14,9 @@ use borrow.Author.Tests.{lt-ltb, le-ltb}
 use lib.Seq.{getD-set-same, getD-set-other, drop-cons, paste, paste-suc, take-paste, drop-paste, take-all, length-take-le, getD-take, take-set-lt, drop-set-lt, drop-at}
 use Rattle.orders.specs.Lists.{All}
 use Rattle.orders.specs.Tree.{modify}
-use Rattle.orders.specs.ListLaws.{get-none, take-modify, drop-modify-before, modify-left}
+use Rattle.orders.specs.ListLaws.{get-none, All-at, take-modify, drop-modify-before, modify-left}
 use Rattle.orders.specs.TreeLaws.{shift-before, shift-inside, shift-after}
-use Rattle.definition_laws.specs.Basics.{getD-map}
+use Rattle.definition_laws.specs.Basics.{upFrom, up-at, up-long, getD-map}
 use Rattle.words.specs.Parts.{spliced, getD-above, length-spliced, take-spliced}
 use Rattle.rows_model.specs.Row.{Row, owes, textLength, rowIn, firstRows, triples, skip, treesFrom, treesIn, bytes, opened, heightIn, height}
 use Rattle.rows_model.specs.Place.{rowsAfter, childRow, between, subtree, follow, remeasure, spliceRows, movedMark}
@@ -83,6 +83,32 @@ child-found {rows} {n} {parent} {i} v = record { row = λ text. v .row text ∙ 
 
 -- ── Marks ───────────────────────────────────────────────────────────────────────────────────────────────────
 
+-- the first i marks are numbered
+pub record Numbering (marks : List ℕ) (first : ℕ) (l : List ℕ) (i : ℕ) : Type 0 where
+  pub inside : i ≤ length marks
+  pub long : length l ≡ length marks
+  pub copied : l ≡ paste marks 0 (upFrom first (length marks)) i
+
+pub numbering-start : (marks : List ℕ) (first : ℕ) → Numbering marks first marks 0
+numbering-start marks first = record { inside = omega arith; long = refl; copied = refl }
+
+module _ {marks : List ℕ} {first : ℕ} {l : List ℕ} {i : ℕ} (v : Numbering marks first l i) where
+  abbrev s : List ℕ
+  s = upFrom first (length marks)
+
+  pub numbering-next : i < length l → Numbering marks first (set l i (first + i)) (i + 1)
+  numbering-next h =
+      let h′ : i < length marks = omega (arith, v .long) in
+      let g : getD s i 0 ≡ first + i = up-at first (length marks) i h′ in
+      record {
+        inside = omega arith;
+        long = simp length-set (v .long);
+        copied = rw (v .copied, ← g, add-one i) (ap (λ (k : ℕ). set (paste marks 0 s i) k (getD s i 0)) (sym (zero-add i)) ∙ paste-suc marks 0 s i 0 (omega arith) (omega (arith, up-long first (length marks))));
+      }
+
+  pub numbering-done : length l ≤ i → l ≡ upFrom first (length marks)
+  numbering-done k = v .copied ∙ rw (zero-add i, take-all i s (omega (arith, v .long, up-long first (length marks))), drop-of-length-le marks {i = i} (omega (arith, v .long))) (append-nil s)
+
 module _ (p q m x : ℕ) (few : (p ≤ q) × (q < 2 ^ 16) × (m < 2 ^ 16) × (x < 2 ^ 16)) where
   pub mark-before : x < p → Moved p q m x x
   unfolding movedMark
@@ -95,11 +121,6 @@ module _ (p q m x : ℕ) (few : (p ≤ q) × (q < 2 ^ 16) × (m < 2 ^ 16) × (x 
   pub mark-after : p ≤ x → q ≤ x → Moved p q m x (x + m - (q - p))
   unfolding movedMark
   mark-after h k = record { mark = rw (shift-after p q m x h k); small = omega arith }
-
-All-get : (l : List ℕ) (i b : ℕ) → i < length l → All (λ x. x < b) l → getD l i 0 < b
-All-get [] i b h a = absurd (omega arith)
-All-get (x ∷ l) zero b h a = a .0
-All-get (x ∷ l) (suc i) b h a = All-get l i b (omega arith) (a .1)
 
 -- the first i marks are moved
 pub record Shifting (marks : List ℕ) (p q m : ℕ) (l : List ℕ) (i : ℕ) : Type 0 where
@@ -116,7 +137,7 @@ module _ {marks : List ℕ} {p q m : ℕ} {l : List ℕ} {i : ℕ} (v : Shifting
   unmoved h = rw (v .copied) (getD-above marks 0 (map (movedMark p q m) marks) i (omega arith) (omega (arith, length-map marks (movedMark p q m))) 0 i (omega arith))
 
   pub shifting-small : i < length l → All (λ x. x < 2 ^ 16) marks → getD l i 0 < 2 ^ 16
-  shifting-small h a = rw (unmoved (omega (arith, v .long))) (All-get marks i (2 ^ 16) (omega (arith, v .long)) a)
+  shifting-small h a = rw (unmoved (omega (arith, v .long))) (All-at (λ x. x < 2 ^ 16) 0 marks i (omega (arith, v .long)) a)
 
   pub shifting-next : {y : ℕ} → i < length l → Moved p q m (getD l i 0) y → Shifting marks p q m (set l i y) (i + 1)
   shifting-next {y} h f =

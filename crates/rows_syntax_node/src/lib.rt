@@ -4,6 +4,7 @@ ghost use mathlib.Core.List.{List};
 ghost use Prim.Native.Nat.{ℕ, _+_, _-_, _*_, _%_, _^_, _≤_, _<_, max};
 ghost use lib.ListN.{length, getD};
 ghost use Rattle.orders.specs.Lists.{All};
+ghost use Rattle.definition_laws.specs.Basics.{upFrom};
 ghost use Rattle.rows_model.specs.Row.{firstRows};
 ghost use Rattle.rows_model.specs.Place.{follow};
 ghost use Rattle.rows_syntax_node.specs.Promises.{Counted, Measured, After, ChildAt, TreesIn, TreesBetween, Bytes, Height, Part, Appended, Spliced, Moved, Shifted, found};
@@ -225,6 +226,18 @@ pub fn splice_rows(
 }
 
 // ── Marks ──
+
+// Element `e` stands at row `first` + `e`.
+pub fn number_from(marks: &mut [u32], first: usize)
+    requires { ⌜ (length (now marks) < 2 ^ 16) × (first < 2 ^ 16) ⌝ }
+    ensures { λ _. ⌜ now (marks .exit) ≡ upFrom first (length (now (marks .entry))) ⌝ }
+{
+    let mut i = 0;
+    while i < marks.len() {
+        marks[i] = (first + i) as u32;
+        i += 1;
+    }
+}
 
 // What becomes of a mark where the rows `p` up to `q` give way to `m` others.
 fn moved_word(x: u32, p: u32, q: u32, m: u32) -> u32

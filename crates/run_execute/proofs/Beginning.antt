@@ -1,18 +1,20 @@
--- Before the first step: the loop over the marks, and what is held.
+-- Before the first step: what is held.
 -- Assumes nothing.
 use mathlib.Core.Path.{_≡_, refl, sym, ap, _∙_, subst}
-use mathlib.Core.List.{List, [], append-nil}
+use mathlib.Core.List.{List, []}
 use Prim.Native.Nat.{ℕ, _+_, _-_, _*_, _≤_, _<_}
-use native.Mathlib.Nat.{zero-add, add-comm}
+use native.Mathlib.Nat.{zero-add}
 use native.Mathlib.Numerals.{add-one}
 use native.Mathlib.Omega.{arith}
-use lib.ListN.{length, getD, set, take, drop, length-set, drop-of-length-le}
-use lib.Seq.{paste, paste-zero, paste-suc, take-paste, take-all, take-take, length-take-le, getD-take}
+use lib.ListN.{length, getD, take, drop}
+use lib.Seq.{paste, take-paste, take-take, length-take-le, getD-take}
 use Rattle.orders.specs.Lists.{All}
+use Rattle.words.specs.Parts.{part-front}
 use Rattle.run_model.specs.Store.{Store, storeSteps}
 use Rattle.rows_model.specs.Row.{triples, firstRows, bytes}
 use Rattle.rows_syntax_node.specs.Promises.{Bytes}
-use Rattle.read_element_table.specs.View.{upFrom, up-at, view}
+use Rattle.definition_laws.specs.Basics.{upFrom}
+use Rattle.read_element_table.specs.View.{view}
 use Rattle.plan_mapping.specs.Mapped.{wordsAt}
 use Rattle.record_changes.specs.ChangeRowLaws.{rowAt}
 use Rattle.run_annotations.specs.Notes.{notesOf, notes-same}
@@ -20,42 +22,9 @@ use Rattle.run_tree_store.specs.Stored.{stored, storedFirst}
 use Rattle.run_tree_state.specs.Store.{heldIn}
 use Rattle.run_tree_state.specs.declared.TreeState.{TreeState}
 use Rattle.run_tree_state.specs.declared.Executed.{Executed}
-use Rattle.run_step.specs.Standing.{Begun, up-long, Now, now-first, Standing}
+use Rattle.run_step.specs.Standing.{Begun, Now, now-first, Standing}
 use Rattle.run_step.specs.Stepping.{Performs}
 use Rattle.run_execute.specs.Running.{plansIn, listsAll, RanSteps, Began, Ran, marks-many}
-
--- ── Marks ───────────────────────────────────────────────────────────────────────────────────────────────────
-
--- the first i marks are numbered
-pub record Numbering (l out : List ℕ) (i : ℕ) : Type 0 where
-  pub written : out ≡ paste l 0 (upFrom 1 (length l)) i
-  pub inside : i ≤ length l
-  pub long : length out ≡ length l
-
-pub numbering-start : (l : List ℕ) → Numbering l l 0
-numbering-start l = record { written = paste-zero l 0 (upFrom 1 (length l)); inside = omega arith; long = refl }
-
-pub numbering-next : {l out : List ℕ} {i : ℕ} → Numbering l out i → i < length out → Numbering l (set out i (i + 1)) (i + 1)
-numbering-next {l} {out} {i} v h =
-    let s : List ℕ = upFrom 1 (length l) in
-    let k : i < length l = omega (arith, v .long) in
-    let e : getD s i 0 ≡ i + 1 = up-at 1 (length l) i k ∙ add-comm 1 i in
-    record {
-      written =
-          ap (λ (d : List ℕ). set d i (i + 1)) (v .written)
-          ∙ (ap (λ (x : ℕ). set (paste l 0 s i) i x) (sym e) ∙ (ap (λ (j : ℕ). set (paste l 0 s i) j (getD s i 0)) (sym (zero-add i)) ∙ (paste-suc l 0 s i 0 (omega arith) (omega (arith, up-long 1 (length l))) ∙ ap (paste l 0 s) (sym (add-one i)))));
-      inside = omega arith;
-      long = length-set out i (i + 1) ∙ v .long;
-    }
-
-pub numbering-done : {l out : List ℕ} {i : ℕ} → Numbering l out i → length out ≤ i → out ≡ upFrom 1 (length l)
-numbering-done {l} {out} {i} v h =
-    let s : List ℕ = upFrom 1 (length l) in
-    let e : i ≡ length l = omega (arith, v .inside, v .long) in
-    v .written ∙ whole l s i e (up-long 1 (length l) ∙ sym e)
-  where
-    whole : (l s : List ℕ) (i : ℕ) → i ≡ length l → length s ≡ i → paste l 0 s i ≡ s
-    whole l s i e z = rw (drop-of-length-le l {i = 0 + i} (omega arith), take-all i s (omega arith)) (append-nil s)
 
 -- ── What is held ────────────────────────────────────────────────────────────────────────────────────────────
 
@@ -96,9 +65,6 @@ begins {n} rows source notes first {a} {sum} {rows′} {marks′} {notes′} h k
 
 -- ── From there the run ──────────────────────────────────────────────────────────────────────────────────────
 
-front : (k : ℕ) (l : List ℕ) → take (k - 0) (drop 0 l) ≡ take k l
-front k l = let e : k - 0 ≡ k = omega arith in rw e
-
 module _ {n : ℕ} {lines source first : List ℕ} {a : ℕ} (b : Begun n lines source first a) {rows marks notes : List ℕ} {s : TreeState} (w : Began n source first a rows marks notes s) (changed : List ℕ) (long : 12291 ≤ length rows) where
   stands : Standing n lines source first a s rows marks notes changed
   stands = record {
@@ -122,12 +88,12 @@ module _ {n : ℕ} {lines source first : List ℕ} {a : ℕ} (b : Begun n lines 
   module _ (listed changes running : List ℕ) (r : ℕ) where
     pub begun-performs : All (λ k. Performs n (view n lines source) listed (rowAt changes k)) (take r running)
         → All (λ k. Performs (length marks) (view (length marks) lines source) listed (rowAt changes k)) (take (r - 0) (drop 0 running))
-    begun-performs x = subst (λ (n : ℕ). All (λ k. Performs n (view n lines source) listed (rowAt changes k)) (take (r - 0) (drop 0 running))) (sym many) (subst (All (λ k. Performs n (view n lines source) listed (rowAt changes k))) (sym (front r running)) x)
+    begun-performs x = subst (λ (n : ℕ). All (λ k. Performs n (view n lines source) listed (rowAt changes k)) (take (r - 0) (drop 0 running))) (sym many) (subst (All (λ k. Performs n (view n lines source) listed (rowAt changes k))) (sym (part-front r running)) x)
 
     pub begun-room : {m : ℕ} → listsAll (view n lines source) listed changes (take r running) ≤ m → s .changed + listsAll (view (length marks) lines source) listed changes (take (r - 0) (drop 0 running)) ≤ m
     begun-room {m} h =
         subst (λ (n : ℕ). s .changed + listsAll (view n lines source) listed changes (take (r - 0) (drop 0 running)) ≤ m) (sym many)
-        (subst (λ (l : List ℕ). s .changed + listsAll (view n lines source) listed changes l ≤ m) (sym (front r running)) (omega (arith, w .none)))
+        (subst (λ (l : List ℕ). s .changed + listsAll (view n lines source) listed changes l ≤ m) (sym (part-front r running)) (omega (arith, w .none)))
 
     pub executed : {rows′ marks′ notes′ changed′ : List ℕ} {x : Executed}
         → RanSteps lines source first a listed changes (take (r - 0) (drop 0 running)) s rows marks notes changed rows′ marks′ notes′ changed′ x → Ran n lines source first a listed changes (take r running) rows′ marks′ notes′ changed′ x
@@ -137,6 +103,6 @@ module _ {n : ℕ} {lines source first : List ℕ} {a : ℕ} (b : Begun n lines 
           u .answer text
           ∙ (ap (λ (n : ℕ). storeSteps (view n lines source) (F n) (heldIn text s rows marks notes changed) (plansIn listed changes (take (r - 0) (drop 0 running)))) many
           ∙ (ap (λ (z : Store). storeSteps (view n lines source) (F n) z (plansIn listed changes (take (r - 0) (drop 0 running)))) (w .told text changed)
-          ∙ ap (λ (l : List ℕ). storeSteps (view n lines source) (F n) (F n) (plansIn listed changes l)) (front r running)));
+          ∙ ap (λ (l : List ℕ). storeSteps (view n lines source) (F n) (F n) (plansIn listed changes l)) (part-front r running)));
       standing = λ t q. subst (λ (k : ℕ). Standing k lines source first a t rows′ marks′ notes′ changed′) many (u .standing t q);
     }

@@ -36,12 +36,6 @@ pub record Walking (n : ℕ) (lines source first : List ℕ) (a : ℕ) (listed c
   pub room : s .changed + listsAll (view n lines source) listed changes (drop i running) ≤ m
   pub inside : i ≤ length running
 
-pub walking-start : {lines source first : List ℕ} {a : ℕ} {listed changes running : List ℕ} {s : TreeState} {rows marks notes changed : List ℕ}
-    → Standing (length marks) lines source first a s rows marks notes changed
-    → s .changed + listsAll (view (length marks) lines source) listed changes running ≤ length changed
-    → Walking (length marks) lines source first a listed changes running (length changed) s rows marks notes changed s rows marks notes changed 0
-walking-start v h = record { standing = v; steps = λ text. refl; room = h; inside = omega arith }
-
 module _ {n : ℕ} {lines source first : List ℕ} {a : ℕ} {listed changes running : List ℕ} {m : ℕ} {s₀ : TreeState} {rows₀ marks₀ notes₀ changed₀ : List ℕ} {s : TreeState} {rows marks notes changed : List ℕ} {i : ℕ}
     (v : Walking n lines source first a listed changes running m s₀ rows₀ marks₀ notes₀ changed₀ s rows marks notes changed i) where
   many : length marks ≡ n

@@ -3,12 +3,13 @@ ghost use mathlib.Core.Path.{_≡_};
 ghost use Prim.Native.Nat.{_+_, _*_, _≤_, _<_};
 ghost use lib.ListN.{length, take};
 ghost use Rattle.orders.specs.Lists.{All};
-ghost use Rattle.read_element_table.specs.View.{upFrom, view};
+ghost use Rattle.read_element_table.specs.View.{view};
 ghost use Rattle.plan_mapping.specs.Mapped.{wordsAt};
 ghost use Rattle.record_changes.specs.ChangeRowLaws.{rowAt};
 ghost use Rattle.run_step.specs.Standing.{Begun, Standing};
 ghost use Rattle.run_step.specs.Stepping.{Performs};
 ghost use Rattle.run_execute.specs.Running.{listsAll, RanSteps, Began, Ran};
+use rows_syntax_node::number_from;
 use rows_syntax_node::text_bytes;
 use run_step::step;
 use run_tree_state::Executed;
@@ -17,18 +18,6 @@ use words::copy_in;
 use words::word;
 
 // ── Before the first step ──
-
-// Element `e` of the batch stands at row `e` + 1.
-fn number_marks(marks: &mut [u32])
-    requires { ⌜ length (now marks) ≤ 2048 ⌝ }
-    ensures { λ _. ⌜ now (marks .exit) ≡ upFrom 1 (length (now (marks .entry))) ⌝ }
-{
-    let mut i = 0;
-    while i < marks.len() {
-        marks[i] = (i + 1) as u32;
-        i += 1;
-    }
-}
 
 // Rust: TreeState::new, of all trees at once. The batch's own rows, each element at its row, the notes as first moved, and nothing changed.
 fn begin(
@@ -47,7 +36,7 @@ fn begin(
     let end = 3 * n;
     let bytes = text_bytes(&source[0..end]);
     copy_in(rows, 0, &source[0..end]);
-    number_marks(marks);
+    number_from(marks, 1);
     let to = 3 * a;
     copy_in(notes, 0, &first[0..to]);
     TreeState {

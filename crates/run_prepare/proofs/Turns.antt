@@ -17,7 +17,7 @@ use Rattle.definition.specs.Words.{word, words}
 use Rattle.words.specs.Bytes.{words-append, length-words, getD-words}
 use Rattle.rows_model.specs.Row.{Row, firstRows, triples}
 use Rattle.rows_model.specs.Words.{length-triples}
-use Rattle.read_element_table.specs.View.{upFrom, up-at}
+use Rattle.definition_laws.specs.Basics.{upFrom, up-at}
 use Rattle.run_model.specs.Store.{HeldNote, withRow, Store, there, marked, Part, partAt, partOf, newRows, placedParts}
 use Rattle.rows_syntax_node.specs.Promises.{Appended}
 use Rattle.run_annotations.specs.Notes.{notesOf}

@@ -11,6 +11,7 @@ use Rattle.orders.specs.Lists.{All}
 use Rattle.definition.specs.Basics.{_>>=_, refuse}
 use Rattle.definition.specs.Words.{words}
 use Rattle.words.specs.Bytes.{length-words}
+use Rattle.words.specs.Parts.{part-front}
 use Rattle.rows_model.specs.Row.{firstRows}
 use Rattle.rows_model.specs.Words.{length-first}
 use Rattle.run_model.specs.Sums.{Within}
@@ -31,26 +32,23 @@ use Rattle.run_step.specs.Stepping.{yieldsIn, SteppedAt}
 
 -- ── Parts of what is prepared ───────────────────────────────────────────────────────────────────────────────
 
-front : (k : ℕ) (l : List ℕ) → take (k - 0) (drop 0 l) ≡ take k l
-front k l = let e : k - 0 ≡ k = omega arith in rw e
-
 module _ {s : TreeState} {rows marks notes changed : List ℕ} {g : Gap} {recorded : Bool} {count : ℕ} (v : Open s rows marks notes changed g recorded count)
     (prepared : List ℕ) {m : ℕ} (sizes incoming : List ℕ) {c : ℕ}
     (w : (m ≤ 4096) × (3 * m ≤ length prepared) × (count ≤ 1024) × (count ≤ length sizes) × All (λ x. x < 2 ^ 16) (take count sizes) × (c ≤ 1024) × (3 * c ≤ length incoming)) where
   many : length (take (count - 0) (drop 0 sizes)) ≡ count
-  many = ap length (front count sizes) ∙ length-take-le count sizes (w .3)
+  many = ap length (part-front count sizes) ∙ length-take-le count sizes (w .3)
 
   pub part-open : Open s rows marks notes changed g recorded (length (take (count - 0) (drop 0 sizes)))
   part-open = subst (Open s rows marks notes changed g recorded) (sym many) v
 
   pub part-coming : Coming (take (3 * m - 0) (drop 0 prepared)) (take (count - 0) (drop 0 sizes)) incoming c
   part-coming =
-      let e : length (take (3 * m - 0) (drop 0 prepared)) ≡ 3 * m = ap length (front (3 * m) prepared) ∙ length-take-le (3 * m) prepared (w .1) in
+      let e : length (take (3 * m - 0) (drop 0 prepared)) ≡ 3 * m = ap length (part-front (3 * m) prepared) ∙ length-take-le (3 * m) prepared (w .1) in
       record {
         whole = omega arith;
         short = omega (arith, w .0);
         fewParts = omega (arith, many, w .2);
-        sized = subst (All (λ x. x < 2 ^ 16)) (sym (front count sizes)) (w .4);
+        sized = subst (All (λ x. x < 2 ^ 16)) (sym (part-front count sizes)) (w .4);
         fewComing = w .5;
         longComing = w .6;
       }
@@ -58,7 +56,7 @@ module _ {s : TreeState} {rows marks notes changed : List ℕ} {g : Gap} {record
 pub part-applied : {s : TreeState} {rows marks notes changed : List ℕ} {g : Gap} {above : ℕ} {recorded : Bool} (prepared : List ℕ) (m : ℕ) (sizes : List ℕ) (count : ℕ) {incoming : List ℕ} {c : ℕ} {rows′ marks′ notes′ changed′ : List ℕ} {r : Executed}
     → Applied s rows marks notes changed g above recorded (take (3 * m - 0) (drop 0 prepared)) (take (count - 0) (drop 0 sizes)) incoming c rows′ marks′ notes′ changed′ r
     → Applied s rows marks notes changed g above recorded (take (3 * m) prepared) (take count sizes) incoming c rows′ marks′ notes′ changed′ r
-part-applied prepared m sizes count v = rw (front (3 * m) prepared, front count sizes) at v
+part-applied prepared m sizes count v = rw (part-front (3 * m) prepared, part-front count sizes) at v
 
 pub asks-prepare : {s : TreeState} {rows marks notes changed : List ℕ} {g : Gap} {recorded : Bool} {count : ℕ} → Open s rows marks notes changed g recorded count
     → (source first : List ℕ) (a : ℕ) (b : List ℕ) (list : ℕ) (prepared sizes incoming : List ℕ)

@@ -3,7 +3,7 @@
 use mathlib.Core.Path.{_≡_, refl, sym, ap, _∙_}
 use mathlib.Core.List.{List, [], _∷_, map, flatMap}
 use mathlib.Core.Option.{none, some}
-use Prim.Native.Nat.{ℕ, zero, suc, _+_, _*_, _≤_, _<_}
+use Prim.Native.Nat.{ℕ, _+_, _*_, _≤_, _<_}
 use native.Mathlib.Numerals.{add-one}
 use native.Mathlib.Omega.{arith}
 use lib.ListN.{length, length-map}
@@ -17,7 +17,7 @@ use Rattle.definition.specs.Planning.{Planned}
 use Rattle.definition.specs.Rewriting.{Note}
 use Rattle.definition.specs.Running.{World, begin, present, step, steps}
 use Rattle.definition_laws.specs.Answers.{gives-inj, both-given}
-use Rattle.definition_laws.specs.Basics.{getD-map}
+use Rattle.definition_laws.specs.Basics.{getD-map, upFrom, up-at, up-long}
 use Rattle.definition_laws.specs.Measures.{textOf-list, deepest-each}
 use Rattle.definition_laws.specs.Spelling.{Worded}
 use Rattle.definition_laws.specs.Right.{Right}
@@ -31,7 +31,7 @@ use Rattle.rows_model.specs.Words.{rows-many}
 use Rattle.rows_model.specs.Numbers.{element-row}
 use Rattle.run_model.specs.Store.{heldNote, Store, store, storeStep}
 use Rattle.run_model.specs.Step.{Kept, step-store, step-kept}
-use Rattle.read_element_table.specs.View.{upFrom, up-at, view}
+use Rattle.read_element_table.specs.View.{view}
 use Rattle.read_element_table.specs.Told.{length-view}
 use Rattle.read_element_table.specs.Wellformed.{Lines}
 use Rattle.run_annotations.specs.Notes.{notesOf, length-notesOf}
@@ -58,11 +58,6 @@ pub record Begun (n : ℕ) (lines source first : List ℕ) (a : ℕ) : Type 0 wh
   pub long : 3 * n + 3 ≤ length source
   pub fewNotes : a ≤ 256
   pub longNotes : 3 * a ≤ length first
-
-pub up-long : (k n : ℕ) → length (upFrom k n) ≡ n
-unfolding upFrom
-up-long k zero = refl
-up-long k (suc n) = ap suc (up-long (suc k) n)
 
 store-same : {s t : Store} → s .rows ≡ t .rows → s .marks ≡ t .marks → s .notes ≡ t .notes → s .changed ≡ t .changed → s ≡ t
 store-same {s} {t} a b c d = λ i. record { rows = a i; marks = b i; notes = c i; changed = d i }

@@ -11,7 +11,8 @@ use lib.Dec.{eqb, ltb}
 use borrow.Author.Tests.{lt-ltb, le-ltb, ne-eqb}
 use Rattle.orders.specs.Lists.{All}
 use Rattle.orders.specs.ListLaws.{All-at}
-use Rattle.read_element_table.specs.View.{upFrom, up-at, view}
+use Rattle.definition_laws.specs.Basics.{upFrom, up-at}
+use Rattle.read_element_table.specs.View.{view}
 use Rattle.read_element_table.specs.Wellformed.{Lines}
 use Rattle.read_element_table.specs.Told.{root-told, tree-told}
 use Rattle.definition.specs.Elements.{Table, root?, tree}

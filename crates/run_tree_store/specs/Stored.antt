@@ -3,7 +3,7 @@
 use mathlib.Core.List.{List}
 use Prim.Native.Nat.{ℕ, suc}
 use Rattle.rows_model.specs.Row.{firstRows}
-use Rattle.read_element_table.specs.View.{upFrom}
+use Rattle.definition_laws.specs.Basics.{upFrom}
 use Rattle.run_model.specs.Store.{HeldNote, Store}
 
 -- n rows and the marks of all elements, with notes and changed elements

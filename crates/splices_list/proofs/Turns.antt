@@ -1,13 +1,12 @@
 -- What each way out and each turn of a loop knows.
 -- Assumes nothing.
 use mathlib.Core.Path.{_≡_, refl, sym, ap, _∙_}
-use mathlib.Core.List.{List, [], _∷_, append-nil}
+use mathlib.Core.List.{List, [], _∷_}
 use Prim.Native.Nat.{ℕ, zero, suc, _+_, _*_, _/_, _^_, _≤_, _<_, _-_}
 use native.Mathlib.Omega.{arith}
-use native.Mathlib.Nat.{zero-add}
 use native.Mathlib.Numerals.{add-one}
-use lib.ListN.{length, getD, set, length-set, drop-of-length-le, take, drop, replicate}
-use lib.Seq.{paste, paste-suc, take-all, drop-drop, length-take-le}
+use lib.ListN.{length, getD, set, length-set, take, drop, replicate}
+use lib.Seq.{drop-drop, length-take-le}
 use borrow.Rule.Slice.PartMut.{midOf, postOf, putMid, mid-len, post-is}
 use Rattle.orders.specs.Lists.{All}
 use Rattle.orders.specs.Tree.{Tree}
@@ -22,7 +21,7 @@ use Rattle.splices_model.specs.Verdict.{judged-bounds}
 use Rattle.splices_model.specs.SpliceList.{oldTree, wordsOf, splicesTo, filled, rewritten}
 use Rattle.splices_model.specs.Found.{placesBelow, legible, old-told, list-told, wrong, judged-wrong, answer-wrong, Right, none-right, answer-right}
 use Rattle.splices_check.specs.Promises.{Judged}
-use Rattle.splices_model.specs.Places.{upFrom, upFrom-many, upFrom-get}
+use Rattle.definition_laws.specs.Basics.{upFrom, up-long}
 use Rattle.splices_model.specs.Step.{begin-holds}
 use Rattle.splices_list.specs.declared.Outcome.the-variants.{Refused, Done}
 use Rattle.splices_step.specs.Promises.{Stepped}
@@ -88,33 +87,6 @@ module _ {rows₀ : List ℕ} {n₀ : ℕ} {marks₀ s p : List ℕ} {c : ℕ} {
     pub going-bounds : BoundedAll (length marks₀) s p c → BoundedTo (length marks) s p k
     going-bounds b = rw (v .many) (bounded-to b h)
 
--- ── Marks at the start ──────────────────────────────────────────────────────────────────────────────────────
-
--- the first i marks are numbered
-pub record Counting (marks l : List ℕ) (i : ℕ) : Type 0 where
-  pub inside : i ≤ length marks
-  pub long : length l ≡ length marks
-  pub copied : l ≡ paste marks 0 (upFrom 0 (length marks)) i
-
-pub counting-start : (marks : List ℕ) → Counting marks marks 0
-counting-start marks = record { inside = omega arith; long = refl; copied = refl }
-
-module _ {marks l : List ℕ} {i : ℕ} (v : Counting marks l i) where
-  pub counting-next : i < length l → Counting marks (set l i i) (i + 1)
-  counting-next h =
-      let h′ : i < length marks = omega (arith, v .long) in
-      let m : length (upFrom 0 (length marks)) ≡ length marks = upFrom-many 0 (length marks) in
-      let g : getD (upFrom 0 (length marks)) i 0 ≡ i = upFrom-get 0 (length marks) i h′ ∙ zero-add i in
-      record {
-        inside = omega arith;
-        long = simp length-set (v .long);
-        copied = rw (v .copied, add-one i) (ap (λ (x : ℕ). set (paste marks 0 (upFrom 0 (length marks)) i) i x) (sym g) ∙ (ap (λ (k : ℕ). set (paste marks 0 (upFrom 0 (length marks)) i) k (getD (upFrom 0 (length marks)) i 0)) (sym (zero-add i)) ∙ paste-suc marks 0 (upFrom 0 (length marks)) i 0 (omega arith) (omega arith)));
-      }
-
-  pub counting-done : length l ≤ i → l ≡ upFrom 0 (length marks)
-  counting-done k =
-      v .copied ∙ rw (zero-add i, take-all i (upFrom 0 (length marks)) (omega (arith, v .long, upFrom-many 0 (length marks))), drop-of-length-le marks {i = i} (omega (arith, v .long))) (append-nil (upFrom 0 (length marks)))
-
 -- ── Third words ─────────────────────────────────────────────────────────────────────────────────────────────
 
 -- the first i rows are plain
@@ -141,6 +113,7 @@ module _ {rows : List ℕ} {n : ℕ} {l : List ℕ} {i : ℕ} (v : Plaining rows
 -- ── From the old tree on ────────────────────────────────────────────────────────────────────────────────────
 
 upFrom-below : (a n m : ℕ) → a + n ≤ m → All (λ x. x < m) (upFrom a n)
+unfolding upFrom
 upFrom-below a zero m h = tt
 upFrom-below a (suc n) m h = (omega arith, upFrom-below (suc a) n m (omega arith))
 
@@ -148,10 +121,10 @@ pub numbered-below : (n : ℕ) {l : List ℕ} → l ≡ upFrom 0 n → All (λ x
 numbered-below n e = rw e (upFrom-below 0 n n (omega arith))
 
 pub numbered-few : (n : ℕ) (l : List ℕ) → l ≡ upFrom 0 n → n < 2 ^ 16 → length l < 2 ^ 16
-numbered-few n l e h = omega (arith, ap length e, upFrom-many 0 n)
+numbered-few n l e h = omega (arith, ap length e, up-long 0 n)
 
 pub numbered-bounds : (n : ℕ) (l : List ℕ) {s p : List ℕ} {c : ℕ} → l ≡ upFrom 0 n → BoundedAll n s p c → BoundedAll (length l) s p c
-numbered-bounds n l e b = let m : length l ≡ n = ap length e ∙ upFrom-many 0 n in rw m b
+numbered-bounds n l e b = let m : length l ≡ n = ap length e ∙ up-long 0 n in rw m b
 
 pub listed-all : {rows marks s p : List ℕ} {c : ℕ} {numbered out marked : List ℕ} {r : ℕ} → Good rows marks s p c → numbered ≡ upFrom 0 (length marks) → Listed rows (length marks) numbered s p c out marked r
     → ListedAll rows marks s p c out marked r

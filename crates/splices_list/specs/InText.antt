@@ -17,12 +17,11 @@ use Rattle.orders.specs.Splices.{Splice, under, fromRoot, fromChild, atRoot, be
 use Rattle.orders.specs.Parts.{fromRoot-some, fromChild-some}
 use Rattle.orders.specs.Children.{All-sort}
 use Rattle.orders.specs.Check.{fits?}
-use Rattle.definition_laws.specs.Basics.{All-append, append-All, All-take, All-drop}
+use Rattle.definition_laws.specs.Basics.{All-append, append-All, All-take, All-drop, upFrom, up-long}
 use Rattle.rows_model.specs.Row.{Row, tok, nod, outside, rowAt, rowsOf, rowsIn, rowsAll, triples, firstRows}
 use Rattle.rows_model.specs.RowLaws.{rows-node}
 use Rattle.rows_model.specs.Words.{token-row, node-row}
 use Rattle.splices_model.specs.Cuts.{partAt}
-use Rattle.splices_model.specs.Places.{upFrom, upFrom-many}
 use Rattle.splices_model.specs.Verdict.{closed}
 use Rattle.splices_model.specs.SpliceList.{rowTold, rowsTold, treesOf, oldTree, wordsOf, spliceAt, splicesTo, tellsAt, suitsAt, suitsTo}
 use Rattle.splices_model.specs.Found.{Inside, told-inside, closed-trees, old-tree-says}
@@ -83,11 +82,12 @@ Proper (nod k m) = 2147483648 ≤ k
 Proper (outside k m) = ⊥
 
 row-proper : (k m o : ℕ) → Proper (rowTold k m o)
+unfolding upFrom
 row-proper k m o = elim (lt-or-le k 2147483648) [ inl h ↦ rw (lt-ltb k 2147483648 h) (h, places m) | inr h ↦ rw (le-ltb k 2147483648 h) h ]
   where
     places : (m : ℕ) → upFrom o m ≡ upFrom (getD (upFrom o m) 0 0) (length (upFrom o m))
     places zero = refl
-    places (suc m) = rw (upFrom-many (suc o) m)
+    places (suc m) = rw (up-long (suc o) m)
 
 rows-proper : (l : List ℕ) → All Proper (rowsTold l)
 rows-proper [] = tt
@@ -119,11 +119,13 @@ module _ (text : List ℕ) where
   Within (outside k m) = Unit {0}
 
   places-read : (m o : ℕ) → o + m ≤ length text → take m (drop o text) ≡ map (λ i. getD text i 0) (upFrom o m)
+  unfolding upFrom
   places-read zero o h = refl
   places-read (suc m) o h = rw (drop-cons text o 0 (omega arith)) (ap (λ (l : List ℕ). getD text o 0 ∷ l) (places-read m (suc o) (omega arith)))
 
   -- words tell the rows that they tell by places, with the text that stands there
   row-read : (k m o : ℕ) → Inside (rowAt text k m o) → (rowAt text k m o ≡ withText (rowTold k m o)) × Within (rowTold k m o)
+  unfolding upFrom
   row-read k m o w = elim (lt-or-le k 2147483648) [
     | inl h ↦
         let t : o + m ≤ length text = text-there k m o text w h in
@@ -133,7 +135,7 @@ module _ (text : List ℕ) where
     where
       first : (m : ℕ) → o + m ≤ length text → getD (upFrom o m) 0 0 + length (upFrom o m) ≤ length text
       first zero h = omega arith
-      first (suc m) h = omega (arith, upFrom-many (suc o) m)
+      first (suc m) h = omega (arith, up-long (suc o) m)
 
   pub rows-read : (l : List ℕ) → All Inside (triples text l) → (triples text l ≡ map withText (rowsTold l)) × All Within (rowsTold l)
   rows-read [] h = (refl, tt)

@@ -13,10 +13,10 @@ use borrow.Author.Tests.{lt-ltb, le-ltb, leb-true, eq-eqb, ne-eqb}
 use Rattle.orders.specs.Lists.{All}
 use Rattle.orders.specs.ListLaws.{lt-or-le}
 use Rattle.orders.specs.Tree.{Tree, Trees, node, token, nil, cons}
-use Rattle.definition_laws.specs.Basics.{All-append}
+use Rattle.definition_laws.specs.Basics.{All-append, upFrom, up-at, up-long}
 use Rattle.rows_model.specs.Row.{Row, rowsOf, rowsIn, rowAt, firstRows}
-use Rattle.rows_model.specs.Words.{token-row, node-row}
-use Rattle.splices_model.specs.Places.{upFrom, upFrom-many, upFrom-get, upFrom-part}
+use Rattle.rows_model.specs.Words.{token-row, node-row, thrice, thrice₀}
+use Rattle.splices_model.specs.Places.{upFrom-part}
 use Rattle.splices_model.specs.SpliceList.{wordsOf}
 use Rattle.splices_model.specs.Found.{Inside, placesBelow}
 
@@ -57,27 +57,21 @@ module _ (k m o : ℕ) where
 
   -- the words of a row that tells an element, in a text of places
   words-plain : (n : ℕ) → Inside (rowAt (placesBelow n) k m o) → (rs : List Row) → wordsOf (rowAt (placesBelow n) k m o ∷ rs) ≡ k ∷ m ∷ plainWord k m o ∷ wordsOf rs
-  unfolding wordsOf
+  unfolding wordsOf upFrom
   words-plain n w rs = go (lt-or-le k 2147483648) (lt-or-le 0 m)
     where
       go : (k < 2147483648) ⊎ (2147483648 ≤ k) → (0 < m) ⊎ (m ≤ 0) → wordsOf (rowAt (placesBelow n) k m o ∷ rs) ≡ k ∷ m ∷ plainWord k m o ∷ wordsOf rs
       go (inr h) v = rw (node-row (placesBelow n) k m o h, ← plain-node h)
       go (inl h) v =
           let t : o + m ≤ length (placesBelow n) = text-there (placesBelow n) w h in
-          let p : take m (drop o (placesBelow n)) ≡ upFrom o m = upFrom-part o 0 n m (omega (arith, upFrom-many 0 n)) ∙ ap (λ (x : ℕ). upFrom x m) (zero-add o) in
-          rw (token-row (placesBelow n) k m o h t, p, upFrom-many o m) (ap (λ (x : ℕ). k ∷ m ∷ x ∷ wordsOf rs) (first v h))
+          let p : take m (drop o (placesBelow n)) ≡ upFrom o m = upFrom-part o 0 n m (omega (arith, up-long 0 n)) ∙ ap (λ (x : ℕ). upFrom x m) (zero-add o) in
+          rw (token-row (placesBelow n) k m o h t, p, up-long o m) (ap (λ (x : ℕ). k ∷ m ∷ x ∷ wordsOf rs) (first v h))
         where
           first : (0 < m) ⊎ (m ≤ 0) → k < 2147483648 → getD (upFrom o m) 0 0 ≡ plainWord k m o
-          first (inl g) h = upFrom-get o m 0 g ∙ (omega arith ∙ plain-token h (λ e. omega arith))
+          first (inl g) h = up-at o m 0 g ∙ (omega arith ∙ plain-token h (λ e. omega arith))
           first (inr g) h = let e : m ≡ 0 = omega arith in rw (← plain-empty h e, e)
 
 -- ── Many rows ───────────────────────────────────────────────────────────────────────────────────────────────
-
-thrice : (n j : ℕ) → 3 * suc n + j ≡ suc (suc (suc (3 * n + j)))
-thrice n j = omega arith
-
-thrice₀ : (n : ℕ) → 3 * suc n ≡ suc (suc (suc (3 * n)))
-thrice₀ n = omega arith
 
 -- one row more
 pub plain-next : (i : ℕ) (l : List ℕ) → 3 * i + 2 < length l

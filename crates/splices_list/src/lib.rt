@@ -7,8 +7,8 @@ ghost use Rattle.orders.specs.Lists.{All};
 ghost use Rattle.splices_list.specs.Plain.{plainWord, plain};
 ghost use Rattle.splices_list.specs.Promises.{Listed, Good, ListedAll, Tidied, Spliced};
 ghost use Rattle.splices_model.specs.Bounds.{BoundedAll, rowsTo};
-ghost use Rattle.splices_model.specs.Places.{upFrom};
 ghost use Rattle.splices_model.specs.SpliceList.{filled};
+use rows_syntax_node::number_from;
 use splices_check::judged;
 use splices_check::rows_to;
 use splices_step::splice_once;
@@ -36,18 +36,6 @@ fn splice_each(
     m
 }
 
-// Each old element stands at its own row.
-fn number_marks(marks: &mut [u32])
-    requires { ⌜ length (now marks) < 2 ^ 16 ⌝ }
-    ensures { λ _. ⌜ now (marks .exit) ≡ upFrom 0 (length (now (marks .entry))) ⌝ }
-{
-    let mut i = 0;
-    while i < marks.len() {
-        marks[i] = i as u32;
-        i += 1;
-    }
-}
-
 // A list that is judged well, from the old tree on. The new number of rows.
 fn splice_list(
     rows: &mut [u32],
@@ -60,7 +48,7 @@ fn splice_list(
     ensures { λ r. ⌜ ListedAll (now (rows .entry)) (now (marks .entry)) (now (splices .entry)) (now (prepared .entry)) c (now (rows .exit)) (now (marks .exit)) r ⌝ }
 {
     let e = marks.len();
-    number_marks(marks);
+    number_from(marks, 0);
     splice_each(rows, e, marks, splices, prepared, c)
 }
 

@@ -11,6 +11,7 @@ use Rattle.orders.specs.Numbers.{holds, newNumber}
 use Rattle.orders.specs.Paths.{oneGoPath}
 use Rattle.orders.specs.Check.{each, pairs, enters?, run?, fits?, apart?}
 use Rattle.definition.specs.Basics.{refused, gives, _>>=_, refuse}
+use Rattle.definition_laws.specs.Basics.{upFrom}
 use Rattle.rows_model.specs.Place.{markOf}
 use Rattle.splices_model.specs.Cuts.{paths}
 use Rattle.splices_model.specs.Bounds.{rowsTo}
@@ -31,7 +32,7 @@ prepared = 12 ∷ 0 ∷ 4 ∷ []
 -- c for a and b: root(c). Where b stood are zeros as far as a row more could come in, and 9 beyond; the third words of root and c tell nothing and are 0
 pub replaced : spliceList rows marks (1 ∷ 0 ∷ 0 ∷ 2 ∷ 0 ∷ 1 ∷ []) prepared
     ≡ gives (record { rows = 2147483649 ∷ 1 ∷ 0 ∷ 12 ∷ 0 ∷ 0 ∷ 0 ∷ 0 ∷ 0 ∷ 0 ∷ 0 ∷ 0 ∷ 9 ∷ 9 ∷ 9 ∷ []; marks = 0 ∷ 0 ∷ 0 ∷ []; many = 2 })
-unfolding spliceList _>>=_ refuse limited roomy rowsTo treeRows closed owed treesOf oldTree wordsOf spliceAt splicesTo tellsAt suitsAt suitsTo filled rewritten paths markOf fits? run? resolve bind list forest pairs each apart? enters? samePath oneGo atRoot below pick fromRoot fromChild under leftToRight insertByLeft leftOf newChildren oneGoPath newNumber holds any
+unfolding spliceList _>>=_ refuse limited roomy rowsTo treeRows closed owed treesOf oldTree wordsOf spliceAt splicesTo tellsAt suitsAt suitsTo filled rewritten paths markOf fits? run? resolve bind list forest pairs each apart? enters? samePath oneGo atRoot below pick fromRoot fromChild under leftToRight insertByLeft leftOf newChildren oneGoPath newNumber holds any upFrom
 replaced = refl
 
 -- the same with c before b too: an insertion inside a run that goes is not apart, in either order

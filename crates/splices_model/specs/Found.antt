@@ -18,13 +18,13 @@ use Rattle.orders.specs.TreeLaws.{forest-list}
 use Rattle.orders.specs.Splices.{AllApart, Fits}
 use Rattle.orders.specs.Check.{each, pairs, fits?, apart?, allApart?, says-all-apart, says-run}
 use Rattle.definition.specs.Basics.{refused, gives, _>>=_, refuse}
-use Rattle.definition_laws.specs.Basics.{All-take, All-drop}
+use Rattle.definition_laws.specs.Basics.{All-take, All-drop, upFrom, up-long}
 use Rattle.definition_laws.specs.Kin.{get-getD}
 use Rattle.rows_model.specs.Row.{Row, tok, nod, outside, owes, rowsOf, rowsIn, rowsAll, rowAt, triples, firstRows, treesIn}
 use Rattle.rows_model.specs.RowLaws.{rows-node, rows-append, trees-count}
 use Rattle.rows_model.specs.Words.{rows-many, token-row, node-row}
 use Rattle.splices_model.specs.Cuts.{Cut, cutOf, cutAt, cutsTo, partAt, paths, Stands, Told}
-use Rattle.splices_model.specs.Places.{paths-many, paths-stood, upFrom, upFrom-many, upFrom-part}
+use Rattle.splices_model.specs.Places.{paths-many, paths-stood, upFrom-part}
 use Rattle.splices_model.specs.Bounds.{rowsTo}
 use Rattle.splices_model.specs.Verdict.{owed, closed, treeRows, tree-closed, boundedAt, hasRunAt, fitAt, fitsTo, apartCut, limited, roomy, firstWrong, judgedBy, none-wrong, fit-told, pairs-cut, and-false}
 use Rattle.splices_model.specs.SpliceList.{rowTold, rowsTold, grow, treesOf, oldTree, spliceAt, splicesTo, tellsAt, suitsAt, suitsTo, rewritten, spliceList}
@@ -109,7 +109,7 @@ placesBelow n = upFrom 0 n
 row-told : (b n k m o : ℕ) → b + b ≤ n → m < b → o < b → (rowTold k m o ≡ rowAt (placesBelow n) k m o) × Inside (rowAt (placesBelow n) k m o)
 row-told b n k m o h g f = elim (lt-or-le k 2147483648) [
   | inl l ↦
-      let i : o + m ≤ length (upFrom 0 n) = omega (arith, upFrom-many 0 n) in
+      let i : o + m ≤ length (upFrom 0 n) = omega (arith, up-long 0 n) in
       let p : take m (drop o (upFrom 0 n)) ≡ upFrom o m = upFrom-part o 0 n m (omega arith) ∙ ap (λ (x : ℕ). upFrom x m) (zero-add o) in
       rw (token-row (upFrom 0 n) k m o l i, p, lt-ltb k 2147483648 l) (refl, tt)
   | inr l ↦ rw (node-row (upFrom 0 n) k m o l, le-ltb k 2147483648 l) (refl, tt)

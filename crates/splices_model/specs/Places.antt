@@ -7,11 +7,12 @@ use mathlib.Core.Option.{Option, some}
 use Prim.Native.Nat.{ℕ, zero, suc, _+_, _-_, _≤_, _<_}
 use native.Mathlib.Omega.{arith}
 use native.Mathlib.Nat.{zero-add}
-use lib.ListN.{length, take, drop, getD, getElem?, length-append, length-map}
+use lib.ListN.{length, take, drop, getElem?, length-append, length-map}
 use Rattle.orders.specs.Lists.{All}
 use Rattle.orders.specs.Tree.{Tree, Trees, node, token, nil, cons, list, Path, resolve}
 use Rattle.orders.specs.ListLaws.{some-inj, none-some, lt-or-le, get-lt, get-left, get-right}
 use Rattle.orders.specs.TreeLaws.{resolve-child, resolve-at}
+use Rattle.definition_laws.specs.Basics.{upFrom}
 use Rattle.rows_model.specs.Row.{rowsOf, rowsIn, rowsAll}
 use Rattle.rows_model.specs.Place.{size, sizeAll, place}
 use Rattle.rows_model.specs.PlaceLaws.{place-at}
@@ -146,32 +147,21 @@ each-get P (x ∷ l) f = (f 0 x refl, each-get P l (λ i y g. f (suc i) y g))
 pub paths-lead : (t : Tree ℕ) → All (λ p. (u : Tree ℕ) × (resolve p t ≡ some u)) (paths t)
 paths-lead t = each-get _ (paths t) (λ i p g. let s = paths-stood t i p g in (s .element, s .leads))
 
--- n numbers from a on
-abbrev pub upFrom : ℕ → ℕ → List ℕ
-upFrom a zero = []
-upFrom a (suc n) = a ∷ upFrom (suc a) n
-
-pub upFrom-many : (a n : ℕ) → length (upFrom a n) ≡ n
-upFrom-many a zero = refl
-upFrom-many a (suc n) = ap suc (upFrom-many (suc a) n)
-
-pub upFrom-get : (a n i : ℕ) → i < n → getD (upFrom a n) i 0 ≡ a + i
-upFrom-get a zero i h = absurd (omega arith)
-upFrom-get a (suc n) zero h = omega arith
-upFrom-get a (suc n) (suc i) h = upFrom-get (suc a) n i (omega arith) ∙ omega arith
-
 upFrom-take : (a n m : ℕ) → m ≤ n → take m (upFrom a n) ≡ upFrom a m
+unfolding upFrom
 upFrom-take a n zero h = refl
 upFrom-take a zero (suc m) h = absurd (omega arith)
 upFrom-take a (suc n) (suc m) h = ap (λ (l : List ℕ). a ∷ l) (upFrom-take (suc a) n m (omega arith))
 
 -- a part of them
 pub upFrom-part : (o a n m : ℕ) → o + m ≤ n → take m (drop o (upFrom a n)) ≡ upFrom (a + o) m
+unfolding upFrom
 upFrom-part zero a n m h = let e : a + 0 ≡ a = omega arith in rw e (upFrom-take a n m (omega arith))
 upFrom-part (suc o) a zero m h = absurd (omega arith)
 upFrom-part (suc o) a (suc n) m h = let e : suc a + o ≡ a + suc o = omega arith in upFrom-part o (suc a) n m (omega arith) ∙ ap (λ (x : ℕ). upFrom x m) e
 
 counted : {X : Type 0} (f : X → ℕ) (a : ℕ) (l : List X) → ((i : ℕ) (x : X) → getElem? l i ≡ some x → f x ≡ a + i) → map f l ≡ upFrom a (length l)
+unfolding upFrom
 counted f a [] h = refl
 counted f a (x ∷ l) h =
     let e : f x ≡ a = omega (arith, h 0 x refl) in

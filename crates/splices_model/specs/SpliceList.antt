@@ -14,7 +14,7 @@ use Rattle.definition.specs.Basics.{Answer, gives, _>>=_, refuse}
 use Rattle.rows_model.specs.Row.{Row, tok, nod, outside, rowsOf}
 use Rattle.rows_model.specs.Place.{size, markOf}
 use Rattle.splices_model.specs.Cuts.{partAt, paths}
-use Rattle.splices_model.specs.Places.{upFrom}
+use Rattle.definition_laws.specs.Basics.{upFrom}
 use Rattle.splices_model.specs.Bounds.{rowsTo}
 use Rattle.splices_model.specs.Verdict.{closed, treeRows, limited, roomy}
 

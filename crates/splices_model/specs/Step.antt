@@ -27,7 +27,8 @@ use Rattle.rows_model.specs.Moves.{place-inj}
 use Rattle.rows_model.specs.Marks.{mark-follows, held-after}
 use Rattle.rows_model.specs.Words.{length-triples}
 use Rattle.splices_model.specs.Cuts.{Cut, cutOf, cutAt, cutsTo, partAt, gain, loss, leftCut, startCut, paths, Holds, Stands, Told}
-use Rattle.splices_model.specs.Places.{get-map, paths-at, places-count, paths-lead, upFrom}
+use Rattle.definition_laws.specs.Basics.{upFrom}
+use Rattle.splices_model.specs.Places.{get-map, paths-at, places-count, paths-lead}
 
 -- ── The start of a run ──────────────────────────────────────────────────────────────────────────────────────
 

@@ -3,7 +3,7 @@
 use mathlib.Core.Path.{_≡_, refl, sym, ap, _∙_}
 use mathlib.Core.Bool.{Bool, true, false}
 use mathlib.Core.List.{List, _∷_}
-use Prim.Native.Nat.{ℕ, suc, _+_, _-_, _*_, _%_, _^_, _≤_, _<_}
+use Prim.Native.Nat.{ℕ, suc, _+_, _-_, _*_, _^_, _≤_, _<_}
 use native.Mathlib.Omega.{arith}
 use native.Mathlib.Nat.{zero-add}
 use native.Mathlib.Numerals.{add-one}
@@ -192,15 +192,6 @@ module _ (s p : List ℕ) (i : ℕ) {a m : ℕ} (bound : 3 * getD s (6 * i + 4) 
   pub run-long : length (take (3 * a + 3 * m - 3 * a) (drop (3 * a) p)) ≡ 3 * getD s (6 * i + 5) 0
   run-long = ap length (part-is s p i (h .0) (k .0)) ∙ part-long s p i bound
 
-  pub run-thirds : length (take (3 * a + 3 * m - 3 * a) (drop (3 * a) p)) % 3 ≡ 0
-  run-thirds = omega (arith, run-long)
-
-  pub run-small : length p < 3 * 2 ^ 16 → length (take (3 * a + 3 * m - 3 * a) (drop (3 * a) p)) < 3 * 2 ^ 16
-  run-small l = omega (arith, run-long)
-
-  pub run-room : (n u v r : ℕ) → 3 * n + 3 * getD s (6 * i + 5) 0 ≤ r → 3 * (n - (v - u)) + length (take (3 * a + 3 * m - 3 * a) (drop (3 * a) p)) ≤ r
-  run-room n u v r l = omega (arith, run-long)
-
   -- the run is spliced in
   pub stepped : {rows : List ℕ} {n : ℕ} {marks : List ℕ} {g : Gap} {out marked : List ℕ} {r : ℕ} → GapAt rows n marks s p i g
       → SplicedMarks rows n marks (g .parent) (g .from) (g .to) (g .lost) (take (3 * a + 3 * m - 3 * a) (drop (3 * a) p)) (g .gain) out marked r → Stepped rows n marks s p i out marked r
@@ -235,6 +226,3 @@ module _ (rows : List ℕ) (n : ℕ) (marks s p : List ℕ) (i : ℕ) (g : Gap) 
     beyond = refl;
     below = a;
   }
-
-pub takes-told : (rows : List ℕ) (parent lost gained : ℕ) {b : Bool} → b ≡ takesBy rows parent lost gained → b ≡ true → takesBy rows parent lost gained ≡ true
-takes-told rows parent lost gained e t = sym e ∙ t

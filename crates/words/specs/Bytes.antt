@@ -70,9 +70,6 @@ module _ (n : ℕ) (ws : List ℕ) (h : n ≤ length ws) where
   length-front : length (written (take n ws)) ≡ 4 * n
   length-front = rw (length-written, length-take-le n ws h)
 
-  pub take-written : take (4 * n) (written ws) ≡ written (take n ws)
-  take-written = ap (take (4 * n)) written-parts ∙ take-at (written (take n ws)) (written (drop n ws)) (4 * n) length-front
-
   pub drop-written : drop (4 * n) (written ws) ≡ written (drop n ws)
   drop-written = ap (drop (4 * n)) written-parts ∙ drop-at (written (take n ws)) (written (drop n ws)) (4 * n) length-front
 

@@ -7,14 +7,22 @@ use Prim.Native.Nat.{ℕ, zero, suc, _+_, _-_, _≤_, _<_}
 use native.Mathlib.Nat.{add-assoc, sub-zero, zero-sub, suc-sub-suc}
 use native.Mathlib.Numerals.{add-one}
 use native.Mathlib.Omega.{arith}
-use lib.ListN.{length, getD, set, take, drop, length-append, length-drop, List·getD-append}
+use lib.ListN.{length, getD, set, take, drop, length-append, length-drop, List·getD-append, List·getD-eq-default}
 use lib.Seq.{paste, take-paste, drop-paste, drop-drop, take-take, take-all, take-nil, take-append-le, take-append-add, take-add, drop-at, take-at, length-take-le, length-paste-head, getD-take, getD-drop, getD-append-add, set-split}
 
 -- the list with `new` in place of what stands from a up to b
 unfoldable pub spliced {ℓ} : {A : Type ℓ} → ℕ → ℕ → List A → List A → List A
 spliced a b new l = take a l ++ (new ++ drop b l)
 
+-- past the end of words stands 0
+pub past-end : (l : List ℕ) (i : ℕ) → length l ≤ i → 0 ≡ getD l i 0
+past-end l i h = sym (List·getD-eq-default l 0 h)
+
 module _ {ℓ} {A : Type ℓ} where
+  -- the part from 0 on is the front
+  pub part-front : (k : ℕ) (l : List A) → take (k - 0) (drop 0 l) ≡ take k l
+  part-front k l = let e : k - 0 ≡ k = omega arith in rw e
+
   -- ── Two copies, side by side ──────────────────────────────────────────────────────────────────────────────
 
   take-both : (m n : ℕ) (s t : List A) → m ≤ length s → take (m + n) (take m s ++ t) ≡ take m s ++ take n t

@@ -25,8 +25,8 @@ mul-rows-2 c = search needs
 slice-write-rows : tie.Need-slice-write-rows
 slice-write-rows c = search needs
 
-one-less-requires : tie.Need-one-less-requires
-one-less-requires c κs = search needs
+less-one-requires : tie.Need-less-one-requires
+less-one-requires c κs = search needs
 
 cast-rows-2 : tie.Need-cast-rows-2
 cast-rows-2 c = search needs
@@ -59,7 +59,7 @@ state-fate-spec =
     add-rows
     mul-rows-2
     slice-write-rows
-    one-less-requires
+    less-one-requires
     cast-rows-2
     mul-rows-3
     add-rows-2

@@ -35,8 +35,8 @@ part-copy-in-end c = search needs
 copy-in-requires : tie.Need-copy-in-requires
 copy-in-requires c κs = search needs
 
-number-marks-requires : tie.Need-number-marks-requires
-number-marks-requires c κs = search needs
+number-from-requires : tie.Need-number-from-requires
+number-from-requires c κs = search needs
 
 mul-to : tie.Need-mul-to
 mul-to c = search needs
@@ -79,7 +79,7 @@ begin-spec =
     part-copy-in-start
     part-copy-in-end
     copy-in-requires
-    number-marks-requires
+    number-from-requires
     mul-to
     sub-copy-in-2
     part-copy-in-start-2

@@ -1,17 +1,17 @@
--- `number_marks` meets its contract. The marks passed are numbered.
+-- `number_from` meets its contract. The marks passed are numbered.
 -- Assumes nothing.
 use borrow.Author.Needs.{needs}
 use lib.ListN.{length}
 use Prim.Native.Nat.{_-_}
-use Rattle.run_execute.proofs.Beginning.{Numbering, numbering-done, numbering-next, numbering-start}
-use Rattle.run_execute.proofs.number_marks.Statement.{statement}
-use Rattle.run_execute.proofs.number_marks.Tie as tie
+use Rattle.rows_syntax_node.proofs.Turns.{Numbering, numbering-done, numbering-next, numbering-start}
+use Rattle.rows_syntax_node.proofs.number_from.Statement.{statement}
+use Rattle.rows_syntax_node.proofs.number_from.Tie as tie
 
 abbrev Inv-loop : tie.InvT-loop
-Inv-loop marks₀ i₀ marks i = Numbering marks₀ marks i
+Inv-loop marks₀ first i₀ marks i = Numbering marks₀ first marks i
 
 abbrev μ-loop : tie.MeasureT-loop
-μ-loop marks₀ i₀ marks i = length marks₀ - i
+μ-loop marks₀ first i₀ marks i = length marks₀ - i
 
 loop-holds : tie.Need-loop-holds Inv-loop μ-loop
 loop-holds c = search (numbering-start, needs)
@@ -43,8 +43,8 @@ same-length c = search needs
 returns : tie.Need-returns Inv-loop μ-loop
 returns c = search (numbering-done, needs)
 
-pub number-marks-spec : {M : Type 1} → statement M
-number-marks-spec =
+pub number-from-spec : {M : Type 1} → statement M
+number-from-spec =
     tie.close
     (tie.spec
     Inv-loop
