@@ -85,9 +85,13 @@ outOfStep l =
 unfoldable pub unfitting : Lists → Bool
 unfitting l = any (leb 256) l.operations || any (leb 16777216) l.counts
 
+-- wrong before anything is laid out
+unfoldable pub unlayable : Lists → Bool
+unlayable l = outOfStep l || beyond (sizesOf l) || unfitting l
+
 -- 14: "the lists would be refused under 3 to 7"
 unfoldable pub wrongLists : Lists → Bool
-wrongLists l = outOfStep l || beyond (sizesOf l) || unfitting l || isRefused (accepted (laidOut l))
+wrongLists l = unlayable l || isRefused (accepted (laidOut l))
 
 -- THE WRITER, into a destination of `room` bytes. 15: "the destination is too short, checked after 14"
 unfoldable pub write : Lists → ℕ → Answer (List ℕ)
