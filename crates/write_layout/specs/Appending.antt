@@ -1,8 +1,8 @@
 -- Some bytes go behind those that stand at the front of a draft.
 -- Assumes nothing.
-use mathlib.Core.Path.{_≡_, refl, sym, ap, _∙_}
-use mathlib.Core.List.{List, [], _∷_, _++_, append-assoc}
-use Prim.Native.Nat.{ℕ, _+_, _*_, _≤_}
+use mathlib.Core.Path.{_≡_, ap, _∙_}
+use mathlib.Core.List.{List, _++_, append-assoc}
+use Prim.Native.Nat.{ℕ, _+_, _≤_}
 use native.Mathlib.Omega.{arith}
 use lib.ListN.{length, take, length-append}
 use lib.Seq.{paste, take-paste, take-all}
