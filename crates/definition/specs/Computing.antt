@@ -28,12 +28,12 @@ unfolding
     List.flatMap List.zip List.zipWith List.headD Option.bind
     Lists.pick Lists.any
     Tree.list Tree.forest Tree.label Tree.resolve Tree.zone Tree.adjust Tree.modify Tree.splice Tree.preorder Tree.preorders Tree.elements Tree.elementsOf Tree.text Tree.textOf Tree.deepest Tree.deepestOf Tree.measure Tree.children Tree.last Tree.front Tree.strip
-    Basics._>>=_ Basics.refuse Basics.orRefuse Basics.isSome Basics.among Basics.keep Basics.first Basics.numbered Basics.lower Basics.insertBy Basics.sortBy Basics.rising Basics.falling
+    Basics._>>=_ Basics.refuse Basics.orRefuse Basics.isRefused Basics.isSome Basics.among Basics.keep Basics.first Basics.numbered Basics.lower Basics.insertBy Basics.sortBy Basics.rising Basics.falling
     Words.word Words.words Words.bytes Words.written
     Batch.sizes Batch.beyond Batch.whole Batch.arrays Batch.batch
     Elements.isNode Elements.kindOf Elements.malformed Elements.pieces Elements.plant Elements.grow Elements.startsWithToken Elements.unspelled Elements.spelled Elements.numbers Elements.rows Elements.rowsBelow Elements.table Elements.noRow Elements.row Elements.node? Elements.parent Elements.root? Elements.depth Elements.tree Elements.child Elements.placeBelow Elements.descend
     Refusals.callWord Refusals.operationOf Refusals.countOf Refusals.calls Refusals.wrongCount Refusals.sameParent Refusals.wrongRun Refusals.misplaced Refusals.wrongCall Refusals.wrongMapping Refusals.wrongNote Refusals.accepted
-    Writing.sizesOf Writing.sevenSizes Writing.callWords Writing.laidOut
+    Writing.sizesOf Writing.sevenSizes Writing.callWords Writing.laidOut Writing.differ Writing.outOfStep Writing.unfitting Writing.unlayable Writing.wrongLists Writing.write Writing.listsOf Writing.lists
     Recording.run Recording.change Recording.call Recording.merges Recording.merged Recording.merge Recording.queued Recording.recordCall Recording.recorded
     Planning.target Planning.rank Planning.from Planning.to Planning.above Planning.parentDepth Planning.key Planning.sorted Planning.peers Planning.exceeds Planning.overlapping Planning.overlap Planning.isDiscarded Planning.around Planning.fate Planning.addsRegion Planning.nodeByNode Planning.inner Planning.pushed Planning.fatesFrom Planning.fates Planning.withFates Planning.planned Planning.judge
     Rewriting.mapping Rewriting.replacement Rewriting.mappedOr Rewriting.climb Rewriting.trail Rewriting.land Rewriting.moved Rewriting.retarget Rewriting.rewriteInto Rewriting.rewriteOne Rewriting.rewriting Rewriting.rewritten Rewriting.nearest Rewriting.isParent Rewriting.noteFrom Rewriting.settle Rewriting.settled

@@ -10,7 +10,7 @@ use Rattle.definition.specs.Basics.{Answer, refused, gives, _>>=_}
 use Rattle.orders.specs.Tree.{Tree, node, token, forest, label, text, measure, preorder}
 use Rattle.orders.specs.Splices.{Splice}
 use Rattle.definition.specs.Refusals.{Call, accepted}
-use Rattle.definition.specs.Writing.{Lists, laidOut}
+use Rattle.definition.specs.Writing.{Lists, laidOut, write, lists}
 use Rattle.definition.specs.Recording.{recorded}
 use Rattle.definition.specs.Planning.{Fate, own, discarded, sorted, planned}
 use Rattle.definition.specs.Finishing.{Result}
@@ -295,6 +295,31 @@ twoSplices =
     ∷ record { number = 1; parent = []; from = 1; to = 1; prepared = d ∷ [] }
     ∷ []
 
+-- a call whose operation its part of the word cannot hold: laid out, it would be the operation 1 with two elements
+abbrev tooWide : Told
+tooWide = onS (call 257 1 (5 ∷ []) ∷ [])
+
+-- the root deleted: 6
+abbrev rootless : Told
+rootless = onS (call 3 0 [] ∷ [])
+
+-- lists in step that differ in length: one note has two numbers
+abbrev uneven : Lists
+uneven = record {
+  trees = 1;
+  kinds = 2147483648 ∷ [];
+  measures = 0 ∷ [];
+  text = [];
+  operations = [];
+  counts = [];
+  targets = [];
+  listed = [];
+  inputs = [];
+  outputs = [];
+  noted = 0 ∷ [];
+  numbers = 1 ∷ 2 ∷ [];
+}
+
 -- ── The table ───────────────────────────────────────────────────────────────────────────────────────────────
 
 -- what is told of each example
@@ -306,7 +331,8 @@ abbrev pub answered : List (Told × Short) → List Short
 answered es = map (λ m. short (edit (inBytes (m .0)))) es
 
 -- Each marked example gives what is told of it; the printed case has 91 bytes and prints its lines. So with the further examples; and of `withNotes`
--- `find_element` finds X (element 1) as X′ (2), and nothing for the token a or for a number of E.
+-- `find_element` finds X (element 1) as X′ (2), and nothing for the token a or for a number of E. A batch is read as the lists that it was laid out from; the
+-- writer lays the printed case out where there is room for it, and without room it refuses wrong lists by 14, before 15.
 pub examples : (answered marked ≡ told marked)
     × (length (inBytes printedCase) ≡ 91)
     × (printed (inBytes printedCase) ≡ ascii printedLines)
@@ -315,5 +341,8 @@ pub examples : (answered marked ≡ told marked)
     × (fatesOf (inBytes nested) ≡ gives (own ∷ discarded 0 ∷ discarded 1 ∷ []))
     × (splicesOf (inBytes twoAfterX) ≡ gives twoSplices)
     × (map (findElement [] (inBytes withNotes)) (1 ∷ 2 ∷ 11 ∷ []) ≡ gives (some 2) ∷ gives none ∷ gives none ∷ [])
+    × (lists (inBytes withNotes) ≡ gives (inLists withNotes))
+    × (map (write (inLists printedCase)) (91 ∷ 90 ∷ []) ≡ gives (inBytes printedCase) ∷ refused 15 ∷ [])
+    × (map (λ l. write l 0) (inLists tooWide ∷ inLists rootless ∷ uneven ∷ []) ≡ refused 14 ∷ refused 14 ∷ refused 14 ∷ [])
 unfolding computed short inLists inBytes fatesOf
-examples = (refl, refl, refl, refl, refl, refl, refl, refl)
+examples = (refl, refl, refl, refl, refl, refl, refl, refl, refl, refl, refl)

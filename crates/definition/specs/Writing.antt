@@ -1,13 +1,18 @@
--- The batch, laid out: the bytes of trees, calls, mappings and notes that are given as lists.
+-- The batch, laid out from lists of trees, calls, mappings and notes, and read as such lists: document 02, Note 2; refusals 14 and 15.
 -- Assumes nothing.
-use mathlib.Core.List.{List, [], _∷_, _++_, zipWith}
+use mathlib.Core.Bool.{Bool, not, _||_}
+use mathlib.Core.List.{List, [], _∷_, _++_, map, zipWith}
 use Prim.Native.Nat.{ℕ}
 use lib.ListN.{length}
+use lib.Dec.{leb, ltb, eqb}
+use Rattle.definition.specs.Basics.{Answer, gives, _>>=_, refuse, isRefused, any}
 use Rattle.definition.specs.Words.{written}
-use Rattle.definition.specs.Batch.{Sizes}
-use Rattle.definition.specs.Refusals.{callWord}
+use Rattle.definition.specs.Batch.{Sizes, Batch, beyond, batch}
+use Rattle.definition.specs.Refusals.{callWord, operationOf, countOf, accepted}
 
--- what a batch tells, list by list
+-- ── The batch laid out ──────────────────────────────────────────────────────────────────────────────────────
+
+-- "the trees, calls, mappings and notes as lists"
 pub record Lists : Type 0 where
   -- how many trees there are; in preorder, tree after tree, the kind words and the measures; the text
   pub trees : ℕ
@@ -60,3 +65,63 @@ laidOut l =
     ++ (written l.noted
     ++ (written l.numbers
     ++ l .text)))))))))
+
+-- ── The writer ──────────────────────────────────────────────────────────────────────────────────────────────
+
+-- two lists differ in length
+unfoldable pub differ : List ℕ → List ℕ → Bool
+differ l m = not (eqb (length l) (length m))
+
+-- "lists in step that differ in length break 4"
+unfoldable pub outOfStep : Lists → Bool
+outOfStep l =
+    differ l.kinds l.measures
+    || differ l.operations l.counts
+    || differ l.operations l.targets
+    || differ l.inputs l.outputs
+    || differ l.noted l.numbers
+
+-- an operation or a count that its part of the call word cannot hold: laid out all the same, it would be read as another
+unfoldable pub unfitting : Lists → Bool
+unfitting l = any (leb 256) l.operations || any (leb 16777216) l.counts
+
+-- wrong before anything is laid out
+unfoldable pub unlayable : Lists → Bool
+unlayable l = outOfStep l || beyond (sizesOf l) || unfitting l
+
+-- 14: "the lists would be refused under 3 to 7"
+unfoldable pub wrongLists : Lists → Bool
+wrongLists l = unlayable l || isRefused (accepted (laidOut l))
+
+-- THE WRITER, into a destination of `room` bytes. 15: "the destination is too short, checked after 14"
+unfoldable pub write : Lists → ℕ → Answer (List ℕ)
+write l room = do
+  _ ← refuse 14 (wrongLists l)
+  _ ← refuse 15 (ltb room (length (laidOut l)))
+  gives (laidOut l)
+
+-- ── The batch read as lists ─────────────────────────────────────────────────────────────────────────────────
+
+-- the lists that a batch's arrays tell
+unfoldable pub listsOf : Batch → Lists
+listsOf b = record {
+  trees = b .trees;
+  kinds = b .kinds;
+  measures = b .measures;
+  text = b .text;
+  operations = map operationOf b.calls;
+  counts = map countOf b.calls;
+  targets = b .targets;
+  listed = b .listed;
+  inputs = b .inputs;
+  outputs = b .outputs;
+  noted = b .noted;
+  numbers = b .numbers;
+}
+
+-- "read as the same lists": the lists of a batch that passes lines 2 to 7
+unfoldable pub lists : List ℕ → Answer Lists
+lists bytes = do
+  _ ← accepted bytes
+  b ← batch bytes
+  gives (listsOf b)

@@ -1,7 +1,9 @@
 -- The slices that the public calls are lent, and what the calls promise.
 --     Slices     the lengths that work slices need, and slices of zeros
 --     Promises   THE PROMISES of `edit` and `find_element`
+--     Writing    THE PROMISE of `write_batch`
 --     Serving    the promise of `serve`, for every job, and what follows from it
 pub mod Slices
 pub mod Promises
+pub mod Writing
 pub mod Serving

@@ -65,7 +65,7 @@ pub record Cleared (work left : List (List ℕ)) : Type 0 where
   pub lengths : map length left ≡ map length work
   pub zeros : All (All (λ w. w ≡ 0)) left
 
-zeroed-cleared : (work left : List (List ℕ)) → left ≡ zeroed work → Cleared work left
+pub zeroed-cleared : (work left : List (List ℕ)) → left ≡ zeroed work → Cleared work left
 zeroed-cleared work left e = record { lengths = ap (map length) e ∙ zeroed-lengths work; zeros = rw e (zeroed-zeros work) }
 
 -- ── The demand ──────────────────────────────────────────────────────────────────────────────────────────────

@@ -80,12 +80,12 @@ by-more few more (refused k) w h = not-false (among more k) (one-of (λ k. not (
 by-more few more (gives x) w h = tt
 
 module _ (ns : List ℕ) where
-  by-then : {A B : Type 0} (o : Answer A) (f : A → Answer B) → By ns o → ((a : A) → By ns (f a)) → By ns (o >>= f)
+  pub by-then : {A B : Type 0} (o : Answer A) (f : A → Answer B) → By ns o → ((a : A) → By ns (f a)) → By ns (o >>= f)
   unfolding _>>=_
   by-then (refused k) f h k′ = h
   by-then (gives a) f h k′ = k′ a
 
-  by-refuse : (n : ℕ) (b : Bool) → among ns n ≡ true → By ns (refuse n b)
+  pub by-refuse : (n : ℕ) (b : Bool) → among ns n ≡ true → By ns (refuse n b)
   unfolding refuse
   by-refuse n true h = h
   by-refuse n false h = tt

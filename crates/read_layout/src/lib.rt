@@ -55,7 +55,7 @@ fn read_sizes(b: &[u8]) -> Sizes
 }
 
 // Whether each size is within its limits.
-fn within_limits(s: Sizes) -> bool
+pub fn within_limits(s: Sizes) -> bool
     ensures { λ r. ⌜ r ≡ not (beyond (sizesOf s)) ⌝ }
 {
     if s.trees < 1 {

@@ -7,14 +7,13 @@ use mathlib.Core.Option.{Option, none, some, Option·map, Option·getD}
 use Prim.Native.Nat.{ℕ, zero, suc, _+_, _*_, _^_, _≤_, _<_}
 use native.Mathlib.Omega.{arith}
 use lib.Dec.{leb, ltb, eqb, eqb→eq}
-use lib.ListN.{length, getD, take, drop, length-append, take-append-drop}
-use lib.Seq.{getD-drop}
+use lib.ListN.{length, take, drop, length-append, take-append-drop}
 use borrow.Author.Tests.{leb-false}
 use Rattle.orders.specs.Lists.{All, pick}
 use Rattle.orders.specs.ListLaws.{none-passes, some-inj, none-some, All-map₂, All-over, All-pick, map-some, bind-some}
 use Rattle.orders.specs.Tree.{Tree, node, token, list, label, measure, text, preorder, children, elementsOf, Path, resolve, adjust, strip}
 use Rattle.definition.specs.Basics.{gives, refuse, orRefuse, any, rising}
-use Rattle.definition.specs.Words.{word, words}
+use Rattle.definition.specs.Words.{words}
 use Rattle.definition.specs.Batch.{Batch, sizes, beyond, whole, arrays, batch}
 use Rattle.definition.specs.Elements.{Table, table, pieces, grow, unspelled, spelled, descend}
 use Rattle.definition.specs.Finishing.{newTree, newTable, numberAt, changedElements, noteElements, Result, result}
@@ -25,7 +24,8 @@ use Rattle.definition.specs.Rewriting.{Note, settle, settled, mapping, rewritte
 use Rattle.definition.specs.Running.{World, begin, present, withPath, notesAt, Yield, yieldAt, yield, news, Run, place, placed, spliced, tooLarge, records, step, steps}
 use Rattle.definition_laws.specs.Basics.{All-append, append-All, flatMap-append, All-flatMap, All-take, map-All}
 use Rattle.definition_laws.specs.Spelling.{read-spells}
-use Rattle.words.specs.Bytes.{length-words}
+pub use Rattle.words.specs.Bytes.{Words, Bytes, take-bytes}
+use Rattle.words.specs.Bytes.{length-words, word-small, drop-bytes}
 use Rattle.definition_laws.specs.Held.{Leads, Holds, number-found}
 use Rattle.definition_laws.specs.Sorting.{sort-all}
 use Rattle.definition_laws.specs.Measures.{preorders-list, preorder-list-length}
@@ -37,14 +37,6 @@ use Rattle.result_laws.specs.Labels.{Labelled, labelled-list, forest-lab
 
 -- ── Words of bytes ──────────────────────────────────────────────────────────────────────────────────────────
 
--- each is a word
-abbrev pub Words : List ℕ → Type 0
-Words ws = (i : ℕ) → getD ws i 0 < 2 ^ 32
-
--- each is a byte
-abbrev pub Bytes : List ℕ → Type 0
-Bytes b = (i : ℕ) → getD b i 0 < 2 ^ 8
-
 abbrev Word : ℕ → Type 0
 Word w = w < 2 ^ 32
 
@@ -52,15 +44,6 @@ pub all-words : (ws : List ℕ) → All Word ws → Words ws
 all-words [] h i = omega arith
 all-words (w ∷ ws) h zero = h .0
 all-words (w ∷ ws) h (suc i) = all-words ws (h .1) i
-
-drop-bytes : (n : ℕ) (b : List ℕ) → Bytes b → Bytes (drop n b)
-drop-bytes n b h i = rw (getD-drop n b i 0) (h (n + i))
-
-pub take-bytes : (n : ℕ) (b : List ℕ) → Bytes b → Bytes (take n b)
-take-bytes zero b h i = omega arith
-take-bytes (suc n) [] h i = omega arith
-take-bytes (suc n) (x ∷ b) h zero = h 0
-take-bytes (suc n) (x ∷ b) h (suc i) = take-bytes n b (λ j. h (suc j)) i
 
 -- told by a test
 pub tested-bytes : (b : List ℕ) → any (leb 256) b ≡ false → Bytes b
@@ -71,14 +54,10 @@ tested-bytes b e = each b (none-passes (leb 256) b e)
     each (x ∷ b) h zero = leb-false 256 x (h .0)
     each (x ∷ b) h (suc i) = each b (h .1) i
 
-word-bytes : (b : List ℕ) → Bytes b → Word (word b)
-unfolding word
-word-bytes b h = omega (arith, h 0, h 1, h 2, h 3)
-
 words-bytes : (n : ℕ) (b : List ℕ) → Bytes b → All Word (words n b)
 unfolding words
 words-bytes zero b h = tt
-words-bytes (suc n) b h = (word-bytes b h, words-bytes n (drop 4 b) (drop-bytes 4 b h))
+words-bytes (suc n) b h = (word-small b h, words-bytes n (drop 4 b) (drop-bytes 4 b h))
 
 -- the kind words and the numbers of notes of a batch of bytes
 batch-words : (bytes : List ℕ) (b : Batch) → Bytes bytes → batch bytes ≡ gives b → All Word b.kinds × All Word b.numbers

@@ -1,4 +1,4 @@
--- Words in bytes: what is read, what is written, and that reading gives back what was written.
+-- Words in bytes: what is read, what is written, and that each gives back the other.
 -- Assumes nothing.
 use mathlib.Core.Path.{_≡_, refl, sym, ap, _∙_}
 use mathlib.Core.List.{List, [], _∷_, _++_, append-assoc, flatMap}
@@ -8,6 +8,14 @@ use native.Mathlib.Omega.{arith}
 use lib.ListN.{length, getD, take, drop, length-append, take-append-drop}
 use lib.Seq.{drop-drop, take-at, drop-at, length-take-le, getD-drop}
 use Rattle.definition.specs.Words.{word, words, bytes, written}
+
+-- each is a word
+abbrev pub Words : List ℕ → Type 0
+Words ws = (i : ℕ) → getD ws i 0 < 2 ^ 32
+
+-- each is a byte
+abbrev pub Bytes : List ℕ → Type 0
+Bytes b = (i : ℕ) → getD b i 0 < 2 ^ 8
 
 -- ── Words read ──────────────────────────────────────────────────────────────────────────────────────────────
 
@@ -28,6 +36,26 @@ getD-words (suc n) l zero h = refl
 getD-words (suc n) l (suc i) h =
     let e : 4 * suc i ≡ 4 + 4 * i = omega arith in
     rw (e, ← drop-drop (4 * i) 4 l) (getD-words n (drop 4 l) i (omega arith))
+
+pub drop-bytes : (n : ℕ) (b : List ℕ) → Bytes b → Bytes (drop n b)
+drop-bytes n b h i = rw (getD-drop n b i 0) (h (n + i))
+
+pub take-bytes : (n : ℕ) (b : List ℕ) → Bytes b → Bytes (take n b)
+take-bytes zero b h i = omega arith
+take-bytes (suc n) [] h i = omega arith
+take-bytes (suc n) (x ∷ b) h zero = h 0
+take-bytes (suc n) (x ∷ b) h (suc i) = take-bytes n b (λ j. h (suc j)) i
+
+-- what is read of bytes is a word
+pub word-small : (b : List ℕ) → Bytes b → word b < 2 ^ 32
+unfolding word
+word-small b h = omega (arith, h 0, h 1, h 2, h 3)
+
+pub words-small : (n : ℕ) (b : List ℕ) → Bytes b → Words (words n b)
+unfolding words
+words-small zero b h i = omega arith
+words-small (suc n) b h zero = word-small b h
+words-small (suc n) b h (suc i) = words-small n (drop 4 b) (drop-bytes 4 b h) i
 
 -- k words are the first m, and n more
 pub words-append : (m n k : ℕ) (l : List ℕ) → k ≡ m + n → words k l ≡ words m l ++ words n (drop (4 * m) l)
@@ -84,7 +112,7 @@ unfolding word bytes
 word-bytes w r h =
     digits w (w / 256) (w / 65536) (w / 16777216) refl (div-div-eq-div-mul w 256 256) (div-div-eq-div-mul w 65536 256) (omega arith)
 
-pub words-written : (ws r : List ℕ) → ((i : ℕ) → getD ws i 0 < 2 ^ 32) → words (length ws) (written ws ++ r) ≡ ws
+pub words-written : (ws r : List ℕ) → Words ws → words (length ws) (written ws ++ r) ≡ ws
 unfolding words
 words-written [] r h = refl
 words-written (w ∷ ws) r h =
@@ -115,7 +143,7 @@ bytes-word a b c d l p q r s =
     rw (h₀, h₁, h₂, h₃)
 
 -- n words of bytes, written, are those bytes
-pub written-words : (n : ℕ) (l : List ℕ) → 4 * n ≤ length l → ((i : ℕ) → getD l i 0 < 256) → written (words n l) ≡ take (4 * n) l
+pub written-words : (n : ℕ) (l : List ℕ) → 4 * n ≤ length l → Bytes l → written (words n l) ≡ take (4 * n) l
 unfolding words written flatMap
 written-words zero l h b = refl
 written-words (suc n) [] h b = absurd (omega arith)

@@ -106,6 +106,17 @@ pub fn clear(s: &mut [u32])
     }
 }
 
+// Every byte becomes 0.
+pub fn clear_bytes(b: &mut [u8])
+    ensures { λ _. ⌜ now (b .exit) ≡ replicate (length (now (b .entry))) 0 ⌝ }
+{
+    let mut cleared = 0;
+    while cleared < b.len() {
+        b[cleared] = 0;
+        cleared += 1;
+    }
+}
+
 // The words `src` are written at `at`.
 pub fn copy_in(s: &mut [u32], at: usize, src: &[u32])
     requires { ⌜ at + length (now src) ≤ length (now s) ⌝ }

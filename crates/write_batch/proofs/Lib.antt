@@ -1,0 +1,2 @@
+-- Ways   the ways out of each function
+pub mod Ways
