@@ -182,6 +182,42 @@ fn an_endless_climb_is_refused() {
     assert_eq!(refusal.to_string(), "refused 10: a climb never ends");
 }
 
+/// Document 02's Note 1: root(Z, b), Z without children, with c and d in another tree.
+#[test]
+fn an_empty_node_takes_insertions() {
+    let template = |calls: fn(&mut BatchBuilder, [u32; 3])| {
+        let mut builder = BatchBuilder::new();
+        builder.open(1);
+        let z = builder.open(2);
+        builder.close();
+        builder.token(3, b"b");
+        builder.close();
+        builder.open(1);
+        let (c, d) = (builder.token(3, b"c"), builder.token(3, b"d"));
+        builder.close();
+        calls(&mut builder, [z, c, d]);
+        let batch = builder.finish().expect("it is small");
+        Editor::new().edit(&batch).map(|it| (String::from_utf8_lossy(it.text()).into_owned(), it.discarded())).map_err(Refusal::number)
+    };
+    let one = template(|it, [z, c, _]| it.insert_first(z, &[c]));
+    assert_eq!(one, text("cb", 0));
+    let later_left = template(|it, [z, c, d]| {
+        it.insert_first(z, &[c]);
+        it.insert_first(z, &[d]);
+    });
+    assert_eq!(later_left, text("dcb", 0));
+    let discarded = template(|it, [z, c, _]| {
+        it.insert_first(z, &[c]);
+        it.delete(z);
+    });
+    assert_eq!(discarded, text("b", 1));
+    let into_a_token = template(|it, [z, c, d]| {
+        it.insert_first(z, &[c]);
+        it.insert_first(d, &[c]);
+    });
+    assert_eq!(into_a_token, Err(6));
+}
+
 #[test]
 fn a_gone_target_is_refused() {
     let mut builder = BatchBuilder::new();
