@@ -295,30 +295,34 @@ twoSplices =
     ∷ record { number = 1; parent = []; from = 1; to = 1; prepared = d ∷ [] }
     ∷ []
 
--- a call whose operation its part of the word cannot hold: laid out, it would be the operation 1 with two elements
-abbrev tooWide : Told
-tooWide = onS (call 257 1 (5 ∷ []) ∷ [])
+-- the lists of S with calls by these lists
+abbrev callsOnS : List ℕ → List ℕ → List ℕ → List ℕ → Lists
+callsOnS operations counts targets listed =
+    let l = inLists (onS []) in
+    record {
+      trees = l .trees;
+      kinds = l .kinds;
+      measures = l .measures;
+      text = l .text;
+      operations = operations;
+      counts = counts;
+      targets = targets;
+      listed = listed;
+      inputs = [];
+      outputs = [];
+      noted = [];
+      numbers = [];
+    }
 
--- the root deleted: 6
-abbrev rootless : Told
-rootless = onS (call 3 0 [] ∷ [])
-
--- lists in step that differ in length: one note has two numbers
-abbrev uneven : Lists
-uneven = record {
-  trees = 1;
-  kinds = 2147483648 ∷ [];
-  measures = 0 ∷ [];
-  text = [];
-  operations = [];
-  counts = [];
-  targets = [];
-  listed = [];
-  inputs = [];
-  outputs = [];
-  noted = 0 ∷ [];
-  numbers = 1 ∷ 2 ∷ [];
-}
+-- c after X; the same with one count too many; with an operation that its part of the word cannot hold; with an element of E. The second and the
+-- third would be laid out as the first
+abbrev tried : List Lists
+tried =
+    callsOnS (1 ∷ []) (1 ∷ []) (1 ∷ []) (5 ∷ [])
+    ∷ callsOnS (1 ∷ []) (1 ∷ 1 ∷ []) (1 ∷ []) (5 ∷ [])
+    ∷ callsOnS (257 ∷ []) (0 ∷ []) (1 ∷ []) (5 ∷ [])
+    ∷ callsOnS (1 ∷ []) (1 ∷ []) (1 ∷ []) (11 ∷ [])
+    ∷ []
 
 -- ── The table ───────────────────────────────────────────────────────────────────────────────────────────────
 
@@ -343,6 +347,6 @@ pub examples : (answered marked ≡ told marked)
     × (map (findElement [] (inBytes withNotes)) (1 ∷ 2 ∷ 11 ∷ []) ≡ gives (some 2) ∷ gives none ∷ gives none ∷ [])
     × (lists (inBytes withNotes) ≡ gives (inLists withNotes))
     × (map (write (inLists printedCase)) (91 ∷ 90 ∷ []) ≡ gives (inBytes printedCase) ∷ refused 15 ∷ [])
-    × (map (λ l. write l 0) (inLists tooWide ∷ inLists rootless ∷ uneven ∷ []) ≡ refused 14 ∷ refused 14 ∷ refused 14 ∷ [])
+    × (map (λ l. write l 0) tried ≡ refused 15 ∷ refused 14 ∷ refused 14 ∷ refused 14 ∷ [])
 unfolding computed short inLists inBytes fatesOf
 examples = (refl, refl, refl, refl, refl, refl, refl, refl, refl, refl, refl)
