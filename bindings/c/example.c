@@ -1,27 +1,15 @@
-/* The printed case of document 01: the token "c" goes in after "a", with note 9 on it. Prints the answer as document 01 prints it. */
+/* The printed case of document 01: the token "c" goes in after "a", with note 9 on it. Writes the batch from lists, edits it, and prints the answer as
+ * document 01 prints it. */
 #include <inttypes.h>
 #include <stdio.h>
-#include <string.h>
 
 #include "syntax_edit.h"
 
 #define NODE 0x80000000u
+#define COUNT(list) (sizeof(list) / sizeof *(list))
 
 static syntax_work work;
-static uint8_t batch[256], result[SYNTAX_MOST_ANSWER];
-static size_t batch_length;
-
-static void put(uint32_t word)
-{
-    for (int shift = 0; shift < 32; shift += 8)
-        batch[batch_length++] = (uint8_t)(word >> shift);
-}
-
-static void put_all(const uint32_t *words, size_t count)
-{
-    for (size_t i = 0; i < count; i++)
-        put(words[i]);
-}
+static uint8_t batch[SYNTAX_MOST_BATCH], result[SYNTAX_MOST_ANSWER];
 
 static uint32_t word(size_t place)
 {
@@ -29,21 +17,26 @@ static uint32_t word(size_t place)
     return at[0] | (uint32_t)at[1] << 8 | (uint32_t)at[2] << 16 | (uint32_t)at[3] << 24;
 }
 
-static void build(void)
+static int64_t build(void)
 {
-    static const uint32_t sizes[] = {2, 5, 3, 1, 1, 0, 1};            /* trees, elements, text bytes, calls, listed, mappings, notes */
     static const uint32_t kinds[] = {NODE | 1, 2, 3, NODE | 1, 4};    /* tree 0: node 0 of tokens 1 and 2; tree 1: node 3 of token 4 */
     static const uint32_t measures[] = {2, 1, 1, 1, 1};               /* children of a node, text bytes of a token */
-    static const uint32_t call[] = {1 + 256 * 1, 1, 4};               /* insert one element after the target; target 1; listed: 4 */
-    static const uint32_t note[] = {4, 9};                            /* element, number */
-
-    put_all(sizes, 7);
-    put_all(kinds, 5);
-    put_all(measures, 5);
-    put_all(call, 3);
-    put_all(note, 2);
-    memcpy(batch + batch_length, "abc", 3);
-    batch_length += 3;
+    static const uint8_t text[] = {'a', 'b', 'c'};
+    static const uint32_t operation[] = {1}, count[] = {1}, target[] = {1}, listed[] = {4};    /* insert one element, 4, after element 1 */
+    static const uint32_t noted[] = {4}, number[] = {9};              /* note 9 on element 4 */
+    const syntax_lists lists = {
+        .trees = 2,
+        .kinds = kinds, .kinds_length = COUNT(kinds),
+        .measures = measures, .measures_length = COUNT(measures),
+        .text = text, .text_length = COUNT(text),
+        .operations = operation, .operations_length = COUNT(operation),
+        .counts = count, .counts_length = COUNT(count),
+        .targets = target, .targets_length = COUNT(target),
+        .listed = listed, .listed_length = COUNT(listed),
+        .noted = noted, .noted_length = COUNT(noted),
+        .numbers = number, .numbers_length = COUNT(number)
+    };
+    return syntax_write_static(&lists, batch, sizeof batch);
 }
 
 static void print(void)
@@ -67,8 +60,9 @@ static void print(void)
 
 int main(void)
 {
-    build();
-    int64_t length = syntax_edit_with(&work, batch, batch_length, result, sizeof result);
+    int64_t length = build();
+    if (length >= 0)
+        length = syntax_edit_with(&work, batch, (size_t)length, result, sizeof result);
     if (length < 0)
         printf("refused %" PRId64 "\n", -length);
     else

@@ -9,8 +9,8 @@
  * buffers do not overlap and that each has the length that is passed with it, whatever the batch and the work memory hold.
  *
  * What is promised, for every content and every length:
- *  - the batch is only read;
- *  - the result holds the answer and beyond it what it held; after a refusal it holds all that it held;
+ *  - the batch and the lists are only read;
+ *  - the result (of the writer: the destination) holds the answer (the batch) and beyond it what it held; after a refusal it holds all that it held;
  *  - every work slice is all zeros when the call returns.
  *
  * Not proved: how much stack a call takes. 64 KiB were enough for every recorded case (crates/replay/stdin). */
@@ -40,6 +40,9 @@ enum {
 /* The most bytes of an answer: a result buffer of this length is never too short. */
 enum { SYNTAX_MOST_ANSWER = 61464 };
 
+/* The writer's work slices: a draft of this many bytes, SYNTAX_TABLE words and SYNTAX_SOURCE words. No batch is longer than the draft. */
+enum { SYNTAX_DRAFT = 49180, SYNTAX_MOST_BATCH = 49180 };
+
 /* What syntax_find_element answers if there is no such element. */
 enum { SYNTAX_NONE = -1000 };
 
@@ -57,7 +60,9 @@ enum {
     SYNTAX_ENDLESS = 10,        /* a climb never ends */
     SYNTAX_GONE = 11,           /* a step's target is gone */
     SYNTAX_LARGE = 12,          /* the trees outgrow their limits */
-    SYNTAX_SHORT_RESULT = 13    /* the result buffer is too short */
+    SYNTAX_SHORT_RESULT = 13,   /* the result buffer is too short */
+    SYNTAX_LISTS = 14,          /* lists in step differ in length, or the lists make a batch that 3 to 7 would refuse */
+    SYNTAX_SHORT_DESTINATION = 15   /* the destination is too short, checked after 14 */
 };
 
 /* Edits: the length of the answer that now stands at the start of the result, or a refusal with a minus. */
@@ -88,6 +93,25 @@ int64_t syntax_find_element(
     uint32_t *rows, size_t rows_length,
     uint32_t *prepared, size_t prepared_length);
 
+/* Writes a batch from its lists: its length, or a refusal (1, 14 or 15) with a minus. syntax_lists says what each list holds. */
+int64_t syntax_write(
+    size_t trees,
+    const uint32_t *kinds, size_t kinds_length,
+    const uint32_t *measures, size_t measures_length,
+    const uint8_t *text, size_t text_length,
+    const uint32_t *operations, size_t operations_length,
+    const uint32_t *counts, size_t counts_length,
+    const uint32_t *targets, size_t targets_length,
+    const uint32_t *listed, size_t listed_length,
+    const uint32_t *inputs, size_t inputs_length,
+    const uint32_t *outputs, size_t outputs_length,
+    const uint32_t *noted, size_t noted_length,
+    const uint32_t *numbers, size_t numbers_length,
+    uint8_t *destination, size_t destination_length,
+    uint8_t *draft, size_t draft_length,
+    uint32_t *table, size_t table_length,
+    uint32_t *source, size_t source_length);
+
 /* All work memory, 233 KiB in nine slices; static or on the heap, and one for each thread that edits at the same time. It need not be cleared. */
 typedef struct syntax_work {
     uint32_t table[SYNTAX_TABLE];
@@ -114,6 +138,57 @@ static inline int64_t syntax_find_element_with(syntax_work *w, const uint8_t *ba
     return syntax_find_element(batch, batch_length, number, w->table, SYNTAX_TABLE, w->source, SYNTAX_SOURCE, w->changes, SYNTAX_CHANGES,
         w->notes, SYNTAX_NOTES, w->incoming, SYNTAX_INCOMING, w->changed, SYNTAX_CHANGED, w->marks, SYNTAX_MARKS, w->rows, SYNTAX_ROWS,
         w->prepared, SYNTAX_PREPARED);
+}
+
+/* The lists of a batch. The elements of all trees stand in preorder, tree after tree; a call lists elements of its own, and those of all calls stand one
+ * after another. Lists in step: kinds and measures; operations, counts and targets; inputs and outputs; noted and numbers. */
+typedef struct syntax_lists {
+    size_t trees;
+    const uint32_t *kinds;          /* of an element: its kind, a node's with bit 31 */
+    size_t kinds_length;
+    const uint32_t *measures;       /* children of a node, text bytes of a token */
+    size_t measures_length;
+    const uint8_t *text;
+    size_t text_length;
+    const uint32_t *operations;     /* of a call: 0 to 6 */
+    size_t operations_length;
+    const uint32_t *counts;         /* of a call: how many elements it lists */
+    size_t counts_length;
+    const uint32_t *targets;        /* of a call */
+    size_t targets_length;
+    const uint32_t *listed;
+    size_t listed_length;
+    const uint32_t *inputs;         /* of a mapping */
+    size_t inputs_length;
+    const uint32_t *outputs;        /* of a mapping */
+    size_t outputs_length;
+    const uint32_t *noted;          /* of a note: its element */
+    size_t noted_length;
+    const uint32_t *numbers;        /* of a note */
+    size_t numbers_length;
+} syntax_lists;
+
+/* The writer's work memory, 136 KiB in three slices; it need not be cleared. */
+typedef struct syntax_writer_work {
+    uint8_t draft[SYNTAX_DRAFT];
+    uint32_t table[SYNTAX_TABLE];
+    uint32_t source[SYNTAX_SOURCE];
+} syntax_writer_work;
+
+/* The writer over one struct of lists and one of work memory. */
+static inline int64_t syntax_write_with(syntax_writer_work *w, const syntax_lists *l, uint8_t *destination, size_t destination_length)
+{
+    return syntax_write(l->trees, l->kinds, l->kinds_length, l->measures, l->measures_length, l->text, l->text_length, l->operations,
+        l->operations_length, l->counts, l->counts_length, l->targets, l->targets_length, l->listed, l->listed_length, l->inputs, l->inputs_length,
+        l->outputs, l->outputs_length, l->noted, l->noted_length, l->numbers, l->numbers_length, destination, destination_length, w->draft,
+        SYNTAX_DRAFT, w->table, SYNTAX_TABLE, w->source, SYNTAX_SOURCE);
+}
+
+/* The same with static work memory, for one thread at a time. */
+static inline int64_t syntax_write_static(const syntax_lists *l, uint8_t *destination, size_t destination_length)
+{
+    static syntax_writer_work work;
+    return syntax_write_with(&work, l, destination, destination_length);
 }
 
 #ifdef __cplusplus

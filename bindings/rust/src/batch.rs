@@ -1,6 +1,8 @@
-//! Batches, laid out as document 01 says.
+//! Batches, laid out by the library's writer.
 
 use std::{error::Error, fmt};
+
+use crate::{Refusal, raw, told};
 
 /// A batch as bytes.
 #[derive(Clone, Debug, PartialEq, Eq)]
@@ -15,8 +17,8 @@ impl Batch {
 /// Why a builder gives no batch.
 #[derive(Clone, Copy, Debug, PartialEq, Eq)]
 pub enum Unfit {
-    /// There are fewer or more of these than a batch holds.
-    Size { what: &'static str, count: usize, least: usize, most: usize },
+    /// The writer refused the lists: they are too long, or name what no call, mapping or note may name.
+    Refused(Refusal),
     /// A node was opened and not closed, or closed and not opened.
     Unbalanced,
     /// A token stands outside every tree.
@@ -26,7 +28,7 @@ pub enum Unfit {
 impl fmt::Display for Unfit {
     fn fmt(&self, f: &mut fmt::Formatter<'_>) -> fmt::Result {
         match self {
-            Unfit::Size { what, count, least, most } => write!(f, "{count} {what}; a batch has {least} to {most}"),
+            Unfit::Refused(refusal) => refusal.fmt(f),
             Unfit::Unbalanced => f.write_str("nodes are not opened and closed in pairs"),
             Unfit::Loose => f.write_str("a token stands outside every tree"),
         }
@@ -37,26 +39,16 @@ impl Error for Unfit {}
 
 const NODE: u32 = 1 << 31;
 
-/// Sizes by name, with the least and the most.
-const LIMITS: [(&str, usize, usize); 7] = [
-    ("trees", 1, 16),
-    ("elements", 0, 2_048),
-    ("text bytes", 0, 16_384),
-    ("calls", 0, 256),
-    ("listed elements", 0, 1_024),
-    ("mappings", 0, 1_024),
-    ("notes", 0, 256),
-];
-
 /// Builds a batch. Trees are told in preorder by `open`, `token` and `close`, tree 0 (the one that is edited) first; `open` and `token` give the
-/// element's number, by which calls, mappings and notes name it. Whether these name sensible elements is judged by the editor.
+/// element's number, by which calls, mappings and notes name it. Whether all is within its limits and well formed is judged by the writer.
 #[derive(Clone, Debug, Default)]
 pub struct BatchBuilder {
     trees: usize,
     kinds: Vec<u32>,
     measures: Vec<u32>,
     text: Vec<u8>,
-    calls: Vec<u32>,
+    operations: Vec<u32>,
+    counts: Vec<u32>,
     targets: Vec<u32>,
     listed: Vec<u32>,
     inputs: Vec<u32>,
@@ -142,7 +134,8 @@ impl BatchBuilder {
     }
 
     fn call(&mut self, operation: u32, target: u32, listed: &[u32]) {
-        self.calls.push(word(listed.len()).saturating_mul(256).saturating_add(operation));
+        self.operations.push(operation);
+        self.counts.push(word(listed.len()));
         self.targets.push(target);
         self.listed.extend_from_slice(listed);
     }
@@ -158,7 +151,24 @@ impl BatchBuilder {
         self.numbers.push(number);
     }
 
-    /// The batch, unless it is too large or its trees are not told whole.
+    fn lists(&self) -> raw::Lists<'_> {
+        raw::Lists {
+            trees: self.trees,
+            kinds: &self.kinds,
+            measures: &self.measures,
+            text: &self.text,
+            operations: &self.operations,
+            counts: &self.counts,
+            targets: &self.targets,
+            listed: &self.listed,
+            inputs: &self.inputs,
+            outputs: &self.outputs,
+            noted: &self.noted,
+            numbers: &self.numbers,
+        }
+    }
+
+    /// The batch as the library's writer lays it out, unless its trees are not told whole or the writer refuses it.
     pub fn finish(&self) -> Result<Batch, Unfit> {
         if let Some(fault) = self.fault {
             return Err(fault);
@@ -166,32 +176,14 @@ impl BatchBuilder {
         if !self.open.is_empty() {
             return Err(Unfit::Unbalanced);
         }
-        let counts = [self.trees, self.kinds.len(), self.text.len(), self.calls.len(), self.listed.len(), self.inputs.len(), self.noted.len()];
-        for ((what, least, most), count) in LIMITS.into_iter().zip(counts) {
-            if !(least..=most).contains(&count) {
-                return Err(Unfit::Size { what, count, least, most });
-            }
-        }
-        let sizes = counts.map(word);
-        let arrays = [
-            &sizes[..],
-            &self.kinds,
-            &self.measures,
-            &self.calls,
-            &self.targets,
-            &self.listed,
-            &self.inputs,
-            &self.outputs,
-            &self.noted,
-            &self.numbers,
-        ];
-        let mut bytes = arrays.concat().into_iter().flat_map(u32::to_le_bytes).collect::<Vec<u8>>();
-        bytes.extend_from_slice(&self.text);
+        let mut bytes = vec![0; raw::DRAFT];
+        let length = told(raw::write(self.lists(), &mut bytes, raw::WriterWork::new().slices())).map_err(Unfit::Refused)?;
+        bytes.truncate(length);
         Ok(Batch(bytes))
     }
 }
 
-/// A count as a word. One that fits no word is over every limit, and so is what stands for it.
+/// A count as a word. What stands for one that fits no word is over every limit.
 fn word(count: usize) -> u32 {
     u32::try_from(count).unwrap_or(u32::MAX)
 }

@@ -1,6 +1,6 @@
 //! A safe wrapper of the proved syntax tree editor (`libsyntax_edit.a`).
 //!
-//! A [`Batch`] (trees, calls, mappings, notes) is laid out by a [`BatchBuilder`]; an [`Editor`], which owns the work memory, answers it with an
+//! A [`Batch`] (trees, calls, mappings, notes) is told to a [`BatchBuilder`] and laid out by the library's writer; an [`Editor`], which owns the work memory, answers it with an
 //! [`Answer`] (the new tree, its changed elements, its notes) or a [`Refusal`]: every batch of bytes gets one of the two. The library's calls have no
 //! precondition but that lent buffers do not overlap, which references see to here. An editor has 233 KiB of work memory in nine slices.
 
@@ -16,11 +16,11 @@ pub use batch::{Batch, BatchBuilder, Unfit};
 /// The most bytes that an answer has.
 pub const MOST_ANSWER: usize = 61_464;
 
-/// Why a batch got no answer: a number of document 01's list.
+/// Why a batch got no answer, or lists made no batch: a number of the list of refusals.
 #[derive(Clone, Copy, Debug, PartialEq, Eq, Hash)]
 pub struct Refusal(u8);
 
-const MEANINGS: [&str; 13] = [
+const MEANINGS: [&str; 15] = [
     "a work slice is too short",
     "the batch has under 28 bytes",
     "a size is out of its limits",
@@ -34,12 +34,14 @@ const MEANINGS: [&str; 13] = [
     "a step's target is gone",
     "the trees outgrow their limits",
     "the result buffer is too short",
+    "the lists differ in length or make a batch that is not well formed",
+    "the destination is too short",
 ];
 
 impl Refusal {
-    /// The refusal of this number, 1 to 13.
+    /// The refusal of this number, 1 to 15.
     fn numbered(number: i64) -> Option<Refusal> {
-        u8::try_from(number).ok().filter(|it| (1..=13).contains(it)).map(Refusal)
+        u8::try_from(number).ok().filter(|it| (1..=15).contains(it)).map(Refusal)
     }
 
     pub fn number(self) -> u8 {
@@ -101,6 +103,6 @@ impl Editor {
 fn told(answer: i64) -> Result<usize, Refusal> {
     match usize::try_from(answer) {
         Ok(number) => Ok(number),
-        Err(_) => Err(Refusal::numbered(-answer).expect("a refusal is numbered 1 to 13")),
+        Err(_) => Err(Refusal::numbered(-answer).expect("a refusal is numbered 1 to 15")),
     }
 }

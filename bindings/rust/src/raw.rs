@@ -1,10 +1,14 @@
 //! The static library's own calls, over slices of any length.
 //!
-//! What is promised of them (and proved of the library): the batch is only read; the result slice holds the answer and beyond it what it held, or,
-//! on refusal, all that it held; every work slice ends as zeros of its own length, whatever it held and however long it is.
+//! What is promised of them (and proved of the library): the batch and the lists are only read; the result slice (of the writer: the destination) holds
+//! the answer (the batch) and beyond it what it held, or, on refusal, all that it held; every work slice ends as zeros of its own length, whatever it
+//! held and however long it is.
 
 /// The lengths in words that the work slices need, in the order in which they are lent.
 pub const LENGTHS: [usize; 9] = [16_384, 6_147, 3_328, 3_072, 3_072, 1_024, 2_048, 12_291, 12_288];
+
+/// The length in bytes of the writer's draft, which is also the most bytes of a batch. Its table and its source are the editor's first two.
+pub const DRAFT: usize = 49_180;
 
 /// What [`find_element`] answers if there is no such element.
 pub const NONE: i64 = -1000;
@@ -28,6 +32,54 @@ impl Work {
 
     pub fn slices(&mut self) -> Slices<'_> {
         self.0.each_mut().map(Vec::as_mut_slice)
+    }
+}
+
+/// The lists of a batch: elements of all trees in preorder, tree after tree; of each call its operation, how many elements it lists, and its target; the
+/// listed elements, call after call; of each mapping its input and its output; of each note its element and its number.
+#[derive(Clone, Copy, Debug, Default)]
+pub struct Lists<'a> {
+    pub trees: usize,
+    pub kinds: &'a [u32],
+    pub measures: &'a [u32],
+    pub text: &'a [u8],
+    pub operations: &'a [u32],
+    pub counts: &'a [u32],
+    pub targets: &'a [u32],
+    pub listed: &'a [u32],
+    pub inputs: &'a [u32],
+    pub outputs: &'a [u32],
+    pub noted: &'a [u32],
+    pub numbers: &'a [u32],
+}
+
+/// The writer's work slices.
+pub struct WriterSlices<'a> {
+    pub draft: &'a mut [u8],
+    pub table: &'a mut [u32],
+    pub source: &'a mut [u32],
+}
+
+/// Work memory of the lengths that the writer needs.
+pub struct WriterWork {
+    draft: Vec<u8>,
+    table: Vec<u32>,
+    source: Vec<u32>,
+}
+
+impl Default for WriterWork {
+    fn default() -> Self {
+        Self::new()
+    }
+}
+
+impl WriterWork {
+    pub fn new() -> WriterWork {
+        WriterWork { draft: vec![0; DRAFT], table: vec![0; LENGTHS[0]], source: vec![0; LENGTHS[1]] }
+    }
+
+    pub fn slices(&mut self) -> WriterSlices<'_> {
+        WriterSlices { draft: &mut self.draft, table: &mut self.table, source: &mut self.source }
     }
 }
 
@@ -60,6 +112,25 @@ mod library {
             marks: *mut u32, marks_length: usize,
             rows: *mut u32, rows_length: usize,
             prepared: *mut u32, prepared_length: usize,
+        ) -> i64;
+
+        pub fn syntax_write(
+            trees: usize,
+            kinds: *const u32, kinds_length: usize,
+            measures: *const u32, measures_length: usize,
+            text: *const u8, text_length: usize,
+            operations: *const u32, operations_length: usize,
+            counts: *const u32, counts_length: usize,
+            targets: *const u32, targets_length: usize,
+            listed: *const u32, listed_length: usize,
+            inputs: *const u32, inputs_length: usize,
+            outputs: *const u32, outputs_length: usize,
+            noted: *const u32, noted_length: usize,
+            numbers: *const u32, numbers_length: usize,
+            destination: *mut u8, destination_length: usize,
+            draft: *mut u8, draft_length: usize,
+            table: *mut u32, table_length: usize,
+            source: *mut u32, source_length: usize,
         ) -> i64;
     }
 }
@@ -105,6 +176,32 @@ pub fn find_element(batch: &[u8], number: u64, work: Slices<'_>) -> i64 {
             marks.as_mut_ptr(), marks.len(),
             rows.as_mut_ptr(), rows.len(),
             prepared.as_mut_ptr(), prepared.len(),
+        )
+    }
+}
+
+/// The length of the batch that now stands at the start of `destination`, or a refusal's number (1, 14 or 15) with a minus.
+#[rustfmt::skip]
+pub fn write(lists: Lists<'_>, destination: &mut [u8], work: WriterSlices<'_>) -> i64 {
+    // Safety: as in `edit`; the lists, which are only read, may overlap one another.
+    unsafe {
+        library::syntax_write(
+            lists.trees,
+            lists.kinds.as_ptr(), lists.kinds.len(),
+            lists.measures.as_ptr(), lists.measures.len(),
+            lists.text.as_ptr(), lists.text.len(),
+            lists.operations.as_ptr(), lists.operations.len(),
+            lists.counts.as_ptr(), lists.counts.len(),
+            lists.targets.as_ptr(), lists.targets.len(),
+            lists.listed.as_ptr(), lists.listed.len(),
+            lists.inputs.as_ptr(), lists.inputs.len(),
+            lists.outputs.as_ptr(), lists.outputs.len(),
+            lists.noted.as_ptr(), lists.noted.len(),
+            lists.numbers.as_ptr(), lists.numbers.len(),
+            destination.as_mut_ptr(), destination.len(),
+            work.draft.as_mut_ptr(), work.draft.len(),
+            work.table.as_mut_ptr(), work.table.len(),
+            work.source.as_mut_ptr(), work.source.len(),
         )
     }
 }

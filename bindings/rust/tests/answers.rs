@@ -279,21 +279,47 @@ fn damaged_batches_are_refused_in_checking_order() {
     assert_eq!(damaged(21, 0), 7);
 }
 
+/// The number of the writer's refusal of what a builder was told.
+fn unwritten(builder: &BatchBuilder) -> u8 {
+    match builder.finish() {
+        Err(Unfit::Refused(refusal)) => refusal.number(),
+        other => panic!("{other:?}"),
+    }
+}
+
 #[test]
 fn a_builder_gives_no_batch_that_does_not_fit() {
     let mut builder = BatchBuilder::new();
-    assert_eq!(builder.finish(), Err(Unfit::Size { what: "trees", count: 0, least: 1, most: 16 }));
+    assert_eq!(unwritten(&builder), 14);
     builder.open(1);
     assert_eq!(builder.finish(), Err(Unfit::Unbalanced));
     builder.token(2, &[0; 16_385]);
     builder.close();
+    assert_eq!(unwritten(&builder), 14);
     let fault = builder.finish().unwrap_err();
-    assert_eq!(fault.to_string(), "16385 text bytes; a batch has 0 to 16384");
+    assert_eq!(fault.to_string(), "refused 14: the lists differ in length or make a batch that is not well formed");
     builder.token(2, b"");
     assert_eq!(builder.finish(), Err(Unfit::Loose));
     let mut builder = BatchBuilder::new();
     builder.close();
     assert_eq!(builder.finish(), Err(Unfit::Unbalanced));
+}
+
+#[test]
+fn a_builder_gives_no_batch_that_the_editor_would_call_malformed() {
+    let wrong: [fn(&mut S); 6] = [
+        |it| it.builder.delete(99),
+        |it| it.builder.replace_all(it.b, it.x, &[]),
+        |it| it.builder.insert_first(it.a, &[it.c]),
+        |it| it.builder.map(it.a, it.b),
+        |it| it.builder.note(99, 1),
+        |it| (0..257).for_each(|_| it.builder.delete(it.a)),
+    ];
+    for tell in wrong {
+        let mut it = s();
+        tell(&mut it);
+        assert_eq!(unwritten(&it.builder), 14);
+    }
 }
 
 #[test]

@@ -1,4 +1,4 @@
-//! What the calls leave in every slice, of any length: demand 1, with refusals 1 and 13.
+//! What the calls leave in every slice, of any length: demand 1, with refusals 1, 13, 14 and 15.
 
 use syntax_edit::raw;
 
@@ -79,5 +79,81 @@ fn a_longer_work_slice_is_cleared_whole() {
     assert_zeros(&memory);
     for number in [1, 3, 5, u64::MAX] {
         assert_eq!(raw::find_element(PRINTED_CASE, number, lent(&mut memory)), raw::NONE);
+    }
+}
+
+/// The printed case as lists.
+const LISTS: raw::Lists<'static> = raw::Lists {
+    trees: 2,
+    kinds: &[1 << 31 | 1, 2, 3, 1 << 31 | 1, 4],
+    measures: &[2, 1, 1, 1, 1],
+    text: b"abc",
+    operations: &[1],
+    counts: &[1],
+    targets: &[1],
+    listed: &[4],
+    inputs: &[],
+    outputs: &[],
+    noted: &[4],
+    numbers: &[9],
+};
+
+/// What the writer tells and leaves in a destination of `room` bytes; the work slices are longer or shorter than they need to be by these numbers.
+fn written(lists: raw::Lists<'_>, room: usize, more: [isize; 3]) -> (i64, Vec<u8>) {
+    let length = |least: usize, more: isize| least.saturating_add_signed(more);
+    let mut destination = vec![0xa5; room];
+    let mut draft = vec![0xa5; length(raw::DRAFT, more[0])];
+    let mut table = vec![0xdead_beef; length(raw::LENGTHS[0], more[1])];
+    let mut source = vec![0xdead_beef; length(raw::LENGTHS[1], more[2])];
+    let work = raw::WriterSlices { draft: &mut draft, table: &mut table, source: &mut source };
+    let told = raw::write(lists, &mut destination, work);
+    assert!(draft.iter().all(|&it| it == 0) && table.iter().chain(&source).all(|&it| it == 0));
+    (told, destination)
+}
+
+#[test]
+fn a_batch_leaves_the_rest_of_the_destination() {
+    for (room, more) in [(91, [0; 3]), (92, [1, 7, 100]), (65_536, [0; 3])] {
+        let (told, destination) = written(LISTS, room, more);
+        assert_eq!(told, 91);
+        assert_eq!(destination[..91], *PRINTED_CASE);
+        assert!(destination[91..].iter().all(|&it| it == 0xa5));
+    }
+}
+
+#[test]
+fn a_refused_write_leaves_the_destination() {
+    let refused = |lists, room, more, number: i64| {
+        let (told, destination) = written(lists, room, more);
+        assert_eq!(told, -number);
+        assert!(destination.iter().all(|&it| it == 0xa5));
+    };
+    for room in 0..91 {
+        refused(LISTS, room, [0; 3], 15);
+    }
+    for short in [-1, isize::MIN] {
+        for more in [[short, 0, 0], [0, short, 0], [0, 0, short]] {
+            refused(LISTS, 91, more, 1);
+            refused(raw::Lists::default(), 0, more, 1);
+        }
+    }
+    // 14 comes before 15: lists out of step, parts that do not fit their word, sizes out of their limits, what lines 5 to 7 refuse.
+    for lists in [
+        raw::Lists { measures: &[2, 1, 1, 1], ..LISTS },
+        raw::Lists { counts: &[], ..LISTS },
+        raw::Lists { targets: &[1, 1], ..LISTS },
+        raw::Lists { outputs: &[0], ..LISTS },
+        raw::Lists { numbers: &[], ..LISTS },
+        raw::Lists { operations: &[257], counts: &[0], listed: &[4], ..LISTS },
+        raw::Lists { counts: &[1 << 24 | 1], ..LISTS },
+        raw::Lists { trees: 1 << 32 | 2, ..LISTS },
+        raw::Lists { text: &[0; 16_385], ..LISTS },
+        raw::Lists { trees: 3, ..LISTS },
+        raw::Lists { targets: &[0], ..LISTS },
+        raw::Lists { noted: &[5], ..LISTS },
+        raw::Lists::default(),
+    ] {
+        refused(lists, 91, [0; 3], 14);
+        refused(lists, 0, [0; 3], 14);
     }
 }

@@ -1,4 +1,5 @@
-//! The recorded cases of the oracle: every byte of every answer, every refusal, every recorded `find_element` call.
+//! The recorded cases of the oracle: every byte of every answer, every refusal, every recorded `find_element` call; and each batch taken apart and written
+//! again.
 
 use syntax_edit::raw;
 
@@ -44,4 +45,42 @@ fn recorded_cases() {
         }
     }
     assert!(cases.0.is_empty());
+}
+
+/// A batch whose length is what its sizes give, taken apart and written again.
+fn rewritten(batch: &[u8]) -> Result<Vec<u8>, i64> {
+    let words = batch.chunks_exact(4).map(|it| u32::from_le_bytes(it.try_into().expect("four bytes"))).collect::<Vec<_>>();
+    let [trees, elements, text, calls, listed, mappings, notes] = std::array::from_fn(|i| words[i] as usize);
+    let mut at = 7;
+    let mut part = |count: usize| {
+        at += count;
+        &words[at - count..at]
+    };
+    let (kinds, measures, call_words, targets) = (part(elements), part(elements), part(calls), part(calls));
+    let (listed, inputs, outputs, noted, numbers) = (part(listed), part(mappings), part(mappings), part(notes), part(notes));
+    let (operations, counts): (Vec<_>, Vec<_>) = call_words.iter().map(|it| (it % 256, it / 256)).unzip();
+    let text = &batch[batch.len() - text..];
+    let lists =
+        raw::Lists { trees, kinds, measures, text, operations: &operations, counts: &counts, targets, listed, inputs, outputs, noted, numbers };
+    let mut bytes = vec![0; raw::DRAFT];
+    match raw::write(lists, &mut bytes, raw::WriterWork::new().slices()) {
+        refused @ ..0 => Err(-refused),
+        length => Ok(bytes[..length as usize].to_vec()),
+    }
+}
+
+#[test]
+fn recorded_batches_written_again() {
+    let mut cases = Reader(CASES);
+    for case in 0..cases.word() {
+        let (batch, refusal, _) = (cases.bytes(), cases.word(), cases.bytes());
+        match refusal {
+            2..=4 => {}
+            5..=7 => assert_eq!(rewritten(batch), Err(14), "case {case}"),
+            _ => assert!(rewritten(batch).as_deref() == Ok(batch), "case {case}"),
+        }
+        for _ in 0..cases.word() {
+            (cases.word(), cases.word());
+        }
+    }
 }

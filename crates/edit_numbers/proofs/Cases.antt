@@ -7,8 +7,12 @@ use mir.Syntax.{w64}
 use mir.Val.{toZ, ofZ}
 use Rattle.promises.specs.declared.Outcome.{Outcome}
 use Rattle.promises.specs.declared.Outcome.the-variants.{Refused, Bytes, Nothing, At}
+use Rattle.write_batch.specs.Handing.{answerOf}
+use Rattle.write_batch.specs.declared.Written.{Written}
+use Rattle.write_batch.specs.declared.Written.the-variants.{Refused as Unwritten, Bytes as Laid}
 use Rattle.edit_numbers.specs.Told.{Small, numberOf}
 use Rattle.edit_numbers.specs.Negated.{neg-told, pos-told}
+use Rattle.edit_numbers.specs.ReturnedBatch.{Few, lengthNumber}
 
 module _ (a : Outcome) (n : ℕ) where
   pub small-refused : a ≡ Refused n → Small a → n ≤ 65536
@@ -38,3 +42,21 @@ module _ (a : Outcome) (n : ℕ) where
 pub tells-nothing : (a : Outcome) → a ≡ Nothing → negsuc 999 ≡ numberOf a
 unfolding numberOf
 tells-nothing a e = rw e refl
+
+-- what the writer tells
+module _ (a : Written) (n : ℕ) where
+  pub few-refused : a ≡ Unwritten n → Few (answerOf a) → n ≤ 65536
+  unfolding Few answerOf
+  few-refused e h = subst (λ (w : Written). Few (answerOf w)) e h
+
+  pub few-bytes : a ≡ Laid n → Few (answerOf a) → n ≤ 65536
+  unfolding Few answerOf
+  few-bytes e h = subst (λ (w : Written). Few (answerOf w)) e h
+
+  pub wrote-refused : (z : ℤ) → a ≡ Unwritten n → Few (answerOf a) → z ≡ negℤ (pos n) → toZ w64 (ofZ w64 z) ≡ lengthNumber (answerOf a)
+  unfolding lengthNumber answerOf
+  wrote-refused z e h q = rw (e, q) (neg-told n (few-refused e h))
+
+  pub wrote-bytes : (z : ℤ) → a ≡ Laid n → Few (answerOf a) → z ≡ pos n → toZ w64 (ofZ w64 z) ≡ lengthNumber (answerOf a)
+  unfolding lengthNumber answerOf
+  wrote-bytes z e h q = rw (e, q) (pos-told n (few-bytes e h))

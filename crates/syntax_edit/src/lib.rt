@@ -2,7 +2,9 @@
 use edit_algo::serve;
 use promises::Job;
 ghost use mathlib.Core.List.{_∷_, []};
+ghost use Rattle.write_layout.specs.Laying.{listsIn};
 ghost use Rattle.edit_numbers.specs.Returned.{Returns, ReturnsElement};
+ghost use Rattle.edit_numbers.specs.ReturnedBatch.{ReturnsBatch};
 
 // THE EDIT of a batch: the length of the answer, which stands at the front of `result`, or a refusal's number with a minus.
 // The nine others are work slices, which end as zeros.
@@ -73,4 +75,48 @@ pub extern "C" fn syntax_find_element(
         prepared,
     );
     edit_numbers::number_of(told)
+}
+
+// THE WRITER: the length of the batch that the lists make, which stands at the front of `destination`, or a refusal's number with a minus.
+// The three others are work slices, which end as zeros.
+#[no_mangle]
+pub extern "C" fn syntax_write(
+    trees: usize,
+    kinds: &[u32],
+    measures: &[u32],
+    text: &[u8],
+    operations: &[u32],
+    counts: &[u32],
+    targets: &[u32],
+    listed: &[u32],
+    inputs: &[u32],
+    outputs: &[u32],
+    noted: &[u32],
+    numbers: &[u32],
+    destination: &mut [u8],
+    draft: &mut [u8],
+    table: &mut [u32],
+    source: &mut [u32],
+) -> i64
+    ensures { λ r. ⌜ ReturnsBatch (listsIn trees (now (kinds .entry)) (now (measures .entry)) (now (text .entry)) (now (operations .entry)) (now (counts .entry)) (now (targets .entry)) (now (listed .entry)) (now (inputs .entry)) (now (outputs .entry)) (now (noted .entry)) (now (numbers .entry))) (now (destination .entry)) (now (draft .entry) ∷ now (table .entry) ∷ now (source .entry) ∷ []) r (now (destination .exit)) (now (draft .exit) ∷ now (table .exit) ∷ now (source .exit) ∷ []) ⌝ }
+{
+    let told = write_batch::write_batch(
+        trees,
+        kinds,
+        measures,
+        text,
+        operations,
+        counts,
+        targets,
+        listed,
+        inputs,
+        outputs,
+        noted,
+        numbers,
+        destination,
+        draft,
+        table,
+        source,
+    );
+    edit_numbers::number_written(told)
 }
