@@ -1,7 +1,10 @@
-// Replays the recorded cases on standard input: every byte of the result, every work slice, and the elements found.
+// Replays the recorded cases on standard input: every byte of the result, every work slice, and the elements found. Each batch is also taken apart and
+// written again.
 use edit_algo::serve;
 use promises::Job;
 use promises::Outcome;
+use write_again::write_again;
+use write_batch::Written;
 ghost use Prim.Native.Nat.{_^_, _<_, _≤_};
 
 // What the lent slices hold before a call.
@@ -12,10 +15,27 @@ const WORD: u32 = 0xa5a5_5a5a;
 // The found element of a recorded call that finds none.
 const NONE: usize = 0xffff_ffff;
 
+// What a batch comes to that is written again with other bytes.
+const OTHERWISE: usize = 0xffff_ffff;
+
 // A number that is read, or the input's end.
 enum Read {
     Word(usize),
     End,
+}
+
+// Whether a case is as recorded, and what its batch comes to when it is written again: 0 for the same bytes, or a refusal's number.
+struct Case {
+    agrees: bool,
+    again: usize,
+}
+
+// How many cases are not as recorded; how many batches come out byte for byte, are refused 14, and stay whole: they cannot be taken apart.
+struct Counts {
+    missed: usize,
+    same: usize,
+    refused: usize,
+    whole: usize,
 }
 
 // What a job came to, or that it left a work slice that is not all zeros.
@@ -243,46 +263,121 @@ fn miss(agrees: bool) -> usize
     if agrees { 0 } else { 1 }
 }
 
-// The next case of the input: whether it agrees.
-fn next_case() -> bool {
-    let mut batch = io::large_buffer();
-    let Read::Word(n) = read_part(&mut batch) else {
-        return false;
-    };
-    let Read::Word(refusal) = read_word() else {
-        return false;
-    };
-    let mut expected = io::large_buffer();
-    let Read::Word(m) = read_part(&mut expected) else {
-        return false;
-    };
-    if 65536 < n {
-        return false;
+// What a batch comes to when it is taken apart and written again: 0 if it comes out byte for byte, or a refusal's number.
+fn again(batch: &[u8]) -> usize {
+    let mut destination = [BYTE; 49184];
+    let written = write_again(batch, &mut destination);
+    match written {
+        Written::Refused(number) => number,
+        Written::Bytes(n) => came_out(n, &destination, batch),
     }
-    if 65536 < m {
-        return false;
+}
+
+// 0 for a destination that holds the batch, and beyond it what it held.
+fn came_out(n: usize, destination: &[u8], batch: &[u8]) -> usize {
+    if n != batch.len() {
+        return OTHERWISE;
     }
-    let found = all_found(&batch[..n], refusal);
-    if found {
-        edit_agrees(&batch[..n], refusal, &expected[..m])
+    if holds(destination, batch) {
+        0
+    } else {
+        OTHERWISE
+    }
+}
+
+// What a batch with this recorded refusal is to come to: line 2, 3 or 4 keeps it whole, lines 5 to 7 make it 14, any other comes out byte for byte.
+fn due(refusal: usize) -> usize {
+    match refusal {
+        2..=4 => refusal,
+        5..=7 => 14,
+        _ => 0,
+    }
+}
+
+// Whether the elements found and the edit are as recorded.
+fn calls_agree(batch: &[u8], refusal: usize, expected: &[u8]) -> bool {
+    if all_found(batch, refusal) {
+        edit_agrees(batch, refusal, expected)
     } else {
         false
     }
 }
 
-// How many of the cases do not agree; each is named.
-fn replay(cases: usize) -> usize
-    ensures { λ r. ⌜ r ≤ cases ⌝ }
+// What a case comes to; its elements to find are read here.
+fn case_of(batch: &[u8], refusal: usize, expected: &[u8]) -> Case {
+    let agrees = calls_agree(batch, refusal, expected);
+    let again = again(batch);
+    if again == due(refusal) {
+        Case { agrees, again }
+    } else {
+        Case {
+            agrees: false,
+            again,
+        }
+    }
+}
+
+// The next case of the input.
+fn next_case() -> Case {
+    let none = Case {
+        agrees: false,
+        again: OTHERWISE,
+    };
+    let mut batch = io::large_buffer();
+    let Read::Word(n) = read_part(&mut batch) else {
+        return none;
+    };
+    let Read::Word(refusal) = read_word() else {
+        return none;
+    };
+    let mut expected = io::large_buffer();
+    let Read::Word(m) = read_part(&mut expected) else {
+        return none;
+    };
+    if 65536 < n {
+        return none;
+    }
+    if 65536 < m {
+        return none;
+    }
+    case_of(&batch[..n], refusal, &expected[..m])
+}
+
+// 1 for a number from `low` to `high`.
+fn between(low: usize, high: usize, number: usize) -> usize
+    ensures { λ r. ⌜ r ≤ 1 ⌝ }
+{
+    if number < low {
+        return 0;
+    }
+    if number <= high { 1 } else { 0 }
+}
+
+// The cases, counted; each that does not agree is named.
+fn replay(cases: usize) -> Counts
+    ensures { λ r. ⌜ r .missed ≤ cases ⌝ }
 {
     let mut missed = 0;
+    let mut same = 0;
+    let mut refused = 0;
+    let mut whole = 0;
     let mut i = 0;
     while i < cases {
-        let m = miss(next_case());
+        let case = next_case();
+        let m = miss(case.agrees);
         name(m, i);
         missed += m;
+        same += between(0, 0, case.again);
+        refused += between(14, 14, case.again);
+        whole += between(2, 4, case.again);
         i += 1;
     }
-    missed
+    Counts {
+        missed,
+        same,
+        refused,
+        whole,
+    }
 }
 
 // A case that does not agree is named.
@@ -301,9 +396,15 @@ fn main() {
     if 65536 < cases {
         return;
     }
-    let missed = replay(cases);
-    io::print_decimal(1, (cases - missed) as u64);
+    let counts = replay(cases);
+    io::print_decimal(1, (cases - counts.missed) as u64);
     io::write_all(1, b" of ");
     io::print_decimal(1, cases as u64);
-    io::write_all(1, b" cases agree\n");
+    io::write_all(1, b" cases agree\nwritten again byte for byte: ");
+    io::print_decimal(1, counts.same as u64);
+    io::write_all(1, b", refused 14: ");
+    io::print_decimal(1, counts.refused as u64);
+    io::write_all(1, b", cannot be taken apart: ");
+    io::print_decimal(1, counts.whole as u64);
+    io::write_all(1, b"\n");
 }

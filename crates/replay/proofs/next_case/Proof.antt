@@ -1,16 +1,8 @@
 use lib.Seq.{length-take-le}
 use mathlib.Core.Path.{sym}
-use Prim.Native.Nat.{_-_}
 use borrow.Author.Needs.{needs}
 use Rattle.replay.proofs.next_case.Statement.{statement}
 use Rattle.replay.proofs.next_case.Tie as tie
-use Rattle.replay.proofs.next_case.Reads as reads
-use Rattle.replay.proofs.next_case.Lts as lts
-use Rattle.io.proofs.large_buffer.Reads as large-buffer-reads
-use Rattle.replay.proofs.all_found.Reads as all-found-reads
-use Rattle.replay.proofs.edit_agrees.Reads as edit-agrees-reads
-use Rattle.replay.proofs.read_part.Reads as read-part-reads
-use Rattle.replay.proofs.read_word.Reads as read-word-reads
 
 large-buffer-requires : tie.Need-large-buffer-requires
 large-buffer-requires c κs = search needs
@@ -69,32 +61,20 @@ returns-5 c = search needs
 array-share-prefix-batch : tie.Need-array-share-prefix-batch
 array-share-prefix-batch c = search needs
 
-slice-aggregate-all-found : tie.Need-slice-aggregate-all-found
-slice-aggregate-all-found c = sym (length-take-le (c .before .before .before .before .before .before .before .before .before .before .before .before .before .before .before .n .given .0 .0) (c .before .before .before .before .before .before .before .before .before .before .before .before .before .before .before .before .before .before .read-part .last .0) (search needs))
-
-all-found-requires : tie.Need-all-found-requires
-all-found-requires c κs = search needs
-
-array-share-prefix-batch-2 : tie.Need-array-share-prefix-batch-2
-array-share-prefix-batch-2 c = search needs
-
-slice-aggregate-edit-agrees : tie.Need-slice-aggregate-edit-agrees
-slice-aggregate-edit-agrees c = sym (length-take-le (c .before .before .before .before .before .before .before .before .before .before .before .before .before .before .before .before .before .before .n .given .0 .0) (c .before .before .before .before .before .before .before .before .before .before .before .before .before .before .before .before .before .before .before .before .before .read-part .last .0) (search needs))
+slice-aggregate-case-of : tie.Need-slice-aggregate-case-of
+slice-aggregate-case-of c = sym (length-take-le _ _ (array-share-prefix-batch (c .before)))
 
 array-share-prefix-expected : tie.Need-array-share-prefix-expected
 array-share-prefix-expected c = search needs
 
-slice-aggregate-edit-agrees-2 : tie.Need-slice-aggregate-edit-agrees-2
-slice-aggregate-edit-agrees-2 c = sym (length-take-le (c .before .before .before .before .before .before .before .before .m .given .0 .0) (c .before .before .before .before .before .before .before .before .before .before .before .read-part2 .last .0) (search needs))
+slice-aggregate-case-of-2 : tie.Need-slice-aggregate-case-of-2
+slice-aggregate-case-of-2 c = sym (length-take-le _ _ (array-share-prefix-expected (c .before)))
 
-edit-agrees-requires : tie.Need-edit-agrees-requires
-edit-agrees-requires c κs = search needs
+case-of-requires : tie.Need-case-of-requires
+case-of-requires c κs = search needs
 
 returns-6 : tie.Need-returns-6
 returns-6 c = search needs
-
-returns-7 : tie.Need-returns-7
-returns-7 c = search needs
 
 pub next-case-spec : {M : Type 1} → statement M
 next-case-spec =
@@ -119,12 +99,8 @@ next-case-spec =
     returns-4
     returns-5
     array-share-prefix-batch
-    slice-aggregate-all-found
-    all-found-requires
-    array-share-prefix-batch-2
-    slice-aggregate-edit-agrees
+    slice-aggregate-case-of
     array-share-prefix-expected
-    slice-aggregate-edit-agrees-2
-    edit-agrees-requires
-    returns-6
-    returns-7)
+    slice-aggregate-case-of-2
+    case-of-requires
+    returns-6)

@@ -1,0 +1,82 @@
+-- `part_words` is safe and ends: neither list changes its length.
+-- Assumes nothing.
+use borrow.Author.Needs.{needs}
+use lib.ListN.{length}
+use mathlib.Core.Path.{_≡_}
+use Prim.Native.Nat.{_-_}
+use Rattle.write_again.proofs.part_words.Statement.{statement}
+use Rattle.write_again.proofs.part_words.Tie as tie
+
+abbrev Inv-loop : tie.InvT-loop
+Inv-loop words operations₀ counts₀ i₀ operations counts i =
+    (length operations ≡ length operations₀) × (length counts ≡ length counts₀)
+
+abbrev μ-loop : tie.MeasureT-loop
+μ-loop words operations₀ counts₀ i₀ operations counts i = length words - i
+
+loop-holds : tie.Need-loop-holds Inv-loop μ-loop
+loop-holds c = search needs
+
+mul-operations : tie.Need-mul-operations Inv-loop μ-loop
+mul-operations c = search needs
+
+shared-slice-read-operations : tie.Need-shared-slice-read-operations Inv-loop μ-loop
+shared-slice-read-operations c = search needs
+
+mul-operations-2 : tie.Need-mul-operations-2 Inv-loop μ-loop
+mul-operations-2 c = search needs
+
+slice-write-operations : tie.Need-slice-write-operations Inv-loop μ-loop
+slice-write-operations c = search needs
+
+mul-counts : tie.Need-mul-counts Inv-loop μ-loop
+mul-counts c = search needs
+
+shared-slice-read-counts : tie.Need-shared-slice-read-counts Inv-loop μ-loop
+shared-slice-read-counts c = search needs
+
+mul-counts-2 : tie.Need-mul-counts-2 Inv-loop μ-loop
+mul-counts-2 c = search needs
+
+slice-write-counts : tie.Need-slice-write-counts Inv-loop μ-loop
+slice-write-counts c = search needs
+
+add-i : tie.Need-add-i Inv-loop μ-loop
+add-i c = search needs
+
+loop-less : tie.Need-loop-less Inv-loop μ-loop
+loop-less c = search needs
+
+loop-again : tie.Need-loop-again Inv-loop μ-loop
+loop-again c = search needs
+
+same-length : tie.Need-same-length Inv-loop μ-loop
+same-length c = search needs
+
+same-length-2 : tie.Need-same-length-2 Inv-loop μ-loop
+same-length-2 c = search needs
+
+returns : tie.Need-returns Inv-loop μ-loop
+returns c = search needs
+
+pub part-words-spec : {M : Type 1} → statement M
+part-words-spec =
+    tie.close
+    (tie.spec
+    Inv-loop
+    μ-loop
+    loop-holds
+    mul-operations
+    shared-slice-read-operations
+    mul-operations-2
+    slice-write-operations
+    mul-counts
+    shared-slice-read-counts
+    mul-counts-2
+    slice-write-counts
+    add-i
+    loop-less
+    loop-again
+    same-length
+    same-length-2
+    returns)

@@ -1,0 +1,184 @@
+// A batch taken apart into its lists, and written again (document 02, Note 2).
+use read_layout::Laid;
+use read_layout::Layout;
+use read_layout::Sizes;
+use write_batch::Written;
+ghost use mathlib.Core.Path.{_≡_};
+ghost use Prim.Native.Nat.{_+_, _*_, _≤_};
+ghost use lib.ListN.{length};
+ghost use Rattle.read_layout.specs.Layout.{Limits};
+ghost use Rattle.write_again.specs.Counted.{wordCount};
+
+// Each call word as its operation and its count.
+fn part_words(words: &[u32], operations: &mut [u32], counts: &mut [u32])
+    requires { ⌜ (length (now words) ≤ length (now operations)) × (length (now words) ≤ length (now counts)) ⌝ }
+{
+    let mut i = 0;
+    while i < words.len() {
+        operations[i] = words[i] % 256;
+        counts[i] = words[i] / 256;
+        i += 1;
+    }
+}
+
+// The notes are found at `at`, and all lists are written, with work slices of their own.
+fn write_notes(
+    trees: usize,
+    notes: usize,
+    kinds: &[u32],
+    measures: &[u32],
+    text: &[u8],
+    operations: &[u32],
+    counts: &[u32],
+    targets: &[u32],
+    listed: &[u32],
+    inputs: &[u32],
+    outputs: &[u32],
+    list: &[u32],
+    at: usize,
+    destination: &mut [u8],
+) -> Written
+    requires { ⌜ (at + 2 * notes ≤ length (now list)) × (length (now list) ≤ 8192) ⌝ }
+{
+    let numbers = at + notes;
+    let end = numbers + notes;
+    let mut draft = [0u8; 49180];
+    let mut table = [0u32; 16384];
+    let mut source = [0u32; 6147];
+    write_batch::write_batch(
+        trees,
+        kinds,
+        measures,
+        text,
+        operations,
+        counts,
+        targets,
+        listed,
+        inputs,
+        outputs,
+        &list[at..numbers],
+        &list[numbers..end],
+        destination,
+        &mut draft,
+        &mut table,
+        &mut source,
+    )
+}
+
+// The listed elements and the mappings are found at `at`.
+fn write_names(
+    z: Sizes,
+    kinds: &[u32],
+    measures: &[u32],
+    text: &[u8],
+    operations: &[u32],
+    counts: &[u32],
+    targets: &[u32],
+    list: &[u32],
+    at: usize,
+    destination: &mut [u8],
+) -> Written
+    requires { ⌜ (at + z .listed + 2 * z .mappings + 2 * z .notes ≤ length (now list)) × (length (now list) ≤ 8192) ⌝ }
+{
+    let inputs = at + z.listed;
+    let outputs = inputs + z.mappings;
+    let noted = outputs + z.mappings;
+    write_notes(
+        z.trees,
+        z.notes,
+        kinds,
+        measures,
+        text,
+        operations,
+        counts,
+        targets,
+        &list[at..inputs],
+        &list[inputs..outputs],
+        &list[outputs..noted],
+        list,
+        noted,
+        destination,
+    )
+}
+
+// The calls are found at `at`.
+fn write_calls(
+    z: Sizes,
+    kinds: &[u32],
+    measures: &[u32],
+    text: &[u8],
+    list: &[u32],
+    at: usize,
+    destination: &mut [u8],
+) -> Written
+    requires { ⌜ z .calls ≤ 256 ⌝ }
+    requires { ⌜ (at + 2 * z .calls + z .listed + 2 * z .mappings + 2 * z .notes ≤ length (now list)) × (length (now list) ≤ 8192) ⌝ }
+{
+    let n = z.calls;
+    let targets = at + n;
+    let listed = targets + n;
+    let mut operations = [0u32; 256];
+    let mut counts = [0u32; 256];
+    part_words(&list[at..targets], &mut operations, &mut counts);
+    write_names(
+        z,
+        kinds,
+        measures,
+        text,
+        &operations[..n],
+        &counts[..n],
+        &list[targets..listed],
+        list,
+        listed,
+        destination,
+    )
+}
+
+// The words of a batch without its sizes are one list, in which its arrays stand one after another.
+fn write_elements(z: Sizes, list: &[u32], text: &[u8], destination: &mut [u8]) -> Written
+    requires { ⌜ Limits z ⌝ }
+    requires { ⌜ length (now list) ≡ 8192 ⌝ }
+{
+    let kinds = 0;
+    let measures = z.elements;
+    let calls = measures + z.elements;
+    write_calls(
+        z,
+        &list[kinds..measures],
+        &list[measures..calls],
+        text,
+        list,
+        calls,
+        destination,
+    )
+}
+
+// How many words a batch of these sizes has behind them.
+fn word_count(z: Sizes) -> usize
+    requires { ⌜ Limits z ⌝ }
+    ensures { λ r. ⌜ (r ≡ wordCount z) × (r ≤ 8192) ⌝ }
+{
+    2 * (z.elements + z.calls + z.mappings + z.notes) + z.listed
+}
+
+// A batch with this layout.
+fn write_laid(b: &[u8], l: Layout, destination: &mut [u8]) -> Written
+    requires { ⌜ Limits (l .sizes) ⌝ }
+    requires { ⌜ (28 + 4 * wordCount (l .sizes) ≤ length (now b)) × (l .text ≤ length (now b)) ⌝ }
+{
+    let z = l.sizes;
+    let text = l.text;
+    let n = word_count(z);
+    let mut list = [0u32; 8192];
+    words::read_words(b, 28, n, &mut list, 0);
+    write_elements(z, &list, &b[text..], destination)
+}
+
+// A batch that lines 2 to 4 refuse cannot be taken apart; any other is written as the lists that it is read as.
+pub fn write_again(b: &[u8], destination: &mut [u8]) -> Written {
+    let laid = read_layout::lay_out(b);
+    match laid {
+        Laid::Refused(n) => Written::Refused(n),
+        Laid::At(l) => write_laid(b, l, destination),
+    }
+}
