@@ -211,11 +211,13 @@ fn an_empty_node_takes_insertions() {
         it.delete(z);
     });
     assert_eq!(discarded, text("b", 1));
-    let into_a_token = template(|it, [z, c, d]| {
-        it.insert_first(z, &[c]);
-        it.insert_first(d, &[c]);
-    });
-    assert_eq!(into_a_token, Err(6));
+    // a token is no parent: line 6, so the writer refuses the lists
+    let mut builder = BatchBuilder::new();
+    builder.open(1);
+    let d = builder.token(3, b"d");
+    builder.close();
+    builder.insert_first(d, &[d]);
+    assert!(matches!(builder.finish(), Err(Unfit::Refused(it)) if it.number() == 14));
 }
 
 #[test]
