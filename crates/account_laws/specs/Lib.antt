@@ -1,0 +1,4 @@
+pub mod Words
+pub mod Below
+pub mod Stacks
+pub mod Owners
