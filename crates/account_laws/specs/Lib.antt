@@ -2,3 +2,4 @@ pub mod Words
 pub mod Below
 pub mod Stacks
 pub mod Owners
+pub mod Overlap
