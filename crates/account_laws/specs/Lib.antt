@@ -3,3 +3,5 @@ pub mod Below
 pub mod Stacks
 pub mod Owners
 pub mod Overlap
+pub mod Counts
+pub mod Runs
