@@ -5,3 +5,4 @@ pub mod Owners
 pub mod Overlap
 pub mod Counts
 pub mod Runs
+pub mod Account

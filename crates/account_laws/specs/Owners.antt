@@ -9,7 +9,7 @@ use Prim.Native.Nat.{ℕ, _≤_, _<_}
 use native.Mathlib.Omega.{arith}
 use lib.Dec.{leb, ltb, eqb}
 use lib.ListN.{length}
-use borrow.Author.Tests.{leb-true, le-leb, ltb-true, lt-ltb, eqb-true, eq-eqb}
+use borrow.Author.Tests.{leb-true, le-leb, ltb-true, lt-ltb, eqb-true, eq-eqb, not-true}
 use Rattle.orders.specs.ListLaws.{bool-absurd, both-true, some-inj, none-some}
 use Rattle.definition.specs.Elements.{Table}
 use Rattle.definition.specs.Recording.{Change}
@@ -118,6 +118,21 @@ module _ (T : Table) (cs : List Change) where
         go : (o : Option ℕ) → named (fateUnder T cs (fateAt T cs) o) ≡ o
         go none = refl
         go (some k) = one k (not (isDiscarded (fateAt T cs k)) && nodeByNode T (at cs k))
+
+    -- which of the two: `dependent` exactly under an owner that is an undiscarded call 2 of a node by a node
+    pub dependent-exactly : (k : ℕ) → (fateAt T cs i ≡ dependent k) ↔ ((owner T cs i ≡ some k) × (isDiscarded (fateAt T cs k) ≡ false) × (nodeByNode T (at cs k) ≡ true))
+    unfolding named fateUnder isDiscarded
+    dependent-exactly k = (λ e. there (sym stack-rule ∙ ap named e) e, λ h. fate-of-owner ∙ rw (h .0, h .1, h .2))
+      where
+        so : (b : Bool) → _≡_ {A = Fate} (cond b (dependent k) (discarded k)) (dependent k) → b ≡ true
+        so true e = refl
+        so false e = bool-absurd refl (ap isDiscarded e)
+
+        there : owner T cs i ≡ some k → fateAt T cs i ≡ dependent k → (owner T cs i ≡ some k) × (isDiscarded (fateAt T cs k) ≡ false) × (nodeByNode T (at cs k) ≡ true)
+        there o e =
+            let b = so (not (isDiscarded (fateAt T cs k)) && nodeByNode T (at cs k)) (ap (fateUnder T cs (fateAt T cs)) (sym o) ∙ (sym fate-of-owner ∙ e)) in
+            let (c, d) = both-true (not (isDiscarded (fateAt T cs k))) (nodeByNode T (at cs k)) b in
+            (o, not-true (isDiscarded (fateAt T cs k)) c, d)
 
     -- the same without a word for the owner: k is the last change that owns change i
     pub named-exactly : (k : ℕ) → (named (fateAt T cs i) ≡ some k) ↔ (Owns T cs k i × ((m : ℕ) → k < m → ¬ Owns T cs m i))

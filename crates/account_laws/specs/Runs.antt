@@ -194,7 +194,7 @@ ranked-places T g ps ks e = ap (falling (λ (q : ℕ × Planned). key T (q .1 .c
 -- ── Theorem ─────────────────────────────────────────────────────────────────────────────────────────────────
 
 -- where there is no change
-abbrev nothing : Planned
+abbrev pub nothing : Planned
 nothing = record { change = delete 0; fate = own }
 
 -- what becomes of the change at place i
