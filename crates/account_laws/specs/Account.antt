@@ -3,6 +3,7 @@
 use mathlib.Core.Path.{_≡_, refl, sym, ap, _∙_, subst}
 use mathlib.Core.Bool.{Bool, true, false, not}
 use mathlib.Core.List.{List, [], _∷_, map, headD, List·Permᴰ}
+use mathlib.Core.Logic.{_↔_}
 use mathlib.Core.Option.{Option, none, some}
 use Prim.Native.Nat.{ℕ, _≤_, _<_}
 use native.Mathlib.Omega.{arith}
@@ -15,9 +16,9 @@ use Rattle.definition.specs.Basics.{gives, keep}
 use Rattle.definition.specs.Elements.{Table, table, row, tree}
 use Rattle.definition.specs.Refusals.{Accepted, accepted}
 use Rattle.definition.specs.Recording.{firstChild, after, Change, insert, replace, delete, replaceWithMany, replaceAll, change, recorded}
-use Rattle.definition.specs.Planning.{target, sorted, overlap, Fate, own, dependent, discarded, isDiscarded, addsRegion, fates, Planned, Judgement, overlaps, fated, planned, judge}
+use Rattle.definition.specs.Planning.{target, sorted, overlap, Fate, own, dependent, discarded, isDiscarded, addsRegion, nodeByNode, fates, Planned, Judgement, overlaps, fated, planned, judge}
 use Rattle.definition.specs.Rewriting.{mapping, rewritten, settled}
-use Rattle.definition.specs.Running.{order, ranked}
+use Rattle.definition.specs.Running.{World}
 use Rattle.definition.specs.Finishing.{Result, result, sixSizes}
 use Rattle.definition.specs.Answers.{judgeChanges, disjoint, rewriteChanges, Plan, plan, performed, ran, edit}
 use Rattle.definition_laws.specs.Basics.{keep-yes, keep-no}
@@ -27,10 +28,10 @@ use Rattle.definition_laws.specs.Right.{Right, Sits, right-sits, change-right}
 use Rattle.definition_laws.specs.Accepted.{Known, accepts}
 use Rattle.definition_laws.specs.Stages.{planned-fates, judge-fated, sorted-all, recorded-all, rewritten-all, fates-length}
 use Rattle.definition_laws.specs.Plans.{disjoint-fated}
-use Rattle.account_laws.specs.Words.{at, named, treeOf, InTrees, Covers, fateAt, owner, fateUnder, Overlap}
-use Rattle.account_laws.specs.Owners.{owner-last, dependent-exactly, fate-of-owner, stack-rule, named-contains}
-use Rattle.account_laws.specs.Overlap.{overlap-true, overlap-first}
-use Rattle.account_laws.specs.Runs.{nothing, fateOf, Earlier, order-permutes}
+use Rattle.account_laws.specs.Words.{at, named, treeOf, InTrees, Covers, fateAt, Owns, Owner, Overlap}
+use Rattle.account_laws.specs.Owners.{named-exactly, own-exactly, dependent-exactly, named-contains}
+use Rattle.account_laws.specs.Overlap.{overlap-true, overlap-first, overlap-none}
+use Rattle.account_laws.specs.Runs.{nothing, Led, fateOf, order-permutes}
 
 -- ── Trees ───────────────────────────────────────────────────────────────────────────────────────────────────
 
@@ -78,17 +79,20 @@ pub record Accounted (T : Table) (cs : List Change) (fs : List Fate) : Type 0 wh
   pub long : length fs ≡ length cs
   -- "the named region contains the change": it comes before it, is a region of the same tree, and contains its range, ends included
   pub contains : (i k : ℕ) → i < length cs → named (getD fs i own) ≡ some k → (k < i) × (addsRegion T (at cs k) ≡ true) × (treeOf T (at cs k) ≡ treeOf T (at cs i)) × Covers T (at cs k) (at cs i)
-  -- "it is the one the stack rule picks", and none is named exactly if the rule picks none
-  pub picked : (i : ℕ) → i < length cs → named (getD fs i own) ≡ owner T cs i
-  -- dependent or discarded, as the owner makes of it
-  pub made : (i : ℕ) → i < length cs → getD fs i own ≡ fateUnder T cs (λ k. getD fs k own) (owner T cs i)
+  -- "it is the one the stack rule picks": named exactly if it is the last change that owns change i
+  pub picked : (i k : ℕ) → i < length cs → (named (getD fs i own) ≡ some k) ↔ Owner T cs k i
+  -- `own` exactly if no change owns it
+  pub alone : (i : ℕ) → i < length cs → (getD fs i own ≡ own) ↔ ((k : ℕ) → ¬ Owns T cs k i)
+  -- "Only an undiscarded call 2 of a node by a node makes inner changes dependent"
+  pub leads : (i k : ℕ) → i < length cs → (getD fs i own ≡ dependent k) ↔ (Owner T cs k i × (isDiscarded (getD fs k own) ≡ false) × (nodeByNode T (at cs k) ≡ true))
 
 pub fates-accounted : (T : Table) (cs : List Change) → InTrees T cs → Accounted T cs (fates T cs)
 fates-accounted T cs h = record {
   long = fates-length T cs;
   contains = λ i k b e. named-contains T cs h i b k e;
-  picked = λ i b. stack-rule T cs h i b;
-  made = λ i b. fate-of-owner T cs h i b;
+  picked = λ i k b. named-exactly T cs h i b k;
+  alone = λ i b. own-exactly T cs h i b;
+  leads = λ i k b. dependent-exactly T cs h i b k;
 }
 
 -- what is judged without overlap has the definition's fates
@@ -115,6 +119,11 @@ judged-overlap a j k e = go (overlap a.table (changes a)) refl e
 pub overlap-told : (a : Accepted) (j k : ℕ) → judgeChanges a ≡ overlaps j k → Overlap a.table (changes a) j k × ((i m : ℕ) → Overlap a.table (changes a) i m → k ≤ m)
 overlap-told a j k e = let o = judged-overlap a j k e in (overlap-true a.table (changes a) j k o, λ i m. overlap-first a.table (changes a) j k o i m)
 
+-- what is judged without overlap has no pair that overlaps
+pub disjoint-told : (a : Accepted) (ps : List Planned) → judgeChanges a ≡ fated ps → (j k : ℕ) → ¬ Overlap a.table (changes a) j k
+unfolding judgeChanges
+disjoint-told a ps e j k = overlap-none a.table (changes a) .0 ((judge-fated a.table (changes a) ps e) .0) j k
+
 -- ── The edit itself ─────────────────────────────────────────────────────────────────────────────────────────
 
 -- "the fate agrees with the edit itself": fates fs, and the plan and the result of an edit
@@ -126,29 +135,37 @@ pub record Agrees (a : Accepted) (fs : List Fate) (p : Plan) (r : Result) : Type
   -- the result's fifth size counts those that are said to be
   pub counted : getD (sixSizes r) 4 0 ≡ length (keep isDiscarded fs)
 
--- a plan has the fates that were judged
-pub plan-fates : (a : Accepted) (p : Plan) → plan a ≡ gives p → (ps : List Planned) × (judgeChanges a ≡ fated ps) × (map (λ q. q .fate) p.changes ≡ map (λ q. q .fate) ps)
+-- a plan's changes were judged, and each keeps its fate as it is rewritten
+plan-judged : (a : Accepted) (p : Plan) → plan a ≡ gives p → (ps : List Planned) × (judgeChanges a ≡ fated ps) × (map (λ q. q .fate) p.changes ≡ map (λ q. q .fate) ps)
 unfolding plan rewriteChanges
-plan-fates a p e =
+plan-judged a p e =
     given (disjoint (judgeChanges a)) _ e λ ps x e.
     given (rewritten a.table (mapping a.mappings) ps) _ e λ r y e.
     given (settled a.table (mapping a.mappings) 0 a.notes) _ e λ notes z e.
     (ps, disjoint-fated (judgeChanges a) ps x, rw (← gives-inj e) ((rewritten-all a.table (mapping a.mappings) ps r y) .fates))
 
--- of changes with the definition's fates, a dependent names an earlier one that is not discarded
-fates-earlier : (T : Table) (cs : List Change) (qs : List Planned) → InTrees T cs → map (λ q. q .fate) qs ≡ fates T cs → Earlier qs
-fates-earlier T cs qs h e x y b d =
-    let long : length qs ≡ length cs = sym (length-map qs (λ q. q .fate)) ∙ (ap length e ∙ fates-length T cs) in
-    let said : (i : ℕ) → fateAt T cs i ≡ fateOf qs i = λ i. ap (λ l. getD l i own) (sym e) ∙ List·getD-map (λ q. q .fate) qs i nothing in
-    let (o, c, n) = dependent-exactly T cs h x (omega arith) y .0 (said x ∙ d) in
-    (((owner-last T cs x y .0 o) .0) .before, ap isDiscarded (sym (said y)) ∙ c)
+-- THE FATES SAID ARE THOSE OF THE PLAN
+pub plan-fates : (a : Accepted) (p : Plan) → plan a ≡ gives p → map (λ q. q .fate) p.changes ≡ fates a.table (changes a)
+plan-fates a p e = let (ps, j, s) = plan-judged a p e in s ∙ judged-fates a ps j
+
+-- of changes with the definition's fates, each dependent one's owner comes before it and is not discarded
+fates-led : (T : Table) (cs : List Change) (qs : List Planned) → InTrees T cs → map (λ q. q .fate) qs ≡ fates T cs → Led (fateOf qs) (length qs)
+fates-led T cs qs h e = record { level = λ x. x; low = λ x b. b; owner = one }
+  where
+    said : (i : ℕ) → fateAt T cs i ≡ fateOf qs i
+    said i = ap (λ l. getD l i own) (sym e) ∙ List·getD-map (λ q. q .fate) qs i nothing
+
+    one : (x y : ℕ) → x < length qs → fateOf qs x ≡ dependent y → (y < length qs) × (y < x) × (isDiscarded (fateOf qs y) ≡ false)
+    one x y b d =
+        let long : length qs ≡ length cs = sym (length-map qs (λ q. q .fate)) ∙ (ap length e ∙ fates-length T cs) in
+        let (o, c, n) = dependent-exactly T cs h x (omega arith) y .0 (said x ∙ d) in
+        let before : y < x = o .owns .before in
+        (omega arith, before, ap isDiscarded (sym (said y)) ∙ c)
 
 -- WHAT IS PERFORMED IS A PERMUTATION OF WHAT IS NOT DISCARDED
 pub performed-not-discarded : (bytes : List ℕ) (a : Accepted) (p : Plan) → accepted bytes ≡ gives a → plan a ≡ gives p → List·Permᴰ (keep (λ q. not (isDiscarded q.fate)) p.changes) (performed a p)
 unfolding performed
-performed-not-discarded bytes a p e g =
-    let (ps, j, s) = plan-fates a p g in
-    order-permutes a.table p.changes (fates-earlier a.table (changes a) p.changes (sorted-in-trees bytes a e) (s ∙ judged-fates a ps j))
+performed-not-discarded bytes a p e g = order-permutes a.table p.changes (fates-led a.table (changes a) p.changes (sorted-in-trees bytes a e) (plan-fates a p g))
 
 -- as many planned changes are discarded as fates say
 kept-fates : (qs : List Planned) → length (keep (λ q. isDiscarded q.fate) qs) ≡ length (keep isDiscarded (map (λ q. q .fate) qs))
@@ -161,17 +178,18 @@ kept-fates (q ∷ qs) = go (isDiscarded q.fate) refl (kept-fates qs)
     go true e h = rw (keep-yes (λ q. isDiscarded q.fate) q qs e, keep-yes isDiscarded q.fate (map (λ q. q .fate) qs) e, h)
     go false e h = rw (keep-no (λ q. isDiscarded q.fate) q qs e, keep-no isDiscarded q.fate (map (λ q. q .fate) qs) e) h
 
--- THE ACCOUNT AGREES WITH THE EDIT: whatever batch is edited, its changes were judged without overlap, and the fates said of them are those of the edit
+-- THE RESULT'S FIFTH SIZE COUNTS THE FATES THAT SAY `discarded`
+pub discards-counted : (a : Accepted) (p : Plan) (w : World) → plan a ≡ gives p → getD (sixSizes (result p.changes p.climbs w)) 4 0 ≡ length (keep isDiscarded (fates a.table (changes a)))
+unfolding sixSizes result
+discards-counted a p w e = kept-fates p.changes ∙ ap (λ l. length (keep isDiscarded l)) (plan-fates a p e)
+
+-- THE ACCOUNT AGREES WITH THE EDIT: a batch that is edited was judged without overlap, and the fates said of its changes are those of the edit
 pub account-agrees : (bytes : List ℕ) (r : Result) → edit bytes ≡ gives r
     → (a : Accepted) × (ps : List Planned) × (p : Plan) × (accepted bytes ≡ gives a) × (judgeChanges a ≡ fated ps) × (plan a ≡ gives p) × Agrees a (map (λ q. q .fate) ps) p r
-unfolding edit result sixSizes
+unfolding edit
 account-agrees bytes r e =
     given (accepted bytes) _ e λ a x e.
     given (plan a) _ e λ p y e.
     given (ran a p) _ e λ w z e.
-    let (ps, j, s) = plan-fates a p y in
-    (a, ps, p, x, j, y, record {
-      said = s;
-      runs = performed-not-discarded bytes a p x y;
-      counted = rw (← gives-inj e) (kept-fates p.changes ∙ ap (λ l. length (keep isDiscarded l)) s);
-    })
+    let (ps, j, s) = plan-judged a p y in
+    (a, ps, p, x, j, y, record { said = s; runs = performed-not-discarded bytes a p x y; counted = rw (← gives-inj e, judged-fates a ps j) (discards-counted a p w y) })

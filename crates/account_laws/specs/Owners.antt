@@ -14,7 +14,7 @@ use Rattle.orders.specs.ListLaws.{bool-absurd, both-true, some-inj, none-some}
 use Rattle.definition.specs.Elements.{Table}
 use Rattle.definition.specs.Recording.{Change}
 use Rattle.definition.specs.Planning.{from, to, Fate, own, dependent, discarded, isDiscarded, addsRegion, nodeByNode}
-use Rattle.account_laws.specs.Words.{everyBelow, at, named, treeOf, InTrees, covers, Covers, fateAt, Owns, spares, owns, owner, fateUnder}
+use Rattle.account_laws.specs.Words.{everyBelow, at, named, treeOf, InTrees, covers, Covers, fateAt, Owns, Owner, spares, owns, owner, fateUnder}
 use Rattle.account_laws.specs.Below.{Last, last-none, last-some, some-last, every-passes, passes-every}
 use Rattle.account_laws.specs.Stacks.{fateHere, here-owned, fates-here}
 
@@ -69,18 +69,18 @@ module _ (T : Table) (cs : List Change) where
       )
 
   -- the owner is the last change that owns; there is none exactly if none owns
-  pub owner-last : (i k : ℕ) → (owner T cs i ≡ some k) ↔ (Owns T cs k i × ((m : ℕ) → k < m → ¬ Owns T cs m i))
+  pub owner-last : (i k : ℕ) → (owner T cs i ≡ some k) ↔ Owner T cs k i
   unfolding owner
-  owner-last i k = (λ e. from-last (last-some (owns T cs i) i k e), λ h. some-last (owns T cs i) i k (to-last (h .0) (h .1)))
+  owner-last i k = (λ e. from-last (last-some (owns T cs i) i k e), λ o. some-last (owns T cs i) i k (to-last o))
     where
-      from-last : Last (owns T cs i) i k → Owns T cs k i × ((m : ℕ) → k < m → ¬ Owns T cs m i)
-      from-last l = (owns-why i k (l .below) (l .passes), λ m h o. bool-absurd (why-owns i m o) (l .later m h (o .before)))
+      from-last : Last (owns T cs i) i k → Owner T cs k i
+      from-last l = record { owns = owns-why i k (l .below) (l .passes); last = λ m h o. bool-absurd (why-owns i m o) (l .later m h (o .before)) }
 
-      to-last : Owns T cs k i → ((m : ℕ) → k < m → ¬ Owns T cs m i) → Last (owns T cs i) i k
-      to-last o h = record { below = o .before; passes = why-owns i k o; later = λ m a b. no m a b (owns T cs i m) refl }
+      to-last : Owner T cs k i → Last (owns T cs i) i k
+      to-last o = record { below = o .owns .before; passes = why-owns i k (o .owns); later = λ m a b. no m a b (owns T cs i m) refl }
         where
           no : (m : ℕ) → k < m → m < i → (b : Bool) → owns T cs i m ≡ b → owns T cs i m ≡ false
-          no m a b true e = absurd (h m a (owns-why i m b e))
+          no m a b true e = absurd (o .last m a (owns-why i m b e))
           no m a b false e = e
 
   pub owner-none : (i : ℕ) → (owner T cs i ≡ none) ↔ ((k : ℕ) → ¬ Owns T cs k i)
@@ -92,7 +92,7 @@ module _ (T : Table) (cs : List Change) where
 
       go : ((k : ℕ) → ¬ Owns T cs k i) → (o : Option ℕ) → owner T cs i ≡ o → owner T cs i ≡ none
       go h none e = e
-      go h (some k) e = absurd (h k ((owner-last i k .0 e) .0))
+      go h (some k) e = absurd (h k ((owner-last i k .0 e) .owns))
 
   module _ (few : InTrees T cs) (i : ℕ) (inside : i < length cs) where
     -- ── Theorems ────────────────────────────────────────────────────────────────────────────────────────────
@@ -104,7 +104,7 @@ module _ (T : Table) (cs : List Change) where
       where
         go : (o : Option ℕ) → owner T cs i ≡ o → fateUnder T cs (fateHere T cs) o ≡ fateUnder T cs (fateAt T cs) o
         go none e = refl
-        go (some k) e = rw (fates-here T cs few k (omega (arith, ((owner-last i k .0 e) .0) .before)))
+        go (some k) e = rw (fates-here T cs few k (omega (arith, (owner-last i k .0 e) .owns .before)))
 
     -- THE STACK RULE, IN CLOSED FORM: the change named is the owner, and none is named exactly if there is no owner
     pub stack-rule : named (fateAt T cs i) ≡ owner T cs i
@@ -119,24 +119,9 @@ module _ (T : Table) (cs : List Change) where
         go none = refl
         go (some k) = one k (not (isDiscarded (fateAt T cs k)) && nodeByNode T (at cs k))
 
-    -- which of the two: `dependent` exactly under an owner that is an undiscarded call 2 of a node by a node
-    pub dependent-exactly : (k : ℕ) → (fateAt T cs i ≡ dependent k) ↔ ((owner T cs i ≡ some k) × (isDiscarded (fateAt T cs k) ≡ false) × (nodeByNode T (at cs k) ≡ true))
-    unfolding named fateUnder isDiscarded
-    dependent-exactly k = (λ e. there (sym stack-rule ∙ ap named e) e, λ h. fate-of-owner ∙ rw (h .0, h .1, h .2))
-      where
-        so : (b : Bool) → _≡_ {A = Fate} (cond b (dependent k) (discarded k)) (dependent k) → b ≡ true
-        so true e = refl
-        so false e = bool-absurd refl (ap isDiscarded e)
-
-        there : owner T cs i ≡ some k → fateAt T cs i ≡ dependent k → (owner T cs i ≡ some k) × (isDiscarded (fateAt T cs k) ≡ false) × (nodeByNode T (at cs k) ≡ true)
-        there o e =
-            let b = so (not (isDiscarded (fateAt T cs k)) && nodeByNode T (at cs k)) (ap (fateUnder T cs (fateAt T cs)) (sym o) ∙ (sym fate-of-owner ∙ e)) in
-            let (c, d) = both-true (not (isDiscarded (fateAt T cs k))) (nodeByNode T (at cs k)) b in
-            (o, not-true (isDiscarded (fateAt T cs k)) c, d)
-
-    -- the same without a word for the owner: k is the last change that owns change i
-    pub named-exactly : (k : ℕ) → (named (fateAt T cs i) ≡ some k) ↔ (Owns T cs k i × ((m : ℕ) → k < m → ¬ Owns T cs m i))
-    named-exactly k = (λ e. owner-last i k .0 (sym stack-rule ∙ e), λ h. stack-rule ∙ owner-last i k .1 h)
+    -- the same as facts: k is named exactly if it is the last change that owns change i
+    pub named-exactly : (k : ℕ) → (named (fateAt T cs i) ≡ some k) ↔ Owner T cs k i
+    named-exactly k = (λ e. owner-last i k .0 (sym stack-rule ∙ e), λ o. stack-rule ∙ owner-last i k .1 o)
 
     -- `own` exactly if no change owns change i
     pub own-exactly : (fateAt T cs i ≡ own) ↔ ((k : ℕ) → ¬ Owns T cs k i)
@@ -148,6 +133,21 @@ module _ (T : Table) (cs : List Change) where
         is-own (dependent k) e = none-some (sym e)
         is-own (discarded k) e = none-some (sym e)
 
+    -- which of the two: `dependent` exactly under an owner that is an undiscarded call 2 of a node by a node
+    pub dependent-exactly : (k : ℕ) → (fateAt T cs i ≡ dependent k) ↔ (Owner T cs k i × (isDiscarded (fateAt T cs k) ≡ false) × (nodeByNode T (at cs k) ≡ true))
+    unfolding named fateUnder isDiscarded
+    dependent-exactly k = (λ e. there (sym stack-rule ∙ ap named e) e, λ h. fate-of-owner ∙ rw (owner-last i k .1 (h .0), h .1, h .2))
+      where
+        so : (b : Bool) → _≡_ {A = Fate} (cond b (dependent k) (discarded k)) (dependent k) → b ≡ true
+        so true e = refl
+        so false e = bool-absurd refl (ap isDiscarded e)
+
+        there : owner T cs i ≡ some k → fateAt T cs i ≡ dependent k → Owner T cs k i × (isDiscarded (fateAt T cs k) ≡ false) × (nodeByNode T (at cs k) ≡ true)
+        there o e =
+            let b = so (not (isDiscarded (fateAt T cs k)) && nodeByNode T (at cs k)) (ap (fateUnder T cs (fateAt T cs)) (sym o) ∙ (sym fate-of-owner ∙ e)) in
+            let (c, d) = both-true (not (isDiscarded (fateAt T cs k))) (nodeByNode T (at cs k)) b in
+            (owner-last i k .0 o, not-true (isDiscarded (fateAt T cs k)) c, d)
+
     -- A REGION THAT IS NAMED CONTAINS THE CHANGE: it stands before it, is a region of the same tree, and contains its range, ends included
     pub named-contains : (k : ℕ) → named (fateAt T cs i) ≡ some k → (k < i) × (addsRegion T (at cs k) ≡ true) × (treeOf T (at cs k) ≡ treeOf T (at cs i)) × Covers T (at cs k) (at cs i)
-    named-contains k e = let o = (named-exactly k .0 e) .0 in (o .before, o .adds, o .tree, o .covers)
+    named-contains k e = let o = (named-exactly k .0 e) .owns in (o .before, o .adds, o .tree, o .covers)

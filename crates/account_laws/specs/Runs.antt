@@ -1,4 +1,4 @@
--- What runs: every change that is not discarded, once. Of any changes whose dependents name an earlier change that is not discarded.
+-- What runs: every change that is not discarded, once. Of any changes, whatever planned them, whose dependents lead to changes without an owner.
 -- Assumes nothing.
 use mathlib.Core.Path.{_≡_, refl, sym, ap, _∙_, subst}
 use mathlib.Core.Bool.{Bool, true, false, cond, not}
@@ -38,6 +38,12 @@ total-zero p l = total-zeros p (λ x. 0) (λ x e. refl) l
 
 -- ── The order, as places ────────────────────────────────────────────────────────────────────────────────────
 
+-- of N changes with these fates, each dependent one's owner is one of them, is not discarded, and stands at a lower level
+pub record Led (f : ℕ → Fate) (N : ℕ) : Type 0 where
+  pub level : ℕ → ℕ
+  pub low : (x : ℕ) → x < N → level x < N
+  pub owner : (x y : ℕ) → x < N → f x ≡ dependent y → (y < N) × (level y < level x) × (isDiscarded (f y) ≡ false)
+
 -- what g tells of an owner, 0 if there is none
 abbrev ofOwner : (ℕ → ℕ) → Fate → ℕ
 ofOwner g own = 0
@@ -62,7 +68,7 @@ module _ (f : ℕ → Fate) (ks : List ℕ) where
       All-flatMap P P (λ k. runs n (some k) ++ (k ∷ [])) (λ k q. All-append P (runs n (some k)) (k ∷ []) (runs-all P h n (some k)) (q, tt)) (keep (λ k. owned o (f k)) ks)
       (All-keep P (λ k. owned o (f k)) ks h)
 
-  module _ (N : ℕ) (once : (x : ℕ) → x < N → times x ks ≡ 1) (earlier : (x y : ℕ) → x < N → f x ≡ dependent y → (y < x) × (isDiscarded (f y) ≡ false)) where
+  module _ (N : ℕ) (once : (x : ℕ) → x < N → times x ks ≡ 1) (led : Led f N) where
     one-owned : (o : Option ℕ) (x : ℕ) → x < N → total (λ k. owned o (f k)) (λ k. cond (eqb k x) 1 0) ks ≡ cond (owned o (f x)) 1 0
     one-owned o x h = total-one-of (λ k. owned o (f k)) x ks ∙ ap (λ n. cond (owned o (f x)) n 0) (once x h)
 
@@ -83,7 +89,7 @@ module _ (f : ℕ → Fate) (ks : List ℕ) where
         go : (g : Fate) → f x ≡ g → ((y : ℕ) → y < N → total p (λ k. below n (some k) y) ks ≡ ofOwner (below n o) (f y)) → total p (λ k. cond (owned (some k) g) 1 0 + ofOwner (below n (some k)) g) ks ≡ ofOwner (below (suc n) o) g
         go own e r = total-zero p ks
         go (dependent y) e r =
-            let b : y < N = omega (arith, (earlier x y h e) .0) in
+            let b = (led .owner x y h e) .0 in
             total-add p (λ k. cond (eqb k y) 1 0) (λ k. below n (some k) y) ks ∙ rw (one-owned o y b, r y b)
         go (discarded y) e r = total-zero p ks
 
@@ -101,14 +107,14 @@ module _ (f : ℕ → Fate) (ks : List ℕ) where
         one k e = total-append (λ k. eqb k x) (λ k. 1) (runs n (some k)) (k ∷ []) ∙ omega (arith, e, times-cons x k [], times-nil x)
 
     -- without an owner above them: those that are not discarded, once
-    below-none : (n x : ℕ) → x < N → x < n → below n none x ≡ cond (not (isDiscarded (f x))) 1 0
+    below-none : (n x : ℕ) → x < N → led .level x < n → below n none x ≡ cond (not (isDiscarded (f x))) 1 0
     unfolding owned isDiscarded
     below-none zero x h b = absurd (omega arith)
     below-none (suc n) x h b = go (f x) refl (λ y a c. below-none n y a c)
       where
-        go : (g : Fate) → f x ≡ g → ((y : ℕ) → y < N → y < n → below n none y ≡ cond (not (isDiscarded (f y))) 1 0) → cond (owned none g) 1 0 + ofOwner (below n none) g ≡ cond (not (isDiscarded g)) 1 0
+        go : (g : Fate) → f x ≡ g → ((y : ℕ) → y < N → led .level y < n → below n none y ≡ cond (not (isDiscarded (f y))) 1 0) → cond (owned none g) 1 0 + ofOwner (below n none) g ≡ cond (not (isDiscarded g)) 1 0
         go own e r = refl
-        go (dependent y) e r = let q = earlier x y h e in omega (arith, rw (q .1) at (r y (omega (arith, q .0)) (omega (arith, q .0))))
+        go (dependent y) e r = let (a, c, q) = led .owner x y h e in omega (arith, rw q at (r y a (omega arith)))
         go (discarded y) e r = refl
 
 -- ── The places that run ─────────────────────────────────────────────────────────────────────────────────────
@@ -121,7 +127,7 @@ up-below k (suc n) = (omega arith, All-map (λ x h. omega arith) (upFrom (suc k)
 times-beyond : (N y : ℕ) (l : List ℕ) → N ≤ y → All (λ x. x < N) l → times y l ≡ 0
 times-beyond N y l b h = total-none (λ x. eqb x y) (λ x. 1) l (All-map (λ x k. ne-eqb x y (λ e. omega arith)) l h)
 
-module _ (f : ℕ → Fate) (N : ℕ) (earlier : (x y : ℕ) → x < N → f x ≡ dependent y → (y < x) × (isDiscarded (f y) ≡ false)) (ks : List ℕ) (same : List·Permᴰ (upFrom 0 N) ks) where
+module _ (f : ℕ → Fate) (N : ℕ) (led : Led f N) (ks : List ℕ) (same : List·Permᴰ (upFrom 0 N) ks) where
   once : (x : ℕ) → x < N → times x ks ≡ 1
   once x h = sym (total-perm (λ k. eqb k x) (λ k. 1) same) ∙ times-up x 0 N (omega arith) (omega arith)
 
@@ -139,7 +145,7 @@ module _ (f : ℕ → Fate) (N : ℕ) (earlier : (x y : ℕ) → x < N → f x �
       go y (inl h) =
           times-keep stays y (upFrom 0 N)
           ∙ (ap (λ n. cond (stays y) n 0) (times-up y 0 N (omega arith) (omega arith))
-          ∙ sym (runs-times f ks N once earlier N none y h ∙ below-none f ks N once earlier N y h h))
+          ∙ sym (runs-times f ks N once led N none y h ∙ below-none f ks N once led N y h (led .low y h)))
       go y (inr h) =
           times-beyond N y (keep stays (upFrom 0 N)) h (All-keep (λ k. k < N) stays (upFrom 0 N) low)
           ∙ sym (times-beyond N y (runs f ks N none) h (runs-all f ks (λ k. k < N) (All-perm (λ k. k < N) same low) N none))
@@ -201,12 +207,8 @@ nothing = record { change = delete 0; fate = own }
 abbrev pub fateOf : List Planned → ℕ → Fate
 fateOf ps i = (getD ps i nothing) .fate
 
--- a dependent change names an earlier one that is not discarded
-abbrev pub Earlier : List Planned → Type 0
-Earlier ps = (x y : ℕ) → x < length ps → fateOf ps x ≡ dependent y → (y < x) × (isDiscarded (fateOf ps y) ≡ false)
-
 -- WHAT RUNS IS A PERMUTATION OF WHAT IS NOT DISCARDED
-pub order-permutes : (T : Table) (ps : List Planned) → Earlier ps → List·Permᴰ (keep (λ p. not (isDiscarded p.fate)) ps) (order (ranked T ps) (length ps) none)
+pub order-permutes : (T : Table) (ps : List Planned) → Led (fateOf ps) (length ps) → List·Permᴰ (keep (λ p. not (isDiscarded p.fate)) ps) (order (ranked T ps) (length ps) none)
 order-permutes T ps h =
     let N : ℕ = length ps in
     let g : ℕ → Planned = λ k. getD ps k nothing in

@@ -68,16 +68,21 @@ module _ (T : Table) where
       pub covers : Covers (at cs k) (at cs i)
       pub between : (j : ℕ) → k < j → j < i → treeOf (at cs j) ≡ treeOf (at cs i) → Covers (at cs k) (at cs j)
 
+    -- it is the last such change
+    pub record Owner (k i : ℕ) : Type 0 where
+      pub owns : Owns k i
+      pub last : (m : ℕ) → k < m → ¬ Owns m i
+
     -- change j is not one of tree t after change k, or the range of change k contains its own
     unfoldable pub spares : ℕ → ℕ → ℕ → Bool
     spares t k j = not (ltb k j && eqb (treeOf (at cs j)) t) || covers (at cs k) (at cs j)
 
-    -- the same as a test, for k below i
+    -- `Owns` as a test, for k below i
     unfoldable pub owns : ℕ → ℕ → Bool
     owns i k =
         addsRegion T (at cs k) && (eqb (treeOf (at cs k)) (treeOf (at cs i)) && (covers (at cs k) (at cs i) && everyBelow i (spares (treeOf (at cs i)) k)))
 
-    -- the owner of change i: the last such change before it
+    -- the owner of change i: the last change before it that owns it
     unfoldable pub owner : ℕ → Option ℕ
     owner i = lastBelow i (owns i)
 
