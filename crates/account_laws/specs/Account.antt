@@ -1,6 +1,6 @@
 -- THE ACCOUNT OF A BATCH (document 02, Note 5): the fates said are true, the overlap told is true, and both agree with the edit itself.
 -- Assumes nothing.
-use mathlib.Core.Path.{_≡_, refl, sym, ap, _∙_, subst}
+use mathlib.Core.Path.{_≡_, refl, sym, ap, _∙_}
 use mathlib.Core.Bool.{Bool, true, false, not}
 use mathlib.Core.List.{List, [], _∷_, map, headD, List·Permᴰ}
 use mathlib.Core.Logic.{_↔_}
@@ -9,14 +9,14 @@ use Prim.Native.Nat.{ℕ, _≤_, _<_}
 use native.Mathlib.Omega.{arith}
 use lib.ListN.{length, getD, length-map, List·getD-map}
 use Rattle.orders.specs.Lists.{pick}
-use Rattle.orders.specs.ListLaws.{none-some, bind-some, get-lt, bool-absurd, All-map}
+use Rattle.orders.specs.ListLaws.{get-lt, All-map}
 use Rattle.orders.specs.Tree.{Tree, node, forest, Path, resolve}
 use Rattle.orders.specs.TreeLaws.{list-forest, resolve-child}
 use Rattle.definition.specs.Basics.{gives, keep}
 use Rattle.definition.specs.Elements.{Table, table, row, tree}
 use Rattle.definition.specs.Refusals.{Accepted, accepted}
 use Rattle.definition.specs.Recording.{firstChild, after, Change, insert, replace, delete, replaceWithMany, replaceAll, change, recorded}
-use Rattle.definition.specs.Planning.{target, sorted, overlap, Fate, own, dependent, discarded, isDiscarded, addsRegion, nodeByNode, fates, Planned, Judgement, overlaps, fated, planned, judge}
+use Rattle.definition.specs.Planning.{target, sorted, overlap, Fate, own, dependent, isDiscarded, addsRegion, nodeByNode, fates, Planned, Judgement, overlaps, fated, planned, judge}
 use Rattle.definition.specs.Rewriting.{mapping, rewritten, settled}
 use Rattle.definition.specs.Running.{World}
 use Rattle.definition.specs.Finishing.{Result, result, sixSizes}

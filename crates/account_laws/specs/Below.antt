@@ -1,12 +1,12 @@
 -- Laws on numbers below another that pass a test.
 -- Assumes nothing.
 use mathlib.Core.Path.{_≡_, refl, sym, ap, _∙_}
-use mathlib.Core.Bool.{Bool, true, false, cond, _&&_}
+use mathlib.Core.Bool.{Bool, true, false}
 use mathlib.Core.Logic.{_⊎_, inl, inr}
 use mathlib.Core.Option.{Option, none, some}
 use Prim.Native.Nat.{ℕ, zero, suc, _≤_, _<_}
 use native.Mathlib.Omega.{arith}
-use Rattle.orders.specs.ListLaws.{bool-absurd, both-true, some-inj, none-some, lt-or-le}
+use Rattle.orders.specs.ListLaws.{both-true, some-inj, none-some, lt-or-le}
 use Rattle.account_laws.specs.Words.{lastBelow, everyBelow}
 
 -- a number below suc n is below n, or n

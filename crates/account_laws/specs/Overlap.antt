@@ -18,7 +18,7 @@ use Rattle.definition.specs.Recording.{Change}
 use Rattle.definition.specs.Planning.{rank, from, to, parentDepth, peers, exceeds, overlapping, overlap}
 use Rattle.definition_laws.specs.Basics.{keep-yes, keep-no}
 use Rattle.account_laws.specs.Words.{lastBelow, at, treeOf, Peers, Overlap}
-use Rattle.account_laws.specs.Below.{Last, last-none, last-some, some-last}
+use Rattle.account_laws.specs.Below.{last-some, some-last}
 
 -- a replacement or a run
 abbrev removes : Change → Bool

@@ -5,12 +5,12 @@ use mathlib.Core.Bool.{Bool, true, false, cond, not, _&&_, _||_}
 use mathlib.Core.List.{List}
 use mathlib.Core.Logic.{_↔_}
 use mathlib.Core.Option.{Option, none, some}
-use Prim.Native.Nat.{ℕ, _≤_, _<_}
+use Prim.Native.Nat.{ℕ, _<_}
 use native.Mathlib.Omega.{arith}
 use lib.Dec.{leb, ltb, eqb}
 use lib.ListN.{length}
 use borrow.Author.Tests.{leb-true, le-leb, ltb-true, lt-ltb, eqb-true, eq-eqb, not-true}
-use Rattle.orders.specs.ListLaws.{bool-absurd, both-true, some-inj, none-some}
+use Rattle.orders.specs.ListLaws.{bool-absurd, both-true, none-some}
 use Rattle.definition.specs.Elements.{Table}
 use Rattle.definition.specs.Recording.{Change}
 use Rattle.definition.specs.Planning.{from, to, Fate, own, dependent, discarded, isDiscarded, addsRegion, nodeByNode}

@@ -1,8 +1,8 @@
 -- What runs: every change that is not discarded, once. Of any changes, whatever planned them, whose dependents lead to changes without an owner.
 -- Assumes nothing.
-use mathlib.Core.Path.{_≡_, refl, sym, ap, _∙_, subst}
+use mathlib.Core.Path.{_≡_, refl, sym, ap, _∙_}
 use mathlib.Core.Bool.{Bool, true, false, cond, not}
-use mathlib.Core.List.{List, [], _∷_, _++_, map, flatMap, List·Permᴰ, List·Permᴰ·trans, Permᴰ·map, Permᴰ·symm}
+use mathlib.Core.List.{List, [], _∷_, _++_, map, flatMap, List·Permᴰ, Permᴰ·map}
 use mathlib.Core.Logic.{_⊎_, inl, inr}
 use mathlib.Core.Option.{Option, none, some}
 use Prim.Native.Nat.{ℕ, zero, suc, _+_, _≤_, _<_}
@@ -11,7 +11,7 @@ use lib.Dec.{eqb}
 use lib.ListN.{length, getD}
 use borrow.Author.Tests.{ne-eqb}
 use Rattle.orders.specs.Lists.{All, pick, total}
-use Rattle.orders.specs.ListLaws.{bool-absurd, lt-or-le, map-append, All-map, All-perm, total-perm, total-none}
+use Rattle.orders.specs.ListLaws.{lt-or-le, map-append, All-map, All-perm, total-perm, total-none}
 use Rattle.definition.specs.Basics.{keep, numbered, falling}
 use Rattle.definition.specs.Elements.{Table}
 use Rattle.definition.specs.Recording.{delete}
@@ -19,7 +19,7 @@ use Rattle.definition.specs.Planning.{key, Fate, own, dependent, discarded, isD
 use Rattle.definition.specs.Running.{owned, ranked, order}
 use Rattle.definition_laws.specs.Basics.{keep-yes, keep-no, upFrom, All-append, All-keep, All-flatMap, total-append, total-zeros, total-flatMap}
 use Rattle.definition_laws.specs.Sorting.{map-falling, falling-perm}
-use Rattle.account_laws.specs.Counts.{times, times-cons, times-nil, perm-times, total-one-of, times-keep, times-before, times-up}
+use Rattle.account_laws.specs.Counts.{times, times-cons, times-nil, perm-times, total-one-of, times-keep, times-up}
 
 -- ── Sums ────────────────────────────────────────────────────────────────────────────────────────────────────
 

@@ -2,23 +2,22 @@
 -- of the tree leaves. So what becomes of each change is told by its owner.
 -- Assumes nothing.
 use mathlib.Core.Path.{_≡_, refl, sym, ap, _∙_}
-use mathlib.Core.Bool.{Bool, true, false, cond, not, _&&_, _||_}
+use mathlib.Core.Bool.{Bool, true, false, cond, _&&_}
 use mathlib.Core.List.{List, [], _∷_}
-use mathlib.Core.Logic.{_⊎_, inl, inr}
 use mathlib.Core.Option.{Option, none, some, Option·map}
 use Prim.Native.Nat.{ℕ, zero, suc, _+_, _≤_, _<_}
 use native.Mathlib.Omega.{arith}
-use lib.Dec.{leb, ltb, eqb}
+use lib.Dec.{leb, eqb}
 use lib.ListN.{length, getD, set, replicate, length-set, getD-replicate, length-replicate}
 use lib.Seq.{getD-set-same, getD-set-other}
-use borrow.Author.Tests.{leb-true, le-leb, lt-ltb, le-ltb, eqb-true, eqb-false, eq-eqb}
+use borrow.Author.Tests.{leb-true, le-leb, lt-ltb, le-ltb, eqb-true, eqb-false}
 use Rattle.orders.specs.Lists.{All, Pairs}
 use Rattle.orders.specs.ListLaws.{both-true, All-map}
 use Rattle.definition.specs.Basics.{first}
 use Rattle.definition.specs.Elements.{Table}
-use Rattle.definition.specs.Recording.{Change, delete}
+use Rattle.definition.specs.Recording.{Change}
 use Rattle.definition.specs.Planning.{from, to, Fate, own, Region, contains, around, fate, addsRegion, inner, pushed, fatesFrom, fates}
-use Rattle.definition_laws.specs.Regions.{around-off, around-stays, fate-around}
+use Rattle.definition_laws.specs.Regions.{fate-around}
 use Rattle.account_laws.specs.Words.{lastBelow, everyBelow, at, treeOf, InTrees, covers, fateAt, spares, owns, owner, fateUnder}
 use Rattle.account_laws.specs.Below.{last-yes, last-no, last-same, passes-every}
 
