@@ -16,7 +16,7 @@ use Rattle.definition.specs.Basics.{gives, keep}
 use Rattle.definition.specs.Elements.{Table, table, row, tree}
 use Rattle.definition.specs.Refusals.{Accepted, accepted}
 use Rattle.definition.specs.Recording.{firstChild, after, Change, insert, replace, delete, replaceWithMany, replaceAll, change, recorded}
-use Rattle.definition.specs.Planning.{target, sorted, overlap, Fate, own, dependent, isDiscarded, addsRegion, nodeByNode, fates, Planned, Judgement, overlaps, fated, planned, judge}
+use Rattle.definition.specs.Planning.{target, sorted, overlap, Fate, own, dependent, isDiscarded, nodeByNode, fates, Planned, Judgement, overlaps, fated, planned, judge}
 use Rattle.definition.specs.Rewriting.{mapping, rewritten, settled}
 use Rattle.definition.specs.Running.{World}
 use Rattle.definition.specs.Finishing.{Result, result, sixSizes}
@@ -28,7 +28,7 @@ use Rattle.definition_laws.specs.Right.{Right, Sits, right-sits, change-right}
 use Rattle.definition_laws.specs.Accepted.{Known, accepts}
 use Rattle.definition_laws.specs.Stages.{planned-fates, judge-fated, sorted-all, recorded-all, rewritten-all, fates-length}
 use Rattle.definition_laws.specs.Plans.{disjoint-fated}
-use Rattle.account_laws.specs.Words.{at, named, treeOf, InTrees, Covers, fateAt, Owns, Owner, Overlap}
+use Rattle.account_laws.specs.Words.{at, named, treeOf, InTrees, fateAt, Contains, Owns, Owner, Overlap}
 use Rattle.account_laws.specs.Owners.{named-exactly, own-exactly, dependent-exactly, named-contains}
 use Rattle.account_laws.specs.Overlap.{overlap-true, overlap-first, overlap-none}
 use Rattle.account_laws.specs.Runs.{nothing, Led, fateOf, order-permutes}
@@ -77,8 +77,8 @@ sorted-in-trees bytes a e =
 pub record Accounted (T : Table) (cs : List Change) (fs : List Fate) : Type 0 where
   -- one for each change
   pub long : length fs ≡ length cs
-  -- "the named region contains the change": it comes before it, is a region of the same tree, and contains its range, ends included
-  pub contains : (i k : ℕ) → i < length cs → named (getD fs i own) ≡ some k → (k < i) × (addsRegion T (at cs k) ≡ true) × (treeOf T (at cs k) ≡ treeOf T (at cs i)) × Covers T (at cs k) (at cs i)
+  -- "the named region contains the change"
+  pub contains : (i k : ℕ) → i < length cs → named (getD fs i own) ≡ some k → Contains T cs k i
   -- "it is the one the stack rule picks": named exactly if it is the last change that owns change i
   pub picked : (i k : ℕ) → i < length cs → (named (getD fs i own) ≡ some k) ↔ Owner T cs k i
   -- `own` exactly if no change owns it
@@ -159,7 +159,7 @@ fates-led T cs qs h e = record { level = λ x. x; low = λ x b. b; owner = one }
     one x y b d =
         let long : length qs ≡ length cs = sym (length-map qs (λ q. q .fate)) ∙ (ap length e ∙ fates-length T cs) in
         let (o, c, n) = dependent-exactly T cs h x (omega arith) y .0 (said x ∙ d) in
-        let before : y < x = o .owns .before in
+        let before : y < x = o .owns .contains .before in
         (omega arith, before, ap isDiscarded (sym (said y)) ∙ c)
 
 -- WHAT IS PERFORMED IS A PERMUTATION OF WHAT IS NOT DISCARDED

@@ -14,7 +14,7 @@ use Rattle.orders.specs.ListLaws.{bool-absurd, both-true, none-some}
 use Rattle.definition.specs.Elements.{Table}
 use Rattle.definition.specs.Recording.{Change}
 use Rattle.definition.specs.Planning.{from, to, Fate, own, dependent, discarded, isDiscarded, addsRegion, nodeByNode}
-use Rattle.account_laws.specs.Words.{everyBelow, at, named, treeOf, InTrees, covers, Covers, fateAt, Owns, Owner, spares, owns, owner, fateUnder}
+use Rattle.account_laws.specs.Words.{everyBelow, at, named, treeOf, InTrees, covers, Covers, fateAt, Contains, Owns, Owner, spares, owns, owner, fateUnder}
 use Rattle.account_laws.specs.Below.{Last, last-none, last-some, some-last, every-passes, passes-every}
 use Rattle.account_laws.specs.Stacks.{fateHere, here-owned, fates-here}
 
@@ -50,10 +50,7 @@ module _ (T : Table) (cs : List Change) where
       let (b, e) = both-true (eqb (treeOf T (at cs k)) t) (covers T (at cs k) (at cs i) && every) e in
       let (c, d) = both-true (covers T (at cs k) (at cs i)) every e in
       record {
-        before = h;
-        adds = a;
-        tree = eqb-true (treeOf T (at cs k)) t b;
-        covers = covers-why (at cs k) (at cs i) c;
+        contains = record { before = h; adds = a; tree = eqb-true (treeOf T (at cs k)) t b; covers = covers-why (at cs k) (at cs i) c };
         between = λ j x y z. covers-why (at cs k) (at cs j) (spares-why t k j x z (every-passes (spares T cs t k) i d j y));
       }
 
@@ -62,9 +59,9 @@ module _ (T : Table) (cs : List Change) where
   why-owns i k o =
       let t = treeOf T (at cs i) in
       rw (
-        o .adds,
-        eq-eqb (treeOf T (at cs k)) t (o .tree),
-        why-covers (at cs k) (at cs i) (o .covers),
+        o .contains .adds,
+        eq-eqb (treeOf T (at cs k)) t (o .contains .tree),
+        why-covers (at cs k) (at cs i) (o .contains .covers),
         passes-every (spares T cs t k) i (λ j h. why-spares t k j (λ x z. why-covers (at cs k) (at cs j) (o .between j x h z))),
       )
 
@@ -74,10 +71,10 @@ module _ (T : Table) (cs : List Change) where
   owner-last i k = (λ e. from-last (last-some (owns T cs i) i k e), λ o. some-last (owns T cs i) i k (to-last o))
     where
       from-last : Last (owns T cs i) i k → Owner T cs k i
-      from-last l = record { owns = owns-why i k (l .below) (l .passes); last = λ m h o. bool-absurd (why-owns i m o) (l .later m h (o .before)) }
+      from-last l = record { owns = owns-why i k (l .below) (l .passes); last = λ m h o. bool-absurd (why-owns i m o) (l .later m h (o .contains .before)) }
 
       to-last : Owner T cs k i → Last (owns T cs i) i k
-      to-last o = record { below = o .owns .before; passes = why-owns i k (o .owns); later = λ m a b. no m a b (owns T cs i m) refl }
+      to-last o = record { below = o .owns .contains .before; passes = why-owns i k (o .owns); later = λ m a b. no m a b (owns T cs i m) refl }
         where
           no : (m : ℕ) → k < m → m < i → (b : Bool) → owns T cs i m ≡ b → owns T cs i m ≡ false
           no m a b true e = absurd (o .last m a (owns-why i m b e))
@@ -88,7 +85,7 @@ module _ (T : Table) (cs : List Change) where
   owner-none i = (λ e k o. none-owns e k o, λ h. go h (owner T cs i) refl)
     where
       none-owns : owner T cs i ≡ none → (k : ℕ) → ¬ Owns T cs k i
-      none-owns e k o = bool-absurd (why-owns i k o) (last-none (owns T cs i) i e k (o .before))
+      none-owns e k o = bool-absurd (why-owns i k o) (last-none (owns T cs i) i e k (o .contains .before))
 
       go : ((k : ℕ) → ¬ Owns T cs k i) → (o : Option ℕ) → owner T cs i ≡ o → owner T cs i ≡ none
       go h none e = e
@@ -104,7 +101,7 @@ module _ (T : Table) (cs : List Change) where
       where
         go : (o : Option ℕ) → owner T cs i ≡ o → fateUnder T cs (fateHere T cs) o ≡ fateUnder T cs (fateAt T cs) o
         go none e = refl
-        go (some k) e = rw (fates-here T cs few k (omega (arith, (owner-last i k .0 e) .owns .before)))
+        go (some k) e = rw (fates-here T cs few k (omega (arith, (owner-last i k .0 e) .owns .contains .before)))
 
     -- THE STACK RULE, IN CLOSED FORM: the change named is the owner, and none is named exactly if there is no owner
     pub stack-rule : named (fateAt T cs i) ≡ owner T cs i
@@ -148,6 +145,6 @@ module _ (T : Table) (cs : List Change) where
             let (c, d) = both-true (not (isDiscarded (fateAt T cs k))) (nodeByNode T (at cs k)) b in
             (owner-last i k .0 o, not-true (isDiscarded (fateAt T cs k)) c, d)
 
-    -- A REGION THAT IS NAMED CONTAINS THE CHANGE: it stands before it, is a region of the same tree, and contains its range, ends included
-    pub named-contains : (k : ℕ) → named (fateAt T cs i) ≡ some k → (k < i) × (addsRegion T (at cs k) ≡ true) × (treeOf T (at cs k) ≡ treeOf T (at cs i)) × Covers T (at cs k) (at cs i)
-    named-contains k e = let o = (named-exactly k .0 e) .owns in (o .before, o .adds, o .tree, o .covers)
+    -- A CHANGE THAT IS NAMED IS A REGION OF THE SAME TREE THAT CONTAINS THE CHANGE, ends included
+    pub named-contains : (k : ℕ) → named (fateAt T cs i) ≡ some k → Contains T cs k i
+    named-contains k e = (named-exactly k .0 e) .owns .contains

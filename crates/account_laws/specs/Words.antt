@@ -60,12 +60,16 @@ module _ (T : Table) where
 
     -- ── The owner ───────────────────────────────────────────────────────────────────────────────────────────
 
-    -- THE STACK RULE: change k adds a region, of the tree of change i, and its range contains that of change i and of every change of that tree between them
-    pub record Owns (k i : ℕ) : Type 0 where
+    -- change k comes before change i, adds a region, is of the same tree, and its range contains that of change i
+    pub record Contains (k i : ℕ) : Type 0 where
       pub before : k < i
       pub adds : addsRegion T (at cs k) ≡ true
       pub tree : treeOf (at cs k) ≡ treeOf (at cs i)
       pub covers : Covers (at cs k) (at cs i)
+
+    -- THE STACK RULE: and it contains the range of every change of that tree between them
+    pub record Owns (k i : ℕ) : Type 0 where
+      pub contains : Contains k i
       pub between : (j : ℕ) → k < j → j < i → treeOf (at cs j) ≡ treeOf (at cs i) → Covers (at cs k) (at cs j)
 
     -- it is the last such change
@@ -94,7 +98,7 @@ module _ (T : Table) where
 
     -- ── The overlap ─────────────────────────────────────────────────────────────────────────────────────────
 
-    -- changes j and k are a replacement or a run each, "of the same tree and depth of target parent"
+    -- change j is a replacement or a run, "of the same tree and depth of target parent" as change k
     pub record Peers (j k : ℕ) : Type 0 where
       pub removes : ¬ (rank (at cs j) ≡ 0)
       pub tree : treeOf (at cs j) ≡ treeOf (at cs k)
