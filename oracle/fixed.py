@@ -2,7 +2,7 @@
 
 from struct import pack
 
-from batches import AFTER, DELETE, EDITOR, FIRST, LIMITS, MANY, NODE, REPLACE, RUN, Batch, encode, node, token
+from batches import AFTER, DELETE, EDITOR, FIRST, LIMITS, MANY, NODE, REPLACE, RUN, Batch, encode, encode_arrays, node, token
 from damage import KINDS, LISTED, MEASURES, NOTES, NUMBERS, TARGETS, WORDS, Parts, add_mapping
 from generator import NOTES as NOTES_HELD
 from generator import TEXT as TEXT_BYTES
@@ -59,15 +59,34 @@ def changed_parts(batch, change):
     return parts.bytes()
 
 
+def one_beyond(size):
+    """A batch that is right but for one of its sizes, which is one over its limit: its length is what its sizes give."""
+    a, b = node(1), node(2)
+    more = LIMITS[size][1] + 1
+    return encode(
+        (
+            Batch([node(1) for _ in range(more)]),
+            Batch([node(1, *(token(2) for _ in range(more - 1)))]),
+            Batch([node(1, token(2, more * b"x"))]),
+            Batch([node(1)], more * [OTHER]),
+            Batch([a, b], [(FIRST, a, more * [b])]),
+            Batch([node(1, a)], [], more * [(a, a)]),
+            Batch([a], [], [], [(a, 1 + number) for number in range(more)]),
+        )[size]
+    )
+
+
 def lines_2_to_4():
     data = encode(next(printed())[1])
     yield "no bytes at all", b""
     yield "27 bytes", data[:27]
     for i, (low, high) in enumerate(LIMITS):
-        for size in (high + 1, 2**32 - 1) + ((0,) if low else ()):
-            sizes = [1, 1, 0, 0, 0, 0, 0]
-            sizes[i] = size
-            yield "%d %s" % (size, SIZES[i]), pack("<7I", *sizes)
+        yield "%d %s, all there" % (high + 1, SIZES[i]), one_beyond(i)
+        if low:
+            for size in (2**32 - 1, 0):
+                yield "%d %s, and an element" % (size, SIZES[i]), encode_arrays(size, [[NODE | 1], [0]] + 7 * [[]], b"")
+        else:
+            yield "%d %s" % (2**32 - 1, SIZES[i]), pack("<7I", *(2**32 - 1 if j == i else j < 2 for j in range(7)))
     yield "sizes alone", data[:28]
     yield "one byte short", data[:-1]
     yield "one byte long", data + b"x"

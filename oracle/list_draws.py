@@ -5,10 +5,8 @@ from collections import namedtuple
 from batches import EDITOR, LIMITS, decode_arrays
 from damage import damage
 from generator import SORTS, Draws, add_editors, add_notes, encode
-from landed import notes
+from landed import LEVEL, notes
 
-# Note 2 of document 02.
-LEVEL = 2
 # The lengths that the work slices need: draft, table, source.
 NEEDS = (49180, 16384, 6147)
 WORD = 2**32

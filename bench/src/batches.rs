@@ -6,12 +6,14 @@ pub struct Case {
     pub name: String,
     pub elements: usize,
     pub calls: usize,
+    /// What the batch is written from.
+    pub builder: BatchBuilder,
     pub batch: Vec<u8>,
 }
 
-fn case(name: &str, elements: usize, calls: usize, builder: &BatchBuilder) -> Case {
+fn case(name: &str, elements: usize, calls: usize, builder: BatchBuilder) -> Case {
     let batch = builder.finish().unwrap_or_else(|fault| panic!("{name}: {fault}")).bytes().to_vec();
-    Case { name: name.to_owned(), elements, calls, batch }
+    Case { name: name.to_owned(), elements, calls, builder, batch }
 }
 
 /// A tree of about `elements` (groups of a node and seven tokens) and one of four, with `calls` of four sorts spread over it: an insertion, a
@@ -40,7 +42,7 @@ fn mixed(name: &str, elements: usize, calls: usize, notes: usize) -> Case {
     for k in 0..notes {
         it.note(tokens[k * groups / notes][k % 7], 1 + (notes - k) as u32 / 2);
     }
-    case(name, 5 + 8 * groups, calls, &it)
+    case(name, 5 + 8 * groups, calls, it)
 }
 
 fn group(it: &mut BatchBuilder) -> Vec<u32> {
@@ -67,7 +69,7 @@ fn deep() -> Case {
         it.insert_after(end, &[c]);
         it.delete(end);
     }
-    case("deep trees: 33 chains of 60 nodes", 2 + 1 + 33 * 61, 66, &it)
+    case("deep trees: 33 chains of 60 nodes", 2 + 1 + 33 * 61, 66, it)
 }
 
 /// Nodes one below the other, a token at the end: the nodes, and the token.
@@ -98,7 +100,7 @@ fn dependents() -> Case {
         }
         it.insert_after(*token, &[c]);
     }
-    case("chains of dependents: 10 chains of 12", 3 + chains * (depth + 2) + 4 * chains * depth, chains * (depth + 1), &it)
+    case("chains of dependents: 10 chains of 12", 3 + chains * (depth + 2) + 4 * chains * depth, chains * (depth + 1), it)
 }
 
 /// Every insertion moves the whole tree.
@@ -111,7 +113,7 @@ fn front() -> Case {
     let c = it.token(3, b"c");
     it.close();
     (0..256).for_each(|_| it.insert_first(root, &[c]));
-    case("insertions at the front", 1 + 8 * 254 + 2, 256, &it)
+    case("insertions at the front", 1 + 8 * 254 + 2, 256, it)
 }
 
 fn listing() -> Case {
@@ -123,7 +125,7 @@ fn listing() -> Case {
     let listed = (0..1_000).map(|_| it.token(3, b"c")).collect::<Vec<_>>();
     it.close();
     it.insert_after(tokens[3], &listed);
-    case("one call that lists 1,000 elements", 1_010, 1, &it)
+    case("one call that lists 1,000 elements", 1_010, 1, it)
 }
 
 /// A batch of each sort.

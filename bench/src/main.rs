@@ -1,5 +1,5 @@
-//! The static library beside the Rust `SyntaxEditor` over two stand-ins for rowan, on the same batches:   bench [--quick] [NAME]...
-//! NAME is the beginning of a row's name; without one, all rows. bench/README.md says what each column counts.
+//! The static library beside the Rust `SyntaxEditor` over two stand-ins for rowan, on the same batches:   bench [--quick] [--writer] [NAME]...
+//! NAME is the beginning of a row's name; without one, all rows, and the writer's behind them; with `--writer` these alone. bench/README.md says what each column counts.
 
 use std::{env, hint::black_box};
 
@@ -10,6 +10,7 @@ use time::{Clock, Contestant, Effort, FULL, QUICK, medians, shown};
 
 mod batches;
 mod time;
+mod writer;
 
 /// The Rust over one stand-in.
 struct Peer {
@@ -152,6 +153,9 @@ fn main() {
         ("Calls doubled, 1,024 elements", batches::by_calls()),
         ("Calls doubled, 2,048 elements", batches::few_calls()),
     ];
+    if options.iter().any(|it| it == "--writer") {
+        return tables[..2].iter().for_each(|(what, cases)| writer::table(what, cases, effort));
+    }
     if !names.is_empty() {
         head("");
         let named = tables.iter().flat_map(|(_, cases)| cases).filter(|case| names.iter().any(|it| case.name.starts_with(it)));
@@ -169,4 +173,6 @@ fn main() {
     }
     ranges("Rows with 64 calls and more", all.iter().filter(|it| it.calls >= 64));
     ranges("All rows", all.iter());
+    println!();
+    tables[..2].iter().for_each(|(what, cases)| writer::table(what, cases, effort));
 }

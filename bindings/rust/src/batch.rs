@@ -151,7 +151,8 @@ impl BatchBuilder {
         self.numbers.push(number);
     }
 
-    fn lists(&self) -> raw::Lists<'_> {
+    /// The lists, as the writer takes them.
+    pub fn lists(&self) -> raw::Lists<'_> {
         raw::Lists {
             trees: self.trees,
             kinds: &self.kinds,

@@ -30,7 +30,8 @@ struct Case {
     again: usize,
 }
 
-// How many cases are not as recorded; how many batches come out byte for byte, are refused 14, and stay whole: they cannot be taken apart.
+// How many cases are not as recorded; how many batches come out byte for byte, are refused 14, and stay whole: no lists are laid out as they are, since their
+// length is not what their sizes give.
 struct Counts {
     missed: usize,
     same: usize,
@@ -285,12 +286,14 @@ fn came_out(n: usize, destination: &[u8], batch: &[u8]) -> usize {
     }
 }
 
-// What a batch with this recorded refusal is to come to: line 2, 3 or 4 keeps it whole, lines 5 to 7 make it 14, any other comes out byte for byte.
-fn due(refusal: usize) -> usize {
+// Whether a batch with this recorded refusal comes to what it is to come to: 2 and 4 keep it whole, 5 to 7 make it 14, and so does 3, unless 4 keeps it whole;
+// any other comes out byte for byte.
+fn is_due(refusal: usize, again: usize) -> bool {
     match refusal {
-        2..=4 => refusal,
-        5..=7 => 14,
-        _ => 0,
+        2 | 4 => again == refusal,
+        3 => { if again == 4 { true } else { again == 14 } }
+        5..=7 => again == 14,
+        _ => again == 0,
     }
 }
 
@@ -307,7 +310,7 @@ fn calls_agree(batch: &[u8], refusal: usize, expected: &[u8]) -> bool {
 fn case_of(batch: &[u8], refusal: usize, expected: &[u8]) -> Case {
     let agrees = calls_agree(batch, refusal, expected);
     let again = again(batch);
-    if again == due(refusal) {
+    if is_due(refusal, again) {
         Case { agrees, again }
     } else {
         Case {
@@ -404,7 +407,7 @@ fn main() {
     io::print_decimal(1, counts.same as u64);
     io::write_all(1, b", refused 14: ");
     io::print_decimal(1, counts.refused as u64);
-    io::write_all(1, b", cannot be taken apart: ");
+    io::write_all(1, b", laid out from no lists: ");
     io::print_decimal(1, counts.whole as u64);
     io::write_all(1, b"\n");
 }

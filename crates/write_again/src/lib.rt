@@ -1,13 +1,10 @@
-// A batch taken apart into its lists, and written again (document 02, Note 2).
-use read_layout::Laid;
-use read_layout::Layout;
+// A batch taken apart into its lists, and written again (document 02, Note 2). Its sizes may be beyond their limits: that is the writer's to judge.
 use read_layout::Sizes;
 use write_batch::Written;
 ghost use mathlib.Core.Path.{_≡_};
 ghost use Prim.Native.Nat.{_+_, _*_, _≤_};
 ghost use lib.ListN.{length};
-ghost use Rattle.read_layout.specs.Layout.{Limits};
-ghost use Rattle.write_again.specs.Counted.{wordCount};
+ghost use Rattle.write_again.specs.Counted.{wordCount, Worded};
 
 // Each call word as its operation and its count.
 fn part_words(words: &[u32], operations: &mut [u32], counts: &mut [u32])
@@ -38,7 +35,7 @@ fn write_notes(
     at: usize,
     destination: &mut [u8],
 ) -> Written
-    requires { ⌜ (at + 2 * notes ≤ length (now list)) × (length (now list) ≤ 8192) ⌝ }
+    requires { ⌜ (at + 2 * notes ≤ length (now list)) × (length (now list) ≤ 16384) ⌝ }
 {
     let numbers = at + notes;
     let end = numbers + notes;
@@ -78,7 +75,7 @@ fn write_names(
     at: usize,
     destination: &mut [u8],
 ) -> Written
-    requires { ⌜ (at + z .listed + 2 * z .mappings + 2 * z .notes ≤ length (now list)) × (length (now list) ≤ 8192) ⌝ }
+    requires { ⌜ (at + z .listed + 2 * z .mappings + 2 * z .notes ≤ length (now list)) × (length (now list) ≤ 16384) ⌝ }
 {
     let inputs = at + z.listed;
     let outputs = inputs + z.mappings;
@@ -111,14 +108,13 @@ fn write_calls(
     at: usize,
     destination: &mut [u8],
 ) -> Written
-    requires { ⌜ z .calls ≤ 256 ⌝ }
-    requires { ⌜ (at + 2 * z .calls + z .listed + 2 * z .mappings + 2 * z .notes ≤ length (now list)) × (length (now list) ≤ 8192) ⌝ }
+    requires { ⌜ (at + 2 * z .calls + z .listed + 2 * z .mappings + 2 * z .notes ≤ length (now list)) × (length (now list) ≤ 16384) ⌝ }
 {
     let n = z.calls;
     let targets = at + n;
     let listed = targets + n;
-    let mut operations = [0u32; 256];
-    let mut counts = [0u32; 256];
+    let mut operations = [0u32; 16384];
+    let mut counts = [0u32; 16384];
     part_words(&list[at..targets], &mut operations, &mut counts);
     write_names(
         z,
@@ -136,8 +132,7 @@ fn write_calls(
 
 // The words of a batch without its sizes are one list, in which its arrays stand one after another.
 fn write_elements(z: Sizes, list: &[u32], text: &[u8], destination: &mut [u8]) -> Written
-    requires { ⌜ Limits z ⌝ }
-    requires { ⌜ length (now list) ≡ 8192 ⌝ }
+    requires { ⌜ (wordCount z ≤ length (now list)) × (length (now list) ≤ 16384) ⌝ }
 {
     let kinds = 0;
     let measures = z.elements;
@@ -153,32 +148,54 @@ fn write_elements(z: Sizes, list: &[u32], text: &[u8], destination: &mut [u8]) -
     )
 }
 
+// The seven sizes at the front of a batch.
+fn read_sizes(b: &[u8]) -> Sizes
+    requires { ⌜ 28 ≤ length (now b) ⌝ }
+    ensures { λ r. ⌜ Worded r ⌝ }
+{
+    Sizes {
+        trees: words::read_word(b, 0),
+        elements: words::read_word(b, 4),
+        text: words::read_word(b, 8),
+        calls: words::read_word(b, 12),
+        listed: words::read_word(b, 16),
+        mappings: words::read_word(b, 20),
+        notes: words::read_word(b, 24),
+    }
+}
+
 // How many words a batch of these sizes has behind them.
 fn word_count(z: Sizes) -> usize
-    requires { ⌜ Limits z ⌝ }
-    ensures { λ r. ⌜ (r ≡ wordCount z) × (r ≤ 8192) ⌝ }
+    requires { ⌜ Worded z ⌝ }
+    ensures { λ r. ⌜ r ≡ wordCount z ⌝ }
 {
     2 * (z.elements + z.calls + z.mappings + z.notes) + z.listed
 }
 
-// A batch with this layout.
-fn write_laid(b: &[u8], l: Layout, destination: &mut [u8]) -> Written
-    requires { ⌜ Limits (l .sizes) ⌝ }
-    requires { ⌜ (28 + 4 * wordCount (l .sizes) ≤ length (now b)) × (l .text ≤ length (now b)) ⌝ }
+// A batch of these sizes, with `n` words behind them.
+fn write_words(b: &[u8], z: Sizes, n: usize, destination: &mut [u8]) -> Written
+    requires { ⌜ (n ≡ wordCount z) × (28 + 4 * n ≤ length (now b)) × (length (now b) ≤ 65536) ⌝ }
 {
-    let z = l.sizes;
-    let text = l.text;
-    let n = word_count(z);
-    let mut list = [0u32; 8192];
+    let text = 28 + 4 * n;
+    let mut list = [0u32; 16384];
     words::read_words(b, 28, n, &mut list, 0);
     write_elements(z, &list, &b[text..], destination)
 }
 
-// A batch that lines 2 to 4 refuse cannot be taken apart; any other is written as the lists that it is read as.
+// A batch is written as the lists that it is laid out from. One whose length is not what its sizes give is laid out from none: 2 without all of its
+// sizes, else 4.
 pub fn write_again(b: &[u8], destination: &mut [u8]) -> Written {
-    let laid = read_layout::lay_out(b);
-    match laid {
-        Laid::Refused(n) => Written::Refused(n),
-        Laid::At(l) => write_laid(b, l, destination),
+    if b.len() < 28 {
+        return Written::Refused(2);
     }
+    let z = read_sizes(b);
+    let n = word_count(z);
+    if 28 + 4 * n + z.text != b.len() {
+        return Written::Refused(4);
+    }
+    // A batch that is longer than the list has room for has a size beyond its limit.
+    if 65536 < b.len() {
+        return Written::Refused(14);
+    }
+    write_words(b, z, n, destination)
 }

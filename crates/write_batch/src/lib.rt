@@ -61,7 +61,7 @@ fn hand_over(batch: &[u8], destination: &mut [u8], table: &mut [u32], source: &m
     }
 }
 
-// 1, 14 and 15: the lists are laid out in the draft, and judged there before the destination is touched.
+// 1, 14 and 15: the lists are laid out on the page, and judged there before the destination is touched.
 fn write_lists(
     trees: usize,
     kinds: &[u32],
@@ -76,13 +76,13 @@ fn write_lists(
     noted: &[u32],
     numbers: &[u32],
     destination: &mut [u8],
-    draft: &mut [u8],
+    page: &mut [u8],
     table: &mut [u32],
     source: &mut [u32],
 ) -> Written
-    ensures { λ r. ⌜ Told (wrote (now (draft .entry) ∷ now (table .entry) ∷ now (source .entry) ∷ []) (listsIn trees (now (kinds .entry)) (now (measures .entry)) (now (text .entry)) (now (operations .entry)) (now (counts .entry)) (now (targets .entry)) (now (listed .entry)) (now (inputs .entry)) (now (outputs .entry)) (now (noted .entry)) (now (numbers .entry))) (length (now (destination .entry)))) (now (destination .entry)) (answerOf r) (now (destination .exit)) ⌝ }
+    ensures { λ r. ⌜ Told (wrote (now (page .entry) ∷ now (table .entry) ∷ now (source .entry) ∷ []) (listsIn trees (now (kinds .entry)) (now (measures .entry)) (now (text .entry)) (now (operations .entry)) (now (counts .entry)) (now (targets .entry)) (now (listed .entry)) (now (inputs .entry)) (now (outputs .entry)) (now (noted .entry)) (now (numbers .entry))) (length (now (destination .entry)))) (now (destination .entry)) (answerOf r) (now (destination .exit)) ⌝ }
 {
-    if too_short(draft, table, source) {
+    if too_short(page, table, source) {
         return Written::Refused(1);
     }
     let right = write_layout::can_be_laid(
@@ -103,7 +103,7 @@ fn write_lists(
         return Written::Refused(14);
     }
     let n = write_layout::lay_out(
-        draft,
+        page,
         trees,
         kinds,
         measures,
@@ -117,7 +117,7 @@ fn write_lists(
         noted,
         numbers,
     );
-    hand_over(&draft[..n], destination, table, source)
+    hand_over(&page[..n], destination, table, source)
 }
 
 // THE WRITER. The batch that the lists make stands at the front of `destination`; on refusal `destination` is as it was. The three others are work

@@ -24,7 +24,7 @@ same-length-4 : tie.Need-same-length-4
 same-length-4 c = search needs
 
 returns : tie.Need-returns
-returns c = all-told _ _ _ _ _ _ _ _ (c .before .before .before .before .before .before .before .before .before .before .before .before .before .before .before .before .before .before .write-lists .ensures) (c .before .before .before .before .before .before .before .before .before .before .before .before .before .before .before .draft .given) (c .before .before .before .before .before .before .before .before .before .before .before .before .before .table .given) (c .before .before .before .before .before .before .before .before .before .before .before .source .given) (c .before .before .before .before .before .before .clear-work .ensures)
+returns c = search (all-told, needs)
 
 pub write-batch-spec : {M : Type 1} → statement M
 write-batch-spec =
