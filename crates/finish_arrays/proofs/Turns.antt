@@ -7,19 +7,21 @@ use native.Mathlib.Omega.{arith}
 use native.Mathlib.Nat.{zero-add, add-zero, sub-self}
 use native.Mathlib.Numerals.{add-one}
 use lib.ListN.{length, getD, set, take, drop, length-set, length-map, length-append, length-drop, take-append-drop}
-use lib.Seq.{paste, paste-zero, paste-suc, getD-drop, drop-drop, drop-at, take-at, take-length}
+use lib.Seq.{paste, paste-zero, paste-suc, length-paste, getD-drop, drop-drop, drop-at, take-at, take-length}
 use borrow.Author.Tests.{lt-ltb, le-leb, lt-leb}
 use Rattle.definition.specs.Words.{bytes as bytesOf, written}
 use Rattle.definition_laws.specs.Basics.{getD-map}
-use Rattle.words.proofs.Turns.{Writing, writing-next, writing-done}
+use Rattle.words.proofs.Turns.{Writing, writing-next}
 use Rattle.rows_model.specs.Row.{Row, nod, kind, measure, own, textLength, rowIn, triples, bytes}
-use Rattle.words.specs.Parts.{paste-on}
+use Rattle.words.specs.Bytes.{length-written}
+use Rattle.words.specs.Parts.{paste-on, paste-swap}
 use Rattle.rows_model.specs.RowLaws.{bytes-append}
 use Rattle.rows_model.specs.Words.{kind-word, measure-word, node-row, length-triples, triples-at, triples-end}
 use Rattle.rows_syntax_node.specs.Promises.{Measured}
 use Rattle.rows_syntax_node.proofs.Turns.{Summing, summing-start, summing-next}
 use Rattle.finish_model.specs.Finished.{starts}
 use Rattle.finish_model.specs.Numbers.{starts-at}
+use Rattle.finish_arrays.specs.Sweep.{elementsOver, Swept, row-each}
 use Rattle.finish_arrays.specs.TextSizes.{bytes-any, own-few}
 
 -- ── Text starts ─────────────────────────────────────────────────────────────────────────────────────────────
@@ -65,52 +67,91 @@ module _ {tree d l : List ℕ} {sum i : ℕ} (v : Starting tree d l sum i) where
 
 -- ── Kinds and measures ──────────────────────────────────────────────────────────────────────────────────────
 
--- l is d with what f tells of the first i rows written at `at`
-pub record Listing (f : Row → ℕ) (tree d : List ℕ) (at : ℕ) (l : List ℕ) (i : ℕ) : Type 0 where
-  pub inside : i ≤ length tree / 3
-  pub long : length l ≡ length d
-  pub room : at + 4 * (length tree / 3) ≤ length d
-  pub listed : (text : List ℕ) → l ≡ paste d at (written (map f (triples text tree))) (4 * i)
-
-pub listing : (f : Row → ℕ) (tree d : List ℕ) (at : ℕ) → at + 4 * (length tree / 3) ≤ length d → Listing f tree d at d 0
-listing f tree d at h = record { inside = omega arith; long = refl; room = h; listed = λ text. paste-zero d at (written (map f (triples text tree))) }
-
-module _ (f : Row → ℕ) (tree : List ℕ) where
-  told : (text : List ℕ) (i : ℕ) → 3 * i + 2 < length tree → getD (map f (triples text tree)) i 0 ≡ f (rowIn text tree i)
-  told text i h =
+module _ (f : Row → ℕ) (text tree : List ℕ) where
+  told : (i : ℕ) → 3 * i + 2 < length tree → getD (map f (triples text tree)) i 0 ≡ f (rowIn text tree i)
+  told i h =
       let e : getD (drop i (triples text tree)) 0 (nod 0 0) ≡ rowIn text tree i = rw (triples-at text i tree h) in
       getD-map f (triples text tree) i 0 (nod 0 0) (omega (arith, length-triples text tree))
       ∙ ap f (ap (λ n. getD (triples text tree) n (nod 0 0)) (sym (add-zero i)) ∙ (sym (getD-drop i (triples text tree) 0 (nod 0 0)) ∙ e))
 
-  many : (text : List ℕ) → length (map f (triples text tree)) ≡ length tree / 3
-  many text = length-map (triples text tree) f ∙ length-triples text tree
+  many : length (map f (triples text tree)) ≡ length tree / 3
+  many = length-map (triples text tree) f ∙ length-triples text tree
 
-  module _ {d : List ℕ} {at : ℕ} {l : List ℕ} {i : ℕ} (v : Listing f tree d at l i) where
-    writing : (text : List ℕ) → Writing d at (map f (triples text tree)) l i
-    writing text = record { inside = omega (arith, many text, v .inside); long = v .long; copied = v .listed text }
+-- a row is read, and two of its words are written
+pub element-written : (tree d : List ℕ) (row kinds measures : ℕ) {k m : ℕ} {a l : List ℕ} → k ≡ getD tree (3 * row) 0 → m ≡ getD tree (3 * row + 1) 0 → a ≡ paste d kinds (bytesOf k) 4 → l ≡ paste a measures (bytesOf m) 4
+    → l ≡ paste (paste d kinds (bytesOf (getD tree (3 * row) 0)) 4) measures (bytesOf (getD tree (3 * row + 1) 0)) 4
+element-written tree d row kinds measures e f p q = q ∙ rw (p, e, f)
 
-    listing-next : {l′ : List ℕ} {w : ℕ} → ((text : List ℕ) → w ≡ f (rowIn text tree i)) → 3 * i + 2 < length tree → length l′ ≡ length l
-        → l′ ≡ paste l (at + 4 * i) (bytesOf w) 4 → Listing f tree d at l′ (i + 1)
-    listing-next e h m q = record {
-      inside = omega arith;
-      long = m ∙ v .long;
-      room = v .room;
-      listed = λ text. (writing-next (writing text) (omega (arith, many text)) (omega (arith, many text, v .room)) (e text ∙ sym (told text i h)) m q) .copied;
-    }
+-- l is d with the kinds of the first i rows written at `at` and their measures at `measures`; each of them was read once
+pub record Sweeping (tree d : List ℕ) (at measures : ℕ) (l : List ℕ) (reads i : ℕ) : Type 0 where
+  pub inside : i ≤ length tree / 3
+  pub counted : reads ≡ i
+  pub behind : measures ≡ at + 4 * (length tree / 3)
+  pub room : at + 8 * (length tree / 3) ≤ length d
+  pub long : length l ≡ length d
+  pub swept : (text : List ℕ) → l ≡ paste (paste d at (written (map kind (triples text tree))) (4 * i)) measures (written (map measure (triples text tree))) (4 * i)
 
-    pub listing-done : length tree ≤ 3 * i + 2 → (text : List ℕ) → l ≡ paste d at (written (map f (triples text tree))) (4 * (length tree / 3))
-    listing-done h text =
-        writing-done (writing text) (omega (arith, v .inside, many text)) ∙ ap (λ n. paste d at (written (map f (triples text tree))) (4 * n)) (many text)
+pub sweeping : (tree d : List ℕ) (at : ℕ) → at + 8 * (length tree / 3) ≤ length d → Sweeping tree d at (at + 4 * (length tree / 3)) d 0 0
+sweeping tree d at h = record {
+  inside = omega arith;
+  counted = refl;
+  behind = refl;
+  room = h;
+  long = refl;
+  swept = λ text.
+      paste-zero d (at + 4 * (length tree / 3)) (written (map measure (triples text tree)))
+      ∙ ap (λ x. paste x (at + 4 * (length tree / 3)) (written (map measure (triples text tree))) 0) (paste-zero d at (written (map kind (triples text tree))));
+}
 
-module _ {tree d : List ℕ} {at : ℕ} {l : List ℕ} {i : ℕ} (v : Listing kind tree d at l i) where
-  pub kinds-next : {l′ : List ℕ} {w : ℕ} → 3 * i + 2 < length tree → w ≡ getD tree (3 * i) 0 → length l′ ≡ length l
-      → l′ ≡ paste l (at + 4 * i) (bytesOf w) 4 → Listing kind tree d at l′ (i + 1)
-  kinds-next h e m q = listing-next kind tree v (λ text. e ∙ sym (kind-word text (getD tree (3 * i) 0) (getD tree (3 * i + 1) 0) (getD tree (3 * i + 2) 0))) h m q
+module _ {tree d : List ℕ} {at measures : ℕ} {l : List ℕ} {reads i : ℕ} (v : Sweeping tree d at measures l reads i) where
+  module _ (text : List ℕ) (h : 3 * i + 2 < length tree) where
+    -- one kind more goes below the measures that are written
+    kind-more : paste l (at + 4 * i) (bytesOf (getD tree (3 * i) 0)) 4 ≡ paste (paste d at (written (map kind (triples text tree))) (4 * (i + 1))) measures (written (map measure (triples text tree))) (4 * i)
+    unfolding bytesOf
+    kind-more =
+        let K : List ℕ = map kind (triples text tree) in
+        let M : List ℕ = written (map measure (triples text tree)) in
+        let k : List ℕ = bytesOf (getD tree (3 * i) 0) in
+        let P : List ℕ = paste d at (written K) (4 * i) in
+        let n = many kind text tree in
+        let a : length P ≡ length d = length-paste d at (written K) (4 * i) (omega (arith, v .room)) (omega (arith, length-written K)) in
+        let b : length (paste P (at + 4 * i) k 4) ≡ length P = length-paste P (at + 4 * i) k 4 (omega (arith, v .room)) (omega arith) in
+        let w : Writing d at K P i = record { inside = omega arith; long = a; copied = refl } in
+        let e : getD tree (3 * i) 0 ≡ getD K i 0 = sym (kind-word text (getD tree (3 * i) 0) (getD tree (3 * i + 1) 0) (getD tree (3 * i + 2) 0)) ∙ sym (told kind text tree i h) in
+        ap (λ x. paste x (at + 4 * i) k 4) (v .swept text)
+        ∙ (paste-swap P k M (at + 4 * i) 4 measures (4 * i) (omega (arith, v .behind)) (omega (arith, v .behind, v .room)) (omega arith)
+        ∙ ap (λ x. paste x measures M (4 * i)) ((writing-next w (omega arith) (omega (arith, v .room)) e b refl) .copied))
 
-module _ {tree d : List ℕ} {at : ℕ} {l : List ℕ} {i : ℕ} (v : Listing measure tree d at l i) where
-  pub measures-next : {l′ : List ℕ} {w : ℕ} → 3 * i + 2 < length tree → w ≡ getD tree (3 * i + 1) 0 → length l′ ≡ length l
-      → l′ ≡ paste l (at + 4 * i) (bytesOf w) 4 → Listing measure tree d at l′ (i + 1)
-  measures-next h e m q = listing-next measure tree v (λ text. e ∙ sym (measure-word text (getD tree (3 * i) 0) (getD tree (3 * i + 1) 0) (getD tree (3 * i + 2) 0))) h m q
+  pub sweeping-next : {l′ : List ℕ} → 3 * i + 2 < length tree → length l′ ≡ length l
+      → l′ ≡ paste (paste l (at + 4 * i) (bytesOf (getD tree (3 * i) 0)) 4) (measures + 4 * i) (bytesOf (getD tree (3 * i + 1) 0)) 4 → Sweeping tree d at measures l′ (reads + 1) (i + 1)
+  unfolding bytesOf
+  sweeping-next {l′} h m q = record {
+    inside = omega arith;
+    counted = omega (arith, v .counted);
+    behind = v .behind;
+    room = v .room;
+    long = m ∙ v .long;
+    swept = go;
+  }
+    where
+      go : (text : List ℕ) → l′ ≡ paste (paste d at (written (map kind (triples text tree))) (4 * (i + 1))) measures (written (map measure (triples text tree))) (4 * (i + 1))
+      go text =
+          let K : List ℕ = map kind (triples text tree) in
+          let M : List ℕ = map measure (triples text tree) in
+          let Q : List ℕ = paste d at (written K) (4 * (i + 1)) in
+          let l₁ : List ℕ = paste l (at + 4 * i) (bytesOf (getD tree (3 * i) 0)) 4 in
+          let a : length l₁ ≡ length l = length-paste l (at + 4 * i) (bytesOf (getD tree (3 * i) 0)) 4 (omega (arith, v .long, v .room)) (omega arith) in
+          let b : length Q ≡ length d = length-paste d at (written K) (4 * (i + 1)) (omega (arith, v .room)) (omega (arith, length-written K, many kind text tree)) in
+          let w : Writing Q measures M l₁ i = record { inside = omega (arith, many measure text tree); long = omega (arith, v .long); copied = kind-more text h } in
+          let e : getD tree (3 * i + 1) 0 ≡ getD M i 0 = sym (measure-word text (getD tree (3 * i) 0) (getD tree (3 * i + 1) 0) (getD tree (3 * i + 2) 0)) ∙ sym (told measure text tree i h) in
+          (writing-next w (omega (arith, many measure text tree)) (omega (arith, many measure text tree, v .room, v .behind)) e (m ∙ sym a) q) .copied
+
+  pub sweeping-done : length tree ≤ 3 * i + 2 → Swept tree at d l reads
+  unfolding elementsOver
+  sweeping-done h =
+      let e : length tree / 3 ≡ i = omega (arith, v .inside) in
+      let r : reads ≡ length tree / 3 = omega (arith, v .counted) in
+      record { count = row-each tree r; arrays = λ text. v .swept text ∙ rw (v .behind, e) }
 
 -- ── The text ────────────────────────────────────────────────────────────────────────────────────────────────
 

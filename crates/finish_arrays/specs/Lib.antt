@@ -1,7 +1,9 @@
--- What the functions promise is told in finish_model, rows_model and the definition.
+-- What the functions promise is told here, in finish_model, rows_model and the definition.
+--     Sweep       kinds and measures in one sweep, each element read once
 --     Encoding    the arrays written one behind another are the result as bytes
 --     TextSizes   the length of the text of rows
 --     NewTree     the words of tree 0
+pub mod Sweep
 pub mod Encoding
 pub mod TextSizes
 pub mod NewTree

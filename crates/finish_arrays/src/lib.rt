@@ -1,12 +1,13 @@
 // Finishing: text starts, and the result's sizes and arrays written as bytes.
 ghost use mathlib.Core.Path.{_≡_};
-ghost use mathlib.Core.List.{List, map, flatMap, _∷_, []};
+ghost use mathlib.Core.List.{List, flatMap, _∷_, []};
 ghost use Prim.Native.Nat.{ℕ, _+_, _*_, _/_, _^_, _≤_, _<_};
-ghost use lib.ListN.{length};
+ghost use lib.ListN.{length, getD};
 ghost use lib.Seq.{paste};
-ghost use Rattle.definition.specs.Words.{written};
-ghost use Rattle.rows_model.specs.Row.{kind, measure, own, bytes, rowIn, triples};
+ghost use Rattle.definition.specs.Words.{bytes as bytesOf, written};
+ghost use Rattle.rows_model.specs.Row.{own, bytes, rowIn, triples};
 ghost use Rattle.finish_model.specs.Finished.{starts};
+ghost use Rattle.finish_arrays.specs.Sweep.{Swept};
 
 // Where the text of each row of a tree starts.
 pub fn fill_starts(tree: &[u32], out: &mut [u32])
@@ -22,30 +23,31 @@ pub fn fill_starts(tree: &[u32], out: &mut [u32])
     }
 }
 
-// The kind words of a tree are written at `at`.
-pub fn write_kinds(b: &mut [u8], at: usize, tree: &[u32])
-    requires { ⌜ (at + 4 * (length (now tree) / 3) ≤ length (now b)) × (length (now tree) < 3 * 2 ^ 16) ⌝ }
-    ensures { λ _. ⌜ ((text : List ℕ) → now (b .exit) ≡ paste (now (b .entry)) at (written (map kind (triples text (now (tree .entry))))) (4 * (length (now (tree .entry)) / 3))) ⌝ }
+// A row is read: its kind word is written at `kinds`, its measure at `measures`.
+fn write_element(b: &mut [u8], kinds: usize, measures: usize, tree: &[u32], row: usize)
+    requires { ⌜ (kinds + 4 ≤ length (now b)) × (measures + 4 ≤ length (now b)) × (3 * row + 2 < length (now tree)) ⌝ }
+    ensures { λ _. ⌜ now (b .exit) ≡ paste (paste (now (b .entry)) kinds (bytesOf (getD (now (tree .entry)) (3 * row) 0)) 4) measures (bytesOf (getD (now (tree .entry)) (3 * row + 1) 0)) 4 ⌝ }
 {
-    let mut i = 0;
-    while 3 * i + 2 < tree.len() {
-        let kind = words::word(tree, 3 * i);
-        words::write_word(b, at + 4 * i, kind);
-        i += 1;
-    }
+    let kind = words::word(tree, 3 * row);
+    let measure = words::word(tree, 3 * row + 1);
+    words::write_word(b, kinds, kind);
+    words::write_word(b, measures, measure);
 }
 
-// The measures of a tree are written at `at`.
-pub fn write_measures(b: &mut [u8], at: usize, tree: &[u32])
-    requires { ⌜ (at + 4 * (length (now tree) / 3) ≤ length (now b)) × (length (now tree) < 3 * 2 ^ 16) ⌝ }
-    ensures { λ _. ⌜ ((text : List ℕ) → now (b .exit) ≡ paste (now (b .entry)) at (written (map measure (triples text (now (tree .entry))))) (4 * (length (now (tree .entry)) / 3))) ⌝ }
+// One sweep over a tree writes its kind words at `at` and its measures behind them. How many times it read an element.
+pub fn write_elements(b: &mut [u8], at: usize, tree: &[u32]) -> usize
+    requires { ⌜ (at + 8 * (length (now tree) / 3) ≤ length (now b)) × (length (now tree) < 3 * 2 ^ 16) ⌝ }
+    ensures { λ r. ⌜ Swept (now (tree .entry)) at (now (b .entry)) (now (b .exit)) r ⌝ }
 {
-    let mut i = 0;
-    while 3 * i + 2 < tree.len() {
-        let measure = words::word(tree, 3 * i + 1);
-        words::write_word(b, at + 4 * i, measure);
-        i += 1;
+    let measures = at + 4 * (tree.len() / 3);
+    let mut reads = 0;
+    let mut row = 0;
+    while 3 * row + 2 < tree.len() {
+        write_element(b, at + 4 * row, measures + 4 * row, tree, row);
+        reads += 1;
+        row += 1;
     }
+    reads
 }
 
 // The six sizes are written at the front.

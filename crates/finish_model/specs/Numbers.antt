@@ -9,7 +9,7 @@ use native.Mathlib.Nat.{add-zero}
 use lib.ListN.{length, take, drop, getD, getElem?, length-append, length-drop}
 use lib.Seq.{take-at, length-take-le}
 use borrow.Author.Tests.{ne-eqb}
-use Rattle.orders.specs.Tree.{Tree, Trees, node, token, nil, cons, list, forest, Path, resolve, strip, children, elements, text, textOf}
+use Rattle.orders.specs.Tree.{Tree, Trees, node, token, nil, cons, list, forest, Path, resolve, strip, children, elements, elementsOf, text, textOf}
 use Rattle.orders.specs.ListLaws.{some-inj, none-some, bind-some, get-lt, lt-get, map-append}
 use Rattle.definition.specs.Elements.{Table, table, row, rows, rowsBelow, noRow}
 use Rattle.definition.specs.Finishing.{newTree, newTable, numberAt}
@@ -18,7 +18,7 @@ use Rattle.definition_laws.specs.Kin.{resolve-down}
 use Rattle.definition_laws.specs.Held.{Leads, number-found}
 use Rattle.rows_model.specs.Row.{Row, rowsOf, rowsIn, rowsAll, skip, textLength, bytes}
 use Rattle.rows_model.specs.Place.{size, place, rowsAfter, subtree, inRun}
-use Rattle.rows_model.specs.RowLaws.{skip-none, skip-tree, skip-le}
+use Rattle.rows_model.specs.RowLaws.{skip-none, skip-tree, skip-le, sizeAll-elements}
 use Rattle.rows_model.specs.PlaceLaws.{place-child, place-forest, after-at}
 use Rattle.rows_model.specs.Moves.{strip-place}
 use Rattle.rows_model.specs.Numbers.{element-row}
@@ -33,6 +33,11 @@ first-tree (node k nil) = refl
 first-tree (node k (cons c cs)) =
     let e : skip 1 (rowsOf c ++ rowsIn cs) ≡ size c = skip-tree c 0 (rowsIn cs) ∙ omega (arith, skip-none (rowsIn cs)) in
     rw e (take-at (rowsOf c) (rowsIn cs) (size c) refl ∙ sym (append-nil (rowsOf c)))
+
+-- it has a row for each element of the new tree
+pub tree-elements : (w : World) → length (firstTree (rowsOf w.trees)) ≡ elementsOf (forest (newTree w))
+unfolding newTree
+tree-elements w = ap length (first-tree w.trees) ∙ sizeAll-elements (take 1 (list (children w.trees)))
 
 -- the row behind tree 0
 pub tree-end : (rs : List Row) → rowsAfter rs 1 1 ≡ suc (length (firstTree rs))

@@ -1,20 +1,24 @@
 -- The answer, 13 or the length of the bytes, and what the lent buffer holds then.
 -- Assumes nothing.
-use mathlib.Core.Path.{_≡_, refl, _∙_}
+use mathlib.Core.Path.{_≡_, refl, sym, ap, _∙_}
 use mathlib.Core.List.{List}
 use Prim.Native.Nat.{ℕ, _≤_, _<_}
 use lib.ListN.{length}
 use lib.Seq.{paste}
 use borrow.Author.Tests.{lt-ltb, le-ltb}
+use Rattle.orders.specs.Tree.{forest, elementsOf}
 use Rattle.definition.specs.Basics.{Answer, refused, gives, _>>=_, refuse, keep}
 use Rattle.definition.specs.Planning.{Planned, isDiscarded}
 use Rattle.definition.specs.Running.{World}
-use Rattle.definition.specs.Finishing.{Result, result, encoded, fitting}
+use Rattle.definition.specs.Finishing.{newTree, Result, result, encoded, fitting}
 use Rattle.definition.specs.Answers.{edit, withWork, edited}
 use Rattle.definition_laws.specs.Held.{Holds}
-use Rattle.run_model.specs.Store.{Store, store}
-use Rattle.finish_model.specs.Finished.{resultOf}
+use Rattle.rows_syntax_node.specs.Promises.{Part}
+use Rattle.run_model.specs.Store.{HeldNote, Store, store}
+use Rattle.run_tree_store.specs.Stored.{stored}
+use Rattle.finish_model.specs.Finished.{firstTree, resultOf}
 use Rattle.finish_model.specs.Result.{result-rows}
+use Rattle.finish_arrays.specs.Sweep.{Counts}
 use Rattle.finish_result.specs.declared.Finished.{Finished}
 use Rattle.finish_result.specs.declared.Finished.the-variants.{Short, Bytes}
 
@@ -64,3 +68,9 @@ edited-fitted work bytes room = refl
 pub answered-result : (ps : List Planned) (climbs : ℕ) (w : World) {s : Store} {d out : List ℕ} {a : Finished} → Holds w → store w ≡ s
     → Answered d (resultOf (length (keep (λ p. isDiscarded p.fate) ps)) climbs s) out a → Answered d (result ps climbs w) out a
 answered-result ps climbs w h e v = rw (← result-rows ps climbs w h, e) v
+
+-- The number of reads that the sweep returns over the rows of tree 0, as the run leaves them, is the new tree's count of elements.
+pub reads-new-tree : (w : World) (text marks : List ℕ) (notes : List HeldNote) (changed : List ℕ) {rows : List ℕ} {n : ℕ} {tree : List ℕ} {reads : ℕ} → store w ≡ stored text n rows marks notes changed → Part rows n 1 tree → Counts tree reads
+    → reads ≡ elementsOf (forest (newTree w))
+unfolding store stored firstTree
+reads-new-tree w text marks notes changed e p c = c .elements text w (p .told text ∙ ap (λ s. firstTree s.rows) (sym e))

@@ -13,6 +13,7 @@ use Rattle.rows_model.specs.Row.{Row, kind, measure, own, triples}
 use Rattle.rows_model.specs.Words.{length-triples}
 use Rattle.run_model.specs.Store.{HeldNote}
 use Rattle.run_annotations.specs.Notes.{noteWords, noteOf, notesOf, noteAt, length-notesOf, note-among}
+use Rattle.finish_arrays.specs.Sweep.{elementsOver, Counts}
 use Rattle.finish_arrays.specs.Encoding.{encoded-length, encoded-written}
 use Rattle.finish_result.specs.InTree.{resultIn}
 
@@ -43,7 +44,12 @@ column-at j w i h b =
 
 -- the sizes, then the kinds and measures of n elements
 unfoldable pub frontOver : List ℕ → List ℕ → List ℕ → ℕ → List ℕ → List ℕ
-frontOver sizes kinds measures n d = paste (paste (paste d 0 (written sizes) 24) 24 (written kinds) (4 * n)) (24 + 4 * n) (written measures) (4 * n)
+frontOver sizes kinds measures n d = elementsOver 24 kinds measures n (paste d 0 (written sizes) 24)
+
+-- the front of a tree's result over d: the first size is how many times an element was read, the others are `sizes`
+pub record Front (tree sizes d l : List ℕ) (reads : ℕ) : Type 0 where
+  pub count : Counts tree reads
+  pub arrays : (text : List ℕ) → l ≡ frontOver (reads ∷ sizes) (map kind (triples text tree)) (map measure (triples text tree)) (length tree / 3) d
 
 -- from `at` on the changed elements, the numbers and elements of m notes, and the text
 unfoldable pub restOver : ℕ → List ℕ → List ℕ → List ℕ → ℕ → List ℕ → List ℕ → List ℕ
@@ -70,13 +76,15 @@ module _ (d tree text changed notes : List ℕ) (discarded climbs : ℕ) {size :
       (encoded-length (toldResult discarded climbs tree text changed notes)
       ∙ omega (arith, elements kind, elements measure, annotated (λ n. n .number), annotated (λ n. n .row)))
 
-  pub whole-written : {a h : List ℕ} → length (encoded (toldResult discarded climbs tree text changed notes)) ≤ length d
-      → ((t : List ℕ) → a ≡ frontOver (length tree / 3 ∷ size ∷ length changed ∷ length notes / 3 ∷ discarded ∷ climbs ∷ []) (map kind (triples t tree)) (map measure (triples t tree)) (length tree / 3) d)
-      → h ≡ restOver (24 + 8 * (length tree / 3)) changed (noteColumn 1 notes) (noteColumn 0 notes) (length notes / 3) (flatMap own (triples text tree)) a
+  pub whole-written : {reads : ℕ} {a h : List ℕ} → length (encoded (toldResult discarded climbs tree text changed notes)) ≤ length d
+      → Front tree (size ∷ length changed ∷ length notes / 3 ∷ discarded ∷ climbs ∷ []) d a reads
+      → h ≡ restOver (24 + 8 * reads) changed (noteColumn 1 notes) (noteColumn 0 notes) (length notes / 3) (flatMap own (triples text tree)) a
       → h ≡ paste d 0 (encoded (toldResult discarded climbs tree text changed notes)) (length (encoded (toldResult discarded climbs tree text changed notes)))
-  unfolding resultIn frontOver restOver noteColumn noteWords sixSizes
-  whole-written {a} {h} room f r =
+  unfolding resultIn frontOver elementsOver restOver noteColumn noteWords sixSizes
+  whole-written {reads} {a} {h} room f r =
       let R : Result = toldResult discarded climbs tree text changed notes in
       let n : ℕ = length tree / 3 in
-      let six : _≡_ {A = List ℕ} (n ∷ size ∷ length changed ∷ length notes / 3 ∷ discarded ∷ climbs ∷ []) (sixSizes R) = rw (elements kind, annotated (λ n. n .number), p .0) in
-      encoded-written R d n (length notes / 3) room (elements kind) (elements measure) (annotated (λ n. n .number)) (annotated (λ n. n .row)) (ap (λ s. paste d 0 (written s) 24) six) refl (f text) refl refl refl r
+      let m : ℕ = length notes / 3 in
+      let six : _≡_ {A = List ℕ} (reads ∷ size ∷ length changed ∷ m ∷ discarded ∷ climbs ∷ []) (sixSizes R) = rw (f .count .rows, elements kind, annotated (λ n. n .number), p .0) in
+      encoded-written R d n m room (elements kind) (elements measure) (annotated (λ n. n .number)) (annotated (λ n. n .row)) (ap (λ s. paste d 0 (written s) 24) six) refl (f .arrays text) refl refl refl
+      (r ∙ ap (λ e. restOver (24 + 8 * e) changed (noteColumn 1 notes) (noteColumn 0 notes) m (flatMap own (triples text tree)) a) (f .count .rows))

@@ -1,21 +1,20 @@
 // The result from what the run leaves: changed elements and notes in order, refusal 13, and the bytes.
 ghost use mathlib.Core.Path.{_≡_};
-ghost use mathlib.Core.List.{List, map, flatMap, _∷_, []};
+ghost use mathlib.Core.List.{List, flatMap, _∷_, []};
 ghost use Prim.Native.Nat.{ℕ, _+_, _*_, _/_, _^_, _≤_, _<_};
 ghost use lib.ListN.{length, take};
 ghost use lib.Seq.{paste};
 ghost use Rattle.definition.specs.Words.{written};
-ghost use Rattle.rows_model.specs.Row.{kind, measure, own, bytes, triples, firstRows};
+ghost use Rattle.rows_model.specs.Row.{own, bytes, triples, firstRows};
 ghost use Rattle.run_annotations.specs.Notes.{notesOf};
 ghost use Rattle.run_tree_store.specs.Stored.{stored};
 ghost use Rattle.finish_model.specs.Finished.{resultOf};
 ghost use Rattle.finish_result.specs.Answered.{Answered};
-ghost use Rattle.finish_result.specs.Arrays.{noteColumn, frontOver, restOver, toldResult};
+ghost use Rattle.finish_result.specs.Arrays.{noteColumn, Front, restOver, toldResult};
 ghost use Rattle.finish_result.specs.InTree.{resultIn, changedBy, notesBy};
 use finish_arrays::fill_starts;
 use finish_arrays::text_size;
-use finish_arrays::write_kinds;
-use finish_arrays::write_measures;
+use finish_arrays::write_elements;
 use finish_arrays::write_sizes;
 use finish_arrays::write_text;
 use finish_sort::sort_changed;
@@ -47,7 +46,7 @@ fn write_column(b: &mut [u8], at: usize, notes: &[u32], j: usize)
     }
 }
 
-// The sizes, the kinds and the measures are written.
+// The kinds and the measures are written in one sweep, and then the sizes, the first of which is how many times it read an element. That number.
 fn write_front(
     b: &mut [u8],
     tree: &[u32],
@@ -56,15 +55,14 @@ fn write_front(
     notes: usize,
     discarded: usize,
     climbs: usize,
-)
+) -> usize
     requires { ⌜ (24 + 8 * (length (now tree) / 3) ≤ length (now b)) × (length (now tree) < 3 * 2 ^ 16) ⌝ }
     requires { ⌜ (size < 2 ^ 32) × (changed < 2 ^ 32) × (notes < 2 ^ 32) × (discarded < 2 ^ 32) × (climbs < 2 ^ 32) ⌝ }
-    ensures { λ _. ⌜ ((text : List ℕ) → now (b .exit) ≡ frontOver (length (now (tree .entry)) / 3 ∷ size ∷ changed ∷ notes ∷ discarded ∷ climbs ∷ []) (map kind (triples text (now (tree .entry)))) (map measure (triples text (now (tree .entry)))) (length (now (tree .entry)) / 3) (now (b .entry))) ⌝ }
+    ensures { λ r. ⌜ Front (now (tree .entry)) (size ∷ changed ∷ notes ∷ discarded ∷ climbs ∷ []) (now (b .entry)) (now (b .exit)) r ⌝ }
 {
-    let n = tree.len() / 3;
-    write_sizes(b, n, size, changed, notes, discarded, climbs);
-    write_kinds(b, 24, tree);
-    write_measures(b, 24 + 4 * n, tree);
+    let elements = write_elements(b, 24, tree);
+    write_sizes(b, elements, size, changed, notes, discarded, climbs);
+    elements
 }
 
 // The changed elements, the numbers and elements of the notes and the text are written from `at` on.
@@ -100,8 +98,8 @@ pub fn write_result(
     if result.len() < total {
         return Finished::Short;
     }
-    write_front(result, tree, size, changed.len(), m, discarded, climbs);
-    write_rest(result, 24 + 8 * n, tree, text, changed, notes);
+    let elements = write_front(result, tree, size, changed.len(), m, discarded, climbs);
+    write_rest(result, 24 + 8 * elements, tree, text, changed, notes);
     Finished::Bytes(total)
 }
 
