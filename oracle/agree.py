@@ -58,6 +58,6 @@ def verdict(batch, answer, printed):
     want = expected(batch, answer)
     if printed == want:
         return AGREED
-    if printed == refused(12) and want not in map(refused, range(2, 11)) and may_hold_many_notes(batch):
+    if printed == refused(12) and want not in map(refused, (*range(2, 11), 16)) and may_hold_many_notes(batch):
         return NOTES
     return DIFFERENT

@@ -8,7 +8,7 @@ from program import Stream
 from rust import Rust
 from shrink import describe, shrink
 
-LABELS = ["ok"] + ["refused %d" % number for number in range(2, 13)]
+LABELS = ["ok"] + ["refused %d" % number for number in (*range(2, 13), 16)]
 
 
 def label(printed):
@@ -78,7 +78,7 @@ class Comparison:
 
     def note(self, batch, answer, printed, how):
         facts = self.facts
-        facts["judged by " + {"Rust": "the Rust", "reader": "the oracle's reader (lines 2 to 7)",
+        facts["judged by " + {"Rust": "the Rust", "reader": "the oracle's reader (lines 2 to 7, 16)",
               "trees": "what the Rust's trees hold (line 12)",
               "model": "the model alone (the Rust fails on comparing a first-child position in a childless node)"}[source(answer)]] += how != NOTES  # fmt: skip
         facts["refused 12 for tracked notes on the way, which the Rust does not show"] += how == NOTES

@@ -551,7 +551,7 @@ def sizes_at_their_limits():
     yield "16 trees", Batch([node(1, a), node(1, c)] + [node(3) for _ in range(14)], [(AFTER, c, [c]), (AFTER, a, [c])])
     yield "256 calls at one place", Batch([node(1, a), node(1, c)], [(AFTER, a, [c])] * 256)
     yield "256 editors", Batch([node(1, a), node(1, c)], [OTHER] * 255 + [(AFTER, a, [c])])
-    yield "1,024 listed by one call", Batch([node(1, a), node(1, c)], [(MANY, a, [c] * 1024)], notes=[(a, 1)])
+    yield "1,024 listed by 25 calls", Batch([node(1, a), node(1, c)], [(AFTER, a, [c] * 41)] * 24 + [(MANY, a, [c] * 40)], notes=[(a, 1)])
     yield "256 notes on one element", Batch([node(1, a), node(1, c)], [(AFTER, a, [a, a])], notes=[(a, 1 + i % 3) for i in range(256)])
     yield "2,048 elements", two_thousand()
     yield "a result of 61,464 bytes, the longest", longest_result()
@@ -573,7 +573,7 @@ def longest_result():
     p, q = node(2, token(3, b"p" * 8)), node(2, token(3, b"q" * 8))
     rest = [token(4, b"rest") for _ in range(2042)] + [token(4, b"restrest")]
     root = node(1, p, q, *rest)
-    return Batch([root], [(AFTER, q, [p] * 768 + [q] * 256)], notes=[(p, 1)] + [(it, 2) for it in rest[:255]])
+    return Batch([root], [(AFTER, q, [p, p, p, q])] * 256, notes=[(p, 1)] + [(it, 2) for it in rest[:255]])
 
 
 def every_size():
@@ -644,8 +644,37 @@ def landings_in_empty_nodes():
     yield "an insertion into a copy lands in an empty one of a further tree", Batch(trees, calls, [(x, middle), (middle, last)])
 
 
+# ---------------------------------------------------------------- Note 3: forty-one listed elements
+
+
+def longest_lists():
+    s = S()
+    for most in (41, 42):
+        new = [s.c, s.d] * 20 + [s.a] * (most - 40)
+        for what, op, target, ends in (
+            ("as first children", FIRST, s.x, []),
+            ("after a node", AFTER, s.x, []),
+            ("in place of a node", MANY, s.x, []),
+            ("in place of a run", RUN, s.x, [s.b]),
+            ("in place of a run with equal ends", RUN, s.b, [s.b]),
+            ("in another tree", AFTER, s.c, []),
+        ):
+            yield "%d listed %s" % (most, what), s.batch((op, target, ends + new), notes=[(s.a, 1)])
+        yield "%d listed inside a deleted node" % most, s.batch((DELETE, s.x, []), (AFTER, s.a, new))
+        yield "%d listed by a second editor" % most, s.batch((AFTER, s.x, [s.c]), OTHER, (AFTER, s.b, new))
+        yield "%d listed inside a replaced node" % most, s.batch((REPLACE, s.x, [s.r]), (AFTER, s.a, new), mappings=[(s.x, s.copy)], more=[s.r])
+        yield "%d listed inside a replaced node that nothing maps" % most, s.batch((REPLACE, s.x, [s.r]), (AFTER, s.a, new), more=[s.r])
+        yield "%d listed, and a root as a mapping's output" % most, s.batch((AFTER, s.x, new), mappings=[(s.x, s.root)])
+        yield "%d listed, and a token as parent in a later call" % most, s.batch((AFTER, s.x, new), (FIRST, s.b, []))
+        yield "%d listed, and a token as parent in an earlier call" % most, s.batch((FIRST, s.b, []), (AFTER, s.x, new))
+        yield "%d listed by a replacement" % most, s.batch((REPLACE, s.x, new))
+        yield "%d listed by a replacement that a delete would ignore" % most, s.batch((DELETE, s.x, []), (REPLACE, s.x, new))
+        yield "%d listed by a delete" % most, s.batch((DELETE, s.x, new))
+    yield "1,024 listed by one call", s.batch((MANY, s.x, [s.c] * 1024))
+
+
 def all_cases():
-    parts = (printed, marked, lines_2_to_4, line_5, line_6, line_7, recording, planning, dependents, endless, notes, running, limits, empty_nodes)
+    parts = (printed, marked, lines_2_to_4, line_5, line_6, line_7, recording, planning, dependents, endless, notes, running, limits, empty_nodes, longest_lists)
     for part in parts:
         for what, batch in part():
             yield what, encode(batch) if isinstance(batch, Batch) else batch

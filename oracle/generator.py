@@ -334,6 +334,17 @@ def templates(d):
     return batch
 
 
+def listing(d):
+    """Lists of about as many elements as a call may have, and of one more."""
+    style = small_style(d)
+    batch = Batch([some_tree(d, style, 2), some_tree(d, style, 1)])
+    calls = Calls(d, batch, ((FIRST, 1), (AFTER, 2), (DELETE, 1), (MANY, 2), (RUN, 2)))
+    few = calls.count
+    calls.count = lambda: d.weighted(((40, 1), (41, 3), (42, 1))) if d.chance(0.7) else few()
+    calls.add(d.between(1, 4))
+    return batch
+
+
 def tangled(d):
     """Chains with mappings that make no sense added to them or put in their place."""
     batch = chains(d) if d.chance(0.7) else free(d)
@@ -416,7 +427,7 @@ def large(d):
     return batch
 
 
-SORTS = ((templates, 3), (free, 19), (crowded, 12), (moving, 12), (chains, 34), (tangled, 12), (emptied, 2), (growing, 1.2), (exact, 0.4), (large, 0.4))
+SORTS = ((templates, 3), (listing, 1), (free, 18), (crowded, 12), (moving, 12), (chains, 34), (tangled, 12), (emptied, 2), (growing, 1.2), (exact, 0.4), (large, 0.4))
 
 
 def add_editors(d, batch):
@@ -435,7 +446,7 @@ def generate(seed, number):
     """The batch of this number: what sort it is, and its bytes."""
     d = Draws(seed, number)
     damaged = d.chance(0.1)
-    sort = d.weighted(SORTS[:7] if damaged else SORTS)
+    sort = d.weighted(SORTS[:8] if damaged else SORTS)
     batch = sort(d)
     add_editors(d, batch)
     add_notes(d, batch)

@@ -116,16 +116,17 @@ fn front() -> Case {
     case("insertions at the front", 1 + 8 * 254 + 2, 256, it)
 }
 
-fn listing() -> Case {
+/// Calls at one place, each with as many elements as a call may list.
+fn listing(calls: usize) -> Case {
     let mut it = BatchBuilder::new();
     it.open(1);
     let tokens = group(&mut it);
     it.close();
     it.open(1);
-    let listed = (0..1_000).map(|_| it.token(3, b"c")).collect::<Vec<_>>();
+    let listed = (0..41 * calls).map(|_| it.token(3, b"c")).collect::<Vec<_>>();
     it.close();
-    it.insert_after(tokens[3], &listed);
-    case("one call that lists 1,000 elements", 1_010, 1, it)
+    listed.chunks(41).for_each(|own| it.insert_after(tokens[3], own));
+    case(&format!("calls that list 41 elements each: {calls}"), 10 + 41 * calls, calls, it)
 }
 
 /// A batch of each sort.
@@ -138,7 +139,8 @@ pub fn sorts() -> Vec<Case> {
         deep(),
         dependents(),
         mixed("256 notes, 64 calls", 1_024, 64, 256),
-        listing(),
+        listing(1),
+        listing(24),
     ]
 }
 

@@ -61,8 +61,9 @@ enum {
     SYNTAX_GONE = 11,           /* a step's target is gone */
     SYNTAX_LARGE = 12,          /* the trees outgrow their limits */
     SYNTAX_SHORT_RESULT = 13,   /* the result buffer is too short */
-    SYNTAX_LISTS = 14,          /* lists in step differ in length, or the lists make a batch that 3 to 7 would refuse */
-    SYNTAX_SHORT_DESTINATION = 15   /* the destination is too short, checked after 14 */
+    SYNTAX_LISTS = 14,          /* lists in step differ in length, or the lists make a batch that 3 to 7 or 16 would refuse */
+    SYNTAX_SHORT_DESTINATION = 15,  /* the destination is too short, checked after 14 */
+    SYNTAX_LISTED = 16          /* a call lists more than 41 elements, a run's end not counted; checked right after 6 */
 };
 
 /* Edits: the length of the answer that now stands at the start of the result, or a refusal with a minus. */

@@ -1,9 +1,11 @@
-//! Reads a batch, with lines 2 to 7 of document 01's refusals. The Rust has no such reader; this one follows the document.
+//! Reads a batch, with lines 2 to 7 of document 01's refusals and 16 of document 02. The Rust has no such reader; this one follows the documents.
 
 pub const MOST_BYTES: usize = 65_536;
 const NODE: u32 = 1 << 31;
 const LIMITS: [(u64, u64); 7] = [(1, 16), (0, 2_048), (0, 16_384), (0, 256), (0, 1_024), (0, 1_024), (0, 256)];
 const MOST_DEPTH: usize = 64;
+/// The most elements that a call may list, a run's end not counted.
+const MOST_LISTED: usize = 41;
 
 /// An element: `index` among its parent's children, `children` of its own, and the number `end` after all below it.
 pub struct Element<'a> {
@@ -59,6 +61,9 @@ pub fn read(data: &[u8]) -> Result<Batch<'_>, u32> {
     let (note_elements, note_numbers) = (array(a), array(a));
     let (elements, roots) = spell(&kinds, &measures, &data[data.len() - b..], trees).ok_or(5u32)?;
     let calls = calls(&call_words, &targets, &listed, &elements).ok_or(6u32)?;
+    if calls.iter().any(|it| it.listed.len() > MOST_LISTED + usize::from(it.operation == 5)) {
+        return Err(16);
+    }
     let node = |number: u32| elements.get(number as usize).filter(|it| it.node);
     for (&input, &output) in inputs.iter().zip(&outputs) {
         if node(input).is_none() || node(output).is_none_or(|it| it.parent.is_none()) {

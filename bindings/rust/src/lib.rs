@@ -20,7 +20,7 @@ pub const MOST_ANSWER: usize = 61_464;
 #[derive(Clone, Copy, Debug, PartialEq, Eq, Hash)]
 pub struct Refusal(u8);
 
-const MEANINGS: [&str; 15] = [
+const MEANINGS: [&str; 16] = [
     "a work slice is too short",
     "the batch has under 28 bytes",
     "a size is out of its limits",
@@ -36,12 +36,13 @@ const MEANINGS: [&str; 15] = [
     "the result buffer is too short",
     "the lists differ in length or make a batch that is not well formed",
     "the destination is too short",
+    "a call lists more than 41 elements",
 ];
 
 impl Refusal {
-    /// The refusal of this number, 1 to 15.
+    /// The refusal of this number, 1 to 16.
     fn numbered(number: i64) -> Option<Refusal> {
-        u8::try_from(number).ok().filter(|it| (1..=15).contains(it)).map(Refusal)
+        u8::try_from(number).ok().filter(|it| (1..=16).contains(it)).map(Refusal)
     }
 
     pub fn number(self) -> u8 {
@@ -103,6 +104,6 @@ impl Editor {
 fn told(answer: i64) -> Result<usize, Refusal> {
     match usize::try_from(answer) {
         Ok(number) => Ok(number),
-        Err(_) => Err(Refusal::numbered(-answer).expect("a refusal is numbered 1 to 15")),
+        Err(_) => Err(Refusal::numbered(-answer).expect("a refusal is numbered 1 to 16")),
     }
 }

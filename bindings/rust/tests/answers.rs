@@ -246,7 +246,7 @@ fn trees_that_outgrow_their_limits_are_refused() {
             it.builder.token(3, b"");
         }
         it.builder.close();
-        it.builder.insert_after(it.b, &vec![large; copies]);
+        vec![large; copies].chunks(41).for_each(|copies| it.builder.insert_after(it.b, copies));
         answered(&it)
     };
     // 19 elements stand before the step and 11 come with each copy: 4,096 is the most.
@@ -309,12 +309,13 @@ fn a_builder_gives_no_batch_that_does_not_fit() {
 
 #[test]
 fn a_builder_gives_no_batch_that_the_editor_would_call_malformed() {
-    let wrong: [fn(&mut S); 6] = [
+    let wrong: [fn(&mut S); 7] = [
         |it| it.builder.delete(99),
         |it| it.builder.replace_all(it.b, it.x, &[]),
         |it| it.builder.insert_first(it.a, &[it.c]),
         |it| it.builder.map(it.a, it.b),
         |it| it.builder.note(99, 1),
+        |it| it.builder.insert_after(it.b, &[it.c; 42]),
         |it| (0..257).for_each(|_| it.builder.delete(it.a)),
     ];
     for tell in wrong {
@@ -322,6 +323,22 @@ fn a_builder_gives_no_batch_that_the_editor_would_call_malformed() {
         tell(&mut it);
         assert_eq!(unwritten(&it.builder), 14);
     }
+}
+
+#[test]
+fn a_call_lists_41_elements_at_most() {
+    let mut it = s();
+    it.builder.insert_after(it.b, &[it.c; 41]);
+    let mut bytes = it.builder.finish().expect("41 may be listed").bytes().to_vec();
+    assert!(Editor::new().edit_bytes(&bytes).is_ok());
+    // One more: in the size, in the call word, and in the list, which starts behind the call's target.
+    let elements = usize::from(bytes[4]);
+    bytes[16] += 1;
+    bytes[4 * (7 + 2 * elements) + 1] += 1;
+    bytes.splice(4 * (9 + 2 * elements)..4 * (9 + 2 * elements), it.c.to_le_bytes());
+    let refusal = Editor::new().edit_bytes(&bytes).map(|_| ()).unwrap_err();
+    assert_eq!(refusal.number(), 16);
+    assert_eq!(refusal.to_string(), "refused 16: a call lists more than 41 elements");
 }
 
 #[test]

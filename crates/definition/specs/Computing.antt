@@ -32,7 +32,7 @@ unfolding
     Words.word Words.words Words.bytes Words.written
     Batch.sizes Batch.beyond Batch.whole Batch.arrays Batch.batch
     Elements.isNode Elements.kindOf Elements.malformed Elements.pieces Elements.plant Elements.grow Elements.startsWithToken Elements.unspelled Elements.spelled Elements.numbers Elements.rows Elements.rowsBelow Elements.table Elements.noRow Elements.row Elements.node? Elements.parent Elements.root? Elements.depth Elements.tree Elements.child Elements.placeBelow Elements.descend
-    Refusals.callWord Refusals.operationOf Refusals.countOf Refusals.calls Refusals.wrongCount Refusals.sameParent Refusals.wrongRun Refusals.misplaced Refusals.wrongCall Refusals.wrongMapping Refusals.wrongNote Refusals.accepted
+    Refusals.callWord Refusals.operationOf Refusals.countOf Refusals.calls Refusals.wrongCount Refusals.tooMany Refusals.listsTooMany Refusals.sameParent Refusals.wrongRun Refusals.misplaced Refusals.wrongCall Refusals.wrongMapping Refusals.wrongNote Refusals.accepted
     Writing.sizesOf Writing.sevenSizes Writing.callWords Writing.laidOut Writing.differ Writing.outOfStep Writing.unfitting Writing.unlayable Writing.wrongLists Writing.write Writing.listsOf Writing.lists
     Recording.run Recording.change Recording.call Recording.merges Recording.merged Recording.merge Recording.queued Recording.recordCall Recording.recorded
     Planning.target Planning.rank Planning.from Planning.to Planning.above Planning.parentDepth Planning.key Planning.sorted Planning.peers Planning.exceeds Planning.overlapping Planning.overlap Planning.isDiscarded Planning.around Planning.fate Planning.addsRegion Planning.nodeByNode Planning.inner Planning.pushed Planning.fatesFrom Planning.fates Planning.withFates Planning.planned Planning.judge

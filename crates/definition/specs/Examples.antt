@@ -5,7 +5,7 @@ use mathlib.Core.List.{List, [], _∷_, map, flatMap}
 use mathlib.Core.Option.{none, some}
 use Prim.Native.Nat.{ℕ, _+_}
 use Prim.Native.String.{String}
-use lib.ListN.{length}
+use lib.ListN.{length, replicate}
 use Rattle.definition.specs.Basics.{Answer, refused, gives, _>>=_}
 use Rattle.orders.specs.Tree.{Tree, node, token, forest, label, text, measure, preorder}
 use Rattle.orders.specs.Splices.{Splice}
@@ -263,6 +263,44 @@ further =
     ∷ (onEmpty [] (call 0 5 (4 ∷ []) ∷ []), refused 6)
     ∷ []
 
+-- by which number lines 2 to 7 refuse a batch, 0 if they accept it
+unfoldable pub refusal : Told → ℕ
+refusal b = elim (accepted (inBytes b)) [ refused n ↦ n | gives a ↦ 0 ]
+
+-- a call of this operation on X that lists c n times; a run from X to y by as many
+abbrev many : ℕ → ℕ → Call
+many op n = call op 1 (replicate n 5)
+
+abbrev runBy : ℕ → ℕ → Call
+runBy y n = call 5 1 (y ∷ replicate n 5)
+
+-- each batch that is tried for its longest list, with its refusal. "Make 41 the most a call may list, a run's end element not counted." (document 02, Note 3)
+abbrev pub longest : List (Told × ℕ)
+longest =
+    -- 41 and 42 as first children of X, after X, in its place
+    (onS (many 0 41 ∷ []), 0)
+    ∷ (onS (many 0 42 ∷ []), 16)
+    ∷ (onS (many 1 41 ∷ []), 0)
+    ∷ (onS (many 1 42 ∷ []), 16)
+    ∷ (onS (many 4 41 ∷ []), 0)
+    ∷ (onS (many 4 42 ∷ []), 16)
+    -- in place of the run from X to b, and of that from X to X: 42 and 43 words
+    ∷ (onS (runBy 3 41 ∷ []), 0)
+    ∷ (onS (runBy 3 42 ∷ []), 16)
+    ∷ (onS (runBy 1 41 ∷ []), 0)
+    ∷ (onS (runBy 1 42 ∷ []), 16)
+    -- a replacement or a delete that lists 42 has a wrong count
+    ∷ (onS (many 2 42 ∷ []), 6)
+    ∷ (onS (many 3 42 ∷ []), 6)
+    -- X deleted, so that what follows would be discarded
+    ∷ (onS (call 3 1 [] ∷ many 1 42 ∷ []), 16)
+    -- b, a token, as parent in a later call: all of 6 comes first
+    ∷ (onS (many 1 42 ∷ call 0 3 [] ∷ []), 6)
+    -- a root as output: 7 comes after
+    ∷ (onSWith ((1, 0) ∷ []) (many 1 42 ∷ []), 16)
+    ∷ (onSWith ((1, 0) ∷ []) (many 1 41 ∷ []), 7)
+    ∷ []
+
 -- X by R, X mapped to X′, c after a; notes 2 on a, 1 on b, 2 on X: one climb step, and the notes of X and a move into R
 abbrev pub withNotes : Told
 withNotes = record {
@@ -314,14 +352,15 @@ callsOnS operations counts targets listed =
       numbers = [];
     }
 
--- c after X; the same with one count too many; with an operation that its part of the word cannot hold; with an element of E. The second and the
--- third would be laid out as the first
+-- c after X; the same with one count too many; with an operation that its part of the word cannot hold; with an element of E; with
+-- 42 elements. The second and the third would be laid out as the first
 abbrev tried : List Lists
 tried =
     callsOnS (1 ∷ []) (1 ∷ []) (1 ∷ []) (5 ∷ [])
     ∷ callsOnS (1 ∷ []) (1 ∷ 1 ∷ []) (1 ∷ []) (5 ∷ [])
     ∷ callsOnS (257 ∷ []) (0 ∷ []) (1 ∷ []) (5 ∷ [])
     ∷ callsOnS (1 ∷ []) (1 ∷ []) (1 ∷ []) (11 ∷ [])
+    ∷ callsOnS (1 ∷ []) (42 ∷ []) (1 ∷ []) (replicate 42 5)
     ∷ []
 
 -- ── The table ───────────────────────────────────────────────────────────────────────────────────────────────
@@ -336,7 +375,7 @@ answered es = map (λ m. short (edit (inBytes (m .0)))) es
 
 -- Each marked example gives what is told of it; the printed case has 91 bytes and prints its lines. So with the further examples; and of `withNotes`
 -- `find_element` finds X (element 1) as X′ (2), and nothing for the token a or for a number of E. A batch is read as the lists that it was laid out from; the
--- writer lays the printed case out where there is room for it, and without room it refuses wrong lists by 14, before 15.
+-- writer lays the printed case out where there is room for it, and without room it refuses wrong lists by 14, before 15. Lists of 41 elements pass, of 42 not.
 pub examples : (answered marked ≡ told marked)
     × (length (inBytes printedCase) ≡ 91)
     × (printed (inBytes printedCase) ≡ ascii printedLines)
@@ -347,6 +386,7 @@ pub examples : (answered marked ≡ told marked)
     × (map (findElement [] (inBytes withNotes)) (1 ∷ 2 ∷ 11 ∷ []) ≡ gives (some 2) ∷ gives none ∷ gives none ∷ [])
     × (lists (inBytes withNotes) ≡ gives (inLists withNotes))
     × (map (write (inLists printedCase)) (91 ∷ 90 ∷ []) ≡ gives (inBytes printedCase) ∷ refused 15 ∷ [])
-    × (map (λ l. write l 0) tried ≡ refused 15 ∷ refused 14 ∷ refused 14 ∷ refused 14 ∷ [])
-unfolding computed short inLists inBytes fatesOf
-examples = (refl, refl, refl, refl, refl, refl, refl, refl, refl, refl, refl)
+    × (map (λ l. write l 0) tried ≡ refused 15 ∷ refused 14 ∷ refused 14 ∷ refused 14 ∷ refused 14 ∷ [])
+    × (map (λ m. refusal (m .0)) longest ≡ map (λ m. m .1) longest)
+unfolding computed short inLists inBytes fatesOf refusal
+examples = (refl, refl, refl, refl, refl, refl, refl, refl, refl, refl, refl, refl)

@@ -3,7 +3,7 @@
 --     Words        the batch: words in bytes
 --     Batch        the batch: sizes, limits, arrays                                  refusals 2, 3, 4
 --     Elements     the batch: the trees it spells, and what is known of each element            5
---     Refusals     calls, mappings, notes; a batch accepted                                  6, 7
+--     Refusals     calls, mappings, notes; a batch accepted                              6, 16, 7
 --     Writing      THE WRITER: the batch laid out from lists, and read as lists            14, 15
 --     Recording    from calls to changes
 --     Planning     sorting, overlap, owners and discarded changes                               8

@@ -1,17 +1,19 @@
 -- Running and splicing: "A batch's splices are those these rules perform on tree 0, each with what its listed elements yield then, numbered as performed
 -- and placed by rewritten targets".
 -- Assumes nothing.
+use mathlib.Core.Path.{_≡_}
 use mathlib.Core.Bool.{cond}
 use mathlib.Core.List.{List, [], _∷_, map}
 use mathlib.Core.Option.{Option, none, some, bind}
-use Prim.Native.Nat.{ℕ}
+use Prim.Native.Nat.{ℕ, _≤_}
 use lib.Dec.{eqb}
-use Rattle.orders.specs.Lists.{pick}
+use lib.ListN.{length}
+use Rattle.orders.specs.Lists.{All, pick}
 use Rattle.orders.specs.Tree.{Tree}
 use Rattle.orders.specs.Splices.{Splice}
 use Rattle.definition.specs.Basics.{Answer, refused, gives, _>>=_, numbered}
 use Rattle.definition.specs.Elements.{Table}
-use Rattle.definition.specs.Refusals.{Accepted, accepted}
+use Rattle.definition.specs.Refusals.{mostListed, Accepted, accepted}
 use Rattle.definition.specs.Planning.{Planned}
 use Rattle.definition.specs.Running.{World, Run, news, place, yield, step}
 use Rattle.definition.specs.Answers.{Plan, plan, performed, atFirst, ran}
@@ -51,3 +53,7 @@ splicesOf bytes = do
   p ← plan a
   _ ← ran a p
   gives (splices a p)
+
+-- "no splice inserts more than 41 subtrees" (document 02, Note 3): every splice of a batch that is not refused
+abbrev pub InsertsFew : List ℕ → Type 0
+InsertsFew bytes = (S : List (Splice ℕ)) → splicesOf bytes ≡ gives S → All (λ s. length s.prepared ≤ mostListed) S

@@ -1,9 +1,9 @@
--- Refused, in checking order: lines 2 to 7.
+-- Refused, in checking order: lines 2 to 7, with 16 right after 6. Wherever a batch passes lines 2 to 7 "it has passed 16 as well" (document 02, Note 3).
 -- Assumes nothing.
 use mathlib.Core.Bool.{Bool, true, false, cond, not, _&&_, _||_}
 use mathlib.Core.List.{List, [], _∷_, headD, zip}
 use mathlib.Core.Option.{Option, none, some, Option·map}
-use Prim.Native.Nat.{ℕ, _+_, _*_, _/_, _%_}
+use Prim.Native.Nat.{ℕ, _+_, _-_, _*_, _/_, _%_}
 use lib.ListN.{length, take, drop}
 use lib.Dec.{leb, ltb, eqb}
 use Rattle.orders.specs.Tree.{Tree}
@@ -48,6 +48,18 @@ calls (c ∷ cs) l =
 unfoldable pub wrongCount : ℕ → ℕ → Bool
 wrongCount op n = (among (3 ∷ 6 ∷ []) op && ltb 0 n) || (eqb op 2 && not (eqb n 1)) || (eqb op 5 && eqb n 0)
 
+-- "Make 41 the most a call may list" (document 02, Note 3)
+abbrev pub mostListed : ℕ
+mostListed = 41
+
+-- 16, of an operation that lists n elements: "a call lists more", "a run's end element not counted"
+unfoldable pub tooMany : ℕ → ℕ → Bool
+tooMany op n = ltb mostListed (cond (eqb op 5) (n - 1) n)
+
+-- 16, of one call
+unfoldable pub listsTooMany : Call → Bool
+listsTooMany c = tooMany c.operation (length c.listed)
+
 -- two parents are one (none is a root's)
 unfoldable pub sameParent : Option ℕ → Option ℕ → Bool
 sameParent none none = true
@@ -90,7 +102,7 @@ module _ (T : Table) where
 
 -- ── The batch accepted ──────────────────────────────────────────────────────────────────────────────────────
 
--- what lines 2 to 7 accept: the trees, what is known of each element, the calls, the mappings (input, output), the notes (element, number)
+-- what lines 2 to 7 and 16 accept: the trees, what is known of each element, the calls, the mappings (input, output), the notes (element, number)
 pub record Accepted : Type 0 where
   pub trees : List (Tree ℕ)
   pub table : Table
@@ -98,7 +110,7 @@ pub record Accepted : Type 0 where
   pub mappings : List (ℕ × ℕ)
   pub notes : List (ℕ × ℕ)
 
--- lines 2 to 7, in order
+-- lines 2 to 7 in order. "16: a call lists more, checked right after 6": all of 6, of every call, comes first
 unfoldable pub accepted : List ℕ → Answer Accepted
 accepted bytes = do
   b ← batch bytes
@@ -106,6 +118,7 @@ accepted bytes = do
   let T = table 0 0 ts
   cs ← orRefuse 6 (calls (zip b.calls b.targets) b.listed)
   _ ← refuse 6 (any (wrongCall T) cs)
+  _ ← refuse 16 (any listsTooMany cs)
   let mappings = zip b.inputs b.outputs
   let notes = zip b.noted b.numbers
   _ ← refuse 7 (any (wrongMapping T) mappings || any (wrongNote T) notes)

@@ -89,7 +89,7 @@ unfitting l = any (leb 256) l.operations || any (leb 16777216) l.counts
 unfoldable pub unlayable : Lists → Bool
 unlayable l = outOfStep l || beyond (sizesOf l) || unfitting l
 
--- 14: "the lists would be refused under 3 to 7"
+-- 14: "the lists would be refused under 3 to 7", 16 among them: "The writer obeys it too, under 14" (Note 3)
 unfoldable pub wrongLists : Lists → Bool
 wrongLists l = unlayable l || isRefused (accepted (laidOut l))
 

@@ -17,7 +17,7 @@ use Rattle.definition.specs.Basics.{gives, refuse, orRefuse, any}
 use Rattle.definition.specs.Words.{words}
 use Rattle.definition.specs.Batch.{Sizes, sizes, beyond, whole, Batch, arrays, batch}
 use Rattle.definition.specs.Elements.{table, pieces, grow, unspelled, spelled, malformed, startsWithToken}
-use Rattle.definition.specs.Refusals.{Call, calls, wrongCall, wrongMapping, wrongNote, Accepted, accepted}
+use Rattle.definition.specs.Refusals.{Call, calls, listsTooMany, wrongCall, wrongMapping, wrongNote, Accepted, accepted}
 use Rattle.definition_laws.specs.Answers.{gives-inj, both-given, given, not-wrong, is-there}
 use Rattle.definition_laws.specs.Spelling.{Spells, read-spells}
 use Rattle.definition_laws.specs.Right.{neither, none-passes}
@@ -116,6 +116,7 @@ pub record Known (bytes : List ℕ) (a : Accepted) : Type 0 where
   pub table : a .table ≡ table 0 0 a.trees
   pub parted : calls (zip arrays.calls arrays.targets) arrays.listed ≡ some (a .calls)
   pub calls : All (λ c. wrongCall a.table c ≡ false) a.calls
+  pub few : All (λ c. listsTooMany c ≡ false) a.calls
   pub mappings : All (λ m. wrongMapping a.table m ≡ false) a.mappings
   pub paired : a .mappings ≡ zip arrays.inputs arrays.outputs
   pub notes : All (λ n. wrongNote a.table n ≡ false) a.notes
@@ -136,11 +137,11 @@ spelled-spells s b ts z e =
 
 -- from what each line lets pass
 known : (bytes : List ℕ) (b : Batch) (ts : List (Tree ℕ)) (cs : List Call) → batch bytes ≡ gives b → spelled b ≡ some ts → calls (zip b.calls b.targets) b.listed ≡ some cs
-    → any (wrongCall (table 0 0 ts)) cs ≡ false
+    → any (wrongCall (table 0 0 ts)) cs ≡ false → any listsTooMany cs ≡ false
     → (any (wrongMapping (table 0 0 ts)) (zip b.inputs b.outputs) || any (wrongNote (table 0 0 ts)) (zip b.noted b.numbers)) ≡ false
     → Known bytes (record { trees = ts; table = table 0 0 ts; calls = cs; mappings = zip b.inputs b.outputs; notes = zip b.noted b.numbers })
 unfolding unspelled
-known bytes b ts cs x y z w k =
+known bytes b ts cs x y z w f k =
     let (l, s) = batch-sized bytes b x in
     let (sp, un) = spelled-spells (sizes bytes) b ts s y in
     let (un, d) = neither _ _ un in
@@ -160,6 +161,7 @@ known bytes b ts cs x y z w k =
       table = refl;
       parted = z;
       calls = none-passes (wrongCall (table 0 0 ts)) cs w;
+      few = none-passes listsTooMany cs f;
       mappings = none-passes (wrongMapping (table 0 0 ts)) (zip b.inputs b.outputs) km;
       paired = refl;
       notes = none-passes (wrongNote (table 0 0 ts)) (zip b.noted b.numbers) kn;
@@ -173,5 +175,6 @@ accepts bytes a e =
     given (orRefuse 5 (spelled b)) _ e λ ts y e.
     given (orRefuse 6 (calls (zip b.calls b.targets) b.listed)) _ e λ cs z e.
     given (refuse 6 (any (wrongCall (table 0 0 ts)) cs)) _ e λ u w e.
+    given (refuse 16 (any listsTooMany cs)) _ e λ t f e.
     given (refuse 7 (any (wrongMapping (table 0 0 ts)) (zip b.inputs b.outputs) || any (wrongNote (table 0 0 ts)) (zip b.noted b.numbers))) _ e λ v k e.
-    rw (← gives-inj e) (known bytes b ts cs x (is-there 5 (spelled b) y) (is-there 6 _ z) (not-wrong 6 _ w) (not-wrong 7 _ k))
+    rw (← gives-inj e) (known bytes b ts cs x (is-there 5 (spelled b) y) (is-there 6 _ z) (not-wrong 6 _ w) (not-wrong 16 _ f) (not-wrong 7 _ k))

@@ -16,7 +16,7 @@
 --     Plans      what is known of its plan: changes, climb steps, notes
 --     Running    what holds of the current trees and the present paths, whatever steps are performed
 --     Held       notes and changed elements stand in the current trees, whatever steps are performed
---     Performed  the splices that a batch performs on tree 0 fit it, and their numbers rise
+--     Performed  the splices that a batch performs on tree 0 fit it, their numbers rise, and none inserts more than 41 subtrees
 --     Limits     an accepted answer's sizes are within the limits, and its bytes as many as the sizes tell
 pub mod Basics
 pub mod Answers

@@ -1,4 +1,5 @@
--- The splices that a batch performs on tree 0: each fits the old tree, is placed by a target as demand 3 says, and their numbers rise.
+-- The splices that a batch performs on tree 0: each fits the old tree, is placed by a target as demand 3 says, their numbers rise, and none inserts more than 41
+-- subtrees.
 -- Assumes nothing.
 use mathlib.Core.Path.{_≡_, refl, sym, ap, _∙_}
 use mathlib.Core.Bool.{Bool, true, false, cond}
@@ -7,7 +8,7 @@ use mathlib.Core.Option.{Option, none, some}
 use Prim.Native.Nat.{ℕ, suc, _≤_, _<_}
 use native.Mathlib.Omega.{arith}
 use lib.Dec.{eqb}
-use lib.ListN.{getElem?}
+use lib.ListN.{length, length-map, getElem?}
 use borrow.Author.Tests.{eqb-true}
 use Rattle.orders.specs.Lists.{All, Pairs, pick}
 use Rattle.orders.specs.ListLaws.{some-inj, none-some, All-map, All-over, Pairs-over, All-pick}
@@ -17,18 +18,20 @@ use Rattle.orders.specs.Splices.{Splice, Fits}
 use Rattle.orders.specs.Target.{Target, firstChild, afterChild, children, Rising}
 use Rattle.definition.specs.Basics.{Answer, refused, gives, numbered}
 use Rattle.definition.specs.Elements.{Table, table, row, root?}
-use Rattle.definition.specs.Refusals.{Accepted}
+use Rattle.definition.specs.Refusals.{mostListed, Accepted, accepted}
 use Rattle.definition.specs.Recording.{Place, Change, insert, replace, delete, replaceWithMany, replaceAll}
 use Rattle.definition.specs.Planning.{Planned}
 use Rattle.definition.specs.Rewriting.{Note}
-use Rattle.definition.specs.Running.{World, begin, present, emptyAt, fromTo, place, step}
-use Rattle.definition.specs.Answers.{Plan, performed, atFirst}
-use Rattle.definition.specs.Performed.{inTree0, toSplice, met, told, splices}
-use Rattle.definition_laws.specs.Answers.{bound}
+use Rattle.definition.specs.Running.{World, begin, present, yield, news, emptyAt, fromTo, place, step}
+use Rattle.definition.specs.Answers.{Plan, plan, performed, atFirst, ran}
+use Rattle.definition.specs.Performed.{inTree0, toSplice, met, yields, told, splices, splicesOf, InsertsFew}
+use Rattle.definition_laws.specs.Answers.{gives-inj, given, bound}
 use Rattle.definition_laws.specs.Spelling.{Worded}
 use Rattle.definition_laws.specs.Kin.{IsParent, not-root, parent-is}
 use Rattle.definition_laws.specs.Right.{Right, Sits, right-sits}
 use Rattle.definition_laws.specs.Stages.{numbered-all}
+use Rattle.definition_laws.specs.Accepted.{accepts}
+use Rattle.definition_laws.specs.Plans.{checked, plan-known, performed-few}
 use Rattle.definition_laws.specs.Running.{top, Follows, follows-begin, present-order, place-fits}
 
 -- ── Runs ────────────────────────────────────────────────────────────────────────────────────────────────────
@@ -148,3 +151,34 @@ splices-placed a p old z q h c = go a.table q (performed a p) c
         rw q (λ c. placed-splices old (pick (told T₀ first) (met T₀ first first ps))
         (All-pick (told T₀ first) (λ m. Right T₀ (m .1 .change)) (λ x. HasRun old (x .0 .parent) (x .0 .from) (x .0 .to) × Aimed (x .0))
         (λ m x e k. told-fits a.trees old z p.notes h m x k e) (met T₀ first first ps) (met-all T₀ first (λ q. Right T₀ q.change) first ps c)))
+
+-- ── "no splice inserts more than 41 subtrees" ───────────────────────────────────────────────────────────────
+
+-- Every change that a batch performs inserts no more, in whichever tree.
+pub performed-inserts : (bytes : List ℕ) (a : Accepted) (p : Plan) → accepted bytes ≡ gives a → plan a ≡ gives p
+    → All (λ m. length (yields a.table (atFirst a p) m) ≤ mostListed) (met a.table (atFirst a p) (atFirst a p) (performed a p))
+unfolding yields
+performed-inserts bytes a p x y =
+    let first = atFirst a p in
+    let few = performed-few a p (plan-known a (checked bytes a (accepts bytes a x)) p y) in
+    All-map (λ m h. rw (length-map (news (m .1 .change)) (λ e. (yield first (m .0) e) .tree)) h) (met a.table first first (performed a p)) (met-all a.table first (λ q. length (news q.change) ≤ mostListed) first (performed a p) few)
+
+-- So no splice of a batch does.
+pub inserts-few : (bytes : List ℕ) → InsertsFew bytes
+unfolding splicesOf splices told toSplice
+inserts-few bytes S e =
+    given (accepted bytes) _ e λ a x e.
+    given (plan a) _ e λ p y e.
+    given (ran a p) _ e λ w z e.
+    let first = atFirst a p in
+    let steps = met a.table first first (performed a p) in
+    rw (← gives-inj e)
+    (All-over toSplice (λ q. length (q .1 .1) ≤ mostListed) (λ s. length s.prepared ≤ mostListed) (λ q h. h) (numbered 0 (pick (told a.table first) steps))
+    (numbered-all (λ x. length (x .1) ≤ mostListed) 0 (pick (told a.table first) steps)
+    (All-pick (told a.table first) (λ m. length (yields a.table first m) ≤ mostListed) (λ x. length (x .1) ≤ mostListed) (λ m x e h. as-told a p m x e h) steps (performed-inserts bytes a p x y))))
+  where
+    as-told : (a : Accepted) (p : Plan) (m : World × Planned) (x : Run × List (Tree ℕ)) → told a.table (atFirst a p) m ≡ some x → length (yields a.table (atFirst a p) m) ≤ mostListed → length (x .1) ≤ mostListed
+    as-told a p m x e h =
+        bound (place a.table (atFirst a p) (m .1 .change)) _ e λ r i e.
+        bound (inTree0 r) _ e λ s j e.
+        rw (← some-inj e) h

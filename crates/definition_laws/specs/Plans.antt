@@ -10,11 +10,11 @@ use lib.Dec.{eqb}
 use lib.ListN.{length, length-map}
 use borrow.Author.Tests.{leb-false}
 use Rattle.orders.specs.Lists.{All, total}
-use Rattle.orders.specs.ListLaws.{bool-absurd, some-inj, none-some, All-map}
+use Rattle.orders.specs.ListLaws.{bool-absurd, some-inj, none-some, All-map, All-over}
 use Rattle.orders.specs.Tree.{Tree}
 use Rattle.definition.specs.Basics.{Answer, refused, gives, _>>=_, refuse, orRefuse, isSome}
 use Rattle.definition.specs.Elements.{Table, table, row, node?, placeBelow, descend}
-use Rattle.definition.specs.Refusals.{Call, wrongCall, wrongMapping, wrongNote, Accepted}
+use Rattle.definition.specs.Refusals.{Call, mostListed, listsTooMany, wrongCall, wrongMapping, wrongNote, Accepted}
 use Rattle.definition.specs.Recording.{Change, change, recorded}
 use Rattle.definition.specs.Planning.{Planned, sorted, Judgement, overlaps, fated}
 use Rattle.definition.specs.Rewriting.{mapping, mappedOr, land, rewritten, nearest, isParent, noteFrom, settle, Note, settled}
@@ -24,7 +24,7 @@ use Rattle.definition_laws.specs.Basics.{map-All, total-length, total-ma
 use Rattle.definition_laws.specs.Answers.{gives-inj, refused-gives, given, is-there}
 use Rattle.definition_laws.specs.Kin.{descends-place}
 use Rattle.definition_laws.specs.Accepted.{Known}
-use Rattle.definition_laws.specs.Right.{Right, neither, none-passes, change-right, change-lists}
+use Rattle.definition_laws.specs.Right.{Right, neither, none-passes, change-right, change-lists, change-few}
 use Rattle.definition_laws.specs.Stages.{lists, listsAll, recorded-all, recorded-total, sorted-all, sorted-total, planned-changes, judge-fated, RewroteAll, rewritten-all, order-all, ranked-all}
 
 -- ── Notes ───────────────────────────────────────────────────────────────────────────────────────────────────
@@ -89,10 +89,11 @@ module _ (ts : List (Tree ℕ)) (mapped : ℕ → Option ℕ) (within : (a y : �
 
 -- ── The plan ────────────────────────────────────────────────────────────────────────────────────────────────
 
--- what lines 6 and 7 say of what they let pass, as far as a plan needs it
+-- what lines 6, 16 and 7 say of what they let pass, as far as a plan needs it
 pub record Checked (a : Accepted) : Type 0 where
   pub table : a .table ≡ table 0 0 a.trees
   pub calls : All (λ c. wrongCall a.table c ≡ false) a.calls
+  pub few : All (λ c. listsTooMany c ≡ false) a.calls
   pub mappings : All (λ m. wrongMapping a.table m ≡ false) a.mappings
   pub notes : All (λ n. wrongNote a.table n ≡ false) a.notes
 
@@ -100,6 +101,8 @@ pub record Checked (a : Accepted) : Type 0 where
 pub record Judging (a : Accepted) (ps : List Planned) : Type 0 where
   -- line 6 would refuse none of them
   pub right : All (λ q. Right a.table q.change) ps
+  -- none lists more than 41 elements
+  pub few : All (λ q. lists q.change ≤ mostListed) ps
   -- there are no more of them than calls, and they list no more than the calls do
   pub count : length ps ≤ length a.calls
   pub listed : total (λ q. true) (λ q. lists q.change) ps ≤ total (λ c. true) (λ c. length c.listed) a.calls
@@ -108,6 +111,8 @@ pub record Judging (a : Accepted) (ps : List Planned) : Type 0 where
 pub record Planning (a : Accepted) (p : Plan) : Type 0 where
   -- line 6 would refuse none of its changes, as rewritten
   pub right : All (λ q. Right a.table q.change) p.changes
+  -- none lists more than 41 elements
+  pub few : All (λ q. lists q.change ≤ mostListed) p.changes
   -- there are no more of them than calls, and they list no more than the calls do
   pub count : length p.changes ≤ length a.calls
   pub listed : total (λ q. true) (λ q. lists q.change) p.changes ≤ total (λ c. true) (λ c. length c.listed) a.calls
@@ -139,6 +144,11 @@ module _ (a : Accepted) (k : Checked a) where
       sorted-all a.table (Right a.table) (recorded a.calls)
       (recorded-all (Right a.table) a.calls (All-map (λ c e h. change-right a.table c e h) a.calls (k .calls)))
 
+  changes-few : All (λ c. lists c ≤ mostListed) (sorted a.table (recorded a.calls))
+  changes-few =
+      sorted-all a.table (λ c. lists c ≤ mostListed) (recorded a.calls)
+      (recorded-all (λ c. lists c ≤ mostListed) a.calls (All-map (λ c e h. change-few c e) a.calls (k .few)))
+
   changes-listed : listsAll (sorted a.table (recorded a.calls)) ≤ total (λ c. true) (λ c. length c.listed) a.calls
   changes-listed =
       rw (sorted-total a.table (λ c. true) lists (recorded a.calls))
@@ -158,7 +168,7 @@ module _ (a : Accepted) (k : Checked a) where
       let same : map (λ q. q .change) ps ≡ cs = ap (map (λ q. q .change)) ((judge-fated T cs ps e) .1) ∙ planned-changes T cs in
       let long : length ps ≡ length cs = sym (length-map ps (λ q. q .change)) ∙ ap length same in
       let sum : total (λ q. true) (λ q. lists q.change) ps ≡ listsAll cs = total-map (λ q. q .change) lists ps ∙ ap listsAll same in
-      record { right = map-All (Right T) (λ q. q .change) ps (rw same changes-right); count = omega (arith, changes-count); listed = omega (arith, changes-listed) }
+      record { right = map-All (Right T) (λ q. q .change) ps (rw same changes-right); few = map-All (λ c. lists c ≤ mostListed) (λ q. q .change) ps (rw same changes-few); count = omega (arith, changes-count); listed = omega (arith, changes-listed) }
 
   -- what holds of the rewritten changes, from what holds of the judged ones
   rewritten-known : (ps : List Planned) (r : List Planned × ℕ) (notes : List Note) → RewroteAll a.table (mapping a.mappings) ps r → Judging a ps
@@ -170,6 +180,7 @@ module _ (a : Accepted) (k : Checked a) where
       total-map (λ q. news q.change) length (r .0) ∙ (ap (total (λ q. true) length) (w .listed) ∙ sym (total-map (λ q. news q.change) length ps)) in
       record {
         right = w .right (j .right);
+        few = map-All (λ l. length l ≤ mostListed) (λ q. news q.change) (r .0) (rw (w .listed) (All-over (λ q. news q.change) (λ q. lists q.change ≤ mostListed) (λ l. length l ≤ mostListed) (λ q h. h) ps (j .few)));
         count = omega (arith, j .count);
         listed = omega (arith, j .listed);
         climbs = rw long (w .steps);
@@ -202,11 +213,16 @@ module _ (a : Accepted) (k : Checked a) where
       given (settled T (mapping a.mappings) 0 a.notes) _ e λ notes z e.
       rw (← gives-inj e) (rewritten-known ps r notes (rewritten-all T (mapping a.mappings) ps r y) (judged-known ps (disjoint-fated (judgeChanges a) ps x)) (settled-known notes T (k .table) outputs-within notes-within z))
 
--- lines 6 and 7 have passed what is accepted
+-- lines 6, 16 and 7 have passed what is accepted
 pub checked : (bytes : List ℕ) (a : Accepted) → Known bytes a → Checked a
-checked bytes a k = record { table = k .table; calls = k .calls; mappings = k .mappings; notes = k .notes }
+checked bytes a k = record { table = k .table; calls = k .calls; few = k .few; mappings = k .mappings; notes = k .notes }
 
 -- each performed change is one that line 6 would not refuse
 pub performed-right : (a : Accepted) (p : Plan) → Planning a p → All (λ q. Right a.table q.change) (performed a p)
 unfolding performed
 performed-right a p k = order-all (λ q. Right a.table q.change) (ranked a.table p.changes) (length p.changes) none (ranked-all a.table (λ q. Right a.table q.change) p.changes (k .right))
+
+-- and lists no more than 41 elements
+pub performed-few : (a : Accepted) (p : Plan) → Planning a p → All (λ q. lists q.change ≤ mostListed) (performed a p)
+unfolding performed
+performed-few a p k = order-all (λ q. lists q.change ≤ mostListed) (ranked a.table p.changes) (length p.changes) none (ranked-all a.table (λ q. lists q.change ≤ mostListed) p.changes (k .few))

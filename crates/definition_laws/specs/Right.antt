@@ -4,7 +4,7 @@ use mathlib.Core.Path.{_≡_, refl, ap}
 use mathlib.Core.Bool.{Bool, true, false, cond, not, _&&_, _||_}
 use mathlib.Core.List.{List, [], _∷_, headD, tail}
 use mathlib.Core.Option.{Option, none, some}
-use Prim.Native.Nat.{ℕ, zero, suc, _≤_, _<_}
+use Prim.Native.Nat.{ℕ, zero, suc, _-_, _≤_, _<_}
 use native.Mathlib.Omega.{arith}
 use lib.Dec.{leb, ltb, eqb}
 use lib.ListN.{length}
@@ -14,7 +14,7 @@ use Rattle.orders.specs.ListLaws.{bool-absurd, All-map}
 pub use Rattle.orders.specs.ListLaws.{either-false as neither, none-passes}
 use Rattle.definition.specs.Basics.{any, among}
 use Rattle.definition.specs.Elements.{Table, node?, root?, parent, child}
-use Rattle.definition.specs.Refusals.{Call, wrongCount, sameParent, wrongRun, misplaced, wrongCall}
+use Rattle.definition.specs.Refusals.{Call, wrongCount, mostListed, tooMany, listsTooMany, sameParent, wrongRun, misplaced, wrongCall}
 use Rattle.definition.specs.Recording.{firstChild, after, Change, insert, replace, delete, replaceWithMany, replaceAll, run, change, call}
 use Rattle.definition.specs.Running.{news}
 
@@ -176,3 +176,26 @@ module _ (T : Table) where
       go (suc (suc (suc (suc (suc op))))) x l j =
           let n = suc (suc (suc (suc (suc op)))) in
           other n x l (ne-eqb n 0 (omega arith)) (ne-eqb n 1 (omega arith)) (ne-eqb n 2 (omega arith)) (ne-eqb n 3 (omega arith)) (ne-eqb n 4 (omega arith))
+
+-- a change lists no more than 41 elements, if 16 does not refuse its call
+pub change-few : (c : Call) → listsTooMany c ≡ false → length (news (change c)) ≤ mostListed
+unfolding listsTooMany tooMany change run headD news
+change-few c e = go c.operation c.target c.listed e
+  where
+    few : (x y : ℕ) (l : List ℕ) (b : Bool) → length l - 1 ≤ mostListed → length (news (cond b (replaceWithMany x (tail l)) (replaceAll x y (tail l)))) ≤ mostListed
+    few x y [] true h = omega arith
+    few x y [] false h = omega arith
+    few x y (z ∷ l) true h = omega arith
+    few x y (z ∷ l) false h = omega arith
+
+    go : (op x : ℕ) (l : List ℕ) → tooMany op (length l) ≡ false → length (news (change (record { operation = op; target = x; listed = l }))) ≤ mostListed
+    go zero x l e = ltb-false mostListed (length l) e
+    go (suc zero) x l e = ltb-false mostListed (length l) e
+    go (suc (suc zero)) x l e = omega arith
+    go (suc (suc (suc zero))) x l e = omega arith
+    go (suc (suc (suc (suc zero)))) x l e = ltb-false mostListed (length l) e
+    go (suc (suc (suc (suc (suc zero))))) x l e = few x (headD l 0) l (eqb x (headD l 0)) (ltb-false mostListed (length l - 1) e)
+    go (suc (suc (suc (suc (suc (suc op)))))) x l e =
+        let n = suc (suc (suc (suc (suc (suc op))))) in
+        rw (ne-eqb n 0 (omega arith), ne-eqb n 1 (omega arith), ne-eqb n 2 (omega arith), ne-eqb n 3 (omega arith), ne-eqb n 4 (omega arith))
+        (few x (headD l 0) l (eqb x (headD l 0)) (omega (arith, ltb-false mostListed (length l) (rw (ne-eqb n 5 (omega arith)) at e))))

@@ -9,16 +9,17 @@ use lib.IntN.{ℤ, pos, negℤ}
 use lib.ListN.{length}
 use mir.Syntax.{w64}
 use mir.Val.{toZ, ofZ}
-use Rattle.definition.specs.Basics.{Answer, refused, gives, _>>=_}
+use Rattle.definition.specs.Basics.{Answer, refused, gives, _>>=_, any}
 use Rattle.definition.specs.Answers.{edited}
 use Rattle.definition.specs.FindElement.{findElement}
+use Rattle.definition.specs.Performed.{InsertsFew}
 use Rattle.definition_laws.specs.Limits.{mostBytes}
 use Rattle.promises.specs.Slices.{needed, lengths, zeroed}
 use Rattle.promises.specs.Promises.{leftIn}
 use Rattle.promises.specs.Serving.{place, ofLength, ofPlace, Serves, serves-edits, serves-finds}
 use Rattle.promises.specs.declared.Job.the-variants.{Edit, Find}
 use Rattle.promises.specs.declared.Outcome.{Outcome}
-use Rattle.promises_read.specs.Refused.{edited-numbered, found-numbered}
+use Rattle.promises_read.specs.Refused.{editNumbers, findNumbers, by-number, edited-by, found-by}
 use Rattle.edit_numbers.specs.Bounded.{edited-short, found-short}
 use Rattle.edit_numbers.specs.Told.{numberOf, Small, number-read}
 
@@ -42,11 +43,14 @@ pub record Returns (b held : List ℕ) (work : List (List ℕ)) (r : ℤ) (holds
   pub result : holds ≡ leftIn held (edited (lengths needed work) b (length held))
   -- "Work slices end as zeros."
   pub zeros : left ≡ zeroed work
+  -- "no splice inserts more than 41 subtrees"
+  pub inserts : InsertsFew b
 
 -- THE PROMISE of `syntax_find_element`, from the batch b, the number n and the work slices as they were lent
 pub record ReturnsElement (b : List ℕ) (n : ℕ) (work : List (List ℕ)) (r : ℤ) (left : List (List ℕ)) : Type 0 where
   pub element : r ≡ returnedElement (findElement (lengths needed work) b n)
   pub zeros : left ≡ zeroed work
+  pub inserts : InsertsFew b
 
 -- ── From what is served ─────────────────────────────────────────────────────────────────────────────────────
 
@@ -59,10 +63,10 @@ module _ {b held holds : List ℕ} {work left : List (List ℕ)} {r : Outcome} (
 
   -- what an edit tells is small
   pub edit-small : Small r
-  unfolding Small ofLength _>>=_
-  edit-small = rw length-told (go x (edited-numbered (lengths needed work) b (length held)) (λ bytes. edited-short (lengths needed work) b bytes (length held)))
+  unfolding Small ofLength _>>=_ any
+  edit-small = rw length-told (go x (λ n. by-number editNumbers 1 16 n x refl (edited-by (lengths needed work) b (length held))) (λ bytes. edited-short (lengths needed work) b bytes (length held)))
     where
-      go : (o : Answer (List ℕ)) → ((n : ℕ) → o ≡ refused n → (1 ≤ n) × (n ≤ 13)) → ((bytes : List ℕ) → o ≡ gives bytes → length bytes ≤ mostBytes) → Small (ofLength (o >>= λ bytes. gives (length bytes)))
+      go : (o : Answer (List ℕ)) → ((n : ℕ) → o ≡ refused n → (1 ≤ n) × (n ≤ 16)) → ((bytes : List ℕ) → o ≡ gives bytes → length bytes ≤ mostBytes) → Small (ofLength (o >>= λ bytes. gives (length bytes)))
       go (refused n) h k = omega (arith, (h n refl) .1)
       go (gives bytes) h k = omega (arith, k bytes refl)
 
@@ -71,7 +75,7 @@ module _ {b held holds : List ℕ} {work left : List (List ℕ)} {r : Outcome} (
   unfolding numberOf ofLength returned _>>=_
   edit-returned z q =
       let (a, e, k) = serves-edits s in
-      record { answer = ap (λ (y : ℤ). toZ w64 (ofZ w64 y)) q ∙ (number-read r edit-small ∙ (ap numberOf length-told ∙ go x)); result = k .result; zeros = k .zeros }
+      record { answer = ap (λ (y : ℤ). toZ w64 (ofZ w64 y)) q ∙ (number-read r edit-small ∙ (ap numberOf length-told ∙ go x)); result = k .result; zeros = k .zeros; inserts = k .inserts }
     where
       go : (o : Answer (List ℕ)) → numberOf (ofLength (o >>= λ bytes. gives (length bytes))) ≡ returned o
       go (refused n) = refl
@@ -86,10 +90,10 @@ module _ {b held holds : List ℕ} {n : ℕ} {work left : List (List ℕ)} {r : 
 
   -- what is told of an element is small
   pub find-small : Small r
-  unfolding Small ofPlace place
-  find-small = rw place-told (go y (found-numbered (lengths needed work) b n) (found-short (lengths needed work) b n))
+  unfolding Small ofPlace place any
+  find-small = rw place-told (go y (λ m. by-number findNumbers 1 16 m y refl (found-by (lengths needed work) b n)) (found-short (lengths needed work) b n))
     where
-      go : (o : Answer (Option ℕ)) → ((m : ℕ) → o ≡ refused m → (1 ≤ m) × (m ≤ 12)) → ((e : ℕ) → o ≡ gives (some e) → e < 4096) → Small (ofPlace o)
+      go : (o : Answer (Option ℕ)) → ((m : ℕ) → o ≡ refused m → (1 ≤ m) × (m ≤ 16)) → ((e : ℕ) → o ≡ gives (some e) → e < 4096) → Small (ofPlace o)
       go (refused m) h k = omega (arith, (h m refl) .1)
       go (gives none) h k = tt
       go (gives (some e)) h k = omega (arith, k e refl)
@@ -97,7 +101,9 @@ module _ {b held holds : List ℕ} {n : ℕ} {work left : List (List ℕ)} {r : 
   -- and its number is what is promised
   pub find-returned : (z : ℤ) → z ≡ numberOf r → ReturnsElement b n work (toZ w64 (ofZ w64 z)) left
   unfolding numberOf ofPlace place returnedElement
-  find-returned z q = record { element = ap (λ (y : ℤ). toZ w64 (ofZ w64 y)) q ∙ (number-read r find-small ∙ (ap numberOf place-told ∙ go y)); zeros = s .zeros }
+  find-returned z q =
+      let (a, e, k) = serves-finds s in
+      record { element = ap (λ (y : ℤ). toZ w64 (ofZ w64 y)) q ∙ (number-read r find-small ∙ (ap numberOf place-told ∙ go y)); zeros = k .zeros; inserts = k .inserts }
     where
       go : (o : Answer (Option ℕ)) → numberOf (ofPlace o) ≡ returnedElement o
       go (refused m) = refl

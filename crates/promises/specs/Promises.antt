@@ -11,6 +11,7 @@ use Rattle.definition.specs.Refusals.{accepted}
 use Rattle.definition.specs.Answers.{plan, ran, edit, edited, withWork, tooShort}
 use Rattle.definition.specs.FindElement.{findIn, findElement}
 use Rattle.definition.specs.Finishing.{fitting, encoded}
+use Rattle.definition.specs.Performed.{InsertsFew}
 use Rattle.promises.specs.Slices.{needed, lengths, zeroed}
 
 -- ── The edit ────────────────────────────────────────────────────────────────────────────────────────────────
@@ -28,11 +29,14 @@ pub record Edits (b held : List ℕ) (work : List (List ℕ)) (r : Answer ℕ) (
   pub result : holds ≡ leftIn held (edited (lengths needed work) b (length held))
   -- "Work slices end as zeros."
   pub zeros : left ≡ zeroed work
+  -- "no splice inserts more than 41 subtrees" (document 02, Note 3)
+  pub inserts : InsertsFew b
 
 -- THE PROMISE of `find_element`, from the batch b, the number n and the work slices as they were lent
 pub record Finds (b : List ℕ) (n : ℕ) (work : List (List ℕ)) (r : Answer (Option ℕ)) (left : List (List ℕ)) : Type 0 where
   pub element : r ≡ findElement (lengths needed work) b n
   pub zeros : left ≡ zeroed work
+  pub inserts : InsertsFew b
 
 -- ── Refusal 1 ───────────────────────────────────────────────────────────────────────────────────────────────
 

@@ -9,6 +9,7 @@ use lib.ListN.{length}
 use Rattle.definition.specs.Basics.{Answer, gives, refused, _>>=_, refuse}
 use Rattle.definition.specs.Answers.{edited, withWork, tooShort}
 use Rattle.definition.specs.FindElement.{findElement}
+use Rattle.definition_laws.specs.Performed.{inserts-few}
 use Rattle.promises.specs.Slices.{needed, lengths, zeroed}
 use Rattle.promises.specs.Promises.{leftIn, Edits, Finds, applied, found}
 use Rattle.promises.specs.declared.Job.{Job}
@@ -113,7 +114,7 @@ unfolding served reached edited applied
 serves-edits {b} {held} {holds} {work} {left} {r} s =
     let x = edited (lengths needed work) b (length held) in
     let same = with-then (lengths needed work) (applied b (length held)) tellBytes in
-    (x >>= (λ bytes. gives (length bytes)), s .told .answer ∙ (ap outcome same ∙ edit-outcome x), record { answer = refl; result = s .told .result ∙ ap (leftIn held) (ap written same ∙ edit-written x); zeros = s .zeros })
+    (x >>= (λ bytes. gives (length bytes)), s .told .answer ∙ (ap outcome same ∙ edit-outcome x), record { answer = refl; result = s .told .result ∙ ap (leftIn held) (ap written same ∙ edit-written x); zeros = s .zeros; inserts = inserts-few b })
 
 -- What it answers to `Find n` tells an answer that keeps the promise of `find_element`.
 pub serves-finds : {b held holds : List ℕ} {n : ℕ} {work left : List (List ℕ)} {r : Outcome} → Serves (Find n) b held work r holds left → (a : Answer (Option ℕ)) × (r ≡ ofPlace a) × Finds b n work a left
@@ -121,7 +122,7 @@ unfolding served reached findElement found
 serves-finds {b} {held} {holds} {n} {work} {left} {r} s =
     let x = findElement (lengths needed work) b n in
     let same = with-then (lengths needed work) (found b n) tellPlace in
-    (x, s .told .answer ∙ (ap outcome same ∙ find-outcome x), record { element = refl; zeros = s .zeros })
+    (x, s .told .answer ∙ (ap outcome same ∙ find-outcome x), record { element = refl; zeros = s .zeros; inserts = inserts-few b })
 
 -- Every job is refused by 1 where a work slice is too short, and then the result slice holds all that it held.
 pub serves-short : {j : Job} {b held holds : List ℕ} {work left : List (List ℕ)} {r : Outcome} → Serves j b held work r holds left → tooShort (lengths needed work) ≡ true → (r ≡ Refused 1) × (holds ≡ held)

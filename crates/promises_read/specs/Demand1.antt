@@ -1,6 +1,7 @@
 -- DEMAND 1, of every call that keeps its promise. "A batch is only read" needs no statement: the batch is lent as a shared slice, which no call can write.
 -- Assumes nothing.
 use mathlib.Core.Path.{_≡_, refl, sym, ap, _∙_}
+use mathlib.Core.Bool.{true}
 use mathlib.Core.List.{List, [], _∷_, map}
 use mathlib.Core.Option.{Option}
 use Prim.Native.Nat.{ℕ, zero, suc, _≤_}
@@ -10,14 +11,14 @@ use lib.ListN.{length, take, drop, replicate, length-append, length-drop, length
 use lib.Seq.{take-at, drop-at}
 use borrow.Author.Tests.{ltb-false}
 use Rattle.orders.specs.Lists.{All}
-use Rattle.definition.specs.Basics.{Answer, refused, gives, _>>=_, refuse}
+use Rattle.definition.specs.Basics.{Answer, refused, gives, _>>=_, refuse, among}
 use Rattle.definition.specs.Finishing.{Result, encoded, fitting}
 use Rattle.definition.specs.Answers.{edit, edited, tooShort, withWork}
 use Rattle.definition_laws.specs.Answers.{gives-inj, refused-gives, given, not-wrong}
 use Rattle.definition_demand.specs.Answered.{edited-result}
 use Rattle.promises.specs.Slices.{needed, lengths, zeros, zeroed}
 use Rattle.promises.specs.Promises.{leftIn, Edits, Finds}
-use Rattle.promises_read.specs.Refused.{refused-inj, edited-numbered, found-numbered}
+use Rattle.promises_read.specs.Refused.{editNumbers, findNumbers, refused-inj, edited-numbered, found-numbered}
 
 -- ── The result slice ────────────────────────────────────────────────────────────────────────────────────────
 
@@ -72,8 +73,8 @@ zeroed-cleared work left e = record { lengths = ap (map length) e ∙ zeroed-len
 
 -- what demand 1 says of a call, for every content and length of what was lent
 pub record Demand1 (b held : List ℕ) (work : List (List ℕ)) (r : Answer ℕ) (holds : List ℕ) (left : List (List ℕ)) : Type 0 where
-  -- a refusal's number is that of one of document 01's thirteen lines
-  pub numbered : (k : ℕ) → r ≡ refused k → (1 ≤ k) × (k ≤ 13)
+  -- a refusal's number is that of one of document 01's thirteen lines, or 16
+  pub numbered : (k : ℕ) → r ≡ refused k → among editNumbers k ≡ true
   -- "on refusal all that it held"
   pub untouched : (k : ℕ) → r ≡ refused k → holds ≡ held
   -- "The result slice holds the finished answer and beyond it what it held"
@@ -117,7 +118,7 @@ demand-1 b held work r holds left p = go (edited (lengths needed work) b (length
 
 -- what demand 1 says of a call of `find_element`, which is lent no result slice
 pub record Demand1Finds (b : List ℕ) (n : ℕ) (work : List (List ℕ)) (r : Answer (Option ℕ)) (left : List (List ℕ)) : Type 0 where
-  pub numbered : (k : ℕ) → r ≡ refused k → (1 ≤ k) × (k ≤ 12)
+  pub numbered : (k : ℕ) → r ≡ refused k → among findNumbers k ≡ true
   pub cleared : Cleared work left
 
 -- So does every call of `find_element`.

@@ -14,7 +14,7 @@ use Rattle.orders.specs.Tree.{Path}
 use Rattle.definition.specs.Basics.{Answer, refused, gives, _>>=_, refuse, orRefuse, any, among}
 use Rattle.definition.specs.Batch.{batch, sizes, beyond, whole}
 use Rattle.definition.specs.Elements.{Table, table, spelled, node?, parent, child, placeBelow, descend}
-use Rattle.definition.specs.Refusals.{calls, wrongCall, wrongMapping, wrongNote, Accepted, accepted}
+use Rattle.definition.specs.Refusals.{calls, listsTooMany, wrongCall, wrongMapping, wrongNote, Accepted, accepted}
 use Rattle.definition.specs.Recording.{Change, insert, replace, delete, replaceWithMany, replaceAll, call}
 use Rattle.definition.specs.Planning.{Fate, own, dependent, discarded, Planned, target, Judgement, overlaps, fated}
 use Rattle.definition.specs.Rewriting.{mapping, replacement, mappedOr, climb, trail, land, moved, retarget, rewriteInto, rewriteOne, rewriting, rewritten, nearest, isParent, noteFrom, settle, settled}
@@ -34,9 +34,9 @@ abbrev pub By : {A : Type 0} → List ℕ → Answer A → Type 0
 By ns (refused k) = among ns k ≡ true
 By ns (gives a) = Unit
 
--- the numbers by which lines 2 to 7 refuse, then planning, then the steps
+-- the numbers by which lines 2 to 7 refuse (16 right after 6), then planning, then the steps
 abbrev pub batchLines : List ℕ
-batchLines = 2 ∷ 3 ∷ 4 ∷ 5 ∷ 6 ∷ 7 ∷ []
+batchLines = 2 ∷ 3 ∷ 4 ∷ 5 ∷ 6 ∷ 16 ∷ 7 ∷ []
 
 abbrev pub planLines : List ℕ
 planLines = 8 ∷ 9 ∷ 10 ∷ []
@@ -97,7 +97,7 @@ module _ (ns : List ℕ) where
 
 -- ── Lines 2 to 7 ────────────────────────────────────────────────────────────────────────────────────────────
 
--- Lines 2 to 7 refuse by 2 to 7.
+-- Lines 2 to 7 refuse by 2 to 7 and 16.
 pub accepted-by : (b : List ℕ) → By batchLines (accepted b)
 unfolding accepted batch among any
 accepted-by b =
@@ -109,6 +109,7 @@ accepted-by b =
     by-then batchLines (orRefuse 5 (spelled B)) _ (by-or batchLines 5 _ refl) λ ts.
     by-then batchLines (orRefuse 6 (calls (zip B.calls B.targets) B.listed)) _ (by-or batchLines 6 _ refl) λ cs.
     by-then batchLines (refuse 6 (any (wrongCall (table 0 0 ts)) cs)) _ (by-refuse batchLines 6 _ refl) λ u.
+    by-then batchLines (refuse 16 (any listsTooMany cs)) _ (by-refuse batchLines 16 _ refl) λ u.
     by-then batchLines (refuse 7 (any (wrongMapping (table 0 0 ts)) (zip B.inputs B.outputs) || any (wrongNote (table 0 0 ts)) (zip B.noted B.numbers))) _ (by-refuse batchLines 7 _ refl) λ u. tt
 
 -- ── Lines 8 to 10 ───────────────────────────────────────────────────────────────────────────────────────────
@@ -230,7 +231,7 @@ steps-by T first w (p ∷ ps) =
 
 -- ── The edit ────────────────────────────────────────────────────────────────────────────────────────────────
 
--- Whatever is told of what a batch's run leaves: the batch is refused by 2 to 12.
+-- Whatever is told of what a batch's run leaves: the batch is refused by 2 to 12 or 16.
 stages-by : {A : Type 0} (b : List ℕ) (tell : Accepted → Plan → World → A) → By editLines (accepted b >>= λ a. plan a >>= λ p. ran a p >>= λ w. gives (tell a p w))
 unfolding ran among any
 stages-by b tell =
@@ -238,7 +239,7 @@ stages-by b tell =
     by-then editLines (plan a) _ (by-more planLines editLines (plan a) refl (plan-by a)) λ p.
     by-then editLines (ran a p) _ (by-more stepLines editLines (ran a p) refl (steps-by a.table (atFirst a p) (atFirst a p) (performed a p))) λ w. tt
 
--- The edit of a batch refuses by 2 to 12.
+-- The edit of a batch refuses by 2 to 12 or 16.
 pub edit-by : (b : List ℕ) → By editLines (edit b)
 unfolding edit
 edit-by b = stages-by b (λ a p w. result p.changes p.climbs w)
@@ -272,10 +273,9 @@ edited-by work b room =
     by-then editNumbers (edit b) _ (by-more editLines editNumbers (edit b) refl (edit-by b)) λ r.
     by-then editNumbers (fitting room r) _ (by-then editNumbers (refuse 13 (ltb room (length (encoded r)))) _ (by-refuse editNumbers 13 _ refl) λ u. tt) λ r. tt
 
--- So they are from 1 to 13.
-pub edited-numbered : (work : List (ℕ × ℕ)) (b : List ℕ) (room k : ℕ) → edited work b room ≡ refused k → (1 ≤ k) × (k ≤ 13)
-unfolding any
-edited-numbered work b room k e = by-number editNumbers 1 13 k (edited work b room) refl (edited-by work b room) e
+-- So they are 1 to 13 and 16.
+pub edited-numbered : (work : List (ℕ × ℕ)) (b : List ℕ) (room k : ℕ) → edited work b room ≡ refused k → among editNumbers k ≡ true
+edited-numbered work b room k e = let by = edited-by work b room in rw e at by
 
 -- `find_element` refuses by one of its numbers.
 pub found-by : (work : List (ℕ × ℕ)) (b : List ℕ) (n : ℕ) → By findNumbers (findElement work b n)
@@ -284,15 +284,14 @@ found-by work b n =
     by-then findNumbers (refuse 1 (tooShort work)) _ (by-refuse findNumbers 1 _ refl) λ u.
     by-more editLines findNumbers (found b n) refl (stages-by b (λ a p w. findIn a.table w n))
 
--- So they are from 1 to 12.
-pub found-numbered : (work : List (ℕ × ℕ)) (b : List ℕ) (n k : ℕ) → findElement work b n ≡ refused k → (1 ≤ k) × (k ≤ 12)
-unfolding any
-found-numbered work b n k e = by-number findNumbers 1 12 k (findElement work b n) refl (found-by work b n) e
+-- So they are 1 to 12 and 16.
+pub found-numbered : (work : List (ℕ × ℕ)) (b : List ℕ) (n k : ℕ) → findElement work b n ≡ refused k → among findNumbers k ≡ true
+found-numbered work b n k e = let by = found-by work b n in rw e at by
 
 -- why a call is refused: for a work slice, for the batch, or for the result slice
 pub data Why (b held : List ℕ) (work : List (List ℕ)) : ℕ → Type 0 where
   workShort : tooShort (lengths needed work) ≡ true → Why b held work 1
-  wrong : {k : ℕ} → 2 ≤ k → k ≤ 12 → edit b ≡ refused k → Why b held work k
+  wrong : {k : ℕ} → among editLines k ≡ true → edit b ≡ refused k → Why b held work k
   resultShort : (R : Result) → edit b ≡ gives R → length held < length (encoded R) → Why b held work 13
 
 -- A call that keeps its promise and refuses has one of these reasons.
@@ -314,8 +313,8 @@ refused-why b held work r holds left p k e = go (tooShort (lengths needed work))
     answer : (o : Answer Result) → edit b ≡ o → edited (lengths needed work) b (length held) ≡ (o >>= fit) → Why b held work k
     answer (refused j) x q =
         let z : edit b ≡ refused k = x ∙ ap {B = Answer Result} refused (refused-inj (number (refused j) q)) in
-        let (low, high) = by-number editLines 2 12 k (edit b) refl (edit-by b) z in
-        wrong low high z
+        let by = edit-by b in
+        wrong (rw z at by) z
     answer (gives R) x q = room R x q (ltb (length held) (length (encoded R))) refl
 
     go : (t : Bool) → tooShort (lengths needed work) ≡ t → Why b held work k
@@ -324,11 +323,12 @@ refused-why b held work r holds left p k e = go (tooShort (lengths needed work))
 
 -- With room for the most bytes that a result has 13 never comes.
 pub never-13 : (b held : List ℕ) (work : List (List ℕ)) (r : Answer ℕ) (holds : List ℕ) (left : List (List ℕ)) → Edits b held work r holds left → mostBytes ≤ length held → r ≡ refused 13 → ⊥
+unfolding among any
 never-13 b held work r holds left p h e = go 13 refl (refused-why b held work r holds left p 13 e)
   where
     go : (k : ℕ) → k ≡ 13 → Why b held work k → ⊥
     go k z (workShort t) = omega arith
-    go k z (wrong low high x) = omega arith
+    go k z (wrong by x) = bool-absurd (rw z at by) refl
     go k z (resultShort R x l) = omega (arith, encoded-within b R x)
 
 -- So every call of `find_element` that keeps its promise, with no work slice too short, is refused just where the edit of the batch is.

@@ -1,4 +1,4 @@
--- Lines 5, 6 and 7: each answer, from the tests that led there.
+-- Lines 5, 6, 16 and 7: each answer, from the tests that led there.
 -- Assumes nothing.
 use mathlib.Core.Path.{_≡_, sym, ap, _∙_}
 use mathlib.Core.Bool.{Bool, true, false, not}
@@ -19,7 +19,7 @@ use Rattle.read_layout.specs.Layout.{Within, within, laid, laidOf, arraysAt}
 use Rattle.read_layout.specs.declared.Layout.{Layout}
 use Rattle.read_layout.specs.declared.Laid.{Laid}
 use Rattle.read_layout.specs.declared.Laid.the-variants.{Refused, At}
-use Rattle.read_names.specs.Called.{callsFit}
+use Rattle.read_names.specs.Called.{callsFit, wordTooMany}
 use Rattle.read_names.specs.Noted.{noteWrong, note-told}
 use Rattle.read_batch.specs.Accepting.{named, judged-unlaid}
 use Rattle.read_batch.specs.Leaving.{elementsBy, Judged, judged-refused, refused-5, filled-formed, judged-left}
@@ -29,22 +29,30 @@ module _ (b : Batch) (n : ℕ) (w s : List ℕ) (l : Layout) (t : Bool) (et : t 
   unfolding laidOf named _>>=_ refuse
   wrong-calls q = rw (← et, q)
 
-  module _ (q : not t ≡ false) (u : Bool) (eu : u ≡ not (any (wrongMapping (view n w s)) (zip (b .inputs) (b .outputs)))) where
-    pub wrong-mappings : not u ≡ true → laidOf (Refused 7) ≡ named b (view n w s) l
+  module _ (q : not t ≡ false) (m : Bool) (em : m ≡ not (any wordTooMany (b .calls))) where
+    pub long-lists : not m ≡ true → laidOf (Refused 16) ≡ named b (view n w s) l
     unfolding laidOf named _>>=_ refuse
-    wrong-mappings p = rw (← et, q, not-false (any (wrongMapping (view n w s)) (zip (b .inputs) (b .outputs))) (sym eu ∙ not-true u p))
+    long-lists k = rw (← et, q, not-false (any wordTooMany (b .calls)) (sym em ∙ not-true m k))
 
-    module _ (p : not u ≡ false) (v : Bool) (ev : v ≡ not (any (noteWrong n) (zip (b .noted) (b .numbers)))) where
-      no-mapping : any (wrongMapping (view n w s)) (zip (b .inputs) (b .outputs)) ≡ false
-      no-mapping = not-true _ (sym eu ∙ not-false u p)
+    module _ (k : not m ≡ false) (u : Bool) (eu : u ≡ not (any (wrongMapping (view n w s)) (zip (b .inputs) (b .outputs)))) where
+      no-list : any wordTooMany (b .calls) ≡ false
+      no-list = not-true _ (sym em ∙ not-false m k)
 
-      pub wrong-notes : not v ≡ true → laidOf (Refused 7) ≡ named b (view n w s) l
+      pub wrong-mappings : not u ≡ true → laidOf (Refused 7) ≡ named b (view n w s) l
       unfolding laidOf named _>>=_ refuse
-      wrong-notes z = rw (← et, q, no-mapping, note-told (view n w s) n (length-view n w s), not-false (any (noteWrong n) (zip (b .noted) (b .numbers))) (sym ev ∙ not-true v z))
+      wrong-mappings p = rw (← et, q, no-list, not-false (any (wrongMapping (view n w s)) (zip (b .inputs) (b .outputs))) (sym eu ∙ not-true u p))
 
-      pub none-wrong : not v ≡ false → laidOf (At l) ≡ named b (view n w s) l
-      unfolding laidOf named _>>=_ refuse
-      none-wrong z = rw (← et, q, no-mapping, note-told (view n w s) n (length-view n w s), not-true (any (noteWrong n) (zip (b .noted) (b .numbers))) (sym ev ∙ not-false v z))
+      module _ (p : not u ≡ false) (v : Bool) (ev : v ≡ not (any (noteWrong n) (zip (b .noted) (b .numbers)))) where
+        no-mapping : any (wrongMapping (view n w s)) (zip (b .inputs) (b .outputs)) ≡ false
+        no-mapping = not-true _ (sym eu ∙ not-false u p)
+
+        pub wrong-notes : v ≡ false → laidOf (Refused 7) ≡ named b (view n w s) l
+        unfolding laidOf named _>>=_ refuse
+        wrong-notes z = rw (← et, q, no-list, no-mapping, note-told (view n w s) n (length-view n w s), not-false (any (noteWrong n) (zip (b .noted) (b .numbers))) (sym ev ∙ z))
+
+        pub none-wrong : v ≡ true → laidOf (At l) ≡ named b (view n w s) l
+        unfolding laidOf named _>>=_ refuse
+        none-wrong z = rw (← et, q, no-list, no-mapping, note-told (view n w s) n (length-view n w s), not-true (any (noteWrong n) (zip (b .noted) (b .numbers))) (sym ev ∙ z))
 
 -- ── Line 5 ──────────────────────────────────────────────────────────────────────────────────────────────────
 

@@ -9,16 +9,18 @@ use Rattle.definition.specs.Basics.{Answer, refused, gives, _>>=_, refuse, orRe
 use Rattle.orders.specs.Tree.{Tree}
 use Rattle.definition.specs.Batch.{Batch, sizes, batch}
 use Rattle.definition.specs.Elements.{Table, spelled, table}
-use Rattle.definition.specs.Refusals.{Call, calls, wrongCall, wrongMapping, wrongNote, Accepted, accepted}
+use Rattle.definition.specs.Refusals.{Call, calls, listsTooMany, wrongCall, wrongMapping, wrongNote, Accepted, accepted}
 use Rattle.definition_laws.specs.Answers.{gives-inj, refused-gives, both-given, is-there}
 use Rattle.read_layout.specs.Layout.{layoutOf, laid, arraysAt, batch-laid, given}
 use Rattle.read_layout.specs.declared.Layout.{Layout}
-use Rattle.read_names.specs.Called.{callsFit, noneWrong}
+use Rattle.definition_laws.specs.Accepted.{batch-sized}
+use Rattle.read_names.specs.Called.{callsFit, noneWrong, wordTooMany, listed-told, words-told}
 
--- lines 6 and 7 of a batch, by its table
+-- lines 6, 16 and 7 of a batch, by its table
 unfoldable pub named : Batch → Table → Layout → Answer Layout
 named b T l = do
   _ ← refuse 6 (not (callsFit T (zip b.calls b.targets) b.listed))
+  _ ← refuse 16 (any wordTooMany b.calls)
   _ ← refuse 7 (any (wrongMapping T) (zip b.inputs b.outputs) || any (wrongNote T) (zip b.noted b.numbers))
   gives l
 
@@ -26,17 +28,19 @@ named b T l = do
 unfoldable pub judged : List ℕ → Answer Layout
 judged b = accepted b >>= (λ _. gives (layoutOf (sizes b)))
 
--- lines 6 and 7 with what they leave, or with the layout in its place
-leaves : {A : Type 0} (T : Table) (o : Option (List Call)) (v : Bool) (f : List Call → A) (x : Layout)
-    → ((orRefuse 6 o >>= (λ cs. refuse 6 (any (wrongCall T) cs) >>= (λ _. refuse 7 v >>= (λ _. gives (f cs))))) >>= (λ _. gives x)) ≡ (refuse 6 (not (noneWrong T o)) >>= (λ _. refuse 7 v >>= (λ _. gives x)))
+-- lines 6, 16 and 7 with what they leave, or with the layout in its place
+leaves : {A : Type 0} (T : Table) (o : Option (List Call)) (m v : Bool) (f : List Call → A) (x : Layout) → ((cs : List Call) → o ≡ some cs → any listsTooMany cs ≡ m)
+    → ((orRefuse 6 o >>= (λ cs. refuse 6 (any (wrongCall T) cs) >>= (λ _. refuse 16 (any listsTooMany cs) >>= (λ _. refuse 7 v >>= (λ _. gives (f cs)))))) >>= (λ _. gives x))
+    ≡ (refuse 6 (not (noneWrong T o)) >>= (λ _. refuse 16 m >>= (λ _. refuse 7 v >>= (λ _. gives x))))
 unfolding noneWrong _>>=_ orRefuse refuse
-leaves T none v f x = refl
-leaves T (some cs) v f x = go (any (wrongCall T) cs) v
+leaves T none m v f x h = refl
+leaves T (some cs) m v f x h = rw (h cs refl) (go (any (wrongCall T) cs) m v)
   where
-    go : (u v : Bool) → ((refuse 6 u >>= (λ _. refuse 7 v >>= (λ _. gives (f cs)))) >>= (λ _. gives x)) ≡ (refuse 6 (not (not u)) >>= (λ _. refuse 7 v >>= (λ _. gives x)))
-    go true v = refl
-    go false true = refl
-    go false false = refl
+    go : (u m v : Bool) → ((refuse 6 u >>= (λ _. refuse 16 m >>= (λ _. refuse 7 v >>= (λ _. gives (f cs))))) >>= (λ _. gives x)) ≡ (refuse 6 (not (not u)) >>= (λ _. refuse 16 m >>= (λ _. refuse 7 v >>= (λ _. gives x))))
+    go true m v = refl
+    go false true v = refl
+    go false false true = refl
+    go false false false = refl
 
 -- ── Line by line ────────────────────────────────────────────────────────────────────────────────────────────
 
@@ -57,15 +61,22 @@ module _ (b : List ℕ) where
     judged-unspelled e = rw (is-batch, e)
 
     module _ (ts : List (Tree ℕ)) (e : spelled (arraysAt l b) ≡ some ts) where
-      -- 6 and 7
+      -- 16, by the call words
+      lists-told : (cs : List Call) → calls (zip ((arraysAt l b) .calls) ((arraysAt l b) .targets)) ((arraysAt l b) .listed) ≡ some cs → any listsTooMany cs ≡ any wordTooMany ((arraysAt l b) .calls)
+      lists-told cs h =
+          let c : Batch = arraysAt l b in
+          let sized = (batch-sized b c is-batch) .1 in
+          listed-told (zip c.calls c.targets) c.listed cs h ∙ words-told wordTooMany c.calls c.targets (sized .calls ∙ sym (sized .targets))
+
+      -- 6, 16 and 7
       pub judged-spelled : judged b ≡ named (arraysAt l b) (table 0 0 ts) l
       unfolding judged accepted named callsFit _>>=_ orRefuse
       judged-spelled =
           let c : Batch = arraysAt l b in
           let T : Table = table 0 0 ts in
           rw (is-batch, e, ← (given b l q) .3)
-          (leaves T (calls (zip c.calls c.targets) c.listed) (any (wrongMapping T) (zip c.inputs c.outputs) || any (wrongNote T) (zip c.noted c.numbers))
-          (λ cs. record { trees = ts; table = T; calls = cs; mappings = zip c.inputs c.outputs; notes = zip c.noted c.numbers }) l)
+          (leaves T (calls (zip c.calls c.targets) c.listed) (any wordTooMany c.calls) (any (wrongMapping T) (zip c.inputs c.outputs) || any (wrongNote T) (zip c.noted c.numbers))
+          (λ cs. record { trees = ts; table = T; calls = cs; mappings = zip c.inputs c.outputs; notes = zip c.noted c.numbers }) l lists-told)
 
 -- ── What is accepted ────────────────────────────────────────────────────────────────────────────────────────
 
@@ -86,6 +97,7 @@ accepted-parts b l a q g =
     let T : Table = table 0 0 ts in
     let (cs, counts, g) = both-given (orRefuse 6 (calls (zip c.calls c.targets) c.listed)) _ g in
     let (_, _, g) = both-given (refuse 6 (any (wrongCall T) cs)) _ g in
+    let (_, _, g) = both-given (refuse 16 (any listsTooMany cs)) _ g in
     let (_, _, g) = both-given (refuse 7 (any (wrongMapping T) (zip c.inputs c.outputs) || any (wrongNote T) (zip c.noted c.numbers))) _ g in
     rw (← gives-inj g) (record { trees = is-there 5 (spelled c) spells; table = refl; calls = is-there 6 (calls (zip c.calls c.targets) c.listed) counts; mappings = refl; notes = refl })
 

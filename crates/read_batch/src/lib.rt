@@ -1,4 +1,4 @@
-// Lines 2 to 7.
+// Lines 2 to 7, with 16 right after 6.
 use read_layout::Laid;
 use read_layout::Layout;
 ghost use mathlib.Core.Path.{_≡_};
@@ -11,7 +11,7 @@ ghost use Rattle.definition.specs.Refusals.{wrongMapping};
 ghost use Rattle.read_element_table.specs.View.{view};
 ghost use Rattle.read_element_table.specs.Wellformed.{Wellformed};
 ghost use Rattle.read_layout.specs.Layout.{Within, arraysAt, laid, laidOf};
-ghost use Rattle.read_names.specs.Called.{callsFit};
+ghost use Rattle.read_names.specs.Called.{callsFit, wordTooMany};
 ghost use Rattle.read_names.specs.Noted.{noteWrong};
 ghost use Rattle.read_batch.specs.Accepting.{named};
 ghost use Rattle.read_batch.specs.Leaving.{Judged};
@@ -34,6 +34,15 @@ fn calls_stand(b: &[u8], l: Layout, table: &[u32], source: &[u32]) -> bool
         table,
         source,
     )
+}
+
+// 16, of its calls.
+fn lists_stand(b: &[u8], l: Layout) -> bool
+    requires { ⌜ Within (now b) l ⌝ }
+    ensures { λ r. ⌜ r ≡ not (any wordTooMany ((arraysAt l (now (b .entry))) .calls)) ⌝ }
+{
+    let s = l.sizes;
+    read_names::lists_fit(b, l.words, s.calls)
 }
 
 // Line 7, of its mappings.
@@ -63,7 +72,7 @@ fn notes_stand(b: &[u8], l: Layout) -> bool
     read_names::notes_fit(b, l.noted, l.numbers, s.notes, s.elements)
 }
 
-// Lines 6 and 7.
+// Lines 6, 16 and 7.
 fn judge_names(b: &[u8], l: Layout, table: &[u32], source: &[u32]) -> Laid
     requires { ⌜ Within (now b) l ⌝ }
     requires { ⌜ Wellformed (l .sizes .elements) (now table) (now source) ⌝ }
@@ -72,13 +81,16 @@ fn judge_names(b: &[u8], l: Layout, table: &[u32], source: &[u32]) -> Laid
     if !calls_stand(b, l, table, source) {
         return Laid::Refused(6);
     }
+    if !lists_stand(b, l) {
+        return Laid::Refused(16);
+    }
     if !mappings_stand(b, l, table, source) {
         return Laid::Refused(7);
     }
-    if !notes_stand(b, l) {
-        return Laid::Refused(7);
+    if notes_stand(b, l) {
+        return Laid::At(l);
     }
-    Laid::At(l)
+    Laid::Refused(7)
 }
 
 // Lines 5 to 7, of a batch with this layout: where line 5 accepts, the element table and the rows are filled.

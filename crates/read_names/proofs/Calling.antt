@@ -1,4 +1,4 @@
--- Line 6: each answer, from the tests that led there.
+-- Lines 6 and 16: each answer, from the tests that led there.
 -- Assumes nothing.
 use mathlib.Core.Path.{_≡_, sym, _∙_}
 use mathlib.Core.Bool.{Bool, true, false, not, _&&_, _||_}
@@ -9,12 +9,12 @@ use native.Mathlib.Omega.{arith}
 use lib.ListN.{take, drop}
 use lib.Seq.{drop-drop}
 use lib.Dec.{leb, ltb, eqb}
-use borrow.Author.Tests.{ltb-false, leb-false, le-leb, lt-leb, eq-eqb, ne-eqb, not-true, not-false}
+use borrow.Author.Tests.{ltb-false, leb-false, le-leb, lt-leb, lt-ltb, le-ltb, eq-eqb, ne-eqb, not-true, not-false}
 use Rattle.orders.specs.Lists.{All}
 use Rattle.orders.specs.ListLaws.{lt-or-le, All-map}
 use Rattle.definition.specs.Basics.{any}
 use Rattle.definition.specs.Words.{word, words}
-use Rattle.definition.specs.Refusals.{operationOf, countOf, callOf, wrongCount, wrongCall}
+use Rattle.definition.specs.Refusals.{operationOf, countOf, callOf, wrongCount, mostListed, tooMany, wrongCall}
 use Rattle.words.specs.Bytes.{length-words, take-words, drop-words}
 use Rattle.definition.specs.Elements.{Table}
 use Rattle.read_element_table.specs.View.{view}
@@ -24,7 +24,7 @@ use Rattle.read_element_table.specs.Told.{length-view}
 use Rattle.read_calls.specs.Fits.{countFits, callFits, judged}
 use Rattle.definition_laws.specs.Right.{neither, none-passes}
 use Rattle.read_layout.specs.Truth.{or-true, twice}
-use Rattle.read_names.specs.Called.{callsFit, fit-end, fit-more}
+use Rattle.read_names.specs.Called.{callsFit, wordTooMany, fit-end, fit-more}
 
 -- ── One call ────────────────────────────────────────────────────────────────────────────────────────────────
 
@@ -64,6 +64,17 @@ module _ (n : ℕ) (w r : List ℕ) (word x : ℕ) (m : List ℕ) (k : ℕ) (e :
         let s = all-below n (words k m) (not-true _ (sym g ∙ not-false u q)) in
         let j = judged n w r (callOf word x (words k m)) (h, s) in
         rw (← e, j, ← f, ← d, length-words k m, ← a, not-false t b) (z ∙ sym (twice _))
+
+-- ── How many it lists ───────────────────────────────────────────────────────────────────────────────────────
+
+module _ (word op k : ℕ) (f : op ≡ operationOf word) (e : k ≡ countOf word) where
+  pub run-few : op ≡ 5 → leb k (mostListed + 1) ≡ not (wordTooMany word)
+  unfolding wordTooMany tooMany
+  run-few h = rw (← f, ← e, h) (elim (lt-or-le (mostListed + 1) k) [ inl q ↦ rw (lt-leb k (mostListed + 1) q, lt-ltb mostListed (k - 1) (omega arith)) | inr q ↦ rw (le-leb k (mostListed + 1) q, le-ltb mostListed (k - 1) (omega arith)) ])
+
+  pub others-few : (op ≡ 5 → ⊥) → leb k mostListed ≡ not (wordTooMany word)
+  unfolding wordTooMany tooMany
+  others-few h = rw (← f, ← e, ne-eqb op 5 h) (elim (lt-or-le mostListed k) [ inl q ↦ rw (lt-leb k mostListed q, lt-ltb mostListed k q) | inr q ↦ rw (le-leb k mostListed q, le-ltb mostListed k q) ])
 
 -- ── All calls ───────────────────────────────────────────────────────────────────────────────────────────────
 

@@ -15,6 +15,7 @@ use Rattle.definition.specs.Words.{word, words}
 use Rattle.read_spelling.specs.Spelling.{elementsAt}
 use Rattle.read_spelling.specs.Stack.{elementsFrom, elements-all, elements-none, elements-more}
 use Rattle.words.specs.Bytes.{length-words, getD-words}
+use Rattle.read_names.specs.Called.{wordTooMany}
 
 module _ {A : Type 0} (p : A → Bool) (all : List A) {rest tail : List A} {x : A} (e : rest ≡ x ∷ tail) (v : any p all ≡ any p rest) where
   pub met : p x ≡ true → any p all ≡ true
@@ -29,34 +30,49 @@ pub none-left : {A : Type 0} (p : A → Bool) (all : List A) {rest : List A} →
 unfolding any
 none-left p all e v = v ∙ rw e
 
--- ── Words below a number ────────────────────────────────────────────────────────────────────────────────────
+-- ── Words ───────────────────────────────────────────────────────────────────────────────────────────────────
 
-module _ (b : List ℕ) (from count : ℕ) where
-  -- the words from number i on
-  pub words-more : (i : ℕ) → i < count → drop i (words count (drop from b)) ≡ word (drop (from + 4 * i) b) ∷ drop (i + 1) (words count (drop from b))
-  words-more i h =
-      let l : List ℕ = words count (drop from b) in
-      rw (add-one i, drop-cons l i 0 (omega (arith, length-words count (drop from b))), getD-words count (drop from b) i h, drop-drop (4 * i) from b)
+module _ (p : ℕ → Bool) (b : List ℕ) (from count : ℕ) where
+  -- i words are passed
+  pub record Wording (i : ℕ) : Type 0 where
+    pub inside : i ≤ count
+    pub verdict : any p (words count (drop from b)) ≡ any p (drop i (words count (drop from b)))
 
-  module _ (n : ℕ) where
-    -- i words are passed, each below n
-    pub record Below (i : ℕ) : Type 0 where
-      pub inside : i ≤ count
-      pub verdict : any (leb n) (words count (drop from b)) ≡ any (leb n) (drop i (words count (drop from b)))
+  pub wording-start : Wording 0
+  wording-start = record { inside = omega arith; verdict = refl }
 
-    pub below-start : Below 0
-    below-start = record { inside = omega arith; verdict = refl }
+  module _ {i : ℕ} (v : Wording i) where
+    module _ (h : i < count) {w : ℕ} (e : w ≡ word (drop (from + 4 * i) b)) where
+      -- the words from number i on
+      more : drop i (words count (drop from b)) ≡ w ∷ drop (i + 1) (words count (drop from b))
+      more =
+          let l : List ℕ = words count (drop from b) in
+          rw (e, add-one i, drop-cons l i 0 (omega (arith, length-words count (drop from b))), getD-words count (drop from b) i h, drop-drop (4 * i) from b)
 
-module _ {b : List ℕ} {from count n i : ℕ} (v : Below b from count n i) where
-  module _ (h : i < count) {w : ℕ} (e : w ≡ word (drop (from + 4 * i) b)) where
-    pub below-next : w < n → Below b from count n (i + 1)
-    below-next k = record { inside = omega arith; verdict = unmet (leb n) (words count (drop from b)) (words-more b from count i h) (v .verdict) (rw (← e) (lt-leb n w k)) }
+      pub wording-next : p w ≡ false → Wording (i + 1)
+      wording-next q = record { inside = omega arith; verdict = unmet p (words count (drop from b)) more (v .verdict) q }
 
-    pub below-met : n ≤ w → false ≡ not (any (leb n) (words count (drop from b)))
-    below-met k = sym (ap not (met (leb n) (words count (drop from b)) (words-more b from count i h) (v .verdict) (rw (← e) (le-leb n w k))))
+      pub wording-met : p w ≡ true → false ≡ not (any p (words count (drop from b)))
+      wording-met q = sym (ap not (met p (words count (drop from b)) more (v .verdict) q))
 
-  pub below-all : count ≤ i → true ≡ not (any (leb n) (words count (drop from b)))
-  below-all k = sym (ap not (none-left (leb n) (words count (drop from b)) (drop-of-length-le (words count (drop from b)) {i = i} (omega (arith, length-words count (drop from b)))) (v .verdict)))
+    pub wording-all : count ≤ i → true ≡ not (any p (words count (drop from b)))
+    wording-all k = sym (ap not (none-left p (words count (drop from b)) (drop-of-length-le (words count (drop from b)) {i = i} (omega (arith, length-words count (drop from b)))) (v .verdict)))
+
+-- the words passed are below n
+module _ {b : List ℕ} {from count n i : ℕ} (v : Wording (leb n) b from count i) (h : i < count) {w : ℕ} (e : w ≡ word (drop (from + 4 * i) b)) where
+  pub below-next : w < n → Wording (leb n) b from count (i + 1)
+  below-next k = wording-next (leb n) b from count v h e (lt-leb n w k)
+
+  pub below-met : n ≤ w → false ≡ not (any (leb n) (words count (drop from b)))
+  below-met k = wording-met (leb n) b from count v h e (le-leb n w k)
+
+-- the call words passed list no more than they may
+module _ {b : List ℕ} {from count i : ℕ} (v : Wording wordTooMany b from count i) (h : i < count) {w : ℕ} (e : w ≡ word (drop (from + 4 * i) b)) {t : Bool} (et : t ≡ not (wordTooMany w)) where
+  pub few-next : not t ≡ false → Wording wordTooMany b from count (i + 1)
+  few-next q = wording-next wordTooMany b from count v h e (not-true _ (sym et ∙ not-false t q))
+
+  pub few-met : not t ≡ true → false ≡ not (any wordTooMany (words count (drop from b)))
+  few-met q = wording-met wordTooMany b from count v h e (not-false _ (sym et ∙ not-true t q))
 
 -- ── Pairs of words ──────────────────────────────────────────────────────────────────────────────────────────
 

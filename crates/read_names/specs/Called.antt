@@ -1,15 +1,19 @@
--- Line 6, call by call.
+-- Line 6, call by call; 16, by the call words alone.
 -- Assumes nothing.
-use mathlib.Core.Path.{_≡_, refl, sym}
+use mathlib.Core.Path.{_≡_, refl, sym, ap, _∙_}
 use mathlib.Core.Bool.{Bool, true, false, cond, not, _&&_, _||_}
-use mathlib.Core.List.{List, [], _∷_}
+use mathlib.Core.List.{List, [], _∷_, zip}
 use mathlib.Core.Option.{Option, none, some, Option·map}
 use Prim.Native.Nat.{ℕ}
+use native.Mathlib.Omega.{arith}
 use lib.ListN.{length, take, drop}
+use lib.Seq.{length-take-le}
 use lib.Dec.{leb, eqb, eqb·suc-zero}
+use borrow.Author.Tests.{leb-true}
+use Rattle.orders.specs.ListLaws.{some-inj, none-some}
 use Rattle.definition.specs.Basics.{any}
 use Rattle.definition.specs.Elements.{Table}
-use Rattle.definition.specs.Refusals.{countOf, Call, callOf, calls, wrongCall}
+use Rattle.definition.specs.Refusals.{operationOf, countOf, Call, callOf, calls, tooMany, listsTooMany, wrongCall}
 
 -- the counts add up, and no call is wrong
 unfoldable pub noneWrong : Table → Option (List Call) → Bool
@@ -48,3 +52,32 @@ module _ (T : Table) where
       go false o = refl
       go true none = and-false (not (wrongCall T c))
       go true (some r) = both (wrongCall T c) (any (wrongCall T) r)
+
+-- ── 16 ──────────────────────────────────────────────────────────────────────────────────────────────────────
+
+-- 16, of a call by its word
+unfoldable pub wordTooMany : ℕ → Bool
+wordTooMany w = tooMany (operationOf w) (countOf w)
+
+-- calls that have taken their listed elements list as many as their words say
+pub listed-told : (cs : List (ℕ × ℕ)) (l : List ℕ) (r : List Call) → calls cs l ≡ some r → any listsTooMany r ≡ any (λ c. wordTooMany (c .0)) cs
+unfolding calls any listsTooMany wordTooMany
+listed-told [] [] r e = rw (← some-inj e)
+listed-told [] (x ∷ l) r e = none-some e
+listed-told (c ∷ cs) l r e = go (leb n (length l)) refl (calls cs (drop n l)) (listed-told cs (drop n l)) e
+  where
+    n : ℕ
+    n = countOf (c .0)
+
+    go : (t : Bool) → leb n (length l) ≡ t → (o : Option (List Call)) → ((s : List Call) → o ≡ some s → any listsTooMany s ≡ any (λ c. wordTooMany (c .0)) cs) → cond t (Option·map (λ r. callOf (c .0) (c .1) (take n l) ∷ r) o) none ≡ some r
+        → any listsTooMany r ≡ any (λ c. wordTooMany (c .0)) (c ∷ cs)
+    go false h o q e = none-some e
+    go true h none q e = none-some e
+    go true h (some s) q e = rw (← some-inj e, length-take-le n l (leb-true n (length l) h), q s refl)
+
+-- as many words as targets: the words alone tell
+pub words-told : (p : ℕ → Bool) (ws ts : List ℕ) → length ws ≡ length ts → any (λ c. p (c .0)) (zip ws ts) ≡ any p ws
+unfolding any zip
+words-told p [] ts e = refl
+words-told p (w ∷ ws) [] e = absurd (omega arith)
+words-told p (w ∷ ws) (t ∷ ts) e = ap (λ (b : Bool). p w || b) (words-told p ws ts (omega arith))

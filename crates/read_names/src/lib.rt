@@ -1,4 +1,4 @@
-// Lines 6 and 7: the calls, the mappings and the notes of a batch, judged by what the element table tells.
+// Lines 6, 16 and 7: the calls, the mappings and the notes of a batch, judged by what the element table tells.
 ghost use mathlib.Core.Path.{_≡_};
 ghost use mathlib.Core.Bool.{not};
 ghost use mathlib.Core.List.{zip};
@@ -10,8 +10,11 @@ ghost use Rattle.definition.specs.Words.{words as wordsOf};
 ghost use Rattle.definition.specs.Refusals.{countOf, callOf, wrongCall, wrongMapping};
 ghost use Rattle.read_element_table.specs.View.{view};
 ghost use Rattle.read_element_table.specs.Wellformed.{Wellformed};
-ghost use Rattle.read_names.specs.Called.{callsFit};
+ghost use Rattle.read_names.specs.Called.{wordTooMany, callsFit};
 ghost use Rattle.read_names.specs.Noted.{noteWrong};
+
+// The most elements that a call may list, a run's end not counted.
+pub const MOST_LISTED: usize = 41;
 
 // Whether the `count` words at `from` are all below `n`.
 fn all_below(b: &[u8], from: usize, count: usize, n: usize) -> bool
@@ -89,6 +92,34 @@ pub fn calls_fit(
         i += 1;
     }
     taken == listed
+}
+
+// Whether a call lists no more than it may.
+fn lists_few(word: usize) -> bool
+    ensures { λ r. ⌜ r ≡ not (wordTooMany word) ⌝ }
+{
+    let operation = read_calls::operation_of(word);
+    let count = read_calls::count_of(word);
+    if operation == 5 {
+        return count <= MOST_LISTED + 1;
+    }
+    count <= MOST_LISTED
+}
+
+// 16, of the call words: by themselves, since 6 of a later call comes before 16 of an earlier one.
+pub fn lists_fit(b: &[u8], words: usize, calls: usize) -> bool
+    requires { ⌜ words + 4 * calls ≤ length (now b) ⌝ }
+    ensures { λ r. ⌜ r ≡ not (any wordTooMany (wordsOf calls (drop words (now (b .entry))))) ⌝ }
+{
+    let mut i: usize = 0;
+    while i < calls {
+        let word = words::read_word(b, words + 4 * i);
+        if !lists_few(word) {
+            return false;
+        }
+        i += 1;
+    }
+    true
 }
 
 // Whether a mapping names two nodes, the output no root.

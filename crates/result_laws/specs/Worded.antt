@@ -17,7 +17,7 @@ use Rattle.definition.specs.Words.{words}
 use Rattle.definition.specs.Batch.{Batch, sizes, beyond, whole, arrays, batch}
 use Rattle.definition.specs.Elements.{Table, table, pieces, grow, unspelled, spelled, descend}
 use Rattle.definition.specs.Finishing.{newTree, newTable, numberAt, changedElements, noteElements, Result, result}
-use Rattle.definition.specs.Refusals.{Accepted, accepted, calls, wrongCall, wrongMapping, wrongNote}
+use Rattle.definition.specs.Refusals.{Accepted, accepted, calls, listsTooMany, wrongCall, wrongMapping, wrongNote}
 use Rattle.definition.specs.Answers.{judgeChanges, disjoint, Plan, rewriteChanges, plan, performed, atFirst, ran, edit}
 use Rattle.definition.specs.Planning.{Planned}
 use Rattle.definition.specs.Rewriting.{Note, settle, settled, mapping, rewritten}
@@ -177,6 +177,7 @@ accepted-kept bytes a h e =
     given (orRefuse 5 (spelled b)) _ e λ ts y e.
     given (orRefuse 6 (calls (zip b.calls b.targets) b.listed)) _ e λ cs _ e.
     given (refuse 6 (any (wrongCall (table 0 0 ts)) cs)) _ e λ _ _ e.
+    given (refuse 16 (any listsTooMany cs)) _ e λ _ _ e.
     given (refuse 7 (any (wrongMapping (table 0 0 ts)) (zip b.inputs b.outputs) || any (wrongNote (table 0 0 ts)) (zip b.noted b.numbers))) _ e λ _ _ e.
     let (k, n) = batch-words bytes b h x in
     rw (← gives-inj e) (spelled-labelled b ts (batch-long bytes b x) k (is-there 5 (spelled b) y), zip-words b.noted b.numbers n)

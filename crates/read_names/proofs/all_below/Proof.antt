@@ -2,18 +2,19 @@
 -- Assumes nothing.
 use borrow.Author.Needs.{needs}
 use Prim.Native.Nat.{_-_}
-use Rattle.read_names.proofs.Passing.{Below, below-start, below-met, below-next, below-all}
+use lib.Dec.{leb}
+use Rattle.read_names.proofs.Passing.{Wording, wording-start, below-met, below-next, wording-all}
 use Rattle.read_names.proofs.all_below.Statement.{statement}
 use Rattle.read_names.proofs.all_below.Tie as tie
 
 abbrev Inv-loop : tie.InvT-loop
-Inv-loop b from count n i₀ i = Below b from count n i
+Inv-loop b from count n i₀ i = Wording (leb n) b from count i
 
 abbrev μ-loop : tie.MeasureT-loop
 μ-loop b from count n i₀ i = count - i
 
 loop-holds : tie.Need-loop-holds Inv-loop μ-loop
-loop-holds c = search (below-start, needs)
+loop-holds c = search (wording-start, needs)
 
 mul-read-word : tie.Need-mul-read-word Inv-loop μ-loop
 mul-read-word c = search needs
@@ -37,7 +38,7 @@ loop-again : tie.Need-loop-again Inv-loop μ-loop
 loop-again c = search (below-next, needs)
 
 returns-2 : tie.Need-returns-2 Inv-loop μ-loop
-returns-2 c = search (below-all, needs)
+returns-2 c = search (wording-all, needs)
 
 pub all-below-spec : {M : Type 1} → statement M
 all-below-spec =
