@@ -5,10 +5,8 @@ from collections import namedtuple
 from batches import EDITOR, LIMITS, decode_arrays
 from damage import damage
 from generator import SORTS, Draws, add_editors, add_notes, encode
-from landed import notes
+from landed import LEVEL, notes
 
-# Note 2 of document 02.
-LEVEL = 2
 # The lengths that the work slices need: draft, table, source.
 NEEDS = (49180, 16384, 6147)
 WORD = 2**32
@@ -95,7 +93,7 @@ def grown(d, lists, over):
 
 
 def refused(d, lists, data):
-    """What lines 5 to 7 refuse, for the most part: damaged bytes that can still be taken apart."""
+    """What lines 5 to 7 and 16 refuse, for the most part: damaged bytes that can still be taken apart."""
     for _ in range(20):
         found = apart(damage(d, data))
         if found is not None:
@@ -127,7 +125,7 @@ def drawn_work(d):
 
 def draw(seed, number):
     d = Draws(seed, number)
-    batch = d.weighted(SORTS[:7] if d.chance(0.99) else SORTS)(d)
+    batch = d.weighted(SORTS[:8] if d.chance(0.99) else SORTS)(d)
     add_editors(d, batch)
     add_notes(d, batch)
     data = encode(batch)
