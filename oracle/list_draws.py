@@ -93,7 +93,7 @@ def grown(d, lists, over):
 
 
 def refused(d, lists, data):
-    """What lines 5 to 7 refuse, for the most part: damaged bytes that can still be taken apart."""
+    """What lines 5 to 7 and 16 refuse, for the most part: damaged bytes that can still be taken apart."""
     for _ in range(20):
         found = apart(damage(d, data))
         if found is not None:
@@ -125,7 +125,7 @@ def drawn_work(d):
 
 def draw(seed, number):
     d = Draws(seed, number)
-    batch = d.weighted(SORTS[:7] if d.chance(0.99) else SORTS)(d)
+    batch = d.weighted(SORTS[:8] if d.chance(0.99) else SORTS)(d)
     add_editors(d, batch)
     add_notes(d, batch)
     data = encode(batch)

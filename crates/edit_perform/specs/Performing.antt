@@ -14,10 +14,10 @@ use Rattle.definition.specs.Planning.{Planned}
 use Rattle.definition.specs.Running.{World, begin, news, records}
 use Rattle.orders.specs.Lists.{total}
 use Rattle.definition.specs.Answers.{Plan, plan, atFirst, performed, ran}
-use Rattle.definition.specs.Refusals.{Accepted, accepted}
+use Rattle.definition.specs.Refusals.{mostListed, Accepted, accepted}
 use Rattle.definition_laws.specs.Answers.{gives-inj, refused-gives}
 use Rattle.definition_laws.specs.Basics.{map-All}
-use Rattle.definition_laws.specs.Plans.{performed-right}
+use Rattle.definition_laws.specs.Plans.{performed-right, performed-few}
 use Rattle.definition_laws.specs.Right.{Right}
 use Rattle.definition_laws.specs.Limits.{performed-records, ran-changed, ran-known}
 use Rattle.rows_model.specs.Place.{place}
@@ -85,11 +85,16 @@ module _ {b : List ℕ} {l : Layout} {t₀ s₀ t s : List ℕ} (v : Leaves b l 
   pub begins : 16384 ≤ length t₀ → 6147 ≤ length s₀ → 6147 ≤ length s → 768 ≤ length first → Begun E t s first (l .sizes .notes)
   begins = begun v p (m .plan) first (m .notes)
 
-  -- line 6 would refuse none of them
+  -- lines 6 and 16 would refuse none of them
   pub all-perform : All (λ k. Performs E (view E t s) listed (rowAt changes k)) ks
   unfolding wordsAt plansIn planOf
-  all-perform = All-map₂ (λ k h r. record { kept = rows-each (Kept E (view E t s) listed) (c .changes) changes (P .within .kept) k h; right = r }) ks (P .within .low) rights
+  all-perform = All-map₂ (λ k h (r : Right (view E t s) (changeOf listed (rowAt changes k)) × (length (news (changeOf listed (rowAt changes k))) ≤ mostListed)). record { kept = rows-each (Kept E (view E t s) listed) (c .changes) changes (P .within .kept) k h; right = r .0; few = r .1 }) ks (P .within .low) (All-map₂ (λ k r f. (r, f)) ks rights fews)
     where
+      fews : All (λ k. length (news (changeOf listed (rowAt changes k))) ≤ mostListed) ks
+      fews =
+          map-All (λ q. length (news (q .change)) ≤ mostListed) (λ k. planOf listed (rowAt changes k)) ks
+          (subst (λ (ps : List Planned). All (λ q. length (news (q .change)) ≤ mostListed) ps) (sym runs-told) (performed-few a p (planned v p (m .plan))))
+
       rights : All (λ k. Right (view E t s) (changeOf listed (rowAt changes k))) ks
       rights =
           map-All (λ q. Right (view E t s) (q .change)) (λ k. planOf listed (rowAt changes k)) ks

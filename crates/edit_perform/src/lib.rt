@@ -57,7 +57,8 @@ fn run_plan(
     requires { ⌜ (length (now marks) ≡ l .sizes .elements) × (3072 ≤ length (now notes)) × (3072 ≤ length (now incoming)) × (1024 ≤ length (now changed)) × (12291 ≤ length (now rows)) × (12288 ≤ length (now prepared)) ⌝ }
     ensures { λ r. ⌜ Performs (now (b .entry)) (now (table .entry)) (now (source .entry)) (now (rows .exit)) (now (notes .exit)) (now (changed .exit)) (now (marks .exit)) r ⌝ }
 {
-    let mut sizes = [0u32; 1024];
+    // As many as a call may list.
+    let mut sizes = [0u32; 41];
     let s = l.sizes;
     let done = execute(
         rows,

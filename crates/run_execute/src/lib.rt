@@ -3,6 +3,7 @@ ghost use mathlib.Core.Path.{_≡_};
 ghost use Prim.Native.Nat.{_+_, _*_, _≤_, _<_};
 ghost use lib.ListN.{length, take};
 ghost use Rattle.orders.specs.Lists.{All};
+ghost use Rattle.definition.specs.Refusals.{mostListed};
 ghost use Rattle.read_element_table.specs.View.{view};
 ghost use Rattle.plan_mapping.specs.Mapped.{wordsAt};
 ghost use Rattle.record_changes.specs.ChangeRowLaws.{rowAt};
@@ -71,7 +72,7 @@ fn run_steps(
     start: TreeState,
 ) -> Executed
     requires { ⌜ Standing (length (now marks)) (now table) (now source) (now first) a start (now rows) (now marks) (now notes) (now changed) ⌝ }
-    requires { ⌜ (12291 ≤ length (now rows)) × (3072 ≤ length (now notes)) × (12288 ≤ length (now prepared)) × (1024 ≤ length (now sizes)) × (3072 ≤ length (now incoming)) ⌝ }
+    requires { ⌜ (12291 ≤ length (now rows)) × (3072 ≤ length (now notes)) × (12288 ≤ length (now prepared)) × (mostListed ≤ length (now sizes)) × (3072 ≤ length (now incoming)) ⌝ }
     requires { ⌜ (listed + 4 * l ≤ length (now b)) × (l ≤ 1024) × All (λ e. e < length (now marks)) (wordsAt (now b) listed l) ⌝ }
     requires { ⌜ All (λ k. Performs (length (now marks)) (view (length (now marks)) (now table) (now source)) (wordsAt (now b) listed l) (rowAt (now changes) k)) (now running) ⌝ }
     requires { ⌜ start .changed + listsAll (view (length (now marks)) (now table) (now source)) (wordsAt (now b) listed l) (now changes) (now running) ≤ length (now changed) ⌝ }
@@ -133,7 +134,7 @@ pub fn execute(
     r: usize,
 ) -> Executed
     requires { ⌜ Begun (length (now marks)) (now table) (now source) (now first) a ⌝ }
-    requires { ⌜ (12291 ≤ length (now rows)) × (3072 ≤ length (now notes)) × (12288 ≤ length (now prepared)) × (1024 ≤ length (now sizes)) × (3072 ≤ length (now incoming)) ⌝ }
+    requires { ⌜ (12291 ≤ length (now rows)) × (3072 ≤ length (now notes)) × (12288 ≤ length (now prepared)) × (mostListed ≤ length (now sizes)) × (3072 ≤ length (now incoming)) ⌝ }
     requires { ⌜ (listed + 4 * l ≤ length (now b)) × (l ≤ 1024) × All (λ e. e < length (now marks)) (wordsAt (now b) listed l) ⌝ }
     requires { ⌜ (r ≤ length (now running)) × All (λ k. Performs (length (now marks)) (view (length (now marks)) (now table) (now source)) (wordsAt (now b) listed l) (rowAt (now changes) k)) (take r (now running)) ⌝ }
     requires { ⌜ listsAll (view (length (now marks)) (now table) (now source)) (wordsAt (now b) listed l) (now changes) (take r (now running)) ≤ length (now changed) ⌝ }

@@ -10,6 +10,7 @@ use lib.ListN.{length, getD, take, drop}
 use lib.Dec.{eqb}
 use borrow.Author.Tests.{ne-eqb}
 use Rattle.orders.specs.Lists.{All}
+use Rattle.definition.specs.Refusals.{mostListed}
 use Rattle.definition.specs.Basics.{refused, orRefuse, _>>=_}
 use Rattle.definition.specs.Elements.{Table, tree, depth}
 use Rattle.definition.specs.Planning.{own, dependent, discarded, Planned, target}
@@ -182,16 +183,16 @@ module _ {lines source first : List ℕ} {a : ℕ} {s : TreeState} {rows marks n
       news-are : news (changeOf L R) ≡ words count (drop (listed + 4 * list) b)
       news-are = news-listed (length marks) b listed l R (u .kept .stated) ∙ ap (λ (c : ℕ). words c (drop (listed + 4 * R .list) b)) (sym count-is) ∙ ap (λ (i : ℕ). words count (drop (listed + 4 * i) b)) (sym list-is)
 
-      pub listed-low : (listed + 4 * list + 4 * count ≤ length b) × (count ≤ 1024) × All (λ e. e < length marks) (words count (drop (listed + 4 * list) b))
+      pub listed-low : (listed + 4 * list + 4 * count ≤ length b) × (count ≤ mostListed) × All (λ e. e < length marks) (words count (drop (listed + 4 * list) b))
       listed-low =
           let h : list + count ≤ l = omega (arith, list-is, count-is, u .kept .stated .within, long-listed) in
-          (omega (arith, x .0), omega (arith, x .1), part-listed b listed l list count h (λ e. e < length marks) (x .2))
+          (omega (arith, x .0), omega (arith, many, u .few), part-listed b listed l list count h (λ e. e < length marks) (x .2))
 
       pub opens : 3072 ≤ length notes → s .changed + listsIn T L R ≤ length changed → Open s rows marks notes changed g recorded count
       unfolding listsIn planOf
       opens long room =
           subst (λ (h : Gap). Open s rows marks notes changed h recorded count) (held-told g)
-          (gap-room v (changeOf L R) (right-sits T (changeOf L R) (u .right)) (gapTold g) (gap-here (v .begun .text)) recorded count (listed-low .1) long
+          (gap-room v (changeOf L R) (right-sits T (changeOf L R) (u .right)) (gapTold g) (gap-here (v .begun .text)) recorded count (omega (arith, listed-low .1)) long
           (rw (recorded-is, many) room))
 
       pub performed : {rows′ marks′ notes′ changed′ : List ℕ} {r : Executed} → SteppedAt s rows marks notes changed source first a g above recorded (words count (drop (listed + 4 * list) b)) rows′ marks′ notes′ changed′ r

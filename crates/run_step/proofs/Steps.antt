@@ -8,6 +8,7 @@ use native.Mathlib.Omega.{arith}
 use lib.ListN.{length, take, drop}
 use lib.Seq.{length-take-le}
 use Rattle.orders.specs.Lists.{All}
+use Rattle.definition.specs.Refusals.{mostListed}
 use Rattle.definition.specs.Basics.{_>>=_, refuse}
 use Rattle.definition.specs.Words.{words}
 use Rattle.words.specs.Bytes.{length-words}
@@ -34,7 +35,7 @@ use Rattle.run_step.specs.Stepping.{yieldsIn, SteppedAt}
 
 module _ {s : TreeState} {rows marks notes changed : List ℕ} {g : Gap} {recorded : Bool} {count : ℕ} (v : Open s rows marks notes changed g recorded count)
     (prepared : List ℕ) {m : ℕ} (sizes incoming : List ℕ) {c : ℕ}
-    (w : (m ≤ 4096) × (3 * m ≤ length prepared) × (count ≤ 1024) × (count ≤ length sizes) × All (λ x. x < 2 ^ 16) (take count sizes) × (c ≤ 1024) × (3 * c ≤ length incoming)) where
+    (w : (m ≤ 4096) × (3 * m ≤ length prepared) × (count ≤ mostListed) × (count ≤ length sizes) × All (λ x. x < 2 ^ 16) (take count sizes) × (c ≤ 1024) × (3 * c ≤ length incoming)) where
   many : length (take (count - 0) (drop 0 sizes)) ≡ count
   many = ap length (part-front count sizes) ∙ length-take-le count sizes (w .3)
 
@@ -61,8 +62,8 @@ part-applied prepared m sizes count v = rw (part-front (3 * m) prepared, part-fr
 pub asks-prepare : {s : TreeState} {rows marks notes changed : List ℕ} {g : Gap} {recorded : Bool} {count : ℕ} → Open s rows marks notes changed g recorded count
     → (source first : List ℕ) (a : ℕ) (b : List ℕ) (list : ℕ) (prepared sizes incoming : List ℕ)
     → (length marks ≤ 2048) × (3 * length marks + 3 ≤ length source) × (3 * a ≤ length first) × (a ≤ 256)
-    → (list + 4 * count ≤ length b) × (count ≤ 1024) × All (λ e. e < length marks) (words count (drop list b))
-    → (12288 ≤ length prepared) × (1024 ≤ length sizes) × (3072 ≤ length incoming)
+    → (list + 4 * count ≤ length b) × (count ≤ mostListed) × All (λ e. e < length marks) (words count (drop list b))
+    → (12288 ≤ length prepared) × (mostListed ≤ length sizes) × (3072 ≤ length incoming)
     → ((3 * s .rows ≤ length rows) × (s .rows ≤ 4097) × All (λ m. m < s .rows) marks)
     × ((length marks ≤ 2048) × (3 * length marks + 3 ≤ length source))
     × ((3 * a ≤ length first) × (a ≤ 256) × (3 * s .notes ≤ length notes) × (s .notes ≤ 1024))

@@ -7,6 +7,7 @@ use Prim.Native.Nat.{ℕ, _+_, _-_, _*_, _≤_}
 use lib.ListN.{length, getD, take}
 use lib.Dec.{eqb}
 use Rattle.definition.specs.Elements.{Table}
+use Rattle.definition.specs.Refusals.{mostListed}
 use Rattle.definition.specs.Running.{news, records}
 use Rattle.definition_laws.specs.Right.{Right}
 use Rattle.rows_model.specs.Row.{firstRows, bytes}
@@ -54,10 +55,11 @@ pub record SteppedAt (s : TreeState) (rows marks notes changed source first : Li
 
 -- ── One performed change ────────────────────────────────────────────────────────────────────────────────────
 
--- the row of a change that line 6 takes, of a batch with n elements
+-- the row of a change that lines 6 and 16 take, of a batch with n elements
 pub record Performs (n : ℕ) (T : Table) (listed : List ℕ) (r : ChangeRow) : Type 0 where
   pub kept : Kept n T listed r
   pub right : Right T (changeOf listed r)
+  pub few : length (news (changeOf listed r)) ≤ mostListed
 
 -- how many changed rows it may add
 unfoldable pub listsIn : Table → List ℕ → ChangeRow → ℕ

@@ -5,6 +5,7 @@ ghost use Prim.Native.Nat.{ℕ, _+_, _*_, _^_, _≤_, _<_};
 ghost use lib.ListN.{length, take, drop};
 ghost use Rattle.orders.specs.Lists.{All};
 ghost use Rattle.definition.specs.Words.{words as wordsOf};
+ghost use Rattle.definition.specs.Refusals.{mostListed};
 ghost use Rattle.rows_model.specs.Row.{firstRows, bytes as bytesOf};
 ghost use Rattle.read_element_table.specs.View.{view};
 ghost use Rattle.read_element_table.specs.Wellformed.{Lines};
@@ -96,7 +97,7 @@ fn apply_parts(
     requires { ⌜ Open s (now rows) (now marks) (now notes) (now changed) g recorded count ⌝ }
     requires { ⌜ (12291 ≤ length (now rows)) × (3072 ≤ length (now notes)) × (above ≤ 64) ⌝ }
     requires { ⌜ (s .bytes ≤ 16384) × ((text : List ℕ) → s .bytes ≡ bytesOf (firstRows text (s .rows) (now rows))) ⌝ }
-    requires { ⌜ (m ≤ 4096) × (3 * m ≤ length (now prepared)) × (count ≤ 1024) × (count ≤ length (now sizes)) × All (λ x. x < 2 ^ 16) (take count (now sizes)) × (c ≤ 1024) × (3 * c ≤ length (now incoming)) ⌝ }
+    requires { ⌜ (m ≤ 4096) × (3 * m ≤ length (now prepared)) × (count ≤ mostListed) × (count ≤ length (now sizes)) × All (λ x. x < 2 ^ 16) (take count (now sizes)) × (c ≤ 1024) × (3 * c ≤ length (now incoming)) ⌝ }
     ensures { λ r. ⌜ Applied s (now (rows .entry)) (now (marks .entry)) (now (notes .entry)) (now (changed .entry)) g above recorded (take (3 * m) (now (prepared .entry))) (take count (now (sizes .entry))) (now (incoming .entry)) c (now (rows .exit)) (now (marks .exit)) (now (notes .exit)) (now (changed .exit)) r ⌝ }
 {
     let end = 3 * m;
@@ -140,8 +141,8 @@ fn step_at(
     requires { ⌜ (12291 ≤ length (now rows)) × (3072 ≤ length (now notes)) × (above ≤ 64) ⌝ }
     requires { ⌜ (s .bytes ≤ 16384) × ((text : List ℕ) → s .bytes ≡ bytesOf (firstRows text (s .rows) (now rows))) ⌝ }
     requires { ⌜ (length (now marks) ≤ 2048) × (3 * length (now marks) + 3 ≤ length (now source)) × (3 * a ≤ length (now first)) × (a ≤ 256) ⌝ }
-    requires { ⌜ (list + 4 * count ≤ length (now b)) × (count ≤ 1024) × All (λ e. e < length (now marks)) (wordsOf count (drop list (now b))) ⌝ }
-    requires { ⌜ (12288 ≤ length (now prepared)) × (1024 ≤ length (now sizes)) × (3072 ≤ length (now incoming)) ⌝ }
+    requires { ⌜ (list + 4 * count ≤ length (now b)) × (count ≤ mostListed) × All (λ e. e < length (now marks)) (wordsOf count (drop list (now b))) ⌝ }
+    requires { ⌜ (12288 ≤ length (now prepared)) × (mostListed ≤ length (now sizes)) × (3072 ≤ length (now incoming)) ⌝ }
     ensures { λ r. ⌜ SteppedAt s (now (rows .entry)) (now (marks .entry)) (now (notes .entry)) (now (changed .entry)) (now (source .entry)) (now (first .entry)) a g above recorded (wordsOf count (drop list (now (b .entry)))) (now (rows .exit)) (now (marks .exit)) (now (notes .exit)) (now (changed .exit)) r ⌝ }
 {
     let p = g.from;
@@ -204,7 +205,7 @@ pub fn step(
     s: TreeState,
 ) -> Executed
     requires { ⌜ Standing (length (now marks)) (now table) (now source) (now first) a s (now rows) (now marks) (now notes) (now changed) ⌝ }
-    requires { ⌜ (12291 ≤ length (now rows)) × (3072 ≤ length (now notes)) × (12288 ≤ length (now prepared)) × (1024 ≤ length (now sizes)) × (3072 ≤ length (now incoming)) ⌝ }
+    requires { ⌜ (12291 ≤ length (now rows)) × (3072 ≤ length (now notes)) × (12288 ≤ length (now prepared)) × (mostListed ≤ length (now sizes)) × (3072 ≤ length (now incoming)) ⌝ }
     requires { ⌜ (listed + 4 * l ≤ length (now b)) × (l ≤ 1024) × All (λ e. e < length (now marks)) (wordsAt (now b) listed l) × (k < 2 ^ 32) ⌝ }
     requires { ⌜ Performs (length (now marks)) (view (length (now marks)) (now table) (now source)) (wordsAt (now b) listed l) (rowAt (now changes) k) ⌝ }
     requires { ⌜ s .changed + listsIn (view (length (now marks)) (now table) (now source)) (wordsAt (now b) listed l) (rowAt (now changes) k) ≤ length (now changed) ⌝ }
