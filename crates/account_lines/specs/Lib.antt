@@ -1,0 +1,3 @@
+-- What the functions write, and that it is what the definition says of the changes.
+--     Lines   lines, how long they are, and one more behind others
+pub mod Lines
