@@ -1,22 +1,28 @@
 -- The account's lines: how long they are, and one more behind others.
 -- Assumes nothing.
 use mathlib.Core.Path.{_≡_, refl, sym, ap, _∙_}
-use mathlib.Core.Bool.{true, false, cond}
+use mathlib.Core.Bool.{cond}
 use mathlib.Core.List.{List, [], _∷_, _++_, map, flatMap, append-nil}
 use Prim.Native.Nat.{ℕ, zero, suc, _+_, _*_, _≤_, _<_}
 use native.Mathlib.Nat.{add-zero}
 use native.Mathlib.Omega.{arith}
 use lib.Dec.{eqb}
 use lib.ListN.{length, getD, drop, length-append, length-map}
-use Rattle.definition.specs.Basics.{numbered}
+use Rattle.definition.specs.Basics.{Answer, _>>=_, numbered}
 use Rattle.definition.specs.Planning.{Fate, own, dependent, discarded}
-use Rattle.definition.specs.Printed.{ascii, decimal, line}
-use Rattle.definition.specs.Account.{after, fateLine, fateLines}
+use Rattle.definition.specs.Printed.{ascii, digits, decimal, line}
+use Rattle.definition.specs.Account.{after, fateLine, fateLines, inRoom}
 use Rattle.definition_laws.specs.Basics.{flatMap-append}
 use Rattle.record_changes.specs.ChangeRow.{ChangeRow, rowOf, rowsOf}
 use Rattle.record_changes.specs.ChangeRowLaws.{rowAt, rows-to, length-rowsOf}
 use Rattle.plan_sort.specs.Rows.{rowFate}
+use Rattle.promises.specs.Serving.{tellBytes}
+use Rattle.promises.specs.declared.Outcome.{Outcome}
 use Rattle.edit_print.specs.Lines.{digits-length, spaced, lineOf, lineOf-length, texts-length}
+
+-- what is told of a text, and the text, in so much room; or 13
+abbrev pub tellIn : ℕ → List ℕ → Answer (Outcome × List ℕ)
+tellIn room text = inRoom room text >>= tellBytes
 
 -- the fate that two words of a row state
 unfoldable pub fateIn : ℕ → ℕ → Fate
@@ -28,11 +34,15 @@ unfolding rowFate rowAt rowOf fateIn
 fate-in w i = refl
 
 -- a line has at most 32 bytes: a number of 10, a space, a word of 9, a space, a number of 10, and its end
+rest-length : (n : ℕ) (name ns : List ℕ) → length name + 11 * length ns ≤ 21 → length (after n (lineOf name ns)) ≤ 32
+unfolding after decimal
+rest-length n name ns h = omega (arith, length-append (digits 10 n) (lineOf name ns), digits-length 10 n, lineOf-length name ns)
+
 pub line-length : (n : ℕ) (f : Fate) → length (fateLine (n, f)) ≤ 32
-unfolding fateLine after line lineOf ascii decimal spaced
-line-length n own = simp length-append (omega (arith, digits-length 10 n))
-line-length n (dependent k) = simp length-append (omega (arith, digits-length 10 n, lineOf-length (32 ∷ 100 ∷ 101 ∷ 112 ∷ 101 ∷ 110 ∷ 100 ∷ 101 ∷ 110 ∷ 116 ∷ []) (k ∷ [])))
-line-length n (discarded k) = simp length-append (omega (arith, digits-length 10 n, lineOf-length (32 ∷ 100 ∷ 105 ∷ 115 ∷ 99 ∷ 97 ∷ 114 ∷ 100 ∷ 101 ∷ 100 ∷ []) (k ∷ [])))
+unfolding fateLine line lineOf ascii spaced
+line-length n own = rest-length n (32 ∷ 111 ∷ 119 ∷ 110 ∷ []) [] (omega arith)
+line-length n (dependent k) = rest-length n (32 ∷ 100 ∷ 101 ∷ 112 ∷ 101 ∷ 110 ∷ 100 ∷ 101 ∷ 110 ∷ 116 ∷ []) (k ∷ []) (omega arith)
+line-length n (discarded k) = rest-length n (32 ∷ 100 ∷ 105 ∷ 115 ∷ 99 ∷ 97 ∷ 114 ∷ 100 ∷ 101 ∷ 100 ∷ []) (k ∷ []) (omega arith)
 
 numbered-length : {A : Type 0} (n : ℕ) (l : List A) → length (numbered n l) ≡ length l
 unfolding numbered

@@ -6,13 +6,13 @@ use record_changes::field;
 ghost use mathlib.Core.List.{map};
 ghost use Prim.Native.Nat.{_+_, _*_, _≤_};
 ghost use lib.ListN.{length, take};
-ghost use Rattle.definition.specs.Basics.{refused, _>>=_};
-ghost use Rattle.definition.specs.Account.{fateLine, fateLines, overlapLine, inRoom, tell};
+ghost use Rattle.definition.specs.Basics.{refused};
+ghost use Rattle.definition.specs.Account.{fateLine, fateLines, overlapLine, tell};
 ghost use Rattle.record_changes.specs.ChangeRow.{rowsOf};
 ghost use Rattle.plan_sort.specs.Rows.{rowFate};
 ghost use Rattle.edit_print.specs.Lines.{Put};
-ghost use Rattle.promises.specs.Serving.{tellBytes, Tells};
-ghost use Rattle.account_lines.specs.Lines.{fateIn};
+ghost use Rattle.promises.specs.Serving.{Tells};
+ghost use Rattle.account_lines.specs.Lines.{fateIn, tellIn};
 
 // The line of change `n` is written at `at`; its fate and its owner are the words of its row.
 fn put_fate(out: &mut [u8], at: usize, n: usize, fate: usize, owner: usize) -> usize
@@ -48,7 +48,7 @@ fn put_fates(out: &mut [u8], rows: &[u32], c: usize) -> usize
 // The first `n` bytes of a draft go to the front of the result, or 13.
 fn hand_out(draft: &[u8], n: usize, result: &mut [u8]) -> Outcome
     requires { ⌜ n ≤ length (now draft) ⌝ }
-    ensures { λ r. ⌜ Tells (inRoom (length (now (result .entry))) (take n (now (draft .entry))) >>= tellBytes) (now (result .entry)) r (now (result .exit)) ⌝ }
+    ensures { λ r. ⌜ Tells (tellIn (length (now (result .entry))) (take n (now (draft .entry)))) (now (result .entry)) r (now (result .exit)) ⌝ }
 {
     if result.len() < n {
         return Outcome::Refused(13);
@@ -60,7 +60,7 @@ fn hand_out(draft: &[u8], n: usize, result: &mut [u8]) -> Outcome
 // What became of each of `c` changes, a line each, at the front of the result, or 13.
 pub fn tell_fates(rows: &[u32], c: usize, result: &mut [u8]) -> Outcome
     requires { ⌜ c ≤ 256 ⌝ }
-    ensures { λ r. ⌜ Tells (inRoom (length (now (result .entry))) (fateLines (map rowFate (rowsOf c (now (rows .entry))))) >>= tellBytes) (now (result .entry)) r (now (result .exit)) ⌝ }
+    ensures { λ r. ⌜ Tells (tellIn (length (now (result .entry))) (fateLines (map rowFate (rowsOf c (now (rows .entry)))))) (now (result .entry)) r (now (result .exit)) ⌝ }
 {
     let mut draft = [0u8; 8192];
     let n = put_fates(&mut draft, rows, c);
@@ -69,7 +69,7 @@ pub fn tell_fates(rows: &[u32], c: usize, result: &mut [u8]) -> Outcome
 
 // Which two changes overlap, at the front of the result, or 13.
 pub fn tell_overlap(j: usize, k: usize, result: &mut [u8]) -> Outcome
-    ensures { λ r. ⌜ Tells (inRoom (length (now (result .entry))) (overlapLine j k) >>= tellBytes) (now (result .entry)) r (now (result .exit)) ⌝ }
+    ensures { λ r. ⌜ Tells (tellIn (length (now (result .entry))) (overlapLine j k)) (now (result .entry)) r (now (result .exit)) ⌝ }
 {
     let mut draft = [0u8; 30];
     let n = put_line(&mut draft, 0, b"overlap", &[j, k]);
