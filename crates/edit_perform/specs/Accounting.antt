@@ -50,7 +50,7 @@ module _ (b : List ℕ) (a : Accepted) (e : accepted b ≡ gives a) where
     module _ (p : Plan) (h : plan a ≡ gives p) where
       -- with a plan, the run decides whether its fates are told
       pub planned-account : account b ≡ (ran a p >>= λ w. gives (linesOf (p .changes)))
-      unfolding account said _>>=_
+      unfolding edit account said _>>=_
       planned-account = go (ran a p) refl
         where
           go : (o : Answer World) → ran a p ≡ o → account b ≡ (o >>= λ w. gives (linesOf (p .changes)))
@@ -60,5 +60,4 @@ module _ (b : List ℕ) (a : Accepted) (e : accepted b ≡ gives a) where
               rw (e, z, rewriting, h, i, result-fits b _ edits) (ap (λ (fs : List Fate). gives (fateLines fs)) (sym (rewrite-fates a ps p (rewriting ∙ h))))
             where
               edit-of : (w : World) → ran a p ≡ gives w → edit b ≡ gives (result (p .changes) (p .climbs) w)
-              unfolding edit
               edit-of w i = rw (e, h, i)
