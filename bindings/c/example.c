@@ -60,12 +60,19 @@ static void print(void)
 
 int main(void)
 {
-    int64_t length = build();
+    int64_t written = build(), length = written;
     if (length >= 0)
-        length = syntax_edit_with(&work, batch, (size_t)length, result, sizeof result);
+        length = syntax_edit_with(&work, batch, (size_t)written, result, sizeof result);
     if (length < 0)
         printf("refused %" PRId64 "\n", -length);
     else
         print();
+    if (written < 0)
+        return 0;
+    length = syntax_account_with(&work, batch, (size_t)written, result, sizeof result);
+    if (length < 0)
+        printf("%" PRId64 "\n", -length);
+    else
+        fwrite(result, 1, (size_t)length, stdout);
     return 0;
 }

@@ -3,7 +3,7 @@
  * A batch is bytes as document 01 lays them out: seven sizes (trees, elements, text bytes, calls, listed elements, mappings, notes), then kinds,
  * measures, call words, targets, listed elements, mapping inputs and outputs, note elements and numbers (32-bit little-endian words), then the text.
  * An answer is six sizes (elements, text bytes, changed, notes, discarded changes, climb steps), kinds, measures, changed elements, note numbers,
- * note elements, text.
+ * note elements, text. An account is text: what becomes of each change.
  *
  * Who owns what: the caller owns every buffer. Nothing is allocated and nothing is kept after a call returns. A call has no precondition but that lent
  * buffers do not overlap and that each has the length that is passed with it, whatever the batch and the work memory hold.
@@ -37,8 +37,8 @@ enum {
     SYNTAX_PREPARED = 12288
 };
 
-/* The most bytes of an answer: a result buffer of this length is never too short. */
-enum { SYNTAX_MOST_ANSWER = 61464 };
+/* The most bytes of an answer, and of an account: a result buffer of this length is never too short. */
+enum { SYNTAX_MOST_ANSWER = 61464, SYNTAX_MOST_ACCOUNT = 8192 };
 
 /* The writer's work slices: a draft of this many bytes, SYNTAX_TABLE words and SYNTAX_SOURCE words. No batch is longer than the draft. */
 enum { SYNTAX_DRAFT = 49180, SYNTAX_MOST_BATCH = 49180 };
@@ -94,6 +94,22 @@ int64_t syntax_find_element(
     uint32_t *rows, size_t rows_length,
     uint32_t *prepared, size_t prepared_length);
 
+/* Accounts: the length of the text that now stands at the start of the result, or a refusal with a minus, never SYNTAX_OVERLAP. The text has a line for each
+ * recorded change in sorted order: its number, from 0, then `own`, `dependent k` or `discarded k`, k being the number of a change; or, where replacements
+ * overlap, the one line `overlap j k`. */
+int64_t syntax_account(
+    const uint8_t *batch, size_t batch_length,
+    uint8_t *result, size_t result_length,
+    uint32_t *table, size_t table_length,
+    uint32_t *source, size_t source_length,
+    uint32_t *changes, size_t changes_length,
+    uint32_t *notes, size_t notes_length,
+    uint32_t *incoming, size_t incoming_length,
+    uint32_t *changed, size_t changed_length,
+    uint32_t *marks, size_t marks_length,
+    uint32_t *rows, size_t rows_length,
+    uint32_t *prepared, size_t prepared_length);
+
 /* Writes a batch from its lists: its length, or a refusal (1, 14 or 15) with a minus. syntax_lists says what each list holds. */
 int64_t syntax_write(
     size_t trees,
@@ -126,7 +142,7 @@ typedef struct syntax_work {
     uint32_t prepared[SYNTAX_PREPARED];
 } syntax_work;
 
-/* The two calls over one struct of work memory. */
+/* The three calls over one struct of work memory. */
 static inline int64_t syntax_edit_with(syntax_work *w, const uint8_t *batch, size_t batch_length, uint8_t *result, size_t result_length)
 {
     return syntax_edit(batch, batch_length, result, result_length, w->table, SYNTAX_TABLE, w->source, SYNTAX_SOURCE, w->changes, SYNTAX_CHANGES,
@@ -137,6 +153,13 @@ static inline int64_t syntax_edit_with(syntax_work *w, const uint8_t *batch, siz
 static inline int64_t syntax_find_element_with(syntax_work *w, const uint8_t *batch, size_t batch_length, uint64_t number)
 {
     return syntax_find_element(batch, batch_length, number, w->table, SYNTAX_TABLE, w->source, SYNTAX_SOURCE, w->changes, SYNTAX_CHANGES,
+        w->notes, SYNTAX_NOTES, w->incoming, SYNTAX_INCOMING, w->changed, SYNTAX_CHANGED, w->marks, SYNTAX_MARKS, w->rows, SYNTAX_ROWS,
+        w->prepared, SYNTAX_PREPARED);
+}
+
+static inline int64_t syntax_account_with(syntax_work *w, const uint8_t *batch, size_t batch_length, uint8_t *result, size_t result_length)
+{
+    return syntax_account(batch, batch_length, result, result_length, w->table, SYNTAX_TABLE, w->source, SYNTAX_SOURCE, w->changes, SYNTAX_CHANGES,
         w->notes, SYNTAX_NOTES, w->incoming, SYNTAX_INCOMING, w->changed, SYNTAX_CHANGED, w->marks, SYNTAX_MARKS, w->rows, SYNTAX_ROWS,
         w->prepared, SYNTAX_PREPARED);
 }

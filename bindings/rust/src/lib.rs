@@ -4,17 +4,22 @@
 //! [`Answer`] (the new tree, its changed elements, its notes) or a [`Refusal`]: every batch of bytes gets one of the two. The library's calls have no
 //! precondition but that lent buffers do not overlap, which references see to here. An editor has 233 KiB of work memory in nine slices.
 
+mod account;
 mod answer;
 mod batch;
 pub mod raw;
 
 use std::{error::Error, fmt};
 
+pub use account::{Fate, Unaccounted};
 pub use answer::{Answer, Element, Note};
 pub use batch::{Batch, BatchBuilder, Unfit};
 
 /// The most bytes that an answer has.
 pub const MOST_ANSWER: usize = 61_464;
+
+/// The most bytes that an account has.
+pub const MOST_ACCOUNT: usize = 8_192;
 
 /// Why a batch got no answer, or lists made no batch: a number of the list of refusals.
 #[derive(Clone, Copy, Debug, PartialEq, Eq, Hash)]
@@ -89,6 +94,18 @@ impl Editor {
         let length = told(raw::edit(batch, &mut self.result, self.work.slices()))?;
         let bytes = self.result.get(..length).expect("an answer ends within the result buffer");
         Ok(Answer::read(bytes).expect("an answer is as long as its sizes tell"))
+    }
+
+    /// What becomes of each change of a batch, in sorted order; or which two overlap; or the batch's refusal.
+    pub fn account(&mut self, batch: &Batch) -> Result<Vec<Fate>, Unaccounted> {
+        self.account_bytes(batch.bytes())
+    }
+
+    /// The same, of bytes that were laid out elsewhere.
+    pub fn account_bytes(&mut self, batch: &[u8]) -> Result<Vec<Fate>, Unaccounted> {
+        let length = told(raw::account(batch, &mut self.result, self.work.slices()))?;
+        let text = self.result.get(..length).expect("an account ends within the result buffer");
+        account::read(std::str::from_utf8(text).expect("an account is plain text")).expect("an account is a line for each change, or a pair")
     }
 
     /// The element of the new tree that `find_element` gives for an element of the batch: the first node with its kind and text start.

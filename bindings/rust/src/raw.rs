@@ -114,6 +114,20 @@ mod library {
             prepared: *mut u32, prepared_length: usize,
         ) -> i64;
 
+        pub fn syntax_account(
+            batch: *const u8, batch_length: usize,
+            result: *mut u8, result_length: usize,
+            table: *mut u32, table_length: usize,
+            source: *mut u32, source_length: usize,
+            changes: *mut u32, changes_length: usize,
+            notes: *mut u32, notes_length: usize,
+            incoming: *mut u32, incoming_length: usize,
+            changed: *mut u32, changed_length: usize,
+            marks: *mut u32, marks_length: usize,
+            rows: *mut u32, rows_length: usize,
+            prepared: *mut u32, prepared_length: usize,
+        ) -> i64;
+
         pub fn syntax_write(
             trees: usize,
             kinds: *const u32, kinds_length: usize,
@@ -167,6 +181,28 @@ pub fn find_element(batch: &[u8], number: u64, work: Slices<'_>) -> i64 {
         library::syntax_find_element(
             batch.as_ptr(), batch.len(),
             number,
+            table.as_mut_ptr(), table.len(),
+            source.as_mut_ptr(), source.len(),
+            changes.as_mut_ptr(), changes.len(),
+            notes.as_mut_ptr(), notes.len(),
+            incoming.as_mut_ptr(), incoming.len(),
+            changed.as_mut_ptr(), changed.len(),
+            marks.as_mut_ptr(), marks.len(),
+            rows.as_mut_ptr(), rows.len(),
+            prepared.as_mut_ptr(), prepared.len(),
+        )
+    }
+}
+
+/// The length of the account's text that now stands at the start of `result`, or a refusal's number (never 8) with a minus.
+#[rustfmt::skip]
+pub fn account(batch: &[u8], result: &mut [u8], work: Slices<'_>) -> i64 {
+    let [table, source, changes, notes, incoming, changed, marks, rows, prepared] = work;
+    // Safety: as in `edit`.
+    unsafe {
+        library::syntax_account(
+            batch.as_ptr(), batch.len(),
+            result.as_mut_ptr(), result.len(),
             table.as_mut_ptr(), table.len(),
             source.as_mut_ptr(), source.len(),
             changes.as_mut_ptr(), changes.len(),

@@ -1,6 +1,6 @@
 //! The printed case, the marked examples of document 01, and every refusal from 2 to 12, through `Editor`.
 
-use syntax_edit::{Answer, Batch, BatchBuilder, Editor, Element, Note, Refusal, Unfit};
+use syntax_edit::{Answer, Batch, BatchBuilder, Editor, Element, Fate, Note, Refusal, Unaccounted, Unfit};
 
 /// S, root(X(a), b), with c and d as tokens of other trees.
 struct S {
@@ -69,6 +69,39 @@ fn the_printed_case() {
     assert_eq!(answer.changed().collect::<Vec<_>>(), [2]);
     assert_eq!(answer.notes().collect::<Vec<_>>(), [Note { number: 9, element: 2 }]);
     assert_eq!((answer.discarded(), answer.climb_steps()), (0, 0));
+}
+
+/// What becomes of each change.
+fn accounted(s: &S) -> Result<Vec<Fate>, Unaccounted> {
+    Editor::new().account(&s.builder.finish().expect("it is small"))
+}
+
+#[test]
+fn accounts() {
+    assert_eq!(accounted(&s()), Ok(vec![]));
+
+    let mut it = s();
+    it.builder.delete(it.x);
+    it.builder.insert_after(it.x, &[it.c]);
+    assert_eq!(accounted(&it), Ok(vec![Fate::Own, Fate::Discarded(0)]));
+
+    // The change of b empties the stack: c is performed on its own, and lost with X.
+    let mut it = s();
+    it.builder.delete(it.x);
+    it.builder.replace(it.b, it.d);
+    it.builder.insert_after(it.a, &[it.c]);
+    assert_eq!(accounted(&it), Ok(vec![Fate::Own; 3]));
+    assert_eq!(answered(&it), text("d", 0));
+
+    let mut it = s();
+    it.builder.insert_first(it.root, &[it.c]);
+    it.builder.replace_all(it.x, it.b, &[]);
+    it.builder.replace(it.b, it.d);
+    assert_eq!(accounted(&it), Err(Unaccounted::Overlap(1, 2)));
+
+    let mut editor = Editor::new();
+    let refused = editor.account_bytes(&[]).expect_err("it is short");
+    assert!(matches!(refused, Unaccounted::Refused(it) if it.number() == 2));
 }
 
 #[test]

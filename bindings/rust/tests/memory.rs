@@ -53,6 +53,26 @@ fn a_refusal_leaves_the_result() {
 }
 
 #[test]
+fn an_account_leaves_the_rest_of_the_result() {
+    for (batch, text) in [(PRINTED_CASE, "0 own\n"), (OVERLAP, "overlap 0 1\n")] {
+        let mut memory = work(|_, least| least);
+        let mut result = vec![0xa5; 1_000];
+        assert_eq!(raw::account(batch, &mut result, lent(&mut memory)), text.len() as i64);
+        assert_eq!(&result[..text.len()], text.as_bytes());
+        assert!(result[text.len()..].iter().all(|&it| it == 0xa5));
+        assert_zeros(&memory);
+        for room in 0..text.len() {
+            let mut short = vec![0x5a; room];
+            assert_eq!(raw::account(batch, &mut short, lent(&mut memory)), -13);
+            assert!(short.iter().all(|&it| it == 0x5a));
+        }
+        let mut memory = work(|i, least| if i == 2 { least - 1 } else { least });
+        assert_eq!(raw::account(batch, &mut result, lent(&mut memory)), -1);
+        assert_zeros(&memory);
+    }
+}
+
+#[test]
 fn a_short_work_slice_is_refused_and_cleared() {
     for short in 0..raw::LENGTHS.len() {
         for length in [0, 1, raw::LENGTHS[short] - 1] {

@@ -21,6 +21,7 @@ use Rattle.definition.specs.Answers
 use Rattle.definition.specs.FindElement
 use Rattle.definition.specs.Performed
 use Rattle.definition.specs.Printed
+use Rattle.definition.specs.Account
 
 -- what the edit program prints for an input
 unfoldable pub computed : List ℕ → List ℕ
@@ -43,4 +44,5 @@ unfolding
     FindElement.alike FindElement.findIn FindElement.findElement
     Performed.inTree0 Performed.toSplice Performed.met Performed.yields Performed.told Performed.splices Performed.splicesOf
     Printed.ascii Printed.digits Printed.decimal Printed.hexDigit Printed.hex Printed.line Printed.elementLine Printed.textLine Printed.print Printed.printed
+    Account.after Account.fateLine Account.fateLines Account.overlapLine Account.said Account.account Account.inRoom Account.accounted Account.tell Account.accountPrinted
 computed input = Printed.printed input

@@ -18,6 +18,7 @@ use Rattle.definition.specs.Answers.{edit}
 use Rattle.definition.specs.FindElement.{findElement}
 use Rattle.definition.specs.Performed.{splicesOf}
 use Rattle.definition.specs.Printed.{ascii, printed}
+use Rattle.definition.specs.Account.{accounted, accountPrinted}
 use Rattle.definition.specs.Computing.{computed}
 
 -- ── A batch told, and its bytes ─────────────────────────────────────────────────────────────────────────────
@@ -219,6 +220,10 @@ onEmpty mappings calls = record {
   notes = [];
 }
 
+-- delete X, b by d, c after a
+abbrev pub lostWithX : Told
+lostWithX = onS (call 3 1 [] ∷ call 2 3 (7 ∷ []) ∷ call 1 2 (5 ∷ []) ∷ [])
+
 -- each further example, and what is told of it
 abbrev pub further : List (Told × Short)
 further =
@@ -261,6 +266,8 @@ further =
     ∷ (onEmpty ((2, 7) ∷ []) (call 2 2 (6 ∷ []) ∷ call 0 1 (4 ∷ []) ∷ []), refused 9)
     -- c into the token d: a token is no parent
     ∷ (onEmpty [] (call 0 5 (4 ∷ []) ∷ []), refused 6)
+    -- delete X, b by d, c after a: b's change empties the stack, so c is performed on its own; it goes into X, and X goes
+    ∷ (lostWithX, becomes (root (d ∷ [])) (1 ∷ []) 0)
     ∷ []
 
 -- by which number lines 2 to 7 refuse a batch, 0 if they accept it
@@ -333,6 +340,26 @@ twoSplices =
     ∷ record { number = 1; parent = []; from = 1; to = 1; prepared = d ∷ [] }
     ∷ []
 
+-- each example of the account, and what its program prints
+abbrev pub accounts : List (Told × String)
+accounts =
+    -- no change
+    (onS [], "")
+    -- delete X, c after X: discarded
+    ∷ (onS (call 3 1 [] ∷ call 1 1 (5 ∷ []) ∷ []), "0 own\n1 discarded 0\n")
+    -- the innermost region is named
+    ∷ (nested, "0 own\n1 discarded 0\n2 discarded 1\n")
+    -- X by R(X′(a)), X mapped to X′, c after a: dependent. Unmapped: 9
+    ∷ (onMappedS (call 2 1 (8 ∷ []) ∷ call 1 2 (5 ∷ []) ∷ []), "0 own\n1 dependent 0\n")
+    ∷ (onS (call 2 1 (8 ∷ []) ∷ call 1 2 (5 ∷ []) ∷ []), "9\n")
+    -- c as first child of the root, run X to b, b replaced: the second and the third overlap
+    ∷ (onS (call 0 0 (5 ∷ []) ∷ call 5 1 (3 ∷ []) ∷ call 2 3 (5 ∷ []) ∷ []), "overlap 1 2\n")
+    -- Root(Z, b), Z empty: delete Z, c after Z: 11, though planning finds nothing wrong
+    ∷ (onZ (call 3 1 [] ∷ call 1 1 (4 ∷ []) ∷ []), "11\n")
+    -- the account is true, and does not say that c is lost with X
+    ∷ (lostWithX, "0 own\n1 own\n2 own\n")
+    ∷ []
+
 -- the lists of S with calls by these lists
 abbrev callsOnS : List ℕ → List ℕ → List ℕ → List ℕ → Lists
 callsOnS operations counts targets listed =
@@ -390,3 +417,9 @@ pub examples : (answered marked ≡ told marked)
     × (map (λ m. refusal (m .0)) longest ≡ map (λ m. m .1) longest)
 unfolding computed short inLists inBytes fatesOf refusal
 examples = (refl, refl, refl, refl, refl, refl, refl, refl, refl, refl, refl, refl)
+
+-- Each example of the account prints what is told of it; the last, of 18 bytes, is refused by 13 where there is room for 17.
+pub accounts-told : (map (λ m. accountPrinted (inBytes (m .0))) accounts ≡ map (λ m. ascii (m .1)) accounts)
+    × (map (accounted [] (inBytes lostWithX)) (18 ∷ 17 ∷ []) ≡ gives (ascii "0 own\n1 own\n2 own\n") ∷ refused 13 ∷ [])
+unfolding computed inLists inBytes
+accounts-told = (refl, refl)

@@ -14,6 +14,7 @@
 --     FindElement  `find_element`
 --     Performed    the splices that a batch performs on tree 0, as demand 3 speaks of them
 --     Printed      what the edit program prints
+--     Account      what becomes of each change, as the account program prints it
 --     Computing    every definition opened, for examples
 --     Examples     the printed case and the marked examples, one table
 pub mod Basics
@@ -31,5 +32,6 @@ pub mod Answers
 pub mod FindElement
 pub mod Performed
 pub mod Printed
+pub mod Account
 pub mod Computing
 pub mod Examples

@@ -10,19 +10,20 @@ use lib.ListN.{length}
 use Rattle.definition.specs.Basics as basics
 use Rattle.definition.specs.Basics.{refused, gives, _>>=_, refuse}
 use Rattle.definition.specs.Answers.{tooShort, withWork}
+use Rattle.definition.specs.Account.{account}
 use Rattle.promises.specs.Slices.{needed, lengths, zeros, zeroed}
-use Rattle.promises.specs.Promises.{Edits, Finds, applied}
-use Rattle.promises.specs.Serving.{reached, served, place, ofLength, ofPlace, Tells, Serves, serves-edits, serves-finds}
+use Rattle.promises.specs.Promises.{Edits, Finds, Accounts, applied, recounted}
+use Rattle.promises.specs.Serving.{reached, served, place, ofLength, ofPlace, Tells, Serves, serves-edits, serves-finds, serves-accounts}
 use Rattle.promises.specs.declared.Job.{Job}
-use Rattle.promises.specs.declared.Job.the-variants.{Edit, Find}
+use Rattle.promises.specs.declared.Job.the-variants.{Edit, Find, Account}
 use Rattle.promises.specs.declared.Outcome.{Outcome}
 use Rattle.promises.specs.declared.Outcome.the-variants.{Refused as NotServed, Bytes, Nothing as NotThere, At as Stands}
-use Rattle.edit_perform.specs.AtEnd.{Performs, PerformsWith, short, long}
+use Rattle.edit_perform.specs.AtEnd.{Overlapped, Performs, PerformsWith, short, long}
 use Rattle.edit_perform.specs.Ending.{ending, edit-ending, found-ending}
 use Rattle.edit_perform.specs.declared.Performed.{Performed}
-use Rattle.edit_perform.specs.declared.Performed.the-variants.{Refused as Stopped, Done}
+use Rattle.edit_perform.specs.declared.Performed.the-variants.{Refused as Stopped, Overlap, Done}
 use Rattle.edit_perform.specs.declared.Ended.{Ended}
-use Rattle.edit_answer.specs.AtEnd.{unless, unless-refused, unless-done, ToAnswer}
+use Rattle.edit_answer.specs.AtEnd.{unless, unless-refused, unless-done, unless-overlap, ToAnswer}
 use Rattle.edit_algo.specs.declared.Answer.{Answer}
 use Rattle.edit_algo.specs.declared.Answer.the-variants.{Refused, Edited}
 use Rattle.edit_algo.specs.declared.Element.{Element}
@@ -34,29 +35,35 @@ use Rattle.edit_algo.specs.Numbers.{answerOf, elementOf, TellsLength, Te
 -- where what is performed is refused, the answer is that refusal
 unless-same : {A : Type 0} (p : Performed) (a : basics.Answer A) → ((k : ℕ) → p ≡ Stopped k → a ≡ refused k) → unless p a ≡ a
 unless-same (Stopped k) a f = unless-refused refl a ∙ sym (f k refl)
+unless-same (Overlap j k) a f = unless-overlap refl a
 unless-same (Done d) a f = unless-done refl a
 
 -- a job is refused where the run is
-job-refused : (j : Job) (b : List ℕ) (room k : ℕ) → ending b ≡ refused k → reached j b room ≡ refused k
-unfolding reached applied _>>=_
-job-refused Edit b room k e = rw (edit-ending b, e) refl
-job-refused (Find n) b room k e = rw (found-ending b n, e) refl
+job-refused : (j : Job) (b : List ℕ) (room k : ℕ) → (ending b ≡ refused k) × (account b ≡ refused k) → reached j b room ≡ refused k
+unfolding reached applied recounted _>>=_
+job-refused Edit b room k e = rw (edit-ending b, e .0) refl
+job-refused (Find n) b room k e = rw (found-ending b n, e .0) refl
+job-refused Account b room k e = rw (e .1) refl
 
-module _ {work : List (List ℕ)} {b t s rows notes changed marks : List ℕ} {p : Performed} where
+module _ {work : List (List ℕ)} {b t s changes rows notes changed marks : List ℕ} {p : Performed} where
   -- what is performed and then answered is the job's answer with these work slices
-  pub job-performed : PerformsWith work b t s rows notes changed marks p → (j : Job) (room : ℕ) → unless p (reached j b room) ≡ served j (lengths needed work) b room
+  pub job-performed : PerformsWith work b t s changes rows notes changed marks p → (j : Job) (room : ℕ) → unless p (reached j b room) ≡ served j (lengths needed work) b room
   unfolding served withWork refuse _>>=_
   job-performed (short h q) j room = unless-refused q _ ∙ rw h refl
   job-performed (long h P) j room = unless-same p (reached j b room) (λ k e. job-refused j b room k (P .refuses k e)) ∙ rw h refl
 
   -- at the end of the run no work slice is too short
-  done-long : PerformsWith work b t s rows notes changed marks p → (d : Ended) → p ≡ Done d → (tooShort (lengths needed work) ≡ false) × Performs b t s rows notes changed marks p
+  done-long : PerformsWith work b t s changes rows notes changed marks p → (d : Ended) → p ≡ Done d → (tooShort (lengths needed work) ≡ false) × Performs b t s changes rows notes changed marks p
   done-long (short h q) d e = absurd (let z : _≡_ {A = ℕ} 0 1 = cc in omega arith)
   done-long (long h P) d e = (h, P)
 
+  overlap-known : PerformsWith work b t s changes rows notes changed marks p → (j k : ℕ) → p ≡ Overlap j k → Overlapped b j k
+  overlap-known (short h q) j k e = absurd (let z : _≡_ {A = ℕ} 0 1 = cc in omega arith)
+  overlap-known (long h P) j k e = P .overlaps j k e
+
   -- so that what the run left is there
-  pub to-answer : PerformsWith work b t s rows notes changed marks p → (starts : List ℕ) → (tooShort (lengths needed work) ≡ false → 4096 ≤ length starts) → ToAnswer b t s rows notes changed starts p
-  to-answer P starts h = record { ends = λ d e. (done-long P d e) .1 .ends d e; tells = λ d e. (done-long P d e) .1 .tells d e; room = λ d e. h ((done-long P d e) .0) }
+  pub to-answer : PerformsWith work b t s changes rows notes changed marks p → (starts : List ℕ) → (tooShort (lengths needed work) ≡ false → 4096 ≤ length starts) → ToAnswer b t s changes rows notes changed starts p
+  to-answer P starts h = record { overlaps = λ j k e. overlap-known P j k e; recounts = λ d e. (done-long P d e) .1 .recounts d e; ends = λ d e. (done-long P d e) .1 .ends d e; tells = λ d e. (done-long P d e) .1 .tells d e; room = λ d e. h ((done-long P d e) .0) }
 
 -- ── Cleared ─────────────────────────────────────────────────────────────────────────────────────────────────
 
@@ -131,3 +138,7 @@ edits-told b held holds work left told r s f = let (a, e, k) = serves-edits s in
 -- and of an element that of `find_element`
 pub finds-told : (b held holds : List ℕ) (n : ℕ) (work left : List (List ℕ)) (told : Outcome) (r : Element) → Serves (Find n) b held work told holds left → TellsPlace told r → Finds b n work (elementOf r) left
 finds-told b held holds n work left told r s f = let (a, e, k) = serves-finds s in subst (λ (x : basics.Answer (Option ℕ)). Finds b n work x left) (sym (f a e)) k
+
+-- what is told of an account keeps the promise of `account`
+pub accounts-told : (b held holds : List ℕ) (work left : List (List ℕ)) (told : Outcome) (r : Answer) → Serves Account b held work told holds left → TellsLength told r → Accounts b held work (answerOf r) holds left
+accounts-told b held holds work left told r s f = let (a, e, k) = serves-accounts s in subst (λ (x : basics.Answer ℕ). Accounts b held work x holds left) (sym (f a e)) k

@@ -1,13 +1,13 @@
-// The public calls: one for every job, and the edit and the found element, each thin over it.
+// The public calls: one for every job, and the edit, the found element and the account, each thin over it.
 use edit_perform::perform;
 use promises::Job;
 use promises::Outcome;
 ghost use mathlib.Core.List.{_∷_, []};
-ghost use Rattle.promises.specs.Promises.{Edits, Finds};
+ghost use Rattle.promises.specs.Promises.{Edits, Finds, Accounts};
 ghost use Rattle.promises.specs.Serving.{Serves};
 ghost use Rattle.edit_algo.specs.Numbers.{answerOf, elementOf, TellsLength, TellsPlace};
 
-// How many bytes the result has, or a refusal's number.
+// How many bytes the result or the account has, or a refusal's number.
 pub enum Answer {
     Refused(usize),
     Edited(usize),
@@ -58,6 +58,7 @@ pub fn serve(
         done,
         table,
         source,
+        changes,
         rows,
         notes,
         changed,
@@ -80,7 +81,7 @@ pub fn serve(
 
 // ── The public calls ──
 
-// What is told of an edit. (No edit finds an element.)
+// What is told of an edit or an account. (Neither finds an element.)
 fn answer_in(told: Outcome) -> Answer
     ensures { λ r. ⌜ TellsLength told r ⌝ }
 {
@@ -157,6 +158,39 @@ pub fn find_element(
         Job::Find(number),
         batch,
         &mut none,
+        table,
+        source,
+        changes,
+        notes,
+        incoming,
+        changed,
+        marks,
+        rows,
+        prepared,
+    ))
+}
+
+// THE ACCOUNT of a batch: what becomes of each change, a line each, in sorted order; or which two overlap. The text is written to the front of `result`; the
+// nine others are work slices, which end as zeros.
+pub fn account(
+    batch: &[u8],
+    result: &mut [u8],
+    table: &mut [u32],
+    source: &mut [u32],
+    changes: &mut [u32],
+    notes: &mut [u32],
+    incoming: &mut [u32],
+    changed: &mut [u32],
+    marks: &mut [u32],
+    rows: &mut [u32],
+    prepared: &mut [u32],
+) -> Answer
+    ensures { λ r. ⌜ Accounts (now (batch .entry)) (now (result .entry)) (now (table .entry) ∷ now (source .entry) ∷ now (changes .entry) ∷ now (notes .entry) ∷ now (incoming .entry) ∷ now (changed .entry) ∷ now (marks .entry) ∷ now (rows .entry) ∷ now (prepared .entry) ∷ []) (answerOf r) (now (result .exit)) (now (table .exit) ∷ now (source .exit) ∷ now (changes .exit) ∷ now (notes .exit) ∷ now (incoming .exit) ∷ now (changed .exit) ∷ now (marks .exit) ∷ now (rows .exit) ∷ now (prepared .exit) ∷ []) ⌝ }
+{
+    answer_in(serve(
+        Job::Account,
+        batch,
+        result,
         table,
         source,
         changes,

@@ -2,7 +2,7 @@
 -- Assumes nothing.
 use mathlib.Core.Path.{_≡_, refl, sym, ap, subst, _∙_}
 use mathlib.Core.Bool.{Bool, true, false, not}
-use mathlib.Core.List.{List}
+use mathlib.Core.List.{List, map}
 use mathlib.Core.Option.{Option, none, some}
 use Prim.Native.Nat.{ℕ, suc, _+_, _-_, _*_, _≤_, _<_}
 use native.Mathlib.Nat.{add-zero}
@@ -14,6 +14,10 @@ use borrow.Author.Tests.{not-true, not-false}
 use Rattle.definition.specs.Basics as basics
 use Rattle.definition.specs.Basics.{gives, _>>=_}
 use Rattle.definition.specs.Elements.{isNode}
+use Rattle.definition.specs.Account.{fateLines, overlapLine}
+use Rattle.record_changes.specs.ChangeRow.{rowsOf as changeRows}
+use Rattle.plan_sort.specs.Rows.{rowFate}
+use Rattle.account_lines.specs.Lines.{tellIn}
 use Rattle.read_element_table.specs.View.{view}
 use Rattle.read_element_table.specs.Wellformed.{Wellformed}
 use Rattle.rows_model.specs.Row.{firstRows}
@@ -30,13 +34,14 @@ use Rattle.finish_result.specs.declared.Finished.the-variants.{Short, Bytes}
 use Rattle.edit_perform.specs.AtEnd.{AtEnd, Told}
 use Rattle.edit_perform.specs.declared.Ended.{Ended}
 use Rattle.edit_perform.specs.declared.Performed.{Performed}
-use Rattle.edit_perform.specs.declared.Performed.the-variants.{Refused as Stopped, Done}
+use Rattle.edit_perform.specs.declared.Performed.the-variants.{Refused as Stopped, Overlap, Done}
 use Rattle.promises.specs.Promises.{leftIn, found}
 use Rattle.promises.specs.Serving.{reached, place, ofLength, ofPlace, outcome, written, Tells, find-outcome, find-written}
-use Rattle.promises.specs.declared.Job.the-variants.{Edit, Find}
+use Rattle.promises.specs.declared.Job.{Job}
+use Rattle.promises.specs.declared.Job.the-variants.{Edit, Find, Account}
 use Rattle.promises.specs.declared.Outcome.{Outcome}
 use Rattle.promises.specs.declared.Outcome.the-variants.{Refused, Bytes as Written, Nothing as NoElement, At as Stands}
-use Rattle.edit_answer.specs.AtEnd.{RowsAtEnd, answered-edit, oldNode, none-there, no-node, node-there, no-old-node, old-node, unless, unless-refused, unless-done}
+use Rattle.edit_answer.specs.AtEnd.{RowsAtEnd, answered-edit, oldNode, none-there, no-node, node-there, no-old-node, old-node, unless, unless-refused, unless-done, unless-overlap, overlapTold, overlap-answers, fates-answer, ToAnswer}
 
 -- what is behind a place, as a part is told
 pub whole-rest : (k : ℕ) (b : List ℕ) → take (length b - k) (drop k b) ≡ drop k b
@@ -72,6 +77,38 @@ tells-done e want h = rw (unless-done e want) h
 pub tells-found : (b held : List ℕ) (room n : ℕ) {r : Outcome} → r ≡ ofPlace (found b n) → Tells (reached (Find n) b room) held r held
 unfolding reached
 tells-found b held room n e = record { answer = e ∙ sym (find-outcome (found b n)); result = find-written held (found b n) }
+
+-- two changes overlap
+pub tells-overlap : {b t s changes rows notes changed starts : List ℕ} {p : Performed} {j k : ℕ} {held out : List ℕ} {r : Outcome} (job : Job) → ToAnswer b t s changes rows notes changed starts p → p ≡ Overlap j k
+    → Tells (overlapTold job j k (length held)) held r out → Tells (unless p (reached job b (length held))) held r out
+tells-overlap {b} {j = j} {k = k} {held = held} {out = out} {r = r} job v e h =
+    rw (unless-overlap e (reached job b (length held))) (subst (λ (w : basics.Answer (Outcome × List ℕ)). Tells w held r out) (overlap-answers job b j k (length held) (v .overlaps j k e)) h)
+
+-- the account tells the fates
+pub tells-account : {b t s changes rows notes changed starts : List ℕ} {p : Performed} {d : Ended} {held out : List ℕ} {r : Outcome} → ToAnswer b t s changes rows notes changed starts p → p ≡ Done d
+    → Tells (tellIn (length held) (fateLines (map rowFate (changeRows (d .recorded) changes)))) held r out → Tells (reached Account b (length held)) held r out
+tells-account {d = d} {held = held} {out = out} {r = r} v e h = subst (λ (w : basics.Answer (Outcome × List ℕ)). Tells w held r out) (fates-answer (length held) (v .recounts d e)) h
+
+-- of at most 256 changes
+pub few-recorded : {b t s changes rows notes changed starts : List ℕ} {p : Performed} {d : Ended} → ToAnswer b t s changes rows notes changed starts p → p ≡ Done d → d .recorded ≤ 256
+few-recorded {d = d} v e = (v .recounts d e) .few
+
+-- a job that is refused by 8 leaves the result slice as it was
+pub tells-8 : {job : Job} (j k room : ℕ) (held : List ℕ) → overlapTold job j k room ≡ basics.refused 8 → Tells (overlapTold job j k room) held (Refused 8) held
+unfolding outcome written leftIn
+tells-8 j k room held e = rw e (record { answer = refl; result = refl })
+
+pub edit-8 : {job : Job} (j k : ℕ) (held : List ℕ) → job ≡ Edit → Tells (overlapTold job j k (length held)) held (Refused 8) held
+unfolding overlapTold
+edit-8 {job} j k held e = tells-8 {job} j k (length held) held (rw e refl)
+
+pub find-8 : {job : Job} {n : ℕ} (j k : ℕ) (held : List ℕ) → job ≡ Find n → Tells (overlapTold job j k (length held)) held (Refused 8) held
+unfolding overlapTold
+find-8 {job} j k held e = tells-8 {job} j k (length held) held (rw e refl)
+
+pub account-8 : {job : Job} (j k : ℕ) {held out : List ℕ} {r : Outcome} → job ≡ Account → Tells (tellIn (length held) (overlapLine j k)) held r out → Tells (overlapTold job j k (length held)) held r out
+unfolding overlapTold
+account-8 j k e h = rw e h
 
 -- ── A node of tree 0 ────────────────────────────────────────────────────────────────────────────────────────
 

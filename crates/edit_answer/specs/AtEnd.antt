@@ -2,7 +2,7 @@
 -- Assumes nothing.
 use mathlib.Core.Path.{_≡_, refl, sym, ap, _∙_}
 use mathlib.Core.Bool.{Bool, true, false, cond, _&&_}
-use mathlib.Core.List.{List, [], _∷_}
+use mathlib.Core.List.{List, [], _∷_, map}
 use mathlib.Core.Option.{none, some}
 use Prim.Native.Nat.{ℕ, zero, suc, _+_, _*_, _≤_, _<_}
 use native.Mathlib.Nat.{zero-add}
@@ -14,7 +14,11 @@ use Rattle.definition.specs.Basics.{Answer, refused, gives, _>>=_}
 use Rattle.definition.specs.Elements.{Table, isNode, node?, tree, row, noRow}
 use Rattle.definition.specs.Refusals.{Accepted, accepted}
 use Rattle.definition.specs.Answers.{plan, ran}
+use Rattle.definition.specs.Account.{fateLines, overlapLine}
 use Rattle.definition_laws.specs.Answers.{gives-inj, given}
+use Rattle.record_changes.specs.ChangeRow.{rowsOf as changeRows}
+use Rattle.plan_sort.specs.Rows.{rowFate}
+use Rattle.account_lines.specs.Lines.{tellIn}
 use Rattle.read_element_table.specs.View.{view, rowAt, kindWord}
 use Rattle.read_element_table.specs.Wellformed.{Lines}
 use Rattle.read_element_table.specs.Told.{length-view, row-view, node-told, tree-told, start-told}
@@ -28,13 +32,15 @@ use Rattle.finish_model.specs.Alike.{findRow, find-in}
 use Rattle.finish_result.specs.Answered.{lengthOf, fitted, overFront, Answered, answered-result}
 use Rattle.finish_result.specs.declared.Finished.{Finished}
 use Rattle.edit_perform.specs.Ending.{End, ending, resultAt, edit-ending, foundAt, found-ending}
-use Rattle.edit_perform.specs.AtEnd.{AtEnd, Told}
+use Rattle.edit_perform.specs.AtEnd.{AtEnd, Told, Overlapped, Recounted}
 use Rattle.edit_perform.specs.declared.Ended.{Ended}
 use Rattle.edit_perform.specs.declared.Performed.{Performed}
-use Rattle.edit_perform.specs.declared.Performed.the-variants.{Refused, Done}
-use Rattle.promises.specs.Promises.{leftIn, applied, found}
+use Rattle.edit_perform.specs.declared.Performed.the-variants.{Refused, Overlap, Done}
+use Rattle.promises.specs.Promises.{leftIn, applied, found, recounted}
 use Rattle.promises.specs.Serving.{reached, ofLength, outcome, written, Tells, edit-outcome, edit-written}
-use Rattle.promises.specs.declared.Job.the-variants.{Edit}
+use Rattle.promises.specs.declared.Job.{Job}
+use Rattle.promises.specs.declared.Job.the-variants.{Edit, Find, Account}
+use Rattle.promises.specs.declared.Outcome.{Outcome}
 
 -- ── The edit ────────────────────────────────────────────────────────────────────────────────────────────────
 
@@ -127,6 +133,7 @@ module _ {b rows t s : List ℕ} {d : Ended} (v : RowsAtEnd b rows d) (w : Told 
 -- the answer `a`, unless what is performed is refused
 unfoldable pub unless : {A : Type 0} → Performed → Answer A → Answer A
 unless (Refused k) a = refused k
+unless (Overlap j k) a = a
 unless (Done d) a = a
 
 -- which is the refusal
@@ -139,8 +146,33 @@ pub unless-done : {A : Type 0} {p : Performed} {d : Ended} → p ≡ Done d → 
 unfolding unless
 unless-done e a = rw e refl
 
+-- also where two changes overlap
+pub unless-overlap : {A : Type 0} {p : Performed} {j k : ℕ} → p ≡ Overlap j k → (a : Answer A) → unless p a ≡ a
+unfolding unless
+unless-overlap e a = rw e refl
+
+-- what is told then
+unfoldable pub overlapTold : Job → ℕ → ℕ → ℕ → Answer (Outcome × List ℕ)
+overlapTold Edit j k room = refused 8
+overlapTold (Find n) j k room = refused 8
+overlapTold Account j k room = tellIn room (overlapLine j k)
+
+-- is the answer of every job
+pub overlap-answers : (job : Job) (b : List ℕ) (j k room : ℕ) → Overlapped b j k → overlapTold job j k room ≡ reached job b room
+unfolding overlapTold reached applied recounted _>>=_
+overlap-answers Edit b j k room o = sym (rw (edit-ending b, o .refused8) refl)
+overlap-answers (Find n) b j k room o = sym (rw (found-ending b n, o .refused8) refl)
+overlap-answers Account b j k room o = sym (rw (o .text) refl)
+
+-- the fates in the rows are the account
+pub fates-answer : {b changes : List ℕ} {d : Ended} (room : ℕ) → Recounted b changes d → tellIn room (fateLines (map rowFate (changeRows (d .recorded) changes))) ≡ reached Account b room
+unfolding reached recounted _>>=_
+fates-answer room v = sym (rw (v .text) refl)
+
 -- where the run has ended, every job can be answered
-pub record ToAnswer (b t s rows notes changed starts : List ℕ) (p : Performed) : Type 0 where
+pub record ToAnswer (b t s changes rows notes changed starts : List ℕ) (p : Performed) : Type 0 where
+  pub overlaps : (j k : ℕ) → p ≡ Overlap j k → Overlapped b j k
+  pub recounts : (d : Ended) → p ≡ Done d → Recounted b changes d
   pub ends : (d : Ended) → p ≡ Done d → AtEnd b rows notes changed d
   pub tells : (d : Ended) → p ≡ Done d → Told b t s (d .elements)
   pub room : (d : Ended) → p ≡ Done d → 4096 ≤ length starts

@@ -14,7 +14,7 @@ ghost use Rattle.edit_perform.specs.AtEnd.{AtEnd, Told};
 ghost use Rattle.promises.specs.Promises.{found};
 ghost use Rattle.promises.specs.Serving.{reached, ofPlace, Tells};
 ghost use Rattle.promises.specs.declared.Job.the-variants as asked;
-ghost use Rattle.edit_answer.specs.AtEnd.{RowsAtEnd, oldNode, unless, ToAnswer};
+ghost use Rattle.edit_answer.specs.AtEnd.{RowsAtEnd, oldNode, overlapTold, unless, ToAnswer};
 
 // The result's bytes from what the run of the batch leaves, or 13. `starts` is for where each element's text starts.
 fn write_answer(
@@ -91,6 +91,17 @@ fn find_from(
     }
 }
 
+// What the job answers where the changes at the places `j` and `k` overlap: the account tells them, every other job is refused by 8.
+fn overlapping(job: Job, j: usize, k: usize, result: &mut [u8]) -> Outcome
+    ensures { λ r. ⌜ Tells (overlapTold job j k (length (now (result .entry)))) (now (result .entry)) r (now (result .exit)) ⌝ }
+{
+    match job {
+        Job::Edit => Outcome::Refused(8),
+        Job::Find(_) => Outcome::Refused(8),
+        Job::Account => account_lines::tell_overlap(j, k, result),
+    }
+}
+
 // What the job answers from what is performed: its refusal, or what follows from the end of the run.
 pub fn answer(
     job: Job,
@@ -98,20 +109,23 @@ pub fn answer(
     done: Performed,
     table: &[u32],
     source: &[u32],
+    changes: &[u32],
     rows: &[u32],
     notes: &mut [u32],
     changed: &mut [u32],
     starts: &mut [u32],
     result: &mut [u8],
 ) -> Outcome
-    requires { ⌜ ToAnswer (now batch) (now table) (now source) (now rows) (now notes) (now changed) (now starts) done ⌝ }
+    requires { ⌜ ToAnswer (now batch) (now table) (now source) (now changes) (now rows) (now notes) (now changed) (now starts) done ⌝ }
     ensures { λ r. ⌜ Tells (unless done (reached job (now (batch .entry)) (length (now (result .entry))))) (now (result .entry)) r (now (result .exit)) ⌝ }
 {
     match done {
         Performed::Refused(n) => Outcome::Refused(n),
+        Performed::Overlap(j, k) => overlapping(job, j, k, result),
         Performed::Done(d) => match job {
             Job::Edit => write_answer(batch, d, rows, notes, changed, starts, result),
             Job::Find(k) => find_from(batch, d, table, source, rows, k),
+            Job::Account => account_lines::tell_fates(changes, d.recorded, result),
         },
     }
 }

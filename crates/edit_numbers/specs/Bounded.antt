@@ -18,7 +18,9 @@ use Rattle.definition.specs.Running.{World}
 use Rattle.definition.specs.Finishing.{newTree, newTable, fitting}
 use Rattle.definition.specs.Answers.{plan, ran, edit, withWork, edited}
 use Rattle.definition.specs.FindElement.{alike, findIn, findElement}
+use Rattle.definition.specs.Account.{account, inRoom, accounted}
 use Rattle.definition_laws.specs.Answers.{given, gives-inj}
+use Rattle.account_lines.specs.Short.{mostText, account-short}
 use Rattle.definition_laws.specs.Basics.{All-append}
 use Rattle.definition_laws.specs.Limits.{mostBytes, encoded-within, ran-known}
 
@@ -36,6 +38,15 @@ edited-short work b bytes room e =
     given (edit b) _ e λ r y e.
     given (fitting room r) _ e λ q z e.
     rw (← gives-inj e, ← fitting-same room z) (encoded-within b r y)
+
+-- An account too.
+pub accounted-short : (work : List (ℕ × ℕ)) (b text : List ℕ) (room : ℕ) → accounted work b room ≡ gives text → length text ≤ mostText
+unfolding accounted inRoom withWork
+accounted-short work b text room e =
+    given _ _ e λ u x e.
+    given (account b) _ e λ t y e.
+    given _ _ e λ u z e.
+    rw (← gives-inj e) (account-short b t y)
 
 -- ── The element ─────────────────────────────────────────────────────────────────────────────────────────────
 

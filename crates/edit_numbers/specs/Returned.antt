@@ -13,14 +13,14 @@ use Rattle.definition.specs.Basics.{Answer, refused, gives, _>>=_, any}
 use Rattle.definition.specs.Answers.{edited}
 use Rattle.definition.specs.FindElement.{findElement}
 use Rattle.definition.specs.Performed.{InsertsFew}
-use Rattle.definition_laws.specs.Limits.{mostBytes}
+use Rattle.definition.specs.Account.{accounted}
 use Rattle.promises.specs.Slices.{needed, lengths, zeroed}
 use Rattle.promises.specs.Promises.{leftIn}
-use Rattle.promises.specs.Serving.{place, ofLength, ofPlace, Serves, serves-edits, serves-finds}
-use Rattle.promises.specs.declared.Job.the-variants.{Edit, Find}
+use Rattle.promises.specs.Serving.{place, ofLength, ofPlace, Serves, serves-edits, serves-finds, serves-accounts}
+use Rattle.promises.specs.declared.Job.the-variants.{Edit, Find, Account}
 use Rattle.promises.specs.declared.Outcome.{Outcome}
-use Rattle.promises_read.specs.Refused.{editNumbers, findNumbers, by-number, edited-by, found-by}
-use Rattle.edit_numbers.specs.Bounded.{edited-short, found-short}
+use Rattle.promises_read.specs.Refused.{By, editNumbers, findNumbers, by-number, edited-by, found-by, accounted-by}
+use Rattle.edit_numbers.specs.Bounded.{edited-short, found-short, accounted-short}
 use Rattle.edit_numbers.specs.Told.{numberOf, Small, number-read}
 
 -- ── The promises ────────────────────────────────────────────────────────────────────────────────────────────
@@ -52,7 +52,25 @@ pub record ReturnsElement (b : List ℕ) (n : ℕ) (work : List (List ℕ)) (r :
   pub zeros : left ≡ zeroed work
   pub inserts : InsertsFew b
 
+-- THE PROMISE of `syntax_account`, from the batch b, the result slice and the work slices as they were lent
+pub record ReturnsAccount (b held : List ℕ) (work : List (List ℕ)) (r : ℤ) (holds : List ℕ) (left : List (List ℕ)) : Type 0 where
+  pub answer : r ≡ returned (accounted (lengths needed work) b (length held))
+  pub result : holds ≡ leftIn held (accounted (lengths needed work) b (length held))
+  pub zeros : left ≡ zeroed work
+
 -- ── From what is served ─────────────────────────────────────────────────────────────────────────────────────
+
+-- what tells the length of a text is small, if the text is and its refusal is
+bytes-small : (o : Answer (List ℕ)) → By editNumbers o → ((bytes : List ℕ) → o ≡ gives bytes → length bytes ≤ 65536) → Small (ofLength (o >>= λ bytes. gives (length bytes)))
+unfolding Small ofLength _>>=_ any
+bytes-small (refused n) h k = omega (arith, (by-number editNumbers 1 16 n (refused n) refl h refl) .1)
+bytes-small (gives bytes) h k = k bytes refl
+
+-- and its number is what is returned
+bytes-returned : (o : Answer (List ℕ)) → numberOf (ofLength (o >>= λ bytes. gives (length bytes))) ≡ returned o
+unfolding numberOf ofLength returned _>>=_
+bytes-returned (refused n) = refl
+bytes-returned (gives bytes) = refl
 
 module _ {b held holds : List ℕ} {work left : List (List ℕ)} {r : Outcome} (s : Serves Edit b held work r holds left) where
   abbrev x : Answer (List ℕ)
@@ -63,23 +81,30 @@ module _ {b held holds : List ℕ} {work left : List (List ℕ)} {r : Outcome} (
 
   -- what an edit tells is small
   pub edit-small : Small r
-  unfolding Small ofLength _>>=_ any
-  edit-small = rw length-told (go x (λ n. by-number editNumbers 1 16 n x refl (edited-by (lengths needed work) b (length held))) (λ bytes. edited-short (lengths needed work) b bytes (length held)))
-    where
-      go : (o : Answer (List ℕ)) → ((n : ℕ) → o ≡ refused n → (1 ≤ n) × (n ≤ 16)) → ((bytes : List ℕ) → o ≡ gives bytes → length bytes ≤ mostBytes) → Small (ofLength (o >>= λ bytes. gives (length bytes)))
-      go (refused n) h k = omega (arith, (h n refl) .1)
-      go (gives bytes) h k = omega (arith, k bytes refl)
+  edit-small = rw length-told (bytes-small x (edited-by (lengths needed work) b (length held)) (λ bytes e. omega (arith, edited-short (lengths needed work) b bytes (length held) e)))
 
   -- and its number is what is promised
   pub edit-returned : (z : ℤ) → z ≡ numberOf r → Returns b held work (toZ w64 (ofZ w64 z)) holds left
-  unfolding numberOf ofLength returned _>>=_
   edit-returned z q =
       let (a, e, k) = serves-edits s in
-      record { answer = ap (λ (y : ℤ). toZ w64 (ofZ w64 y)) q ∙ (number-read r edit-small ∙ (ap numberOf length-told ∙ go x)); result = k .result; zeros = k .zeros; inserts = k .inserts }
-    where
-      go : (o : Answer (List ℕ)) → numberOf (ofLength (o >>= λ bytes. gives (length bytes))) ≡ returned o
-      go (refused n) = refl
-      go (gives bytes) = refl
+      record { answer = ap (λ (y : ℤ). toZ w64 (ofZ w64 y)) q ∙ (number-read r edit-small ∙ (ap numberOf length-told ∙ bytes-returned x)); result = k .result; zeros = k .zeros; inserts = k .inserts }
+
+module _ {b held holds : List ℕ} {work left : List (List ℕ)} {r : Outcome} (s : Serves Account b held work r holds left) where
+  abbrev text : Answer (List ℕ)
+  text = accounted (lengths needed work) b (length held)
+
+  text-told : r ≡ ofLength (text >>= λ bytes. gives (length bytes))
+  text-told = let (a, e, k) = serves-accounts s in e ∙ ap ofLength (k .answer)
+
+  -- what an account tells is small
+  pub account-small : Small r
+  account-small = rw text-told (bytes-small text (accounted-by (lengths needed work) b (length held)) (λ bytes e. omega (arith, accounted-short (lengths needed work) b bytes (length held) e)))
+
+  -- and its number is what is promised
+  pub account-returned : (z : ℤ) → z ≡ numberOf r → ReturnsAccount b held work (toZ w64 (ofZ w64 z)) holds left
+  account-returned z q =
+      let (a, e, k) = serves-accounts s in
+      record { answer = ap (λ (y : ℤ). toZ w64 (ofZ w64 y)) q ∙ (number-read r account-small ∙ (ap numberOf text-told ∙ bytes-returned text)); result = k .result; zeros = k .zeros }
 
 module _ {b held holds : List ℕ} {n : ℕ} {work left : List (List ℕ)} {r : Outcome} (s : Serves (Find n) b held work r holds left) where
   abbrev y : Answer (Option ℕ)

@@ -7,7 +7,8 @@ use native.Mathlib.Omega.{arith}
 use lib.ListN.{length, take, length-append}
 use lib.Seq.{length-take-le, take-append-le}
 use Rattle.orders.specs.Lists.{All}
-use Rattle.definition.specs.Basics.{refused, _>>=_}
+use Rattle.definition.specs.Basics.{refused}
+use Rattle.definition.specs.Account.{account}
 use Rattle.read_element_table.specs.View.{view}
 use Rattle.plan_mapping.specs.Mapped.{wordsAt}
 use Rattle.record_changes.specs.ChangeRowLaws.{rowAt}
@@ -18,10 +19,10 @@ use Rattle.read_layout.specs.declared.Laid.the-variants.{Refused as Unlaid, At}
 use Rattle.read_batch.specs.Accepting.{judged-refuses}
 use Rattle.read_batch.specs.Leaving.{Judged}
 use Rattle.plan_edit.specs.Answers.{PlanMade}
-use Rattle.plan_edit.specs.Left.{plan-refused}
+use Rattle.plan_edit.specs.Left.{plan-refused, judged-accepted}
 use Rattle.plan_edit.specs.declared.Counts.{Counts}
 use Rattle.plan_edit.specs.declared.Planned.{Planned}
-use Rattle.plan_edit.specs.declared.Planned.the-variants.{Refused as Unplanned, Made}
+use Rattle.plan_edit.specs.declared.Planned.the-variants.{Refused as Unplanned, Overlap as Overlapping, Made}
 use Rattle.run_tree_state.specs.declared.TreeState.{TreeState}
 use Rattle.run_tree_state.specs.declared.Executed.{Executed}
 use Rattle.run_tree_state.specs.declared.Executed.the-variants.{Refused as Stopped, Done as Ran-through}
@@ -30,20 +31,33 @@ use Rattle.run_execute.specs.Stepping.{Performs as RowPerforms}
 use Rattle.run_execute.specs.Running.{listsAll, Ran}
 use Rattle.edit_perform.specs.Ending.{ending}
 use Rattle.edit_perform.specs.Beginning.{LaidOut}
-use Rattle.edit_perform.specs.AtEnd.{AtEnd, Told, Marked, Performs}
-use Rattle.edit_perform.specs.Performing.{begins, all-perform, room-recorded, all-elements, run-refused, run-ended, run-marked}
+use Rattle.edit_perform.specs.AtEnd.{AtEnd, Told, Marked, Overlapped, Performs}
+use Rattle.edit_perform.specs.Performing.{begins, all-perform, room-recorded, all-elements, run-refused, run-ended, run-marked, run-recounted}
+use Rattle.edit_perform.specs.Accounting.{not-accepted, overlapping, not-planned}
 use Rattle.edit_perform.specs.declared.Ended.{Ended}
 use Rattle.edit_perform.specs.declared.Performed.{Performed}
-use Rattle.edit_perform.specs.declared.Performed.the-variants.{Refused, Done}
+use Rattle.edit_perform.specs.declared.Performed.the-variants.{Refused, Overlap, Done}
 
 -- ── Refused ─────────────────────────────────────────────────────────────────────────────────────────────────
 
-performs-refused : {b t s rows notes changed marks : List ℕ} (k : ℕ) → ending b ≡ refused k → Performs b t s rows notes changed marks (Refused k)
+performs-refused : {b t s changes rows notes changed marks : List ℕ} (k : ℕ) → (ending b ≡ refused k) × (account b ≡ refused k) → Performs b t s changes rows notes changed marks (Refused k)
 performs-refused {b} k e = record {
-  refuses = λ j i. let same : k ≡ j = cc in e ∙ ap refused same;
+  refuses = λ j i. let same : k ≡ j = cc in (e .0 ∙ ap refused same, e .1 ∙ ap refused same);
+  overlaps = λ j n i. absurd (let z : _≡_ {A = ℕ} 0 1 = cc in omega arith);
   ends = λ d i. absurd (let z : _≡_ {A = ℕ} 0 1 = cc in omega arith);
   tells = λ d i. absurd (let z : _≡_ {A = ℕ} 0 1 = cc in omega arith);
   marked = λ d i. absurd (let z : _≡_ {A = ℕ} 0 1 = cc in omega arith);
+  recounts = λ d i. absurd (let z : _≡_ {A = ℕ} 0 1 = cc in omega arith);
+}
+
+performs-overlap : {b t s changes rows notes changed marks : List ℕ} (j k : ℕ) → Overlapped b j k → Performs b t s changes rows notes changed marks (Overlap j k)
+performs-overlap {b} j k o = record {
+  refuses = λ n i. absurd (let z : _≡_ {A = ℕ} 0 1 = cc in omega arith);
+  overlaps = λ m n i. let x : j ≡ m = cc in let y : k ≡ n = cc in subst (λ (q : ℕ). Overlapped b m q) y (subst (λ (q : ℕ). Overlapped b q k) x o);
+  ends = λ d i. absurd (let z : _≡_ {A = ℕ} 0 1 = cc in omega arith);
+  tells = λ d i. absurd (let z : _≡_ {A = ℕ} 0 1 = cc in omega arith);
+  marked = λ d i. absurd (let z : _≡_ {A = ℕ} 0 1 = cc in omega arith);
+  recounts = λ d i. absurd (let z : _≡_ {A = ℕ} 0 1 = cc in omega arith);
 }
 
 -- a part of n words from the front
@@ -77,49 +91,62 @@ module _ {b : List ℕ} {l : Layout} {t s changes running first : List ℕ} {c :
     same : Ran (l .sizes .elements) t s first (l .sizes .notes) (wordsAt b (l .list) (l .sizes .listed)) changes (take (c .runs) running) rows marks notes changed x
     same = subst (λ (k : ℕ). Ran k t s first (l .sizes .notes) (wordsAt b (l .list) (l .sizes .listed)) changes (take (c .runs) running) rows marks notes changed x) q R
 
-    pub steps-refused : (k : ℕ) → x ≡ Stopped k → Performs b t s rows notes changed marks (Refused k)
+    pub steps-refused : (k : ℕ) → x ≡ Stopped k → Performs b t s changes rows notes changed marks (Refused k)
     steps-refused k e = performs-refused k (run-refused (L .leaves) P (L .long) (L .longRows) ls lf same k e)
 
     pub steps-ended : (r : TreeState) → x ≡ Ran-through r → 3072 ≤ length notes
-        → Performs b t s rows notes changed marks
-        (Done (record { text = l .text; elements = l .sizes .elements; root = r .root; rows = r .rows; notes = r .notes; changed = r .changed; discarded = c .discarded; climbs = c .climbs }))
+        → Performs b t s changes rows notes changed marks
+        (Done (record { text = l .text; elements = l .sizes .elements; recorded = c .changes; root = r .root; rows = r .rows; notes = r .notes; changed = r .changed; discarded = c .discarded; climbs = c .climbs }))
     steps-ended r e ln =
-        let d : Ended = record { text = l .text; elements = l .sizes .elements; root = r .root; rows = r .rows; notes = r .notes; changed = r .changed; discarded = c .discarded; climbs = c .climbs } in
+        let d : Ended = record { text = l .text; elements = l .sizes .elements; recorded = c .changes; root = r .root; rows = r .rows; notes = r .notes; changed = r .changed; discarded = c .discarded; climbs = c .climbs } in
         let v = L .leaves in
         record {
           refuses = λ k i. absurd (let z : _≡_ {A = ℕ} 0 1 = cc in omega arith);
+          overlaps = λ j k i. absurd (let z : _≡_ {A = ℕ} 0 1 = cc in omega arith);
           ends = λ y i. let same-end : d ≡ y = cc in subst (AtEnd b rows notes changed) same-end (run-ended v P (L .long) (L .longRows) ls lf same r e ln);
           tells = λ y i.
               let same-end : d ≡ y = cc in
               subst (λ (z : Ended). Told b t s (z .elements)) same-end (record { batch = v .what; accepts = v .accepted; table = v .told; formed = v .formed });
           marked = λ y i. let same-end : d ≡ y = cc in run-marked v P (L .long) (L .longRows) ls lf same r e y (ap (λ (z : Ended). z .elements) (sym same-end));
+          recounts = λ y i. let same-end : d ≡ y = cc in run-recounted v P (L .long) (L .longRows) ls lf same r e y (ap (λ (z : Ended). z .recorded) (sym same-end));
         }
 
 -- what stands behind the marks of the batch's elements says nothing
-pub marks-behind : {b t s rows notes changed marks : List ℕ} {r : Performed} (behind : List ℕ) → Performs b t s rows notes changed marks r → Performs b t s rows notes changed (marks ++ behind) r
+pub marks-behind : {b t s changes rows notes changed marks : List ℕ} {r : Performed} (behind : List ℕ) → Performs b t s changes rows notes changed marks r → Performs b t s changes rows notes changed (marks ++ behind) r
 marks-behind {marks = marks} behind h = record {
   refuses = h .refuses;
+  overlaps = h .overlaps;
   ends = h .ends;
   tells = h .tells;
   marked = λ d i. let m = h .marked d i in record { end = m .end; ends = m .ends; long = omega (arith, m .long, length-append marks behind); told = take-append-le (d .elements) marks behind (m .long) ∙ m .told };
+  recounts = h .recounts;
 }
 
 -- ── Refused before them ─────────────────────────────────────────────────────────────────────────────────────
 
 module _ {b : List ℕ} {l : Layout} {t s changes running first : List ℕ} {r : Planned} (P : PlanMade b l t s changes running first r) where
-  pub plan-stops : {rows notes changed marks : List ℕ} → LaidOut b l t s → (k : ℕ) → r ≡ Unplanned k → Performs b t s rows notes changed marks (Refused k)
-  unfolding ending _>>=_
+  pub plan-stops : {rows notes changed marks : List ℕ} → LaidOut b l t s → (k : ℕ) → r ≡ Unplanned k → Performs b t s changes rows notes changed marks (Refused k)
   plan-stops L k e =
       let Q : PlanMade b l t s changes running first (Unplanned k) = subst (PlanMade b l t s changes running first) e P in
-      performs-refused k (rw (L .leaves .accepted, plan-refused (L .leaves .what) (L .leaves .accepted) Q) refl)
+      let a = L .leaves .what in
+      let h = L .leaves .accepted in
+      performs-refused k (not-planned b a h (Q .found .changes) (judged-accepted b a h (Q .found .judged)) k (plan-refused a h Q))
+
+  pub plan-overlaps : {rows notes changed marks : List ℕ} → LaidOut b l t s → (j k : ℕ) → r ≡ Overlapping j k → Performs b t s changes rows notes changed marks (Overlap j k)
+  plan-overlaps L j k e =
+      let Q : PlanMade b l t s changes running first (Overlapping j k) = subst (PlanMade b l t s changes running first) e P in
+      let a = L .leaves .what in
+      let h = L .leaves .accepted in
+      let o = overlapping b a h j k (judged-accepted b a h (Q .found)) in
+      performs-overlap j k (record { refused8 = o .0; text = o .1 })
 
   pub plan-made : (c : Counts) → r ≡ Made c → PlanMade b l t s changes running first (Made c)
   plan-made c e = subst (PlanMade b l t s changes running first) e P
 
 module _ {b t₀ s₀ t s : List ℕ} {r : Laid} (J : Judged b t₀ s₀ t s r) where
-  pub judged-stops : {rows notes changed marks : List ℕ} (k : ℕ) → r ≡ Unlaid k → Performs b t s rows notes changed marks (Refused k)
-  unfolding ending laidOf _>>=_
-  judged-stops k e = performs-refused k (rw (judged-refuses b k (sym (J .answer) ∙ ap laidOf e)) refl)
+  pub judged-stops : {changes rows notes changed marks : List ℕ} (k : ℕ) → r ≡ Unlaid k → Performs b t s changes rows notes changed marks (Refused k)
+  unfolding laidOf
+  judged-stops k e = performs-refused k (not-accepted b k (judged-refuses b k (sym (J .answer) ∙ ap laidOf e)))
 
   pub judged-laid : (l : Layout) → r ≡ At l → 16384 ≤ length t₀ → 6147 ≤ length s₀ → LaidOut b l t s
   judged-laid l e lt ls = record { before = t₀; beforeRows = s₀; leaves = J .left l e; long = lt; longRows = ls }

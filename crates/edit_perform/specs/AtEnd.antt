@@ -9,9 +9,12 @@ use Rattle.definition.specs.Basics.{refused, gives, keep}
 use Rattle.definition.specs.Planning.{isDiscarded}
 use Rattle.definition.specs.Refusals.{Accepted, accepted}
 use Rattle.definition.specs.Answers.{tooShort}
+use Rattle.definition.specs.Account.{fateLines, overlapLine, account}
 use Rattle.definition_laws.specs.Held.{Holds}
 use Rattle.read_element_table.specs.View.{view}
 use Rattle.read_element_table.specs.Wellformed.{Wellformed}
+use Rattle.record_changes.specs.ChangeRow.{rowsOf}
+use Rattle.plan_sort.specs.Rows.{rowFate}
 use Rattle.rows_model.specs.Row.{firstRows, bytes}
 use Rattle.rows_model.specs.Place.{markOf}
 use Rattle.run_annotations.specs.Notes.{notesOf}
@@ -21,7 +24,7 @@ use Rattle.promises.specs.Slices.{needed, lengths}
 use Rattle.edit_perform.specs.Ending.{End, ending}
 use Rattle.edit_perform.specs.declared.Ended.{Ended}
 use Rattle.edit_perform.specs.declared.Performed.{Performed}
-use Rattle.edit_perform.specs.declared.Performed.the-variants.{Refused, Done}
+use Rattle.edit_perform.specs.declared.Performed.the-variants.{Refused, Overlap, Done}
 
 -- the run of the batch b has ended, and the slices hold what it left, with these counts
 pub record AtEnd (b rows notes changed : List ℕ) (d : Ended) : Type 0 where
@@ -61,14 +64,26 @@ pub record Marked (b marks : List ℕ) (d : Ended) : Type 0 where
   pub long : d .elements ≤ length marks
   pub told : take (d .elements) marks ≡ map (markOf (end .world .trees)) (end .world .paths)
 
+-- the words hold what became of each recorded change of the batch b
+pub record Recounted (b changes : List ℕ) (d : Ended) : Type 0 where
+  pub few : d .recorded ≤ 256
+  pub text : account b ≡ gives (fateLines (map rowFate (rowsOf (d .recorded) changes)))
+
+-- the changes j and k of the batch b overlap
+pub record Overlapped (b : List ℕ) (j k : ℕ) : Type 0 where
+  pub refused8 : ending b ≡ refused 8
+  pub text : account b ≡ gives (overlapLine j k)
+
 -- a run of the batch b: refused by the definition's number, or at the end of the run
-pub record Performs (b t s rows notes changed marks : List ℕ) (r : Performed) : Type 0 where
-  pub refuses : (k : ℕ) → r ≡ Refused k → ending b ≡ refused k
+pub record Performs (b t s changes rows notes changed marks : List ℕ) (r : Performed) : Type 0 where
+  pub refuses : (k : ℕ) → r ≡ Refused k → (ending b ≡ refused k) × (account b ≡ refused k)
+  pub overlaps : (j k : ℕ) → r ≡ Overlap j k → Overlapped b j k
   pub ends : (d : Ended) → r ≡ Done d → AtEnd b rows notes changed d
   pub tells : (d : Ended) → r ≡ Done d → Told b t s (d .elements)
   pub marked : (d : Ended) → r ≡ Done d → Marked b marks d
+  pub recounts : (d : Ended) → r ≡ Done d → Recounted b changes d
 
 -- THE PROMISE of performing with the work slices `work`: 1 where one of them is too short, or what a run answers
-pub data PerformsWith (work : List (List ℕ)) (b t s rows notes changed marks : List ℕ) (r : Performed) : Type 0 where
-  short : tooShort (lengths needed work) ≡ true → r ≡ Refused 1 → PerformsWith work b t s rows notes changed marks r
-  long : tooShort (lengths needed work) ≡ false → Performs b t s rows notes changed marks r → PerformsWith work b t s rows notes changed marks r
+pub data PerformsWith (work : List (List ℕ)) (b t s changes rows notes changed marks : List ℕ) (r : Performed) : Type 0 where
+  short : tooShort (lengths needed work) ≡ true → r ≡ Refused 1 → PerformsWith work b t s changes rows notes changed marks r
+  long : tooShort (lengths needed work) ≡ false → Performs b t s changes rows notes changed marks r → PerformsWith work b t s changes rows notes changed marks r

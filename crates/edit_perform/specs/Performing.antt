@@ -1,7 +1,7 @@
 -- The run of an accepted and planned batch, in words: what it asks for is there, and what it answers is the definition's.
 -- Assumes nothing.
 use mathlib.Core.Path.{_≡_, refl, sym, ap, subst, _∙_}
-use mathlib.Core.List.{List, []}
+use mathlib.Core.List.{List, [], map, map-map}
 use Prim.Native.Nat.{ℕ, _≤_, _<_}
 use native.Mathlib.Omega.{arith}
 use lib.ListN.{length, take, drop, length-map}
@@ -10,11 +10,12 @@ use Rattle.orders.specs.Lists.{All}
 use Rattle.orders.specs.ListLaws.{All-map₂}
 use Rattle.definition.specs.Basics.{Answer, refused, gives, _>>=_}
 use Rattle.definition.specs.Elements.{Table, table}
-use Rattle.definition.specs.Planning.{Planned}
+use Rattle.definition.specs.Planning.{Fate, Planned}
 use Rattle.definition.specs.Running.{World, begin, news, records}
 use Rattle.orders.specs.Lists.{total}
 use Rattle.definition.specs.Answers.{Plan, plan, atFirst, performed, ran}
 use Rattle.definition.specs.Refusals.{mostListed, Accepted, accepted}
+use Rattle.definition.specs.Account.{fateLines, account}
 use Rattle.definition_laws.specs.Answers.{gives-inj, refused-gives}
 use Rattle.definition_laws.specs.Basics.{map-All}
 use Rattle.definition_laws.specs.Plans.{performed-right, performed-few}
@@ -23,7 +24,9 @@ use Rattle.definition_laws.specs.Limits.{performed-records, ran-changed, ran-kn
 use Rattle.rows_model.specs.Place.{place}
 use Rattle.read_element_table.specs.View.{view}
 use Rattle.plan_mapping.specs.Mapped.{wordsAt}
+use Rattle.record_changes.specs.ChangeRow.{rowsOf}
 use Rattle.record_changes.specs.ChangeRowLaws.{rowAt}
+use Rattle.plan_sort.specs.Rows.{rowFate}
 use Rattle.record_rewritten.specs.Stated.{changeOf, planOf}
 use Rattle.plan_rewrite.specs.Kept.{Kept}
 use Rattle.read_layout.specs.declared.Layout.{Layout}
@@ -32,10 +35,10 @@ use Rattle.run_annotations.specs.Notes.{notesOf}
 use Rattle.run_model.specs.Store.{Store, store, storeSteps}
 use Rattle.run_model.specs.Step.{inRows, ran-store}
 use Rattle.run_tree_store.specs.Stored.{stored, storedFirst}
-use Rattle.plan_model.specs.Ready.{leaves-ready, ready-facts}
+use Rattle.plan_model.specs.Ready.{listedIn, leaves-ready, ready-facts}
 use Rattle.plan_model.specs.Fated.{rows-each}
 use Rattle.plan_edit.specs.Answers.{PlanMade}
-use Rattle.plan_edit.specs.Left.{TellsPlan, plan-told}
+use Rattle.plan_edit.specs.Left.{TellsPlan, plan-told, judged-accepted}
 use Rattle.plan_edit.specs.declared.Counts.{Counts}
 use Rattle.plan_edit.specs.declared.Planned.the-variants.{Made as PlanIs}
 use Rattle.run_tree_state.specs.Applied.{executedIn}
@@ -49,7 +52,8 @@ use Rattle.run_execute.specs.Stepping.{Performs}
 use Rattle.run_execute.specs.Running.{plansIn, listsAll, lists-total, Ran, marks-many}
 use Rattle.edit_perform.specs.Ending.{ending}
 use Rattle.edit_perform.specs.Beginning.{known, planned, begun}
-use Rattle.edit_perform.specs.AtEnd.{AtEnd, Marked}
+use Rattle.edit_perform.specs.Accounting.{linesOf, planned-account}
+use Rattle.edit_perform.specs.AtEnd.{AtEnd, Marked, Recounted}
 use Rattle.edit_perform.specs.declared.Ended.{Ended}
 
 module _ {b : List ℕ} {l : Layout} {t₀ s₀ t s : List ℕ} (v : Leaves b l t₀ s₀ t s) {changes running first : List ℕ} {c : Counts} (P : PlanMade b l t s changes running first (PlanIs c)) where
@@ -139,18 +143,24 @@ module _ {b : List ℕ} {l : Layout} {t₀ s₀ t s : List ℕ} (v : Leaves b l 
     unfolding ending _>>=_
     ended-by o e = rw (v .accepted, m .plan, e) refl
 
+    -- and so is the account
+    accounted-by : account b ≡ (ran a p >>= λ w. gives (linesOf (p .changes)))
+    accounted-by = planned-account b a (v .accepted) (P .found .changes) (judged-accepted b a (v .accepted) (P .found .judged)) p (m .plan)
+
     -- refused at the same step
-    pub run-refused : (k : ℕ) → x ≡ Refused k → ending b ≡ refused k
+    pub run-refused : (k : ℕ) → x ≡ Refused k → (ending b ≡ refused k) × (account b ≡ refused k)
     unfolding executedIn _>>=_
     run-refused k e = go (ran a p) refl (sym (ap (executedIn text rows marks notes changed) e) ∙ ran-told)
       where
-        go : (o : Answer World) → ran a p ≡ o → refused k ≡ inRows o → ending b ≡ refused k
-        go (refused n) i j = let same : n ≡ k = cc in ended-by (refused n) i ∙ ap refused same
+        go : (o : Answer World) → ran a p ≡ o → refused k ≡ inRows o → (ending b ≡ refused k) × (account b ≡ refused k)
+        go (refused n) i j =
+            let same : n ≡ k = cc in
+            (ended-by (refused n) i ∙ ap refused same, accounted-by ∙ (ap (λ (o : Answer World). o >>= λ w. gives (linesOf (p .changes))) i ∙ ap refused same))
         go (gives w) i j = refused-gives j
 
     -- or what is held at the end is the definition's
     pub run-ended : (r : TreeState) → x ≡ Done r → 3072 ≤ length notes
-        → AtEnd b rows notes changed (record { text = l .text; elements = E; root = r .root; rows = r .rows; notes = r .notes; changed = r .changed; discarded = c .discarded; climbs = c .climbs })
+        → AtEnd b rows notes changed (record { text = l .text; elements = E; recorded = c .changes; root = r .root; rows = r .rows; notes = r .notes; changed = r .changed; discarded = c .discarded; climbs = c .climbs })
     unfolding executedIn _>>=_ text store stored
     run-ended r e ln = go (ran a p) refl (sym (ap (executedIn text rows marks notes changed) e) ∙ ran-told)
       where
@@ -158,7 +168,7 @@ module _ {b : List ℕ} {l : Layout} {t₀ s₀ t s : List ℕ} (v : Leaves b l 
         S = R .standing r e
 
         go : (o : Answer World) → ran a p ≡ o → gives (heldIn text r rows marks notes changed) ≡ inRows o
-            → AtEnd b rows notes changed (record { text = l .text; elements = E; root = r .root; rows = r .rows; notes = r .notes; changed = r .changed; discarded = c .discarded; climbs = c .climbs })
+            → AtEnd b rows notes changed (record { text = l .text; elements = E; recorded = c .changes; root = r .root; rows = r .rows; notes = r .notes; changed = r .changed; discarded = c .discarded; climbs = c .climbs })
         go (refused n) i j = refused-gives (sym j)
         go (gives w) i j =
             let K = ran-known b a p w (v .accepted) (m .plan) i in
@@ -201,4 +211,21 @@ module _ {b : List ℕ} {l : Layout} {t₀ s₀ t s : List ℕ} (v : Leaves b l 
           ends = ended-by (gives w) i;
           long = omega (arith, marks-many (R .standing r e));
           told = take-all (d .elements) marks (omega (arith, marks-many (R .standing r e))) ∙ ap (λ (y : Store). y .marks) (gives-inj j);
+        }
+
+    -- the fates that the rows state are those of the plan
+    fates-told : map rowFate (rowsOf (c .changes) changes) ≡ map (λ q. q .fate) (p .changes)
+    unfolding planOf
+    fates-told = sym (ap (map (λ (q : Planned). q .fate)) (sym (m .changes)) ∙ map-map (λ (q : Planned). q .fate) (planOf (listedIn l b)) (rowsOf (c .changes) changes))
+
+    -- so that the account is told by them
+    pub run-recounted : (r : TreeState) → x ≡ Done r → (d : Ended) → d .recorded ≡ c .changes → Recounted b changes d
+    unfolding executedIn _>>=_
+    run-recounted r e d q = go (ran a p) refl (sym (ap (executedIn text rows marks notes changed) e) ∙ ran-told)
+      where
+        go : (o : Answer World) → ran a p ≡ o → gives (heldIn text r rows marks notes changed) ≡ inRows o → Recounted b changes d
+        go (refused n) i j = refused-gives (sym j)
+        go (gives w) i j = record {
+          few = omega (arith, P .within .few);
+          text = accounted-by ∙ (ap (λ (o : Answer World). o >>= λ w. gives (linesOf (p .changes))) i ∙ ap (λ (fs : List Fate). gives (fateLines fs)) (sym (ap (λ (n : ℕ). map rowFate (rowsOf n changes)) q ∙ fates-told)));
         }

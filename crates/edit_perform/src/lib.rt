@@ -16,10 +16,11 @@ ghost use Rattle.plan_edit.specs.declared.Planned.the-variants.{Made};
 ghost use Rattle.edit_perform.specs.Beginning.{LaidOut};
 ghost use Rattle.edit_perform.specs.AtEnd.{Performs, PerformsWith};
 
-// What a run leaves: where the batch's text starts, how many elements it has, where the root of tree 0 stands, the rows, notes and changed rows that are held, and two numbers of the result.
+// What a run leaves: where the batch's text starts, how many elements it has, how many changes are recorded, where the root of tree 0 stands, the rows, notes and changed rows that are held, and two numbers of the result.
 pub struct Ended {
     pub text: usize,
     pub elements: usize,
+    pub recorded: usize,
     pub root: usize,
     pub rows: usize,
     pub notes: usize,
@@ -28,9 +29,10 @@ pub struct Ended {
     pub climbs: usize,
 }
 
-// A refusal, by its number, or what the run leaves.
+// A refusal, by its number; 8 with the places of the two changes that overlap; or what the run leaves.
 pub enum Performed {
     Refused(usize),
+    Overlap(usize, usize),
     Done(Ended),
 }
 
@@ -55,7 +57,7 @@ fn run_plan(
     requires { ⌜ PlanMade (now b) l (now table) (now source) (now changes) (now running) (now first) (Made c) ⌝ }
     requires { ⌜ (6147 ≤ length (now source)) × (256 ≤ length (now running)) × (768 ≤ length (now first)) ⌝ }
     requires { ⌜ (length (now marks) ≡ l .sizes .elements) × (3072 ≤ length (now notes)) × (3072 ≤ length (now incoming)) × (1024 ≤ length (now changed)) × (12291 ≤ length (now rows)) × (12288 ≤ length (now prepared)) ⌝ }
-    ensures { λ r. ⌜ Performs (now (b .entry)) (now (table .entry)) (now (source .entry)) (now (rows .exit)) (now (notes .exit)) (now (changed .exit)) (now (marks .exit)) r ⌝ }
+    ensures { λ r. ⌜ Performs (now (b .entry)) (now (table .entry)) (now (source .entry)) (now (changes .entry)) (now (rows .exit)) (now (notes .exit)) (now (changed .exit)) (now (marks .exit)) r ⌝ }
 {
     // As many as a call may list.
     let mut sizes = [0u32; 41];
@@ -84,6 +86,7 @@ fn run_plan(
         Executed::Done(t) => Performed::Done(Ended {
             text: l.text,
             elements: s.elements,
+            recorded: c.changes,
             root: t.root,
             rows: t.rows,
             notes: t.notes,
@@ -111,7 +114,7 @@ fn plan_and_run(
     requires { ⌜ LaidOut (now b) l (now table) (now source) ⌝ }
     requires { ⌜ (6147 ≤ length (now source)) × (3328 ≤ length (now changes)) ⌝ }
     requires { ⌜ (2048 ≤ length (now marks)) × (3072 ≤ length (now notes)) × (3072 ≤ length (now incoming)) × (1024 ≤ length (now changed)) × (12291 ≤ length (now rows)) × (12288 ≤ length (now prepared)) ⌝ }
-    ensures { λ r. ⌜ Performs (now (b .entry)) (now (table .entry)) (now (source .entry)) (now (rows .exit)) (now (notes .exit)) (now (changed .exit)) (now (marks .exit)) r ⌝ }
+    ensures { λ r. ⌜ Performs (now (b .entry)) (now (table .entry)) (now (source .entry)) (now (changes .exit)) (now (rows .exit)) (now (notes .exit)) (now (changed .exit)) (now (marks .exit)) r ⌝ }
 {
     let mut running = [0u32; 256];
     let mut first = [0u32; 768];
@@ -132,6 +135,7 @@ fn plan_and_run(
     );
     match planned {
         Planned::Refused(n) => Performed::Refused(n),
+        Planned::Overlap(j, k) => Performed::Overlap(j, k),
         Planned::Made(c) => run_plan(
             b,
             l,
@@ -164,7 +168,7 @@ pub fn perform(
     rows: &mut [u32],
     prepared: &mut [u32],
 ) -> Performed
-    ensures { λ r. ⌜ PerformsWith (now (table .entry) ∷ now (source .entry) ∷ now (changes .entry) ∷ now (notes .entry) ∷ now (incoming .entry) ∷ now (changed .entry) ∷ now (marks .entry) ∷ now (rows .entry) ∷ now (prepared .entry) ∷ []) (now (b .entry)) (now (table .exit)) (now (source .exit)) (now (rows .exit)) (now (notes .exit)) (now (changed .exit)) (now (marks .exit)) r ⌝ }
+    ensures { λ r. ⌜ PerformsWith (now (table .entry) ∷ now (source .entry) ∷ now (changes .entry) ∷ now (notes .entry) ∷ now (incoming .entry) ∷ now (changed .entry) ∷ now (marks .entry) ∷ now (rows .entry) ∷ now (prepared .entry) ∷ []) (now (b .entry)) (now (table .exit)) (now (source .exit)) (now (changes .exit)) (now (rows .exit)) (now (notes .exit)) (now (changed .exit)) (now (marks .exit)) r ⌝ }
 {
     if promises::too_short(
         table,

@@ -6,8 +6,8 @@ use mathlib.Core.List.{List, [], _∷_, _++_, flatMap, zip}
 use Prim.Native.Nat.{ℕ, zero, suc, _+_, _*_, _/_, _%_, _≤_, _<_}
 use native.Mathlib.Omega.{arith}
 use lib.Dec.{ltb}
-use lib.ListN.{length, getD, drop, length-append}
-use lib.Seq.{paste, drop-drop}
+use lib.ListN.{length, getD, take, drop, length-append, length-drop}
+use lib.Seq.{paste, drop-drop, take-paste, take-all, length-paste-head}
 use Rattle.definition.specs.Words.{word, words}
 use Rattle.definition.specs.Elements.{isNode, kindOf}
 use Rattle.definition.specs.Printed.{ascii, digits, decimal, hex, line, elementLine, textLine}
@@ -30,6 +30,16 @@ put-more {d} {at} {s} {l} {to} {t} {l′} {to′} a b h = record {
       ∙ (ap (λ x. paste x to t (length t)) (a .is)
       ∙ paste-paste d at s (length s) t (length t) to (length (s ++ t)) (a .end) (length-append s t) (omega (arith, a .end)) (omega arith) refl);
 }
+
+-- what is written at the front of an output that keeps its length has room there, and is read there again
+module _ {d s l : List ℕ} {to : ℕ} (p : Put d 0 s l to) (e : length l ≡ length d) where
+  pub put-fits : to ≤ length l
+  put-fits =
+      let n = length s in
+      omega (arith, p .end, ap length (p .is), length-append (take 0 d ++ take n s) (drop (0 + n) d), length-paste-head d 0 s n (omega arith) (omega arith), length-drop (0 + n) d)
+
+  pub put-front : take to l ≡ s
+  put-front = rw (p .end, p .is) (take-paste d 0 s (length s) (omega arith) (omega arith) ∙ take-all (length s) s (omega arith))
 
 -- ── Numbers and lines ───────────────────────────────────────────────────────────────────────────────────────
 

@@ -20,7 +20,7 @@ fn put(out: &mut [u8], at: usize, byte: u8) -> usize
 }
 
 // The last `k` digits of `n` in decimal, with no zeros in front, are written at `at`.
-fn put_digits(out: &mut [u8], at: usize, n: usize, k: usize) -> usize
+pub fn put_digits(out: &mut [u8], at: usize, n: usize, k: usize) -> usize
     requires { ⌜ at + k ≤ length (now out) ⌝ }
     ensures { λ r. ⌜ Put (now (out .entry)) at (digits k n) (now (out .exit)) r ⌝ }
 {
@@ -58,7 +58,7 @@ fn put_numbers(out: &mut [u8], at: usize, ns: &[usize]) -> usize
 }
 
 // A line is written at `at`: a word, and numbers, each after a space.
-fn put_line(out: &mut [u8], at: usize, name: &[u8], ns: &[usize]) -> usize
+pub fn put_line(out: &mut [u8], at: usize, name: &[u8], ns: &[usize]) -> usize
     requires { ⌜ at + length (now name) + 11 * length (now ns) + 1 ≤ length (now out) ⌝ }
     ensures { λ r. ⌜ Put (now (out .entry)) at (lineOf (now (name .entry)) (now (ns .entry))) (now (out .exit)) r ⌝ }
 {

@@ -2,12 +2,12 @@
 -- Assumes nothing.
 use mathlib.Core.Path.{_≡_, refl, sym, ap, _∙_}
 use mathlib.Core.Bool.{false}
-use mathlib.Core.List.{List, [], _∷_, zip, append-nil}
+use mathlib.Core.List.{List, [], append-nil}
 use Prim.Native.Nat.{ℕ, _≤_}
 use native.Mathlib.Omega.{arith}
 use lib.ListN.{length, take}
 use lib.Seq.{take-all}
-use Rattle.definition.specs.Basics.{gives, refused, any}
+use Rattle.definition.specs.Basics.{gives, refused}
 use Rattle.definition.specs.Finishing.{encoded}
 use Rattle.definition.specs.Answers.{tooShort}
 use Rattle.definition.specs.Printed.{print, printed}
@@ -101,9 +101,3 @@ edit-tells {b} {held} {work} {holds} {left} {r} p e s n v =
       showable = λ room h. edit-showable b held work holds left r room h p;
       tells = edit-told b held work holds left r v p ∙ printed-run b held work (answerOf r) holds left (rw whole p) (rw whole v) s (sym e);
     }
-
--- slices of the lengths of docs/WORK.md are long enough
-pub lengths-suffice : (a b c d e f g h i : List ℕ) → 16384 ≡ length a → 6147 ≡ length b → 3328 ≡ length c → 3072 ≡ length d → 3072 ≡ length e → 1024 ≡ length f → 2048 ≡ length g
-    → 12291 ≡ length h → 12288 ≡ length i → tooShort (lengths needed (a ∷ b ∷ c ∷ d ∷ e ∷ f ∷ g ∷ h ∷ i ∷ [])) ≡ false
-unfolding tooShort lengths needed zip any
-lengths-suffice a b c d e f g h i p₁ p₂ p₃ p₄ p₅ p₆ p₇ p₈ p₉ = rw (← p₁, ← p₂, ← p₃, ← p₄, ← p₅, ← p₆, ← p₇, ← p₈, ← p₉)

@@ -24,7 +24,7 @@ use Rattle.plan_edit.specs.Stages.{Sorted, judgedBy, ChangesJudged}
 use Rattle.plan_edit.specs.Answers.{plannedBy, PlanMade}
 use Rattle.plan_edit.specs.declared.Judgement.{Judgement}
 use Rattle.plan_edit.specs.declared.Judgement.the-variants.{Overlap, Fated}
-use Rattle.plan_edit.specs.declared.Planned.the-variants.{Refused}
+use Rattle.plan_edit.specs.declared.Planned.the-variants.{Overlap as OverlapOf}
 
 -- ── What the answer of line 8 tells ─────────────────────────────────────────────────────────────────────────
 
@@ -71,10 +71,11 @@ module _ {b : List ℕ} {l : Layout} {t s : List ℕ} (r : Ready b l t s) {c : �
 
 -- 8: two changes overlap
 pub overlap-refused : {b : List ℕ} {l : Layout} {t s w : List ℕ} → Ready b l t s → (q : Judgement) (i j : ℕ) → ChangesJudged b l t s w q → q ≡ Overlap i j
-    → (changes running first : List ℕ) → PlanMade b l t s changes running first (Refused 8)
+    → (changes running first : List ℕ) → PlanMade b l t s changes running first (OverlapOf i j)
 unfolding plannedBy judgedBy
 overlap-refused {b} {l} {w = w} r q i j J z changes running first =
-    record { answer = sym (out-overlap (ready-facts r) i j (sym (J .answer) ∙ ap (λ (p : Judgement). gives (judgedBy (listedIn l b) w p)) z)); within = tt }
+    let found = sym (J .answer) ∙ ap (λ (p : Judgement). gives (judgedBy (listedIn l b) w p)) z in
+    record { answer = sym (out-overlap (ready-facts r) i j found); within = tt; found = found }
 
 -- none do: the second stage may go on
 pub judged-fates : {b : List ℕ} {l : Layout} {t s w : List ℕ} (q : Judgement) (c : ℕ) → ChangesJudged b l t s w q → q ≡ Fated c → ChangesJudged b l t s w (Fated c)

@@ -77,6 +77,7 @@ module _ {b : List ℕ} {l : Layout} {t s : List ℕ} {c : ℕ} {w : List ℕ} (
       record {
         answer = sym (out-dependents (ready-facts r) (rowsOf c w) were (F .within .kept) k (sym (R .rows) ∙ ap (λ (p : Rewritten). rewrittenBy p (rowsOf c out)) z));
         within = tt;
+        found = record { changes = _; judged = were };
       }
 
   pub dependents-rewritten : (k : ℕ) → q ≡ Steps k → Rewrote b l t s m c k out

@@ -75,7 +75,7 @@ module _ {b : List ℕ} {l : Layout} {t s : List ℕ} (r : Ready b l t s) {m : L
     notes-refused k e running first =
         let a : settles ≡ refused k =
         is-refused settles (λ ns. gives (paste before 0 (noteWords ns) (3 * l .sizes .notes))) k (λ ns. (_, refl)) (sym (ap (λ (p : Notes). notesBy p after) e) ∙ (N .words ∙ rw same-settles)) in
-        record { answer = sym (out-notes facts (R .before) (R .judged) (R .kept) (rowsOf c w) steps (R .rewrote) k a); within = tt }
+        record { answer = sym (out-notes facts (R .before) (R .judged) (R .kept) (rowsOf c w) steps (R .rewrote) k a); within = tt; found = record { changes = _; judged = R .judged } }
 
     rows-kept : All (Kept n T listed) (rowsOf c w)
     rows-kept = rewritten-kept n T (mapping (mappingsIn l b)) listed (length-view n t s) (R .before) (R .before) (rowsOf c w, steps) (R .kept) (R .rewrote)
@@ -122,4 +122,5 @@ module _ {b : List ℕ} {l : Layout} {t s : List ℕ} (r : Ready b l t s) {m : L
               kept = rows-kept;
               low = rw run-places (running-low w c);
             };
+            found = record { changes = _; judged = R .judged };
           }

@@ -6,6 +6,8 @@ use Prim.Native.Nat.{ℕ, _≤_, _<_}
 use lib.ListN.{take}
 use Rattle.orders.specs.Lists.{All}
 use Rattle.definition.specs.Basics.{Answer, refused, gives}
+use Rattle.definition.specs.Planning as rules
+use Rattle.definition.specs.Planning.{overlaps, fated}
 use Rattle.record_changes.specs.ChangeRow.{rowsOf}
 use Rattle.record_changes.specs.ChangeRowLaws.{rowAt}
 use Rattle.record_rewritten.specs.Stated.{planOf}
@@ -13,10 +15,10 @@ use Rattle.plan_rewrite.specs.Kept.{Kept}
 use Rattle.run_annotations.specs.Notes.{notesOf}
 use Rattle.read_layout.specs.declared.Layout.{Layout}
 use Rattle.plan_model.specs.Ready.{listedIn, tableIn}
-use Rattle.plan_model.specs.Outcome.{Outcome, planning}
+use Rattle.plan_model.specs.Outcome.{Outcome, judging, planning}
 use Rattle.plan_edit.specs.declared.Counts.{Counts}
 use Rattle.plan_edit.specs.declared.Planned.{Planned}
-use Rattle.plan_edit.specs.declared.Planned.the-variants.{Refused, Made}
+use Rattle.plan_edit.specs.declared.Planned.the-variants.{Refused, Overlap, Made}
 
 -- what running goes by, from the change rows, the places in running order and the notes in words
 abbrev pub outcomeIn : Layout → List ℕ → List ℕ → List ℕ → List ℕ → Counts → Outcome
@@ -30,6 +32,7 @@ outcomeIn l b changes running first c = record {
 
 unfoldable pub plannedBy : Layout → List ℕ → List ℕ → List ℕ → List ℕ → Planned → Answer Outcome
 plannedBy l b changes running first (Refused k) = refused k
+plannedBy l b changes running first (Overlap j k) = refused 8
 plannedBy l b changes running first (Made c) = gives (outcomeIn l b changes running first c)
 
 -- what else is known of the words: each row is exact and states a change of elements, and each place is that of a row
@@ -43,9 +46,22 @@ pub record RowsPlanned (b : List ℕ) (l : Layout) (t s changes running : List �
 
 abbrev pub PlanWithin : List ℕ → Layout → List ℕ → List ℕ → List ℕ → List ℕ → Planned → Type 0
 PlanWithin b l t s changes running (Refused k) = Unit {0}
+PlanWithin b l t s changes running (Overlap j k) = Unit {0}
 PlanWithin b l t s changes running (Made c) = RowsPlanned b l t s changes running c
+
+-- none of the changes of the batch b overlap, and each has its fate
+pub record AllFated (b : List ℕ) : Type 0 where
+  pub changes : List rules.Planned
+  pub judged : judging b ≡ gives (fated changes)
+
+-- what the first stage found, where this is the answer
+abbrev pub FoundFirst : List ℕ → Planned → Type 0
+FoundFirst b (Refused k) = AllFated b
+FoundFirst b (Overlap j k) = judging b ≡ gives (overlaps j k)
+FoundFirst b (Made c) = AllFated b
 
 -- THE PROMISE of planning, of the batch b with the layout l, the words t and s telling of its elements
 pub record PlanMade (b : List ℕ) (l : Layout) (t s changes running first : List ℕ) (r : Planned) : Type 0 where
   pub answer : plannedBy l b changes running first r ≡ planning b
   pub within : PlanWithin b l t s changes running r
+  pub found : FoundFirst b r

@@ -5,10 +5,13 @@ use mathlib.Core.Path.{_≡_, sym, ap, _∙_}
 use Prim.Native.Nat.{ℕ}
 use lib.ListN.{length, take}
 use Rattle.definition.specs.Basics.{Answer, refused, gives, _>>=_, keep}
-use Rattle.definition.specs.Planning.{isDiscarded}
+use Rattle.definition.specs.Planning as rules
+use Rattle.definition.specs.Planning.{Fate, isDiscarded, Judgement, overlaps, fated}
+use Rattle.definition.specs.Rewriting.{mapping, rewritten, settled}
 use Rattle.definition.specs.Refusals.{Accepted, accepted}
-use Rattle.definition.specs.Answers.{Plan, plan, performed, atFirst}
-use Rattle.definition_laws.specs.Answers.{gives-inj, refused-gives, both-given}
+use Rattle.definition.specs.Answers.{Plan, judgeChanges, rewriteChanges, plan, performed, atFirst}
+use Rattle.definition_laws.specs.Answers.{gives-inj, refused-gives, both-given, given}
+use Rattle.definition_laws.specs.Stages.{rewritten-all}
 use Rattle.record_changes.specs.ChangeRow.{rowsOf}
 use Rattle.record_changes.specs.ChangeRowLaws.{rowAt}
 use Rattle.record_rewritten.specs.Stated.{planOf}
@@ -16,8 +19,8 @@ use Rattle.run_annotations.specs.Notes.{notesOf}
 use Rattle.run_model.specs.Store.{store}
 use Rattle.read_layout.specs.declared.Layout.{Layout}
 use Rattle.plan_model.specs.Ready.{listedIn}
-use Rattle.plan_model.specs.Outcome.{Outcome, outcome, planning}
-use Rattle.plan_edit.specs.Answers.{plannedBy, outcomeIn, PlanMade}
+use Rattle.plan_model.specs.Outcome.{Outcome, outcome, judging, planning}
+use Rattle.plan_edit.specs.Answers.{plannedBy, outcomeIn, AllFated, PlanMade}
 use Rattle.plan_edit.specs.declared.Counts.{Counts}
 use Rattle.plan_edit.specs.declared.Planned.the-variants.{Refused, Made}
 
@@ -59,3 +62,18 @@ plan-told {b} {l} {t} {s} {changes} {running} {first} {c} a e m =
         climbs = ap (λ (x : Outcome). x .climbs) o;
       },
     )
+
+-- ── What the first stage found ──────────────────────────────────────────────────────────────────────────────
+
+-- of an accepted batch
+pub judged-accepted : (b : List ℕ) {j : Judgement} (a : Accepted) → accepted b ≡ gives a → judging b ≡ gives j → judgeChanges a ≡ j
+unfolding judging _>>=_
+judged-accepted b {j} a e z = gives-inj (let y : judging b ≡ gives (judgeChanges a) = rw e in sym y ∙ z)
+
+-- rewriting keeps the fates
+pub rewrite-fates : (a : Accepted) (ps : List rules.Planned) (p : Plan) → rewriteChanges a ps ≡ gives p → map (λ q. q .fate) (p .changes) ≡ map (λ q. q .fate) ps
+unfolding rewriteChanges
+rewrite-fates a ps p e =
+    given (rewritten (a .table) (mapping (a .mappings)) ps) _ e λ r x e.
+    given (settled (a .table) (mapping (a .mappings)) 0 (a .notes)) _ e λ ns y e.
+    rw (← gives-inj e) ((rewritten-all (a .table) (mapping (a .mappings)) ps r x) .fates)

@@ -30,9 +30,10 @@ pub enum Judgement {
     Fated(usize),
 }
 
-// A refusal, by its number, or a plan.
+// A refusal, by its number; 8 with the places of the two that overlap; or a plan.
 pub enum Planned {
     Refused(usize),
+    Overlap(usize, usize),
     Made(Counts),
 }
 
@@ -262,7 +263,7 @@ pub fn plan(
     ensures { λ r. ⌜ PlanMade (now (b .entry)) l (now (table .entry)) (now (source .entry)) (now (changes .exit)) (now (running .exit)) (now (first .exit)) r ⌝ }
 {
     match judge_changes(b, l, table, source, recorded, order, sorted) {
-        Judgement::Overlap(_, _) => Planned::Refused(8),
+        Judgement::Overlap(j, k) => Planned::Overlap(j, k),
         Judgement::Fated(c) => {
             rewrite_and_settle(
                 b,

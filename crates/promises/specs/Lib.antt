@@ -1,6 +1,6 @@
 -- The slices that the public calls are lent, and what the calls promise.
 --     Slices     the lengths that work slices need, and slices of zeros
---     Promises   THE PROMISES of `edit` and `find_element`
+--     Promises   THE PROMISES of `edit`, `find_element` and `account`
 --     Writing    THE PROMISE of `write_batch`
 --     Serving    the promise of `serve`, for every job, and what follows from it
 pub mod Slices

@@ -12,6 +12,7 @@ use Rattle.definition.specs.Answers.{plan, ran, edit, edited, withWork, tooShor
 use Rattle.definition.specs.FindElement.{findIn, findElement}
 use Rattle.definition.specs.Finishing.{fitting, encoded}
 use Rattle.definition.specs.Performed.{InsertsFew}
+use Rattle.definition.specs.Account.{account, inRoom, accounted}
 use Rattle.promises.specs.Slices.{needed, lengths, zeroed}
 
 -- ── The edit ────────────────────────────────────────────────────────────────────────────────────────────────
@@ -37,6 +38,13 @@ pub record Finds (b : List ℕ) (n : ℕ) (work : List (List ℕ)) (r : Answer (
   pub element : r ≡ findElement (lengths needed work) b n
   pub zeros : left ≡ zeroed work
   pub inserts : InsertsFew b
+
+-- THE PROMISE of `account`, from the batch b, the result slice and the work slices as they were lent
+pub record Accounts (b held : List ℕ) (work : List (List ℕ)) (r : Answer ℕ) (holds : List ℕ) (left : List (List ℕ)) : Type 0 where
+  pub answer : r ≡ (accounted (lengths needed work) b (length held) >>= λ text. gives (length text))
+  -- the text stands at the front of the result slice, beyond it what that held, or on refusal all that it held
+  pub result : holds ≡ leftIn held (accounted (lengths needed work) b (length held))
+  pub zeros : left ≡ zeroed work
 
 -- ── Refusal 1 ───────────────────────────────────────────────────────────────────────────────────────────────
 
@@ -66,3 +74,9 @@ found b n = do
 pub long-found : (work : List (List ℕ)) (b : List ℕ) (n : ℕ) → tooShort (lengths needed work) ≡ false → findElement (lengths needed work) b n ≡ found b n
 unfolding findElement withWork found _>>=_ refuse
 long-found work b n h = rw h refl
+
+-- the text of the account, in a slice of `room` bytes, where no work slice is too short
+unfoldable pub recounted : List ℕ → ℕ → Answer (List ℕ)
+recounted b room = do
+  text ← account b
+  inRoom room text

@@ -10,10 +10,11 @@ use Rattle.definition.specs.Basics.{Answer, gives, refused, _>>=_, refuse}
 use Rattle.definition.specs.Answers.{edited, withWork, tooShort}
 use Rattle.definition.specs.FindElement.{findElement}
 use Rattle.definition_laws.specs.Performed.{inserts-few}
+use Rattle.definition.specs.Account.{accounted}
 use Rattle.promises.specs.Slices.{needed, lengths, zeroed}
-use Rattle.promises.specs.Promises.{leftIn, Edits, Finds, applied, found}
+use Rattle.promises.specs.Promises.{leftIn, Edits, Finds, Accounts, applied, found, recounted}
 use Rattle.promises.specs.declared.Job.{Job}
-use Rattle.promises.specs.declared.Job.the-variants.{Edit, Find}
+use Rattle.promises.specs.declared.Job.the-variants.{Edit, Find, Account}
 use Rattle.promises.specs.declared.Outcome.{Outcome}
 use Rattle.promises.specs.declared.Outcome.the-variants.{Refused, Bytes, Nothing, At}
 
@@ -24,7 +25,7 @@ unfoldable pub place : Option ℕ → Outcome
 place none = Nothing
 place (some e) = At e
 
--- the edit tells how many bytes it writes
+-- the edit and the account tell how many bytes they write
 abbrev pub tellBytes : List ℕ → Answer (Outcome × List ℕ)
 tellBytes bytes = gives (Bytes (length bytes), bytes)
 
@@ -36,6 +37,7 @@ tellPlace e = gives (place e, [])
 unfoldable pub reached : Job → List ℕ → ℕ → Answer (Outcome × List ℕ)
 reached Edit b room = applied b room >>= tellBytes
 reached (Find n) b room = found b n >>= tellPlace
+reached Account b room = recounted b room >>= tellBytes
 
 -- refusal 1 comes before every job
 unfoldable pub served : Job → List (ℕ × ℕ) → List ℕ → ℕ → Answer (Outcome × List ℕ)
@@ -115,6 +117,14 @@ serves-edits {b} {held} {holds} {work} {left} {r} s =
     let x = edited (lengths needed work) b (length held) in
     let same = with-then (lengths needed work) (applied b (length held)) tellBytes in
     (x >>= (λ bytes. gives (length bytes)), s .told .answer ∙ (ap outcome same ∙ edit-outcome x), record { answer = refl; result = s .told .result ∙ ap (leftIn held) (ap written same ∙ edit-written x); zeros = s .zeros; inserts = inserts-few b })
+
+-- What it answers to `Account` tells an answer that keeps the promise of `account`.
+pub serves-accounts : {b held holds : List ℕ} {work left : List (List ℕ)} {r : Outcome} → Serves Account b held work r holds left → (a : Answer ℕ) × (r ≡ ofLength a) × Accounts b held work a holds left
+unfolding served reached accounted recounted
+serves-accounts {b} {held} {holds} {work} {left} {r} s =
+    let x = accounted (lengths needed work) b (length held) in
+    let same = with-then (lengths needed work) (recounted b (length held)) tellBytes in
+    (x >>= (λ text. gives (length text)), s .told .answer ∙ (ap outcome same ∙ edit-outcome x), record { answer = refl; result = s .told .result ∙ ap (leftIn held) (ap written same ∙ edit-written x); zeros = s .zeros })
 
 -- What it answers to `Find n` tells an answer that keeps the promise of `find_element`.
 pub serves-finds : {b held holds : List ℕ} {n : ℕ} {work left : List (List ℕ)} {r : Outcome} → Serves (Find n) b held work r holds left → (a : Answer (Option ℕ)) × (r ≡ ofPlace a) × Finds b n work a left

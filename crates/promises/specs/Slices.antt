@@ -55,3 +55,9 @@ module _ (a b c d e f g h i : List ℕ) where
       let (h₁, q) = short-first _ _ _ q in
       let (i₁, q) = short-first _ _ _ q in
       ((a₁, b₁, c₁), (g₁, d₁, e₁, f₁, h₁, i₁))
+
+-- slices of the lengths of docs/WORK.md are long enough
+pub lengths-suffice : (a b c d e f g h i : List ℕ) → 16384 ≡ length a → 6147 ≡ length b → 3328 ≡ length c → 3072 ≡ length d → 3072 ≡ length e → 1024 ≡ length f → 2048 ≡ length g
+    → 12291 ≡ length h → 12288 ≡ length i → tooShort (lengths needed (a ∷ b ∷ c ∷ d ∷ e ∷ f ∷ g ∷ h ∷ i ∷ [])) ≡ false
+unfolding tooShort lengths needed zip any
+lengths-suffice a b c d e f g h i p₁ p₂ p₃ p₄ p₅ p₆ p₇ p₈ p₉ = rw (← p₁, ← p₂, ← p₃, ← p₄, ← p₅, ← p₆, ← p₇, ← p₈, ← p₉)

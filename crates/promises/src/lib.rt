@@ -6,13 +6,14 @@ ghost use lib.Dec.{ltb};
 ghost use Rattle.definition.specs.Answers.{tooShort};
 ghost use Rattle.promises.specs.Slices.{asked, needed, lengths, zeros, zeroed};
 
-// What is asked of a batch: its edit, or where a node of tree 0 stands then.
+// What is asked of a batch: its edit, where a node of tree 0 stands then, or what becomes of each change.
 pub enum Job {
     Edit,
     Find(usize),
+    Account,
 }
 
-// A refusal's number; how many bytes the result has; no element; or an element's number.
+// A refusal's number; how many bytes the result or the account has; no element; or an element's number.
 pub enum Outcome {
     Refused(usize),
     Bytes(usize),

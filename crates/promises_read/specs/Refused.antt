@@ -22,6 +22,8 @@ use Rattle.definition.specs.Running.{World, place, yield, news, spliced, tooLar
 use Rattle.definition.specs.Finishing.{Result, result, encoded, fitting}
 use Rattle.definition.specs.Answers.{judgeChanges, disjoint, rewriteChanges, Plan, plan, performed, atFirst, ran, edit, edited, tooShort, withWork}
 use Rattle.definition.specs.FindElement.{findIn, findElement}
+use Rattle.definition.specs.Printed.{programRoom}
+use Rattle.definition.specs.Account.{said, account, inRoom, accounted}
 use Rattle.definition_laws.specs.Answers.{refused-gives}
 use Rattle.definition_laws.specs.Limits.{mostBytes, encoded-within}
 use Rattle.promises.specs.Slices.{needed, lengths}
@@ -207,15 +209,18 @@ unfolding disjoint among any
 disjoint-by (overlaps i k) = refl
 disjoint-by (fated ps) = tt
 
--- Planning refuses by 8 to 10.
-pub plan-by : (a : Accepted) → By planLines (plan a)
-unfolding plan rewriteChanges rewritten among any
-plan-by a =
+rewrite-by : (a : Accepted) (ps : List Planned) → By planLines (rewriteChanges a ps)
+unfolding rewriteChanges rewritten
+rewrite-by a ps =
     let T = a .table in
     let mapped = mapping a.mappings in
-    by-then planLines (disjoint (judgeChanges a)) _ (disjoint-by (judgeChanges a)) λ ps.
     by-then planLines (rewritten T mapped ps) _ (rewriting-by T mapped (map (λ p. p .change) ps) ps) λ rs.
     by-then planLines (settled T mapped 0 a.notes) _ (settled-by T mapped 0 a.notes) λ notes. tt
+
+-- Planning refuses by 8 to 10.
+pub plan-by : (a : Accepted) → By planLines (plan a)
+unfolding plan
+plan-by a = by-then planLines (disjoint (judgeChanges a)) _ (disjoint-by (judgeChanges a)) λ ps. rewrite-by a ps
 
 -- ── Lines 11 and 12 ─────────────────────────────────────────────────────────────────────────────────────────
 
@@ -231,13 +236,17 @@ steps-by T first w (p ∷ ps) =
 
 -- ── The edit ────────────────────────────────────────────────────────────────────────────────────────────────
 
+ran-by : (a : Accepted) (p : Plan) → By stepLines (ran a p)
+unfolding ran
+ran-by a p = steps-by a.table (atFirst a p) (atFirst a p) (performed a p)
+
 -- Whatever is told of what a batch's run leaves: the batch is refused by 2 to 12 or 16.
 stages-by : {A : Type 0} (b : List ℕ) (tell : Accepted → Plan → World → A) → By editLines (accepted b >>= λ a. plan a >>= λ p. ran a p >>= λ w. gives (tell a p w))
-unfolding ran among any
+unfolding among any
 stages-by b tell =
     by-then editLines (accepted b) _ (by-more batchLines editLines (accepted b) refl (accepted-by b)) λ a.
     by-then editLines (plan a) _ (by-more planLines editLines (plan a) refl (plan-by a)) λ p.
-    by-then editLines (ran a p) _ (by-more stepLines editLines (ran a p) refl (steps-by a.table (atFirst a p) (atFirst a p) (performed a p))) λ w. tt
+    by-then editLines (ran a p) _ (by-more stepLines editLines (ran a p) refl (ran-by a p)) λ w. tt
 
 -- The edit of a batch refuses by 2 to 12 or 16.
 pub edit-by : (b : List ℕ) → By editLines (edit b)
@@ -265,17 +274,38 @@ found-alike b n = alike-then (accepted b) _ _ λ a. alike-then (plan a) _ _ λ p
 
 -- ── The public calls ────────────────────────────────────────────────────────────────────────────────────────
 
+-- a buffer that is too short refuses by 13
+fitting-by : (room : ℕ) (r : Result) → By editNumbers (fitting room r)
+unfolding fitting among any
+fitting-by room r = by-then editNumbers (refuse 13 (ltb room (length (encoded r)))) _ (by-refuse editNumbers 13 _ refl) λ u. tt
+
 -- `edit` refuses by one of its numbers.
 pub edited-by : (work : List (ℕ × ℕ)) (b : List ℕ) (room : ℕ) → By editNumbers (edited work b room)
-unfolding edited withWork fitting among any
+unfolding edited withWork among any
 edited-by work b room =
     by-then editNumbers (refuse 1 (tooShort work)) _ (by-refuse editNumbers 1 _ refl) λ u.
     by-then editNumbers (edit b) _ (by-more editLines editNumbers (edit b) refl (edit-by b)) λ r.
-    by-then editNumbers (fitting room r) _ (by-then editNumbers (refuse 13 (ltb room (length (encoded r)))) _ (by-refuse editNumbers 13 _ refl) λ u. tt) λ r. tt
+    by-then editNumbers (fitting room r) _ (fitting-by room r) λ r. tt
 
 -- So they are 1 to 13 and 16.
 pub edited-numbered : (work : List (ℕ × ℕ)) (b : List ℕ) (room k : ℕ) → edited work b room ≡ refused k → among editNumbers k ≡ true
 edited-numbered work b room k e = let by = edited-by work b room in rw e at by
+
+said-by : (a : Accepted) (j : Judgement) → By editNumbers (said a j)
+unfolding said among any
+said-by a (overlaps i k) = tt
+said-by a (fated ps) =
+    by-then editNumbers (rewriteChanges a ps) _ (by-more planLines editNumbers (rewriteChanges a ps) refl (rewrite-by a ps)) λ p.
+    by-then editNumbers (ran a p) _ (by-more stepLines editNumbers (ran a p) refl (ran-by a p)) λ w.
+    by-then editNumbers (fitting programRoom (result p.changes p.climbs w)) _ (fitting-by programRoom (result p.changes p.climbs w)) λ r. tt
+
+-- `account` refuses by one of the numbers of `edit`.
+pub accounted-by : (work : List (ℕ × ℕ)) (b : List ℕ) (room : ℕ) → By editNumbers (accounted work b room)
+unfolding accounted account inRoom withWork among any
+accounted-by work b room =
+    by-then editNumbers (refuse 1 (tooShort work)) _ (by-refuse editNumbers 1 _ refl) λ u.
+    by-then editNumbers (account b) _ (by-then editNumbers (accepted b) _ (by-more batchLines editNumbers (accepted b) refl (accepted-by b)) λ a. said-by a (judgeChanges a)) λ text.
+    by-then editNumbers (refuse 13 (ltb room (length text))) _ (by-refuse editNumbers 13 _ refl) λ u. tt
 
 -- `find_element` refuses by one of its numbers.
 pub found-by : (work : List (ℕ × ℕ)) (b : List ℕ) (n : ℕ) → By findNumbers (findElement work b n)

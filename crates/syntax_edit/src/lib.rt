@@ -3,7 +3,7 @@ use edit_algo::serve;
 use promises::Job;
 ghost use mathlib.Core.List.{_∷_, []};
 ghost use Rattle.write_layout.specs.Laying.{listsIn};
-ghost use Rattle.edit_numbers.specs.Returned.{Returns, ReturnsElement};
+ghost use Rattle.edit_numbers.specs.Returned.{Returns, ReturnsElement, ReturnsAccount};
 ghost use Rattle.edit_numbers.specs.ReturnedBatch.{ReturnsBatch};
 
 // THE EDIT of a batch: the length of the answer, which stands at the front of `result`, or a refusal's number with a minus.
@@ -64,6 +64,42 @@ pub extern "C" fn syntax_find_element(
         Job::Find(number),
         batch,
         &mut none,
+        table,
+        source,
+        changes,
+        notes,
+        incoming,
+        changed,
+        marks,
+        rows,
+        prepared,
+    );
+    edit_numbers::number_of(told)
+}
+
+// THE ACCOUNT of a batch, what becomes of each change or which two overlap: the length of the text, which stands at the front of `result`, or a refusal's
+// number with a minus.
+// The nine others are work slices, which end as zeros.
+#[no_mangle]
+pub extern "C" fn syntax_account(
+    batch: &[u8],
+    result: &mut [u8],
+    table: &mut [u32],
+    source: &mut [u32],
+    changes: &mut [u32],
+    notes: &mut [u32],
+    incoming: &mut [u32],
+    changed: &mut [u32],
+    marks: &mut [u32],
+    rows: &mut [u32],
+    prepared: &mut [u32],
+) -> i64
+    ensures { λ r. ⌜ ReturnsAccount (now (batch .entry)) (now (result .entry)) (now (table .entry) ∷ now (source .entry) ∷ now (changes .entry) ∷ now (notes .entry) ∷ now (incoming .entry) ∷ now (changed .entry) ∷ now (marks .entry) ∷ now (rows .entry) ∷ now (prepared .entry) ∷ []) r (now (result .exit)) (now (table .exit) ∷ now (source .exit) ∷ now (changes .exit) ∷ now (notes .exit) ∷ now (incoming .exit) ∷ now (changed .exit) ∷ now (marks .exit) ∷ now (rows .exit) ∷ now (prepared .exit) ∷ []) ⌝ }
+{
+    let told = serve(
+        Job::Account,
+        batch,
+        result,
         table,
         source,
         changes,

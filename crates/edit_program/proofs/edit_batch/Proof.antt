@@ -1,4 +1,5 @@
-use Rattle.edit_program.specs.Told.{edit-tells, lengths-suffice}
+use Rattle.promises.specs.Slices.{lengths-suffice}
+use Rattle.edit_program.specs.Told.{edit-tells}
 use native.Mathlib.Omega.{arith}
 use borrow.Author.Needs.{needs}
 use Rattle.edit_program.proofs.edit_batch.Statement.{statement}

@@ -8,8 +8,8 @@ use Rattle.plan_edit.proofs.plan.Tie as tie
 judge-changes-requires : tie.Need-judge-changes-requires
 judge-changes-requires c κs = search needs
 
-enum-told : tie.Need-enum-told
-enum-told c = search needs
+enum-known-j : tie.Need-enum-known-j
+enum-known-j c = search needs
 
 enum-known-c : tie.Need-enum-known-c
 enum-known-c c = search needs
@@ -30,7 +30,7 @@ same-length-3 : tie.Need-same-length-3
 same-length-3 c = search needs
 
 returns : tie.Need-returns
-returns c = overlap-refused (c .before .before .before .before .before .before .before .before .before .before .before .before .before .before .before .before .before .before .before .before .before .before .pre .0) _ _ _ (c .before .before .before .before .before .before .before .before .judge-changes .ensures) (c .enum-told .given .1) _ _ _
+returns c = overlap-refused (c .before .before .before .before .before .before .before .before .before .before .before .before .before .before .before .before .before .before .before .before .before .before .before .pre .0) _ _ _ (c .before .before .before .before .before .before .before .before .before .judge-changes .ensures) (c .before .j .given .1) _ _ _
 
 same-length-4 : tie.Need-same-length-4
 same-length-4 c = search needs
@@ -61,7 +61,7 @@ plan-spec =
     tie.close
     (tie.spec
     judge-changes-requires
-    enum-told
+    enum-known-j
     enum-known-c
     rewrite-and-settle-requires
     same-length

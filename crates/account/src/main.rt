@@ -1,0 +1,4 @@
+// The account program.
+fn main() {
+    account_program::run();
+}
