@@ -42,6 +42,9 @@ pub record Responds (batch : List ℕ) (read : ℕ) (out : List ℕ) (written : 
 pub front-within : (read : ℕ) (b : List ℕ) → 65536 ≡ length b → read ≤ length b → length (take read b) ≤ 65536
 front-within read b e h = omega (arith, length-take-le read b h)
 
+pub front-long : (read : ℕ) (b : List ℕ) → read ≤ length b → read ≡ length (take read b)
+front-long read b h = sym (length-take-le read b h)
+
 -- ── From what is promised ───────────────────────────────────────────────────────────────────────────────────
 
 -- where no work slice is too short and there is room for every account, 1 and 13 do not come
@@ -63,12 +66,16 @@ account-tells {b} {held} {work} {holds} {left} {r} p e l s = record { says = go 
     same = accounted-whole (lengths needed work) b (length held) s (omega arith)
 
     go : (r : Answer) (o : basics.Answer (List ℕ)) → account b ≡ o → answerOf r ≡ (account b >>= λ text. gives (length text)) → holds ≡ leftIn held (account b) → Says b r holds
-    go (Refused k) (refused n) i h q = i ∙ sym (h ∙ rw i refl)
-    go (Refused k) (gives text) i h q = refused-gives (h ∙ rw i refl)
-    go (Edited k) (refused n) i h q = refused-gives (sym (h ∙ rw i refl))
+    go (Refused k) (refused n) i h q =
+        let z : _≡_ {A = basics.Answer ℕ} (refused k) (refused n) = rw i at h in
+        let y : n ≡ k = cc in
+        i ∙ ap refused y
+    go (Refused k) (gives text) i h q = let z : _≡_ {A = basics.Answer ℕ} (refused k) (gives (length text)) = rw i at h in refused-gives z
+    go (Edited k) (refused n) i h q = let z : _≡_ {A = basics.Answer ℕ} (gives k) (refused n) = rw i at h in refused-gives (sym z)
     go (Edited k) (gives text) i h q =
-        let n : k ≡ length text = gives-inj (h ∙ rw i refl) in
-        let z : holds ≡ text ++ drop (length text) held = q ∙ rw i refl in
+        let y : _≡_ {A = basics.Answer ℕ} (gives k) (gives (length text)) = rw i at h in
+        let n : k ≡ length text = gives-inj y in
+        let z : holds ≡ text ++ drop (length text) held = rw i at q in
         (omega (arith, ap length z, length-append text (drop (length text) held)), i ∙ ap gives (sym (rw (z, n) (take-at text (drop (length text) held) (length text) refl))))
 
 -- ── Printed ─────────────────────────────────────────────────────────────────────────────────────────────────

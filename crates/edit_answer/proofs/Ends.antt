@@ -94,17 +94,17 @@ pub few-recorded : {b t s changes rows notes changed starts : List ℕ} {p : Per
 few-recorded {d = d} v e = (v .recounts d e) .few
 
 -- a job that is refused by 8 leaves the result slice as it was
-pub tells-8 : {job : Job} (j k room : ℕ) (held : List ℕ) → overlapTold job j k room ≡ basics.refused 8 → Tells (overlapTold job j k room) held (Refused 8) held
+tells-8 : (job : Job) (j k room : ℕ) (held : List ℕ) → overlapTold job j k room ≡ basics.refused 8 → Tells (overlapTold job j k room) held (Refused 8) held
 unfolding outcome written leftIn
-tells-8 j k room held e = rw e (record { answer = refl; result = refl })
+tells-8 job j k room held e = rw e (record { answer = refl; result = refl })
 
 pub edit-8 : {job : Job} (j k : ℕ) (held : List ℕ) → job ≡ Edit → Tells (overlapTold job j k (length held)) held (Refused 8) held
 unfolding overlapTold
-edit-8 {job} j k held e = tells-8 {job} j k (length held) held (rw e refl)
+edit-8 {job} j k held e = tells-8 job j k (length held) held (rw e refl)
 
 pub find-8 : {job : Job} {n : ℕ} (j k : ℕ) (held : List ℕ) → job ≡ Find n → Tells (overlapTold job j k (length held)) held (Refused 8) held
 unfolding overlapTold
-find-8 {job} j k held e = tells-8 {job} j k (length held) held (rw e refl)
+find-8 {job} j k held e = tells-8 job j k (length held) held (rw e refl)
 
 pub account-8 : {job : Job} (j k : ℕ) {held out : List ℕ} {r : Outcome} → job ≡ Account → Tells (tellIn (length held) (overlapLine j k)) held r out → Tells (overlapTold job j k (length held)) held r out
 unfolding overlapTold
