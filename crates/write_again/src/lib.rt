@@ -170,7 +170,7 @@ fn write_laid(b: &[u8], l: Layout, destination: &mut [u8]) -> Written
     let text = l.text;
     let n = word_count(z);
     let mut list = [0u32; 8192];
-    words::read_words(b, 28, n, &mut list, 0);
+    words::read_words(b, read_layout::ARRAYS, n, &mut list, 0);
     write_elements(z, &list, &b[text..], destination)
 }
 
