@@ -83,7 +83,7 @@ fn find_from(
     if !is_old_node(table, source, n, k) {
         return Outcome::Nothing;
     }
-    let kind = read_element_table::row_word(source, k, read_element_table::KIND);
+    let kind = read_element_table::row_word(source, k, rows_syntax_node::KIND);
     let start = read_element_table::entry(table, k, read_element_table::TEXT_START);
     match finish_find::find_in_tree(rows, d.rows, d.root, kind, start) {
         Found::Nothing => Outcome::Nothing,

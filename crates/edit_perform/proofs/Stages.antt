@@ -4,7 +4,7 @@ use mathlib.Core.Path.{_≡_, refl, sym, ap, subst, _∙_}
 use mathlib.Core.List.{List, _++_}
 use Prim.Native.Nat.{ℕ, _+_, _-_, _*_, _≤_, _<_}
 use native.Mathlib.Omega.{arith}
-use lib.ListN.{length, take, length-append}
+use lib.ListN.{length, take, drop, length-append}
 use lib.Seq.{length-take-le, take-append-le}
 use Rattle.orders.specs.Lists.{All}
 use Rattle.definition.specs.Basics.{refused}
@@ -18,6 +18,8 @@ use Rattle.read_layout.specs.declared.Laid.{Laid}
 use Rattle.read_layout.specs.declared.Laid.the-variants.{Refused as Unlaid, At}
 use Rattle.read_batch.specs.Accepting.{judged-refuses}
 use Rattle.read_batch.specs.Leaving.{Judged}
+use Rattle.run_prepare.specs.Parts as parts
+use Rattle.run_prepare.specs.Parts.{wordsIn, words-part}
 use Rattle.plan_edit.specs.Answers.{PlanMade}
 use Rattle.plan_edit.specs.Left.{plan-refused, judged-accepted}
 use Rattle.plan_edit.specs.declared.Counts.{Counts}
@@ -67,29 +69,49 @@ part-long n l h = length-take-le (n - 0) l (omega arith) ∙ omega arith
 -- ── The steps ───────────────────────────────────────────────────────────────────────────────────────────────
 
 module _ {b : List ℕ} {l : Layout} {t s changes running first : List ℕ} {c : Counts} (L : LaidOut b l t s) (P : PlanMade b l t s changes running first (Made c)) (n : ℕ) (q : n ≡ l .sizes .elements) where
-  pub may-begin : 6147 ≤ length s → 768 ≤ length first → Begun n t s first (l .sizes .notes)
-  may-begin ls lf = subst (λ (k : ℕ). Begun k t s first (l .sizes .notes)) (sym q) (begins (L .leaves) P (L .long) (L .longRows) ls lf)
+  abbrev settled : List ℕ
+  settled = take (3 * l .sizes .notes) first
 
-  pub may-list : (l .list + 4 * l .sizes .listed ≤ length b) × (l .sizes .listed ≤ 1024) × All (λ e. e < n) (wordsAt b (l .list) (l .sizes .listed))
+  -- the bytes that list elements
+  abbrev part : List ℕ
+  part = take (l .list + 4 * l .sizes .listed - l .list) (drop (l .list) b)
+
+  told : wordsIn part ≡ wordsAt b (l .list) (l .sizes .listed)
+  unfolding wordsAt
+  told = words-part b (l .list) (l .sizes .listed) (l .list + 4 * l .sizes .listed) refl (L .leaves .within .list)
+
+  pub may-begin : 6147 ≤ length s → 768 ≤ length first → Begun n t s settled
+  may-begin ls lf = subst (λ (k : ℕ). Begun k t s settled) (sym q) (begins (L .leaves) P (L .long) (L .longRows) ls lf)
+
+  pub may-list : (length part ≤ 4096) × All (λ e. e < n) (wordsIn part)
   may-list =
       let w = L .leaves .within in
-      (w .list, w .limits .listed, subst (λ (k : ℕ). All (λ e. e < k) (wordsAt b (l .list) (l .sizes .listed))) (sym q) (all-elements (L .leaves) P))
+      (omega (arith, parts.part-long b (l .list) (l .sizes .listed) (l .list + 4 * l .sizes .listed) refl (w .list), w .limits .listed), rw (told, q) (all-elements (L .leaves) P))
 
-  pub may-run : 256 ≤ length running → (c .runs ≤ length running) × All (λ k. RowPerforms n (view n t s) (wordsAt b (l .list) (l .sizes .listed)) (rowAt changes k)) (take (c .runs) running)
-  may-run lr =
-      (omega (arith, P .within .most, P .within .few), subst (λ (m : ℕ). All (λ k. RowPerforms m (view m t s) (wordsAt b (l .list) (l .sizes .listed)) (rowAt changes k)) (take (c .runs) running)) (sym q) (all-perform (L .leaves) P))
+  pub may-run : All (λ k. RowPerforms n (view n t s) (wordsIn part) (rowAt changes k)) (take (c .runs) running)
+  may-run = rw (told, q) (all-perform (L .leaves) P)
 
-  pub may-record : (room : ℕ) → 1024 ≤ room → listsAll (view n t s) (wordsAt b (l .list) (l .sizes .listed)) changes (take (c .runs) running) ≤ room
-  may-record room h = omega (
-    arith,
-    ap (λ (m : ℕ). listsAll (view m t s) (wordsAt b (l .list) (l .sizes .listed)) changes (take (c .runs) running)) q,
-    room-recorded (L .leaves) P,
-  )
+  pub may-record : (room : ℕ) → 1024 ≤ room → listsAll (view n t s) (wordsIn part) changes (take (c .runs) running) ≤ room
+  may-record room h =
+      let z : listsAll (view n t s) (wordsIn part) changes (take (c .runs) running) ≤ 1024 = rw (told, q) (room-recorded (L .leaves) P) in
+      omega arith
+
+  -- what is cut out is there
+  pub notes-within : 768 ≤ length first → 3 * l .sizes .notes ≤ length first
+  notes-within lf = omega (arith, L .leaves .within .limits .notes)
+
+  pub runs-within : 256 ≤ length running → c .runs ≤ length running
+  runs-within lr = omega (arith, P .within .most, P .within .few)
+
+  pub list-within : l .list + 4 * l .sizes .listed ≤ length b
+  list-within = L .leaves .within .list
 
   module _ (ls : 6147 ≤ length s) (lf : 768 ≤ length first) {rows marks notes changed : List ℕ} {x : Executed}
-      (R : Ran n t s first (l .sizes .notes) (wordsAt b (l .list) (l .sizes .listed)) changes (take (c .runs) running) rows marks notes changed x) where
-    same : Ran (l .sizes .elements) t s first (l .sizes .notes) (wordsAt b (l .list) (l .sizes .listed)) changes (take (c .runs) running) rows marks notes changed x
-    same = subst (λ (k : ℕ). Ran k t s first (l .sizes .notes) (wordsAt b (l .list) (l .sizes .listed)) changes (take (c .runs) running) rows marks notes changed x) q R
+      (R : Ran n t s settled (wordsIn part) changes (take (c .runs) running) rows marks notes changed x) where
+    same : Ran (l .sizes .elements) t s settled (wordsAt b (l .list) (l .sizes .listed)) changes (take (c .runs) running) rows marks notes changed x
+    same =
+        subst (λ (listed : List ℕ). Ran (l .sizes .elements) t s settled listed changes (take (c .runs) running) rows marks notes changed x) told
+        (subst (λ (k : ℕ). Ran k t s settled (wordsIn part) changes (take (c .runs) running) rows marks notes changed x) q R)
 
     pub steps-refused : (k : ℕ) → x ≡ Stopped k → Performs b t s changes rows notes changed marks (Refused k)
     steps-refused k e = performs-refused k (run-refused (L .leaves) P (L .long) (L .longRows) ls lf same k e)

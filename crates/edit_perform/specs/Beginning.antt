@@ -18,7 +18,7 @@ use Rattle.read_layout.specs.Layout.{arraysAt}
 use Rattle.read_layout.specs.declared.Layout.{Layout}
 use Rattle.read_batch.specs.Accepting.{Parts, accepted-parts}
 use Rattle.read_batch.specs.Leaving.{Leaves}
-use Rattle.run_annotations.specs.Notes.{notesOf}
+use Rattle.run_prepare.specs.Parts.{notesIn}
 use Rattle.run_model.specs.Store.{heldNote, store}
 use Rattle.run_execute.specs.Standing.{Begun}
 
@@ -50,9 +50,9 @@ module _ {b : List ℕ} {l : Layout} {t₀ s₀ t s : List ℕ} (v : Leaves b l 
     unfolding atFirst begin store
     first-notes = refl
 
-    -- and `first` holds the plan's notes: there the run begins
-    unfoldable pub begun : (first : List ℕ) → notesOf (l .sizes .notes) first ≡ (store (atFirst (v .what) p)) .notes → 16384 ≤ length t₀ → 6147 ≤ length s₀ → 6147 ≤ length s → 768 ≤ length first
-        → Begun (l .sizes .elements) t s first (l .sizes .notes)
+    -- and `first` is the plan's notes: there the run begins
+    unfoldable pub begun : (first : List ℕ) → notesIn first ≡ (store (atFirst (v .what) p)) .notes → 16384 ≤ length t₀ → 6147 ≤ length s₀ → 6147 ≤ length s → length first ≤ 768
+        → Begun (l .sizes .elements) t s first
     unfolding arraysAt
     begun first n lt ls ls′ lf =
         let L = v .within .limits in
@@ -71,6 +71,5 @@ module _ {b : List ℕ} {l : Layout} {t₀ s₀ t s : List ℕ} (v : Leaves b l 
           written = omega (arith, ap length (known .spells .written), known .long .text, known .limits .text);
           formed = w .wellformed .lines;
           long = omega (arith, L .elements);
-          fewNotes = L .notes;
-          longNotes = omega (arith, L .notes);
+          fewNotes = lf;
         }

@@ -2,7 +2,7 @@
 -- Assumes nothing.
 use mathlib.Core.Path.{_≡_, refl, sym, ap, subst, _∙_}
 use mathlib.Core.List.{List, [], map, map-map}
-use Prim.Native.Nat.{ℕ, _≤_, _<_}
+use Prim.Native.Nat.{ℕ, _*_, _≤_, _<_}
 use native.Mathlib.Omega.{arith}
 use lib.ListN.{length, take, drop, length-map}
 use lib.Seq.{length-take-le, take-all}
@@ -31,7 +31,7 @@ use Rattle.record_rewritten.specs.Stated.{changeOf, planOf}
 use Rattle.plan_rewrite.specs.Kept.{Kept}
 use Rattle.read_layout.specs.declared.Layout.{Layout}
 use Rattle.read_batch.specs.Leaving.{Leaves}
-use Rattle.run_annotations.specs.Notes.{notesOf}
+use Rattle.run_prepare.specs.Parts.{notesIn, notes-part}
 use Rattle.run_model.specs.Store.{Store, store, storeSteps}
 use Rattle.run_model.specs.Step.{inRows, ran-store}
 use Rattle.run_tree_store.specs.Stored.{stored, storedFirst}
@@ -69,6 +69,9 @@ module _ {b : List ℕ} {l : Layout} {t₀ s₀ t s : List ℕ} (v : Leaves b l 
   abbrev ks : List ℕ
   ks = take (c .runs) running
 
+  abbrev settled : List ℕ
+  settled = take (3 * l .sizes .notes) first
+
   plan-of : (p : Plan) × TellsPlan b l changes running first c a p
   plan-of = plan-told a (v .accepted) P
 
@@ -86,8 +89,11 @@ module _ {b : List ℕ} {l : Layout} {t₀ s₀ t s : List ℕ} (v : Leaves b l 
   unfolding plansIn wordsAt
   runs-told = m .performed
 
-  pub begins : 16384 ≤ length t₀ → 6147 ≤ length s₀ → 6147 ≤ length s → 768 ≤ length first → Begun E t s first (l .sizes .notes)
-  begins = begun v p (m .plan) first (m .notes)
+  pub begins : 16384 ≤ length t₀ → 6147 ≤ length s₀ → 6147 ≤ length s → 768 ≤ length first → Begun E t s settled
+  begins lt ls ls′ lf =
+      let few = v .within .limits .notes in
+      let long : 3 * l .sizes .notes ≤ length first = omega arith in
+      begun v p (m .plan) settled (notes-part (l .sizes .notes) first long ∙ m .notes) lt ls ls′ (omega (arith, length-take-le (3 * l .sizes .notes) first long))
 
   -- lines 6 and 16 would refuse none of them
   pub all-perform : All (λ k. Performs E (view E t s) listed (rowAt changes k)) ks
@@ -122,12 +128,12 @@ module _ {b : List ℕ} {l : Layout} {t₀ s₀ t s : List ℕ} (v : Leaves b l 
   -- ── What it answers ──
 
   module _ (lt : 16384 ≤ length t₀) (ls : 6147 ≤ length s₀) (ls′ : 6147 ≤ length s) (lf : 768 ≤ length first) {rows marks notes changed : List ℕ} {x : Executed}
-      (R : Ran E t s first (l .sizes .notes) listed changes ks rows marks notes changed x) where
+      (R : Ran E t s settled listed changes ks rows marks notes changed x) where
     text : List ℕ
     text = drop (l .text) b
 
     -- before the first step
-    first-world : storedFirst text E s (notesOf (l .sizes .notes) first) [] ≡ store (atFirst a p)
+    first-world : storedFirst text E s (notesIn settled) [] ≡ store (atFirst a p)
     unfolding text atFirst begins begun
     first-world = first-told (begins lt ls ls′ lf) ∙ ap (λ (T : Table). store (begin (a .trees) T (p .notes))) (sym ((known v) .table))
 
@@ -135,7 +141,7 @@ module _ {b : List ℕ} {l : Layout} {t₀ s₀ t s : List ℕ} (v : Leaves b l 
     ran-told : executedIn text rows marks notes changed x ≡ inRows (ran a p)
     ran-told =
         R .answer text
-        ∙ (ap (λ (T : Table). storeSteps T (storedFirst text E s (notesOf (l .sizes .notes) first) []) (storedFirst text E s (notesOf (l .sizes .notes) first) []) (plansIn listed changes ks)) (v .told)
+        ∙ (ap (λ (T : Table). storeSteps T (storedFirst text E s (notesIn settled) []) (storedFirst text E s (notesIn settled) []) (plansIn listed changes ks)) (v .told)
         ∙ (ap (λ (f : Store). storeSteps (a .table) f f (plansIn listed changes ks)) first-world
         ∙ (ap (storeSteps (a .table) (store (atFirst a p)) (store (atFirst a p))) runs-told ∙ ran-store b a p (known v) (planned v p (m .plan)))))
 
@@ -164,7 +170,7 @@ module _ {b : List ℕ} {l : Layout} {t₀ s₀ t s : List ℕ} (v : Leaves b l 
     unfolding executedIn _>>=_ text store stored
     run-ended r e ln = go (ran a p) refl (sym (ap (executedIn text rows marks notes changed) e) ∙ ran-told)
       where
-        S : Standing E t s first (l .sizes .notes) r rows marks notes changed
+        S : Standing E t s settled r rows marks notes changed
         S = R .standing r e
 
         go : (o : Answer World) → ran a p ≡ o → gives (heldIn text r rows marks notes changed) ≡ inRows o

@@ -5,6 +5,7 @@ use plan_edit::plan;
 use read_batch::accept;
 use read_layout::Laid;
 use read_layout::Layout;
+use run_annotations::NOTE_WORDS;
 use run_execute::execute;
 use run_tree_state::Executed;
 ghost use mathlib.Core.Path.{_≡_};
@@ -62,6 +63,10 @@ fn run_plan(
     // As many as a call may list.
     let mut sizes = [0u32; 41];
     let s = l.sizes;
+    let settled = NOTE_WORDS * s.notes;
+    let listed = l.list;
+    let end = listed + 4 * s.listed;
+    let runs = c.runs;
     let done = execute(
         rows,
         marks,
@@ -72,14 +77,10 @@ fn run_plan(
         incoming,
         table,
         source,
-        first,
-        s.notes,
-        b,
-        l.list,
-        s.listed,
+        &first[..settled],
+        &b[listed..end],
         changes,
-        running,
-        c.runs,
+        &running[..runs],
     );
     match done {
         Executed::Refused(n) => Performed::Refused(n),

@@ -8,6 +8,8 @@ ghost use Rattle.rows_syntax_node.specs.Promises.{found};
 ghost use Rattle.finish_model.specs.Finished.{firstTree};
 ghost use Rattle.finish_model.specs.Alike.{alikeWords, findRow};
 use rows_syntax_node::Found;
+use rows_syntax_node::ROW_WORDS;
+use rows_syntax_node::TEXT;
 use rows_syntax_node::subtree;
 use rows_syntax_node::text_length;
 use words::word;
@@ -32,8 +34,8 @@ fn find_alike(tree: &[u32], kind: usize, start: usize) -> Found
 {
     let mut sum = 0;
     let mut i = 0;
-    while 3 * i + 2 < tree.len() {
-        let other = word(tree, 3 * i);
+    while ROW_WORDS * i + TEXT < tree.len() {
+        let other = word(tree, ROW_WORDS * i);
         if is_alike(kind, start, other, sum) {
             return Found::At(i);
         }

@@ -57,7 +57,7 @@ pub fn place_below(table: &[u32], n: usize, x: usize, e: usize, place: &mut [u32
         if p == 0 {
             return Below::Elsewhere;
         }
-        place[k] = table[8 * at + 2];
+        place[k] = table[read_element_table::WORDS * at + read_element_table::CHILD];
         k += 1;
         at = p - 1;
     }
@@ -89,7 +89,7 @@ pub fn upmap_to_ancestor(
         return Climb::Trail(0);
     }
     let mut x = upmap_node_single(map, n, input);
-    trail[0] = table[8 * x + 2];
+    trail[0] = table[read_element_table::WORDS * x + read_element_table::CHILD];
     let mut k: usize = 1;
     let mut outcome = Climb::Refused(9);
     loop {
@@ -107,7 +107,7 @@ pub fn upmap_to_ancestor(
             outcome = Climb::Trail(k);
             break;
         }
-        trail[k] = table[8 * next + 2];
+        trail[k] = table[read_element_table::WORDS * next + read_element_table::CHILD];
         x = next;
         k += 1;
     }

@@ -41,7 +41,7 @@ pub fn settle_notes(
         match plan_upmap::upmap_element(table, source, map, n, element) {
             Settled::Refused(refusal) => return Notes::Refused(refusal),
             Settled::At(e) => {
-                words::store3(notes, 3 * i, e + 1, number, i);
+                words::store3(notes, run_annotations::NOTE_WORDS * i, e + 1, number, i);
                 i += 1;
             }
         }

@@ -22,14 +22,14 @@ use read_element_table::is_root;
 pub fn operation_of(word: usize) -> usize
     ensures { λ r. ⌜ r ≡ operationOf word ⌝ }
 {
-    word % 256
+    word % read_layout::OPERATIONS
 }
 
 // How many elements a call word says that the call lists.
 pub fn count_of(word: usize) -> usize
     ensures { λ r. ⌜ r ≡ countOf word ⌝ }
 {
-    word / 256
+    word / read_layout::OPERATIONS
 }
 
 // The first of the `count` listed elements that stand at `from` in a batch, 0 if there is none.

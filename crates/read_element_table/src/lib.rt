@@ -9,8 +9,13 @@ ghost use Rattle.definition.specs.Elements.{isNode};
 ghost use Rattle.read_spelling.specs.Spelling.{elementsAt};
 ghost use Rattle.read_element_table.specs.Told.{childCount};
 ghost use Rattle.read_element_table.specs.Filling.{Accepted, Filled, ended, tableOf, rowsFrom};
+use rows_syntax_node::KIND;
+use rows_syntax_node::MEASURE;
+use rows_syntax_node::ROW_WORDS;
 
-// The eight words of an element, in this order (specs/View.antt).
+// How many words an element has, and which they are (specs/View.antt).
+pub const WORDS: usize = 8;
+
 pub const OFFSET: usize = 0;
 // Its parent + 1; 0 for a root.
 pub const PARENT: usize = 1;
@@ -26,13 +31,6 @@ pub const TEXT_END: usize = 5;
 pub const AFTER: usize = 6;
 
 pub const TREE: usize = 7;
-
-// The three words of a row.
-pub const KIND: usize = 0;
-
-pub const MEASURE: usize = 1;
-
-pub const TEXT: usize = 2;
 
 // An open element: how many of its children are to come, its number + 1 (0 for all the trees), the number of its next child.
 struct Open {
@@ -59,7 +57,7 @@ fn close(table: &mut [u32], owner: usize, end: usize, after: usize)
     if owner == 0 {
         return;
     }
-    let at = 8 * (owner - 1);
+    let at = WORDS * (owner - 1);
     table[at + TEXT_END] = end as u32;
     table[at + AFTER] = after as u32;
 }
@@ -100,8 +98,8 @@ fn fill_elements(
             let m = words::read_word(b, measures + 4 * i);
             let s = if_root(d, 0, at);
             let t = if_root(d, x.next, tree);
-            words::store8(table, 8 * i, o, x.owner, x.next, d, s, s, i, t);
-            words::store3(source, 3 * (i + 1), k, m, o);
+            words::store8(table, WORDS * i, o, x.owner, x.next, d, s, s, i, t);
+            words::store3(source, ROW_WORDS * (i + 1), k, m, o);
             let left = x.left - 1;
             let owner = x.owner;
             let next = x.next + 1;
@@ -145,7 +143,7 @@ pub fn entry(table: &[u32], e: usize, k: usize) -> usize
     requires { ⌜ (k < 8) × (8 * e + 8 ≤ length (now table)) ⌝ }
     ensures { λ r. ⌜ (r ≡ getD (now (table .entry)) (8 * e + k) 0) × (r < 2 ^ 32) ⌝ }
 {
-    words::word(table, 8 * e + k)
+    words::word(table, WORDS * e + k)
 }
 
 // Word `k` of the row of element `e`.
@@ -153,7 +151,7 @@ pub fn row_word(source: &[u32], e: usize, k: usize) -> usize
     requires { ⌜ (k < 3) × (3 * e + 6 ≤ length (now source)) ⌝ }
     ensures { λ r. ⌜ (r ≡ getD (now (source .entry)) (3 * suc e + k) 0) × (r < 2 ^ 32) ⌝ }
 {
-    words::word(source, 3 * e + 3 + k)
+    words::word(source, ROW_WORDS * e + ROW_WORDS + k)
 }
 
 // Whether element `e` is a node.

@@ -6,6 +6,11 @@ ghost use lib.ListN.{length};
 ghost use Rattle.definition.specs.Batch.{sizes, beyond};
 ghost use Rattle.read_layout.specs.Layout.{sizesOf, layoutOf, Limits, laidOf, endsAt, laid};
 
+// At which byte the arrays start: the seven sizes stand before them.
+pub const ARRAYS: usize = 28;
+// A call word is its operation, which is below this, and this for each element that the call lists.
+pub const OPERATIONS: usize = 256;
+
 // The seven sizes of a batch.
 pub struct Sizes {
     pub trees: usize,
@@ -90,7 +95,7 @@ fn placed(s: Sizes) -> Layout
     requires { ⌜ Limits s ⌝ }
     ensures { λ r. ⌜ r ≡ layoutOf (sizesOf s) ⌝ }
 {
-    let kinds = 28;
+    let kinds = ARRAYS;
     let measures = kinds + 4 * s.elements;
     let words = measures + 4 * s.elements;
     let targets = words + 4 * s.calls;
@@ -131,7 +136,7 @@ fn judge_length(b: &[u8], s: Sizes) -> Laid
 pub fn lay_out(b: &[u8]) -> Laid
     ensures { λ r. ⌜ laidOf r ≡ laid (now (b .entry)) ⌝ }
 {
-    if b.len() < 28 {
+    if b.len() < ARRAYS {
         return Laid::Refused(2);
     }
     let s = read_sizes(b);

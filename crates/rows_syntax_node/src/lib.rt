@@ -12,6 +12,15 @@ use words::copy_in;
 use words::splice_words;
 use words::word;
 
+// How many words a row has, and which they are: the kind word is the first, at `ROW_WORDS * i`.
+pub const ROW_WORDS: usize = 3;
+
+pub const KIND: usize = 0;
+// The number of a node's children, the length of a token's text.
+pub const MEASURE: usize = 1;
+// Where a token's text starts in the text of all.
+pub const TEXT: usize = 2;
+
 // ── One row ──
 
 // The number of children of the element at row `i`: a token has none.
@@ -19,11 +28,11 @@ pub fn child_count(rows: &[u32], i: usize) -> usize
     requires { ⌜ 3 * i + 2 < length (now rows) ⌝ }
     ensures { λ r. ⌜ Counted (now (rows .entry)) i r ⌝ }
 {
-    let k = word(rows, 3 * i);
+    let k = word(rows, ROW_WORDS * i);
     if k < 0x8000_0000 {
         return 0;
     }
-    word(rows, 3 * i + 1)
+    word(rows, ROW_WORDS * i + MEASURE)
 }
 
 // The length of the own text of the element at row `i`: a node has none.
@@ -31,9 +40,9 @@ pub fn text_length(rows: &[u32], i: usize) -> usize
     requires { ⌜ 3 * i + 2 < length (now rows) ⌝ }
     ensures { λ r. ⌜ Measured (now (rows .entry)) i r ⌝ }
 {
-    let k = word(rows, 3 * i);
+    let k = word(rows, ROW_WORDS * i);
     if k < 0x8000_0000 {
-        return word(rows, 3 * i + 1);
+        return word(rows, ROW_WORDS * i + MEASURE);
     }
     0
 }
@@ -72,8 +81,8 @@ pub fn subtree(rows: &[u32], n: usize, at: usize) -> &[u32]
     ensures { λ r. ⌜ Part (now (rows .entry)) n at (now r) ⌝ }
 {
     let end = rows_after(rows, n, at, 1);
-    let from = 3 * at;
-    let to = 3 * end;
+    let from = ROW_WORDS * at;
+    let to = ROW_WORDS * end;
     &rows[from..to]
 }
 
@@ -116,7 +125,7 @@ pub fn trees_in(run: &[u32]) -> usize
     let mut trees = 0;
     let mut o = 0;
     let mut i = 0;
-    while 3 * i + 2 < run.len() {
+    while ROW_WORDS * i + TEXT < run.len() {
         let m = child_count(run, i);
         if o == 0 {
             trees += 1;
@@ -135,8 +144,8 @@ pub fn children_between(rows: &[u32], n: usize, p: usize, q: usize) -> usize
     requires { ⌜ (3 * n ≤ length (now rows)) × (n < 2 ^ 16) × (p ≤ q) × (q ≤ n) ⌝ }
     ensures { λ r. ⌜ TreesBetween (now (rows .entry)) n p q r ⌝ }
 {
-    let from = 3 * p;
-    let to = 3 * q;
+    let from = ROW_WORDS * p;
+    let to = ROW_WORDS * q;
     trees_in(&rows[from..to])
 }
 
@@ -147,7 +156,7 @@ pub fn text_bytes(run: &[u32]) -> usize
 {
     let mut sum = 0;
     let mut i = 0;
-    while 3 * i + 2 < run.len() {
+    while ROW_WORDS * i + TEXT < run.len() {
         sum += text_length(run, i);
         i += 1;
     }
@@ -174,7 +183,7 @@ pub fn height(run: &[u32]) -> usize
     let mut depth = 0;
     let mut most = 0;
     let mut i = 0;
-    while 3 * i + 2 < run.len() {
+    while ROW_WORDS * i + TEXT < run.len() {
         let x = left[depth];
         if x == 0 {
             depth -= 1;
@@ -199,8 +208,8 @@ pub fn append_rows(rows: &mut [u32], n: usize, run: &[u32]) -> usize
     requires { ⌜ (3 * n + length (now run) ≤ length (now rows)) × (n < 2 ^ 16) × (length (now run) % 3 ≡ 0) ⌝ }
     ensures { λ r. ⌜ Appended (now (rows .entry)) n (now (run .entry)) (now (rows .exit)) r ⌝ }
 {
-    copy_in(rows, 3 * n, run);
-    n + run.len() / 3
+    copy_in(rows, ROW_WORDS * n, run);
+    n + run.len() / ROW_WORDS
 }
 
 // The rows `p` up to `q`, `removed` children of the node at row `parent`, give way to a run of `gain` trees. The new number of rows.
@@ -219,10 +228,10 @@ pub fn splice_rows(
     requires { ⌜ (2147483648 ≤ getD (now rows) (3 * parent) 0) × (removed ≤ getD (now rows) (3 * parent + 1) 0) × (getD (now rows) (3 * parent + 1) 0 + gain < 2 ^ 32) ⌝ }
     ensures { λ r. ⌜ Spliced (now (rows .entry)) n parent p q removed (now (run .entry)) gain (now (rows .exit)) r ⌝ }
 {
-    let m = word(rows, 3 * parent + 1);
-    rows[3 * parent + 1] = (m + gain - removed) as u32;
-    splice_words(rows, 3 * n, 3 * p, 3 * q, run);
-    n - (q - p) + run.len() / 3
+    let m = word(rows, ROW_WORDS * parent + MEASURE);
+    rows[ROW_WORDS * parent + MEASURE] = (m + gain - removed) as u32;
+    splice_words(rows, ROW_WORDS * n, ROW_WORDS * p, ROW_WORDS * q, run);
+    n - (q - p) + run.len() / ROW_WORDS
 }
 
 // ── Marks ──

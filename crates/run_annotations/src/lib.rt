@@ -10,6 +10,13 @@ ghost use Rattle.run_annotations.specs.Promises.{RowMoved, RowsMoved, No
 use words::store3;
 use words::word;
 
+// How many words a note has, and which they are: the row of its element is the first, at `NOTE_WORDS * i`.
+pub const NOTE_WORDS: usize = 3;
+
+pub const NUMBER: usize = 1;
+// In the queue.
+pub const PLACE: usize = 2;
+
 // ── Changed rows ──
 
 // Rust: SyntaxPath::adjust_for_splice, here of a row. The changed row at `i` goes behind the first `r`, moved; one of the rows that give way is left out.
@@ -66,9 +73,9 @@ fn keep_note(notes: &mut [u32], i: usize, r: usize, row: usize)
     requires { ⌜ (3 * i + 3 ≤ length (now notes)) × (3 * r + 3 ≤ length (now notes)) × (row < 2 ^ 32) ⌝ }
     ensures { λ _. ⌜ now (notes .exit) ≡ paste (now (notes .entry)) (3 * r) (noteWords (withRow (noteAt (now (notes .entry)) i) row)) 3 ⌝ }
 {
-    let number = word(notes, 3 * i + 1);
-    let place = word(notes, 3 * i + 2);
-    store3(notes, 3 * r, row, number, place);
+    let number = word(notes, NOTE_WORDS * i + NUMBER);
+    let place = word(notes, NOTE_WORDS * i + PLACE);
+    store3(notes, NOTE_WORDS * r, row, number, place);
 }
 
 // The note at `i` goes behind the first `r`, moved; one at the rows that give way is left out.
@@ -76,7 +83,7 @@ fn move_note(notes: &mut [u32], i: usize, r: usize, p: usize, q: usize, m: usize
     requires { ⌜ (r ≤ i) × (3 * i + 3 ≤ length (now notes)) × (p ≤ q) × (q < 2 ^ 16) × (m < 2 ^ 16) × (getD (now notes) (3 * i) 0 < 2 ^ 16) ⌝ }
     ensures { λ n. ⌜ NoteMoved (now (notes .entry)) i r p q m (now (notes .exit)) n ⌝ }
 {
-    let row = word(notes, 3 * i);
+    let row = word(notes, NOTE_WORDS * i);
     if row < p {
         keep_note(notes, i, r, row);
         return r + 1;
@@ -116,9 +123,9 @@ fn copy_note(notes: &[u32], i: usize, out: &mut [u32], r: usize, row: usize)
     requires { ⌜ (3 * i + 3 ≤ length (now notes)) × (3 * r + 3 ≤ length (now out)) × (row < 2 ^ 32) ⌝ }
     ensures { λ _. ⌜ now (out .exit) ≡ paste (now (out .entry)) (3 * r) (noteWords (withRow (noteAt (now (notes .entry)) i) row)) 3 ⌝ }
 {
-    let number = word(notes, 3 * i + 1);
-    let place = word(notes, 3 * i + 2);
-    store3(out, 3 * r, row, number, place);
+    let number = word(notes, NOTE_WORDS * i + NUMBER);
+    let place = word(notes, NOTE_WORDS * i + PLACE);
+    store3(out, NOTE_WORDS * r, row, number, place);
 }
 
 // The note at `i`, if it is in the rows `p` up to `q`, goes behind the first `c` of `out`; from `most` on it is only counted.
@@ -135,7 +142,7 @@ fn take_note(
     requires { ⌜ (3 * i + 3 ≤ length (now notes)) × (3 * most ≤ length (now out)) × (c < 2 ^ 17) × (q < 2 ^ 16) × (at < 2 ^ 16) ⌝ }
     ensures { λ n. ⌜ NoteTaken (now (notes .entry)) i p q at most (now (out .entry)) c (now (out .exit)) n ⌝ }
 {
-    let x = word(notes, 3 * i);
+    let x = word(notes, NOTE_WORDS * i);
     if x < p {
         return c;
     }

@@ -88,25 +88,25 @@ new-notes-low at (y ∷ new) h =
 
 -- ── What is prepared ────────────────────────────────────────────────────────────────────────────────────────
 
-module _ {rows : List ℕ} {n : ℕ} {source marks first : List ℕ} {a : ℕ} {notes : List ℕ} {k : ℕ} {at : ℕ} {prepared sizes incoming : List ℕ} {m c : ℕ} where
+module _ {rows : List ℕ} {n : ℕ} {source marks first notes : List ℕ} {k : ℕ} {at : ℕ} {prepared sizes incoming : List ℕ} {m c : ℕ} where
   -- As many sizes as elements are listed.
-  pub sizes-told : (count : ℕ) (bytes : List ℕ) → ElementsPrepared rows n source marks first a notes k (words count bytes) at prepared sizes incoming (Parts m c)
-      → (text changed₀ changed : List ℕ) → take count sizes ≡ partSizes (map (partIn rows n source marks first a notes k text changed₀ changed) (words count bytes))
+  pub sizes-told : (count : ℕ) (bytes : List ℕ) → ElementsPrepared rows n source marks first notes k (words count bytes) at prepared sizes incoming (Parts m c)
+      → (text changed₀ changed : List ℕ) → take count sizes ≡ partSizes (map (partIn rows n source marks first notes k text changed₀ changed) (words count bytes))
   sizes-told count bytes P text changed₀ changed =
-      let e : length (map (partIn rows n source marks first a notes k text changed₀ changed) (words count bytes)) ≡ count =
-      length-map (words count bytes) (partIn rows n source marks first a notes k text changed₀ changed) ∙ length-words count bytes in
+      let e : length (map (partIn rows n source marks first notes k text changed₀ changed) (words count bytes)) ≡ count =
+      length-map (words count bytes) (partIn rows n source marks first notes k text changed₀ changed) ∙ length-words count bytes in
       ap (λ (i : ℕ). take i sizes) (sym e) ∙ ((P .parts text changed₀ changed) .came m c refl) .sizes
 
   -- each is small
-  pub sizes-small : (count : ℕ) (bytes : List ℕ) → ElementsPrepared rows n source marks first a notes k (words count bytes) at prepared sizes incoming (Parts m c) → All (λ x. x < 2 ^ 16) (take count sizes)
+  pub sizes-small : (count : ℕ) (bytes : List ℕ) → ElementsPrepared rows n source marks first notes k (words count bytes) at prepared sizes incoming (Parts m c) → All (λ x. x < 2 ^ 16) (take count sizes)
   sizes-small count bytes P =
-      let new : List Part = map (partIn rows n source marks first a notes k [] [] []) (words count bytes) in
+      let new : List Part = map (partIn rows n source marks first notes k [] [] []) (words count bytes) in
       let C : Came [] new at prepared sizes incoming m c = (P .parts [] [] []) .came m c refl in
       rw (sizes-told count bytes P [] [] []) (All-map (λ x h. omega (arith, C .many, C .fewRows)) (partSizes new) (sizes-low new))
 
   -- The notes that came in are at the rows that came in.
-  pub notes-low : {l : List ℕ} → ElementsPrepared rows n source marks first a notes k l at prepared sizes incoming (Parts m c) → All (λ x. x .row < at + m) (notesOf c incoming)
+  pub notes-low : {l : List ℕ} → ElementsPrepared rows n source marks first notes k l at prepared sizes incoming (Parts m c) → All (λ x. x .row < at + m) (notesOf c incoming)
   notes-low {l} P =
-      let part : ℕ → Part = partIn rows n source marks first a notes k [] [] [] in
+      let part : ℕ → Part = partIn rows n source marks first notes k [] [] [] in
       let C : Came [] (map part l) at prepared sizes incoming m c = (P .parts [] [] []) .came m c refl in
       rw (C .notes, C .many) (new-notes-low at (map part l) (All-over part (λ e. Unit {0}) NotesWithin (λ e u. yield-within _ _ e) l (All-all (λ e. tt) l)))

@@ -1,18 +1,18 @@
 -- The elements that a change lists, where they stand in the batch.
 -- Assumes nothing.
-use mathlib.Core.Path.{_≡_, refl, ap, _∙_}
+use mathlib.Core.Path.{_≡_, refl, sym, ap, _∙_}
 use mathlib.Core.List.{List}
-use Prim.Native.Nat.{ℕ, zero, suc, _+_, _-_, _*_, _≤_, _<_}
+use Prim.Native.Nat.{ℕ, zero, suc, _+_, _-_, _*_, _/_, _≤_, _<_}
 use native.Mathlib.Omega.{arith}
 use lib.ListN.{length, getD, take, drop}
-use lib.Seq.{drop-cons, drop-drop}
+use lib.Seq.{drop-cons}
 use Rattle.orders.specs.Lists.{All}
-use Rattle.definition.specs.Words.{words}
 use Rattle.definition.specs.Running.{news}
 use Rattle.definition_laws.specs.Basics.{All-take, All-drop}
-use Rattle.words.specs.Bytes.{length-words, take-words, drop-words}
+use Rattle.words.specs.Bytes.{take-words, drop-words}
+use Rattle.run_prepare.specs.Parts as parts
+use Rattle.run_prepare.specs.Parts.{wordsIn, words-part}
 use Rattle.record_changes.specs.ChangeRow.{ChangeRow}
-use Rattle.plan_mapping.specs.Mapped.{wordsAt}
 use Rattle.record_rewritten.specs.Stated.{changeBy, newOf, changeOf, Stated}
 
 -- What goes in by a change is what its row lists.
@@ -28,22 +28,27 @@ news-new n listed r S = go (r .operation) (S .counted)
     go (suc (suc (suc (suc zero)))) e = refl
     go (suc (suc (suc (suc (suc op))))) e = refl
 
-module _ (b : List ℕ) (at l i count : ℕ) (h : i + count ≤ l) where
-  -- a part of the listed elements, as words of the batch
-  pub listed-part : take count (drop i (wordsAt b at l)) ≡ words count (drop (at + 4 * i) b)
-  unfolding wordsAt
+-- the bytes of `count` listed elements, from place i on
+abbrev pub partFrom : List ℕ → ℕ → ℕ → List ℕ
+partFrom listed i count = take (4 * i + 4 * count - 4 * i) (drop (4 * i) listed)
+
+module _ (listed : List ℕ) (i count : ℕ) (h : 4 * i + 4 * count ≤ length listed) where
+  pub part-long : length (partFrom listed i count) ≡ 4 * count
+  part-long = parts.part-long listed (4 * i) count (4 * i + 4 * count) refl h
+
+  pub part-many : length (partFrom listed i count) / 4 ≡ count
+  part-many = parts.part-words listed (4 * i) count (4 * i + 4 * count) refl h
+
+  listed-part : take count (drop i (wordsIn listed)) ≡ wordsIn (partFrom listed i count)
   listed-part =
-      ap (take count) (drop-words i (l - i) l (drop at b) (omega arith))
-      ∙ (take-words count (l - i - count) (l - i) (drop (4 * i) (drop at b)) (omega arith) ∙ ap (words count) (drop-drop (4 * i) at b))
+      let l : ℕ = length listed / 4 in
+      ap (take count) (drop-words i (l - i) l listed (omega arith))
+      ∙ (take-words count (l - i - count) (l - i) (drop (4 * i) listed) (omega arith) ∙ sym (words-part listed (4 * i) count (4 * i + 4 * count) refl h))
 
-  pub part-listed : (P : ℕ → Type 0) → All P (wordsAt b at l) → All P (words count (drop (at + 4 * i) b))
-  part-listed P a = rw listed-part at (All-take P count (drop i (wordsAt b at l)) (All-drop P i (wordsAt b at l) a))
+  pub part-listed : (P : ℕ → Type 0) → All P (wordsIn listed) → All P (wordsIn (partFrom listed i count))
+  part-listed P a = rw listed-part at (All-take P count (drop i (wordsIn listed)) (All-drop P i (wordsIn listed) a))
 
-length-listed : (b : List ℕ) (at l : ℕ) → length (wordsAt b at l) ≡ l
-unfolding wordsAt
-length-listed b at l = length-words l (drop at b)
-
--- So what goes in by a change stands at its place among the listed elements of the batch.
-pub news-listed : (n : ℕ) (b : List ℕ) (at l : ℕ) (r : ChangeRow) → Stated n (wordsAt b at l) r → news (changeOf (wordsAt b at l) r) ≡ words (r .count) (drop (at + 4 * r .list) b)
-unfolding newOf
-news-listed n b at l r S = news-new n (wordsAt b at l) r S ∙ listed-part b at l (r .list) (r .count) (omega (arith, S .within, length-listed b at l))
+  -- So what goes in by a change that lists them is what these bytes tell.
+  pub news-listed : (n : ℕ) (r : ChangeRow) → Stated n (wordsIn listed) r → i ≡ r .list → count ≡ r .count → news (changeOf (wordsIn listed) r) ≡ wordsIn (partFrom listed i count)
+  unfolding newOf
+  news-listed n r S e f = news-new n (wordsIn listed) r S ∙ (rw (← e, ← f) listed-part)

@@ -14,10 +14,10 @@ use Rattle.run_prepare.specs.declared.Prepared.{Prepared}
 use Rattle.run_prepare.specs.declared.Prepared.the-variants.{Parts}
 
 -- the notes that come along with element e, behind the first c, told from the row `at` on
-pub record NotesAlong (marks first : List ℕ) (a : ℕ) (held : List ℕ) (k e size at : ℕ) (old : List ℕ) (c : ℕ) (out : List ℕ) (r : Taken) : Type 0 where
-  pub answer : r ≡ taken 1024 (c + length (notesWith marks first a held k e size))
-  pub notes : c + length (notesWith marks first a held k e size) ≤ 1024
-      → notesOf (c + length (notesWith marks first a held k e size)) out ≡ notesOf c old ++ map (λ n. withRow n (at + n .row)) (notesWith marks first a held k e size)
+pub record NotesAlong (marks first held : List ℕ) (k e size at : ℕ) (old : List ℕ) (c : ℕ) (out : List ℕ) (r : Taken) : Type 0 where
+  pub answer : r ≡ taken 1024 (c + length (notesWith marks first held k e size))
+  pub notes : c + length (notesWith marks first held k e size) ≤ 1024
+      → notesOf (c + length (notesWith marks first held k e size)) out ≡ notesOf c old ++ map (λ n. withRow n (at + n .row)) (notesWith marks first held k e size)
 
 -- the part y behind the first m rows and the first c notes, told from the row `at` on
 pub record Behind (text : List ℕ) (y : Part) (at : ℕ) (old : List ℕ) (m : ℕ) (held : List ℕ) (c : ℕ) (old′ held′ : List ℕ) (r : Prepared) : Type 0 where
@@ -40,11 +40,11 @@ pub record AllIn (text : List ℕ) (new : List Part) (at : ℕ) (prepared sizes 
   pub answer : r ≡ preparedBy (length (newRows new)) (length (newNotes at new))
   pub came : (m c : ℕ) → r ≡ Parts m c → Came text new at prepared sizes incoming m c
 
-module _ (rows : List ℕ) (n : ℕ) (source marks first : List ℕ) (a : ℕ) (notes : List ℕ) (k : ℕ) where
+module _ (rows : List ℕ) (n : ℕ) (source marks first notes : List ℕ) (k : ℕ) where
   -- what element e yields, behind what is prepared
   pub record ElementPrepared (e at : ℕ) (old : List ℕ) (m : ℕ) (held : List ℕ) (c : ℕ) (old′ held′ : List ℕ) (r : Prepared) : Type 0 where
-    pub part : (text changed₀ changed : List ℕ) → Behind text (partIn rows n source marks first a notes k text changed₀ changed e) (at + m) old m held c old′ held′ r
+    pub part : (text changed₀ changed : List ℕ) → Behind text (partIn rows n source marks first notes k text changed₀ changed e) (at + m) old m held c old′ held′ r
 
   -- what the elements l yield
   pub record ElementsPrepared (l : List ℕ) (at : ℕ) (prepared sizes incoming : List ℕ) (r : Prepared) : Type 0 where
-    pub parts : (text changed₀ changed : List ℕ) → AllIn text (map (partIn rows n source marks first a notes k text changed₀ changed) l) at prepared sizes incoming r
+    pub parts : (text changed₀ changed : List ℕ) → AllIn text (map (partIn rows n source marks first notes k text changed₀ changed) l) at prepared sizes incoming r

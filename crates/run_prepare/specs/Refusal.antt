@@ -41,13 +41,13 @@ too-many-refused above g new recorded s w h = elim (over _ _ h) [
 ]
 
 -- So where the answer is `TooMany`, the step is refused.
-pub prepared-refused : {rows : List ℕ} {n : ℕ} {source marks first : List ℕ} {a : ℕ} {notes : List ℕ} {k : ℕ} {l : List ℕ} {at : ℕ} {prepared sizes incoming : List ℕ}
-    → ElementsPrepared rows n source marks first a notes k l at prepared sizes incoming TooMany
+pub prepared-refused : {rows : List ℕ} {n : ℕ} {source marks first notes : List ℕ} {k : ℕ} {l : List ℕ} {at : ℕ} {prepared sizes incoming : List ℕ}
+    → ElementsPrepared rows n source marks first notes k l at prepared sizes incoming TooMany
     → (text changed₀ changed : List ℕ) (above : ℕ) (g : Gap) (recorded : Bool) → at ≡ g .from → Within (length ((stored text n rows marks (notesOf k notes) changed) .rows)) g
-    → storeTooLarge above (map (partIn rows n source marks first a notes k text changed₀ changed) l)
-    (splicedStore g (map (partIn rows n source marks first a notes k text changed₀ changed) l) recorded (stored text n rows marks (notesOf k notes) changed))
+    → storeTooLarge above (map (partIn rows n source marks first notes k text changed₀ changed) l)
+    (splicedStore g (map (partIn rows n source marks first notes k text changed₀ changed) l) recorded (stored text n rows marks (notesOf k notes) changed))
     ≡ true
-prepared-refused {rows} {n} {source} {marks} {first} {a} {notes} {k} {l} P text changed₀ changed above g recorded e w =
-    let new : List Part = map (partIn rows n source marks first a notes k text changed₀ changed) l in
+prepared-refused {rows} {n} {source} {marks} {first} {notes} {k} {l} P text changed₀ changed above g recorded e w =
+    let new : List Part = map (partIn rows n source marks first notes k text changed₀ changed) l in
     too-many-refused above g new recorded (stored text n rows marks (notesOf k notes) changed) w
     ((P .parts text changed₀ changed) .answer ∙ ap (λ (i : ℕ). preparedBy (length (newRows new)) (length (newNotes i new))) e)

@@ -17,6 +17,7 @@ use Rattle.run_model.specs.Store.{HeldNote, withRow, Part, partOf, newRows, pla
 use Rattle.run_annotations.specs.Notes.{notesOf}
 use Rattle.run_annotations.specs.Promises.{noteIn}
 use Rattle.run_tree_store.specs.Stored.{stored, storedFirst}
+use Rattle.run_prepare.specs.Parts.{notesIn}
 use Rattle.run_prepare.specs.declared.Prepared.{Prepared}
 use Rattle.run_prepare.specs.declared.Prepared.the-variants.{TooMany, Parts}
 
@@ -33,18 +34,18 @@ unfoldable pub preparedBy : ℕ → ℕ → Prepared
 preparedBy m c = cond (ltb 4096 m || ltb 1024 c) TooMany (Parts m c)
 
 -- the notes of `size` rows: of those held now from an element's mark on, of the first ones from its own row on once its path is dropped
-abbrev pub notesFrom : List ℕ → ℕ → List ℕ → ℕ → ℕ → ℕ → ℕ → List HeldNote
-notesFrom first a notes k e size zero = pick (noteIn (e + 1) (e + 1 + size)) (notesOf a first)
-notesFrom first a notes k e size (suc m) = pick (noteIn (suc m) (suc m + size)) (notesOf k notes)
+abbrev pub notesFrom : List ℕ → List ℕ → ℕ → ℕ → ℕ → ℕ → List HeldNote
+notesFrom first notes k e size zero = pick (noteIn (e + 1) (e + 1 + size)) (notesIn first)
+notesFrom first notes k e size (suc m) = pick (noteIn (suc m) (suc m + size)) (notesOf k notes)
 
 -- the notes that come along with the `size` rows of element e
-unfoldable pub notesWith : List ℕ → List ℕ → ℕ → List ℕ → ℕ → ℕ → ℕ → List HeldNote
-notesWith marks first a notes k e size = notesFrom first a notes k e size (getD marks e 0)
+unfoldable pub notesWith : List ℕ → List ℕ → List ℕ → ℕ → ℕ → ℕ → List HeldNote
+notesWith marks first notes k e size = notesFrom first notes k e size (getD marks e 0)
 
-module _ (rows : List ℕ) (n : ℕ) (source marks first : List ℕ) (a : ℕ) (notes : List ℕ) (k : ℕ) where
+module _ (rows : List ℕ) (n : ℕ) (source marks first notes : List ℕ) (k : ℕ) where
   -- what element e yields. Text and changed rows are not read
   abbrev pub partIn : List ℕ → List ℕ → List ℕ → ℕ → Part
-  partIn text changed₀ changed = partOf (storedFirst text (length marks) source (notesOf a first) changed₀) (stored text n rows marks (notesOf k notes) changed)
+  partIn text changed₀ changed = partOf (storedFirst text (length marks) source (notesIn first) changed₀) (stored text n rows marks (notesOf k notes) changed)
 
 -- ── Parts behind others ─────────────────────────────────────────────────────────────────────────────────────
 

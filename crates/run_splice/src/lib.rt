@@ -7,8 +7,10 @@ ghost use Rattle.orders.specs.Lists.{All, pick};
 ghost use Rattle.run_annotations.specs.Notes.{notesOf};
 ghost use Rattle.run_annotations.specs.Promises.{movedNote};
 ghost use Rattle.run_splice.specs.Promises.{SplicedMarks, Left, NotesLeft, NotesSpliced, Recorded, ChangedSpliced};
+use rows_syntax_node::ROW_WORDS;
 use rows_syntax_node::shift_marks;
 use rows_syntax_node::splice_rows;
+use run_annotations::NOTE_WORDS;
 use run_annotations::add_changed;
 use run_annotations::move_changed;
 use run_annotations::move_notes;
@@ -35,7 +37,7 @@ pub fn splice(
     requires { ⌜ (2147483648 ≤ getD (now rows) (3 * parent) 0) × (lost ≤ getD (now rows) (3 * parent + 1) 0) × (getD (now rows) (3 * parent + 1) 0 + gain < 2 ^ 32) ⌝ }
     ensures { λ r. ⌜ SplicedMarks (now (rows .entry)) n (now (marks .entry)) parent p q lost (now (run .entry)) gain (now (rows .exit)) (now (marks .exit)) r ⌝ }
 {
-    let m = run.len() / 3;
+    let m = run.len() / ROW_WORDS;
     shift_marks(marks, p, q, m);
     splice_rows(rows, n, parent, p, q, lost, run, gain)
 }
@@ -64,7 +66,7 @@ pub fn notes_left(notes: &[u32], k: usize, p: usize, q: usize) -> usize
     let mut i = 0;
     let mut r = 0;
     while i < k {
-        let x = word(notes, 3 * i);
+        let x = word(notes, NOTE_WORDS * i);
         r = count_left(r, x, p, q);
         i += 1;
     }
@@ -86,8 +88,8 @@ pub fn splice_notes(
     ensures { λ r. ⌜ NotesSpliced (now (notes .entry)) k p q m (now (incoming .entry)) c (now (notes .exit)) r ⌝ }
 {
     let r = move_notes(notes, k, p, q, m);
-    let to = 3 * c;
-    copy_in(notes, 3 * r, &incoming[0..to]);
+    let to = NOTE_WORDS * c;
+    copy_in(notes, NOTE_WORDS * r, &incoming[0..to]);
     r + c
 }
 

@@ -4,7 +4,7 @@ use mathlib.Core.Path.{_≡_, refl, sym, ap, _∙_, subst}
 use mathlib.Core.Bool.{Bool, true, false, cond, _&&_}
 use mathlib.Core.List.{List, [], map}
 use mathlib.Core.Option.{Option, none, some}
-use Prim.Native.Nat.{ℕ, zero, suc, _+_, _-_, _*_, _^_, _≤_, _<_}
+use Prim.Native.Nat.{ℕ, zero, suc, _+_, _-_, _*_, _/_, _^_, _≤_, _<_}
 use native.Mathlib.Omega.{arith}
 use lib.ListN.{length, getD, take, drop}
 use lib.Dec.{eqb}
@@ -16,7 +16,6 @@ use Rattle.definition.specs.Elements.{Table, tree, depth}
 use Rattle.definition.specs.Planning.{own, dependent, discarded, Planned, target}
 use Rattle.definition.specs.Recording.{Change}
 use Rattle.definition.specs.Running.{news, owned, records}
-use Rattle.definition.specs.Words.{words}
 use Rattle.definition_laws.specs.Right.{right-sits}
 use Rattle.words.specs.Bytes.{length-words}
 use Rattle.run_model.specs.Store as model
@@ -24,7 +23,6 @@ use Rattle.run_model.specs.Store.{Store, partOf, gap, depthAbove, splicedStore,
 use Rattle.read_element_table.specs.View.{view}
 use Rattle.read_element_table.specs.Wellformed.{Lines}
 use Rattle.read_element_table.specs.Told.{depth-told}
-use Rattle.plan_mapping.specs.Mapped.{wordsAt}
 use Rattle.record_changes.specs.ChangeRow.{ChangeRow, operation, endOf, changeRow, rowOf}
 use Rattle.record_changes.specs.ChangeRowLaws.{rowAt}
 use Rattle.plan_sort.specs.Rows.{rowFate, withFate}
@@ -43,10 +41,12 @@ use Rattle.run_tree_state.specs.Applied.{executedIn, judgedStore}
 use Rattle.run_tree_state.specs.declared.TreeState.{TreeState}
 use Rattle.run_tree_state.specs.declared.Executed.{Executed}
 use Rattle.run_tree_state.specs.declared.Executed.the-variants.{Refused}
-use Rattle.run_prepare.specs.Listed.{part-listed, news-listed}
+use Rattle.run_change.specs.Told.{AboveBy, recordsBy}
+use Rattle.run_prepare.specs.Listed.{partFrom, part-long, part-many, part-listed, news-listed}
+use Rattle.run_prepare.specs.Parts.{notesIn, wordsIn}
 use Rattle.run_step.specs.Standing.{Standing}
 use Rattle.run_step.specs.Opening.{rows-some, rows-few, marks-below, gap-room}
-use Rattle.run_step.specs.Stepping.{AboveBy, recordsBy, Grown, yieldsIn, SteppedAt, Performs, listsIn, Stepped}
+use Rattle.run_step.specs.Stepping.{Grown, yieldsIn, SteppedAt, Performs, listsIn, Stepped}
 
 -- ── The row ─────────────────────────────────────────────────────────────────────────────────────────────────
 
@@ -118,42 +118,41 @@ step-found T first s p g above recorded l e a r n = rw (e, a, r, n)
 
 -- ── The step ────────────────────────────────────────────────────────────────────────────────────────────────
 
-module _ {lines source first : List ℕ} {a : ℕ} {s : TreeState} {rows marks notes changed : List ℕ} (v : Standing (length marks) lines source first a s rows marks notes changed)
-    (b : List ℕ) (listed l : ℕ) (changes : List ℕ) (k : ℕ)
-    (x : (listed + 4 * l ≤ length b) × (l ≤ 1024) × All (λ e. e < length marks) (wordsAt b listed l) × (k < 2 ^ 32))
-    (u : Performs (length marks) (view (length marks) lines source) (wordsAt b listed l) (rowAt changes k)) where
+module _ {lines source first : List ℕ} {s : TreeState} {rows marks notes changed : List ℕ} (v : Standing (length marks) lines source first s rows marks notes changed)
+    (listed changes : List ℕ) (k : ℕ)
+    (x : (length listed ≤ 4096) × All (λ e. e < length marks) (wordsIn listed) × (k < 2 ^ 32))
+    (u : Performs (length marks) (view (length marks) lines source) (wordsIn listed) (rowAt changes k)) where
   abbrev T : Table
   T = view (length marks) lines source
 
   abbrev L : List ℕ
-  L = wordsAt b listed l
+  L = wordsIn listed
 
   abbrev R : ChangeRow
   R = rowAt changes k
 
-  long-listed : length L ≡ l
-  unfolding wordsAt
-  long-listed = length-words l (drop listed b)
+  long-listed : length L ≡ length listed / 4
+  long-listed = length-words (length listed / 4) listed
 
   pub asks-gap : ((3 * s .rows ≤ length rows) × (s .rows < 2 ^ 16) × (0 < s .rows) × All (λ m. m < s .rows) marks)
       × ((Lines (length marks) lines × (k < 2 ^ 32)) × ((R .target < length marks) × (R .end < length marks)))
-  asks-gap = ((v .long, omega (arith, rows-few v), rows-some v, marks-below v), ((v .begun .formed, x .3), (u .kept .stated .target, u .kept .stated .end)))
+  asks-gap = ((v .long, omega (arith, rows-few v), rows-some v, marks-below v), ((v .begun .formed, x .2), (u .kept .stated .target, u .kept .stated .end)))
 
   pub asks-depth : Lines (length marks) lines × (k < 2 ^ 32) × (R .target < length marks)
-  asks-depth = (v .begun .formed, x .3, u .kept .stated .target)
+  asks-depth = (v .begun .formed, x .2, u .kept .stated .target)
 
-  pub list-within : {list : ℕ} → (list ≡ getD (drop (13 * k) changes) 3 0) × (list < 2 ^ 32) → listed + 4 * list ≤ length b
+  pub list-within : {list count : ℕ} → (list ≡ getD (drop (13 * k) changes) 3 0) × (list < 2 ^ 32) → (count ≡ getD (drop (13 * k) changes) 4 0) × (count < 2 ^ 32) → 4 * list + 4 * count ≤ length listed
   unfolding rowAt rowOf
-  list-within e = omega (arith, e .0, u .kept .stated .within, long-listed, x .0)
+  list-within e f = omega (arith, e .0, f .0, u .kept .stated .within, long-listed)
 
   module _ {site : Site} (w : SiteAt rows (s .rows) lines marks (R .operation) (R .target) (R .end) site) where
     gap-site : (text : List ℕ) → site ≡ siteOf (gap T (heldIn text s rows marks notes changed) (changeOf L R))
     gap-site text = w .site text source (notesOf (s .notes) notes) (take (s .changed) changed) ∙ ap siteOf (gap-row (u .kept) (heldIn text s rows marks notes changed))
 
-    pub performed-gone : site ≡ Gone → Stepped lines source first a L R s rows marks notes changed rows marks notes changed (Refused 11)
+    pub performed-gone : site ≡ Gone → Stepped lines source first L R s rows marks notes changed rows marks notes changed (Refused 11)
     unfolding executedIn planOf
     performed-gone e = record {
-      answer = λ text. sym (step-gone T (storedFirst text (length marks) source (notesOf a first) []) (heldIn text s rows marks notes changed) (planOf L R) (site-gone _ (sym e ∙ gap-site text)));
+      answer = λ text. sym (step-gone T (storedFirst text (length marks) source (notesIn first) []) (heldIn text s rows marks notes changed) (planOf L R) (site-gone _ (sym e ∙ gap-site text)));
       grown = λ t q. let z : _≡_ {A = ℕ} 0 1 = cc in absurd (omega arith);
     }
 
@@ -180,29 +179,31 @@ module _ {lines source first : List ℕ} {a : ℕ} {s : TreeState} {rows marks n
       recorded-is : recorded ≡ records T (planOf L R)
       recorded-is = er ∙ records-row (u .kept)
 
-      news-are : news (changeOf L R) ≡ words count (drop (listed + 4 * list) b)
-      news-are = news-listed (length marks) b listed l R (u .kept .stated) ∙ ap (λ (c : ℕ). words c (drop (listed + 4 * R .list) b)) (sym count-is) ∙ ap (λ (i : ℕ). words count (drop (listed + 4 * i) b)) (sym list-is)
+      within : 4 * list + 4 * count ≤ length listed
+      within = list-within el ec
 
-      pub listed-low : (listed + 4 * list + 4 * count ≤ length b) × (count ≤ mostListed) × All (λ e. e < length marks) (words count (drop (listed + 4 * list) b))
-      listed-low =
-          let h : list + count ≤ l = omega (arith, list-is, count-is, u .kept .stated .within, long-listed) in
-          (omega (arith, x .0), omega (arith, many, u .few), part-listed b listed l list count h (λ e. e < length marks) (x .2))
+      news-are : news (changeOf L R) ≡ wordsIn (partFrom listed list count)
+      news-are = news-listed listed list count within (length marks) R (u .kept .stated) list-is count-is
 
-      pub opens : 3072 ≤ length notes → s .changed + listsIn T L R ≤ length changed → Open s rows marks notes changed g recorded count
+      pub listed-low : (length (partFrom listed list count) ≤ 4 * mostListed) × All (λ e. e < length marks) (wordsIn (partFrom listed list count))
+      listed-low = (omega (arith, part-long listed list count within, many, u .few), part-listed listed list count within (λ e. e < length marks) (x .1))
+
+      pub opens : 3072 ≤ length notes → s .changed + listsIn T L R ≤ length changed → Open s rows marks notes changed g recorded (length (partFrom listed list count) / 4)
       unfolding listsIn planOf
       opens long room =
-          subst (λ (h : Gap). Open s rows marks notes changed h recorded count) (held-told g)
-          (gap-room v (changeOf L R) (right-sits T (changeOf L R) (u .right)) (gapTold g) (gap-here (v .begun .text)) recorded count (omega (arith, listed-low .1)) long
-          (rw (recorded-is, many) room))
+          subst (Open s rows marks notes changed g recorded) (sym (part-many listed list count within))
+          (subst (λ (h : Gap). Open s rows marks notes changed h recorded count) (held-told g)
+          (gap-room v (changeOf L R) (right-sits T (changeOf L R) (u .right)) (gapTold g) (gap-here (v .begun .text)) recorded count (omega (arith, within, x .0)) long
+          (rw (recorded-is, many) room)))
 
-      pub performed : {rows′ marks′ notes′ changed′ : List ℕ} {r : Executed} → SteppedAt s rows marks notes changed source first a g above recorded (words count (drop (listed + 4 * list) b)) rows′ marks′ notes′ changed′ r
-          → Stepped lines source first a L R s rows marks notes changed rows′ marks′ notes′ changed′ r
+      pub performed : {rows′ marks′ notes′ changed′ : List ℕ} {r : Executed} → SteppedAt s rows marks notes changed source first g above recorded (wordsIn (partFrom listed list count)) rows′ marks′ notes′ changed′ r
+          → Stepped lines source first L R s rows marks notes changed rows′ marks′ notes′ changed′ r
       unfolding yieldsIn planOf listsIn
       performed {rows′} {marks′} {notes′} {changed′} {r} y = record {
         answer = λ text.
             y .answer text
             ∙ sym
-            (step-found T (storedFirst text (length marks) source (notesOf a first) []) (heldIn text s rows marks notes changed) (planOf L R) (gapTold g) above recorded (words count (drop (listed + 4 * list) b))
+            (step-found T (storedFirst text (length marks) source (notesIn first) []) (heldIn text s rows marks notes changed) (planOf L R) (gapTold g) above recorded (wordsIn (partFrom listed list count))
             (gap-here text)
             (above-row (length marks) lines source L R (heldIn text s rows marks notes changed) above (v .begun .formed) (u .kept .stated .target) ea)
             recorded-is

@@ -40,7 +40,7 @@ unfolding children text list
 text-below (node k cs) h = refl
 text-below (token k x) h = absurd (omega arith)
 
-module _ {n : ℕ} {lines source first : List ℕ} {a : ℕ} {s : TreeState} {rows marks notes changed : List ℕ} (v : Standing n lines source first a s rows marks notes changed) where
+module _ {n : ℕ} {lines source first : List ℕ} {s : TreeState} {rows marks notes changed : List ℕ} (v : Standing n lines source first s rows marks notes changed) where
   abbrev w : World
   w = v .now .world
 

@@ -3,7 +3,7 @@
 use mathlib.Core.Path.{_≡_, refl, sym, ap, _∙_}
 use mathlib.Core.List.{List, [], _∷_, map, flatMap}
 use mathlib.Core.Option.{none, some}
-use Prim.Native.Nat.{ℕ, _+_, _*_, _≤_, _<_}
+use Prim.Native.Nat.{ℕ, _+_, _*_, _/_, _≤_, _<_}
 use native.Mathlib.Numerals.{add-one}
 use native.Mathlib.Omega.{arith}
 use lib.ListN.{length, length-map}
@@ -34,21 +34,22 @@ use Rattle.run_model.specs.Step.{Kept, step-store, step-kept}
 use Rattle.read_element_table.specs.View.{view}
 use Rattle.read_element_table.specs.Told.{length-view}
 use Rattle.read_element_table.specs.Wellformed.{Lines}
-use Rattle.run_annotations.specs.Notes.{notesOf, length-notesOf}
+use Rattle.run_annotations.specs.Notes.{length-notesOf}
 use Rattle.run_tree_store.specs.Stored.{stored, storedFirst}
 use Rattle.run_tree_state.specs.Store.{heldIn}
 use Rattle.run_tree_state.specs.declared.TreeState.{TreeState}
+use Rattle.run_prepare.specs.Parts.{notesIn}
 
 -- ── The batch ───────────────────────────────────────────────────────────────────────────────────────────────
 
--- the batch's trees stand in the table of n elements and in the rows of `source`, and a notes, as first moved, in `first`
-pub record Begun (n : ℕ) (lines source first : List ℕ) (a : ℕ) : Type 0 where
+-- the batch's trees stand in the table of n elements and in the rows of `source`, and its notes, as first moved, in `first`
+pub record Begun (n : ℕ) (lines source first : List ℕ) : Type 0 where
   pub text : List ℕ
   pub trees : List (Tree ℕ)
   pub notes : List Note
   pub tableTold : view n lines source ≡ table 0 0 trees
   pub rowsTold : firstRows text (n + 1) source ≡ rowsOf (node 2147483648 (forest trees))
-  pub notesTold : notesOf a first ≡ map (heldNote (node 2147483648 (forest trees))) notes
+  pub notesTold : notesIn first ≡ map (heldNote (node 2147483648 (forest trees))) notes
   pub noted : All (λ m. (e : ℕ) × (e < length (table 0 0 trees)) × (m .path ≡ (row (table 0 0 trees) e) .path)) notes
   pub some : 0 < length trees
   pub worded : All Worded trees
@@ -56,13 +57,12 @@ pub record Begun (n : ℕ) (lines source first : List ℕ) (a : ℕ) : Type 0 wh
   pub written : length (flatMap textIn trees) ≤ 16384
   pub formed : Lines n lines
   pub long : 3 * n + 3 ≤ length source
-  pub fewNotes : a ≤ 256
-  pub longNotes : 3 * a ≤ length first
+  pub fewNotes : length first ≤ 768
 
 store-same : {s t : Store} → s .rows ≡ t .rows → s .marks ≡ t .marks → s .notes ≡ t .notes → s .changed ≡ t .changed → s ≡ t
 store-same {s} {t} a b c d = λ i. record { rows = a i; marks = b i; notes = c i; changed = d i }
 
-module _ {n : ℕ} {lines source first : List ℕ} {a : ℕ} (b : Begun n lines source first a) where
+module _ {n : ℕ} {lines source first : List ℕ} (b : Begun n lines source first) where
   abbrev T : Table
   T = table 0 0 (b .trees)
 
@@ -87,7 +87,7 @@ module _ {n : ℕ} {lines source first : List ℕ} {a : ℕ} (b : Begun n lines 
       ∙ (ap (markOf top) (getD-map (λ r. some (r .path)) T e none noRow l) ∙ (element-row (b .trees) 2147483648 e l ∙ omega arith))))
 
   -- what the batch's own words tell is the definition's world before the first step
-  pub first-told : storedFirst (b .text) n source (notesOf a first) [] ≡ store firstWorld
+  pub first-told : storedFirst (b .text) n source (notesIn first) [] ≡ store firstWorld
   unfolding storedFirst stored store begin
   first-told = store-same (ap (λ (k : ℕ). firstRows (b .text) k source) (sym (add-one n)) ∙ b .rowsTold) marks-first (b .notesTold) refl
 
@@ -107,7 +107,7 @@ module _ {n : ℕ} {lines source first : List ℕ} {a : ℕ} (b : Begun n lines 
       record {
         elements = omega (arith, size-below top, m, b .formed .few);
         text = omega (arith, b .written, ap length (textOf-list (forest (b .trees)) ∙ ap (flatMap textIn) (list-forest (b .trees))));
-        notes = omega (arith, ap length (b .notesTold), length-notesOf a first, length-map (b .notes) (heldNote top), b .fewNotes);
+        notes = omega (arith, ap length (b .notesTold), length-notesOf (length first / 3) first, length-map (b .notes) (heldNote top), b .fewNotes);
         depth = deepest-each 64 (b .trees) (b .shallow);
       }
 
@@ -120,13 +120,13 @@ pub record Now (ts : List (Tree ℕ)) (s : Store) : Type 0 where
   pub small : Small world
   pub same : s ≡ store world
 
-module _ {n : ℕ} {lines source first : List ℕ} {a : ℕ} (b : Begun n lines source first a) where
-  pub now-first : (text : List ℕ) → text ≡ b .text → Now (b .trees) (storedFirst text n source (notesOf a first) [])
+module _ {n : ℕ} {lines source first : List ℕ} (b : Begun n lines source first) where
+  pub now-first : (text : List ℕ) → text ≡ b .text → Now (b .trees) (storedFirst text n source (notesIn first) [])
   now-first text e = record { world = firstWorld b; kept = first-kept b; small = first-small b; same = rw e (first-told b) }
 
   -- one step on
   pub now-next : (s t : Store) (p : Planned) → Now (b .trees) s → Right (view n lines source) (p .change)
-      → storeStep (view n lines source) (storedFirst (b .text) n source (notesOf a first) []) s p ≡ gives t → Now (b .trees) t
+      → storeStep (view n lines source) (storedFirst (b .text) n source (notesIn first) []) s p ≡ gives t → Now (b .trees) t
   unfolding _>>=_ steps
   now-next s t p v c e =
       let z = b .tableTold in
@@ -141,8 +141,8 @@ module _ {n : ℕ} {lines source first : List ℕ} {a : ℕ} (b : Begun n lines 
       }
 
 -- what is held now, in words
-pub record Standing (n : ℕ) (lines source first : List ℕ) (a : ℕ) (s : TreeState) (rows marks notes changed : List ℕ) : Type 0 where
-  pub begun : Begun n lines source first a
+pub record Standing (n : ℕ) (lines source first : List ℕ) (s : TreeState) (rows marks notes changed : List ℕ) : Type 0 where
+  pub begun : Begun n lines source first
   pub now : Now (begun .trees) (heldIn (begun .text) s rows marks notes changed)
   pub place : s .root ≡ 1
   pub long : 3 * s .rows ≤ length rows

@@ -1,11 +1,10 @@
 -- What the functions of one step promise. Text is not read, so that each promise holds for any.
 -- Assumes nothing.
 use mathlib.Core.Path.{_≡_}
-use mathlib.Core.Bool.{Bool, cond, _&&_}
+use mathlib.Core.Bool.{Bool, cond}
 use mathlib.Core.List.{List, [], map}
-use Prim.Native.Nat.{ℕ, _+_, _-_, _*_, _≤_}
-use lib.ListN.{length, getD, take}
-use lib.Dec.{eqb}
+use Prim.Native.Nat.{ℕ, _+_, _≤_}
+use lib.ListN.{length, take}
 use Rattle.definition.specs.Elements.{Table}
 use Rattle.definition.specs.Refusals.{mostListed}
 use Rattle.definition.specs.Running.{news, records}
@@ -13,7 +12,6 @@ use Rattle.definition_laws.specs.Right.{Right}
 use Rattle.rows_model.specs.Row.{firstRows, bytes}
 use Rattle.run_model.specs.Store.{Part, splicedStore, storeStep}
 use Rattle.read_element_table.specs.View.{view}
-use Rattle.run_annotations.specs.Notes.{notesOf}
 use Rattle.record_rewritten.specs.Stated.{changeOf, planOf}
 use Rattle.plan_rewrite.specs.Kept.{Kept}
 use Rattle.run_tree_store.specs.Stored.{storedFirst}
@@ -25,15 +23,7 @@ use Rattle.run_tree_state.specs.declared.TreeState.{TreeState}
 use Rattle.run_tree_state.specs.declared.Executed.{Executed}
 use Rattle.run_tree_state.specs.declared.Executed.the-variants.{Done}
 use Rattle.run_prepare.specs.Yields.{partIn}
-
--- the depth of the node below which a change of this operation and target goes, by the table's word
-pub record AboveBy (lines : List ℕ) (op x r : ℕ) : Type 0 where
-  pub depth : r ≡ cond (eqb op 0) (getD lines (8 * x + 3) 0) (getD lines (8 * x + 3) 0 - 1)
-  pub low : r ≤ 64
-
--- whether a row's change records, by its words
-unfoldable pub recordsBy : ChangeRow → Bool
-recordsBy r = eqb r.fate 0 && eqb r.tree 0
+use Rattle.run_prepare.specs.Parts.{notesIn}
 
 -- how much is held after a step that is done: the root stands where it stood, with its text bytes, no more rows than line 12 takes, and at most `gain` changed rows more
 pub record Grown (s : TreeState) (gain : ℕ) (rows′ : List ℕ) (t : TreeState) : Type 0 where
@@ -43,14 +33,14 @@ pub record Grown (s : TreeState) (gain : ℕ) (rows′ : List ℕ) (t : TreeStat
   pub most : t .changed ≤ s .changed + gain
 
 -- what the listed elements l yield
-unfoldable pub yieldsIn : TreeState → List ℕ → List ℕ → List ℕ → List ℕ → List ℕ → List ℕ → ℕ → List ℕ → List ℕ → List Part
-yieldsIn s rows marks notes changed source first a text l = map (partIn rows (s .rows) source marks first a notes (s .notes) text [] (take (s .changed) changed)) l
+unfoldable pub yieldsIn : TreeState → List ℕ → List ℕ → List ℕ → List ℕ → List ℕ → List ℕ → List ℕ → List ℕ → List Part
+yieldsIn s rows marks notes changed source first text l = map (partIn rows (s .rows) source marks first notes (s .notes) text [] (take (s .changed) changed)) l
 
 -- the gap has given way to what the elements l yield, or that was too much
-pub record SteppedAt (s : TreeState) (rows marks notes changed source first : List ℕ) (a : ℕ) (g : Gap) (above : ℕ) (recorded : Bool) (l rows′ marks′ notes′ changed′ : List ℕ) (r : Executed) : Type 0 where
+pub record SteppedAt (s : TreeState) (rows marks notes changed source first : List ℕ) (g : Gap) (above : ℕ) (recorded : Bool) (l rows′ marks′ notes′ changed′ : List ℕ) (r : Executed) : Type 0 where
   pub answer : (text : List ℕ)
       → executedIn text rows′ marks′ notes′ changed′ r
-      ≡ judgedStore above (yieldsIn s rows marks notes changed source first a text l) (splicedStore (gapTold g) (yieldsIn s rows marks notes changed source first a text l) recorded (heldIn text s rows marks notes changed))
+      ≡ judgedStore above (yieldsIn s rows marks notes changed source first text l) (splicedStore (gapTold g) (yieldsIn s rows marks notes changed source first text l) recorded (heldIn text s rows marks notes changed))
   pub grown : (t : TreeState) → r ≡ Done t → Grown s (cond recorded (length l) 0) rows′ t
 
 -- ── One performed change ────────────────────────────────────────────────────────────────────────────────────
@@ -66,7 +56,7 @@ unfoldable pub listsIn : Table → List ℕ → ChangeRow → ℕ
 listsIn T listed r = cond (records T (planOf listed r)) (length (news (changeOf listed r))) 0
 
 -- the step of the change that a row states
-pub record Stepped (lines source first : List ℕ) (a : ℕ) (listed : List ℕ) (c : ChangeRow) (s : TreeState) (rows marks notes changed rows′ marks′ notes′ changed′ : List ℕ) (r : Executed) : Type 0 where
+pub record Stepped (lines source first listed : List ℕ) (c : ChangeRow) (s : TreeState) (rows marks notes changed rows′ marks′ notes′ changed′ : List ℕ) (r : Executed) : Type 0 where
   pub answer : (text : List ℕ)
-      → executedIn text rows′ marks′ notes′ changed′ r ≡ storeStep (view (length marks) lines source) (storedFirst text (length marks) source (notesOf a first) []) (heldIn text s rows marks notes changed) (planOf listed c)
+      → executedIn text rows′ marks′ notes′ changed′ r ≡ storeStep (view (length marks) lines source) (storedFirst text (length marks) source (notesIn first) []) (heldIn text s rows marks notes changed) (planOf listed c)
   pub grown : (t : TreeState) → r ≡ Done t → Grown s (listsIn (view (length marks) lines source) listed c) rows′ t

@@ -11,6 +11,7 @@ ghost use Rattle.rows_model.specs.Row.{firstRows, bytes as bytesOf};
 ghost use Rattle.run_tree_state.specs.Store.{Open, Coming, StoreSpliced};
 ghost use Rattle.run_tree_state.specs.Sizes.{BytesBetween, StepSize};
 ghost use Rattle.run_tree_state.specs.Applied.{Applied};
+use rows_syntax_node::ROW_WORDS;
 use rows_syntax_node::height;
 use rows_syntax_node::text_bytes;
 use run_splice::notes_left;
@@ -54,7 +55,7 @@ fn splice_store(
 {
     let p = g.from;
     let q = g.to;
-    let m = run.len() / 3;
+    let m = run.len() / ROW_WORDS;
     let r = run_splice::splice(
         rows,
         s.rows,
@@ -334,8 +335,8 @@ fn bytes_between(rows: &[u32], n: usize, p: usize, q: usize) -> usize
     requires { ⌜ (3 * n ≤ length (now rows)) × (n < 2 ^ 16) × (p ≤ q) × (q ≤ n) ⌝ }
     ensures { λ r. ⌜ BytesBetween (now (rows .entry)) n p q r ⌝ }
 {
-    let from = 3 * p;
-    let to = 3 * q;
+    let from = ROW_WORDS * p;
+    let to = ROW_WORDS * q;
     text_bytes(&rows[from..to])
 }
 
@@ -365,7 +366,7 @@ fn step_size(
     let lost = bytes_between(rows, s.rows, p, q);
     let left = notes_left(notes, s.notes, p, q);
     let bytes = s.bytes + text_bytes(run) - lost;
-    let n = s.rows - (q - p) + run.len() / 3;
+    let n = s.rows - (q - p) + run.len() / ROW_WORDS;
     if too_large(n, bytes, left + c, above + height(run)) {
         return Size::TooLarge;
     }

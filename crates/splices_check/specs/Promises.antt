@@ -3,12 +3,11 @@
 use mathlib.Core.Path.{_≡_}
 use mathlib.Core.Bool.{Bool, true}
 use mathlib.Core.List.{List}
-use Prim.Native.Nat.{ℕ, _+_, _*_, _<_}
-use lib.ListN.{getD}
-use Rattle.orders.specs.Check.{each, pairs}
+use Prim.Native.Nat.{ℕ}
+use Rattle.orders.specs.Check.{pairs}
 use Rattle.rows_model.specs.Row.{triples, firstRows}
-use Rattle.splices_model.specs.Cuts.{cutAt, cutsTo}
-use Rattle.splices_model.specs.Verdict.{closed, treeRows, fitAt, fitsTo, entersCut, overlapCut, apartCut, firstWrong, judgedBy}
+use Rattle.splices_model.specs.Cuts.{cutsTo}
+use Rattle.splices_model.specs.Verdict.{closed, treeRows, fitAt, fitsTo, apartCut, firstWrong, judgedBy}
 
 -- a run of words spells whole trees
 pub record Closes (run : List ℕ) (r : Bool) : Type 0 where
@@ -25,30 +24,6 @@ pub record FitsAll (rows : List ℕ) (e : ℕ) (splices prepared : List ℕ) (c 
 -- a run of words is one whole tree
 pub record OneTree (run : List ℕ) (r : Bool) : Type 0 where
   pub says : (text : List ℕ) → r ≡ treeRows (triples text run)
-
--- the row x is one of those that splice i deletes
-pub record EntersAt (rows : List ℕ) (e : ℕ) (splices : List ℕ) (i x : ℕ) (r : Bool) : Type 0 where
-  pub says : (text prepared : List ℕ) → r ≡ entersCut (firstRows text e rows) (cutAt text splices prepared i) x
-
--- the runs of splices i and j are in one parent and overlap
-pub record Overlaps (splices : List ℕ) (i j : ℕ) (r : Bool) : Type 0 where
-  pub says : (text prepared : List ℕ) → r ≡ overlapCut (cutAt text splices prepared i) (cutAt text splices prepared j)
-
--- the parents of the first k splices are rows of the old tree
-pub record RowsTo (e : ℕ) (splices : List ℕ) (k : ℕ) : Type 0 where
-  pub row : (j : ℕ) → j < k → getD splices (6 * j + 1) 0 < e
-
--- splices i and j are apart
-pub record ApartAt (rows : List ℕ) (e : ℕ) (splices : List ℕ) (i j : ℕ) (r : Bool) : Type 0 where
-  pub says : (text prepared : List ℕ) → r ≡ apartCut (firstRows text e rows) (cutAt text splices prepared i) (cutAt text splices prepared j)
-
--- splice i is apart from each of the first j
-pub record ApartFrom (rows : List ℕ) (e : ℕ) (splices : List ℕ) (i j : ℕ) (r : Bool) : Type 0 where
-  pub says : (text prepared : List ℕ) → r ≡ each (apartCut (firstRows text e rows) (cutAt text splices prepared i)) (cutsTo text splices prepared j)
-
--- any two of the first c are apart
-pub record ApartAll (rows : List ℕ) (e : ℕ) (splices : List ℕ) (c : ℕ) (r : Bool) : Type 0 where
-  pub says : (text prepared : List ℕ) → r ≡ pairs (apartCut (firstRows text e rows)) (cutsTo text splices prepared c)
 
 -- the first refusal of a list where there is room
 pub record Fitted (rows : List ℕ) (e : ℕ) (splices prepared : List ℕ) (c r : ℕ) : Type 0 where

@@ -7,10 +7,19 @@ ghost use lib.ListN.{length, getD, take};
 ghost use Rattle.splices_model.specs.Bounds.{rowsTo};
 ghost use Rattle.splices_model.specs.Cuts.{partAt};
 ghost use Rattle.splices_model.specs.Verdict.{boundedAt, hasRunAt, limited, roomy};
-ghost use Rattle.splices_check.specs.Promises.{Closes, FitsAt, FitsAll, OneTree, EntersAt, Overlaps, ApartAt, RowsTo, ApartFrom, ApartAll, Fitted, Judged};
+ghost use Rattle.splices_check.specs.Promises.{Closes, FitsAt, FitsAll, OneTree, Fitted, Judged};
+use rows_syntax_node::MEASURE;
+use rows_syntax_node::ROW_WORDS;
+use rows_syntax_node::TEXT;
 use rows_syntax_node::child_count;
-use rows_syntax_node::child_row;
 use rows_syntax_node::trees_in;
+use splices_apart::all_apart;
+use splices_model::FROM;
+use splices_model::PARENT;
+use splices_model::ROWS;
+use splices_model::SPLICE_WORDS;
+use splices_model::START;
+use splices_model::TO;
 use words::word;
 
 // ── It fits ──
@@ -22,7 +31,7 @@ fn closes(run: &[u32]) -> bool
 {
     let mut o = 0;
     let mut i = 0;
-    while 3 * i + 2 < run.len() {
+    while ROW_WORDS * i + TEXT < run.len() {
         let m = child_count(run, i);
         if o == 0 {
             o = m;
@@ -40,17 +49,19 @@ fn bounded(e: usize, splices: &[u32], prepared: &[u32], j: usize) -> bool
     requires { ⌜ 6 * j + 5 < length (now splices) ⌝ }
     ensures { λ r. ⌜ r ≡ boundedAt e (now (splices .entry)) (now (prepared .entry)) j ⌝ }
 {
-    let to = word(splices, 6 * j + 3);
-    if e <= word(splices, 6 * j + 1) {
+    let to = word(splices, SPLICE_WORDS * j + TO);
+    if e <= word(splices, SPLICE_WORDS * j + PARENT) {
         return false;
     }
-    if to < word(splices, 6 * j + 2) {
+    if to < word(splices, SPLICE_WORDS * j + FROM) {
         return false;
     }
     if e < to {
         return false;
     }
-    3 * word(splices, 6 * j + 4) + 3 * word(splices, 6 * j + 5) <= prepared.len()
+    ROW_WORDS * word(splices, SPLICE_WORDS * j + START)
+        + ROW_WORDS * word(splices, SPLICE_WORDS * j + ROWS)
+        <= prepared.len()
 }
 
 // Whether the parent of splice `j` is a node with so many children.
@@ -58,11 +69,11 @@ fn has_run(rows: &[u32], splices: &[u32], j: usize) -> bool
     requires { ⌜ (6 * j + 5 < length (now splices)) × (3 * getD (now splices) (6 * j + 1) 0 + 2 < length (now rows)) ⌝ }
     ensures { λ r. ⌜ r ≡ hasRunAt (now (rows .entry)) (now (splices .entry)) j ⌝ }
 {
-    let p = word(splices, 6 * j + 1);
-    if word(rows, 3 * p) < 0x8000_0000 {
+    let p = word(splices, SPLICE_WORDS * j + PARENT);
+    if word(rows, ROW_WORDS * p) < 0x8000_0000 {
         return false;
     }
-    word(splices, 6 * j + 3) <= word(rows, 3 * p + 1)
+    word(splices, SPLICE_WORDS * j + TO) <= word(rows, ROW_WORDS * p + MEASURE)
 }
 
 // Whether the prepared rows of splice `j` spell trees.
@@ -71,8 +82,8 @@ fn spelt(splices: &[u32], prepared: &[u32], j: usize) -> bool
     requires { ⌜ 3 * getD (now splices) (6 * j + 4) 0 + 3 * getD (now splices) (6 * j + 5) 0 ≤ length (now prepared) ⌝ }
     ensures { λ r. ⌜ Closes (partAt (now (splices .entry)) (now (prepared .entry)) j) r ⌝ }
 {
-    let from = 3 * word(splices, 6 * j + 4);
-    let to = from + 3 * word(splices, 6 * j + 5);
+    let from = ROW_WORDS * word(splices, SPLICE_WORDS * j + START);
+    let to = from + ROW_WORDS * word(splices, SPLICE_WORDS * j + ROWS);
     closes(&prepared[from..to])
 }
 
@@ -122,91 +133,8 @@ fn spells_tree(rows: &[u32], e: usize) -> bool
     requires { ⌜ (3 * e ≤ length (now rows)) × (e < 2 ^ 16) ⌝ }
     ensures { λ r. ⌜ OneTree (take (3 * e) (now (rows .entry))) r ⌝ }
 {
-    let end = 3 * e;
+    let end = ROW_WORDS * e;
     one_tree(&rows[0..end])
-}
-
-// ── It is apart ──
-
-// Whether row `x` of the old tree is one of those that splice `i` deletes.
-fn enters(rows: &[u32], e: usize, splices: &[u32], i: usize, x: usize) -> bool
-    requires { ⌜ (3 * e ≤ length (now rows)) × (e < 2 ^ 16) × (6 * i + 5 < length (now splices)) × (getD (now splices) (6 * i + 1) 0 < e) ⌝ }
-    ensures { λ r. ⌜ EntersAt (now (rows .entry)) e (now (splices .entry)) i x r ⌝ }
-{
-    let p = word(splices, 6 * i + 1);
-    let from = child_row(rows, e, p, word(splices, 6 * i + 2));
-    if x < from {
-        return false;
-    }
-    let to = child_row(rows, e, p, word(splices, 6 * i + 3));
-    x < to
-}
-
-// Whether the runs of splices `i` and `j` are in one parent and overlap.
-fn overlap(splices: &[u32], i: usize, j: usize) -> bool
-    requires { ⌜ (6 * i + 5 < length (now splices)) × (6 * j + 5 < length (now splices)) ⌝ }
-    ensures { λ r. ⌜ Overlaps (now (splices .entry)) i j r ⌝ }
-{
-    if word(splices, 6 * i + 1) == word(splices, 6 * j + 1) {
-        if word(splices, 6 * i + 2) < word(splices, 6 * j + 3) {
-            return word(splices, 6 * j + 2) < word(splices, 6 * i + 3);
-        }
-        return false;
-    }
-    false
-}
-
-// Whether splices `i` and `j` are apart.
-fn apart(rows: &[u32], e: usize, splices: &[u32], i: usize, j: usize) -> bool
-    requires { ⌜ (3 * e ≤ length (now rows)) × (e < 2 ^ 16) × (6 * i + 5 < length (now splices)) × (getD (now splices) (6 * i + 1) 0 < e) ⌝ }
-    requires { ⌜ (6 * j + 5 < length (now splices)) × (getD (now splices) (6 * j + 1) 0 < e) ⌝ }
-    ensures { λ r. ⌜ ApartAt (now (rows .entry)) e (now (splices .entry)) i j r ⌝ }
-{
-    if word(splices, 6 * i) == word(splices, 6 * j) {
-        return false;
-    }
-    if enters(rows, e, splices, i, word(splices, 6 * j + 1)) {
-        return false;
-    }
-    if enters(rows, e, splices, j, word(splices, 6 * i + 1)) {
-        return false;
-    }
-    if overlap(splices, i, j) {
-        return false;
-    }
-    true
-}
-
-// Whether splice `i` is apart from each before it.
-fn apart_from(rows: &[u32], e: usize, splices: &[u32], i: usize) -> bool
-    requires { ⌜ (3 * e ≤ length (now rows)) × (e < 2 ^ 16) × (6 * i + 5 < length (now splices)) × RowsTo e (now splices) (i + 1) ⌝ }
-    ensures { λ r. ⌜ ApartFrom (now (rows .entry)) e (now (splices .entry)) i i r ⌝ }
-{
-    let mut j = 0;
-    while j < i {
-        if apart(rows, e, splices, i, j) {
-            j += 1;
-        } else {
-            return false;
-        }
-    }
-    true
-}
-
-// Whether any two of the first `c` splices are apart.
-fn all_apart(rows: &[u32], e: usize, splices: &[u32], c: usize) -> bool
-    requires { ⌜ (3 * e ≤ length (now rows)) × (e < 2 ^ 16) × (6 * c ≤ length (now splices)) × RowsTo e (now splices) c ⌝ }
-    ensures { λ r. ⌜ ApartAll (now (rows .entry)) e (now (splices .entry)) c r ⌝ }
-{
-    let mut k = 0;
-    while k < c {
-        if apart_from(rows, e, splices, k) {
-            k += 1;
-        } else {
-            return false;
-        }
-    }
-    true
 }
 
 // ── There is room ──
@@ -219,7 +147,7 @@ pub fn rows_to(splices: &[u32], c: usize) -> usize
     let mut sum = 0;
     let mut k = 0;
     while k < c {
-        sum += word(splices, 6 * k + 5);
+        sum += word(splices, SPLICE_WORDS * k + ROWS);
         k += 1;
     }
     sum
@@ -232,7 +160,7 @@ fn within(e: usize, splices: &[u32], prepared: &[u32], c: usize) -> bool
     if 32768 <= c {
         return false;
     }
-    if splices.len() == 6 * c {
+    if splices.len() == SPLICE_WORDS * c {
         if 65536 <= e {
             return false;
         }
@@ -247,7 +175,7 @@ fn room(long: usize, e: usize, splices: &[u32], c: usize) -> bool
     ensures { λ r. ⌜ r ≡ roomy long e (now (splices .entry)) c ⌝ }
 {
     let sum = rows_to(splices, c);
-    if long < 3 * e + 3 * sum {
+    if long < ROW_WORDS * e + ROW_WORDS * sum {
         return false;
     }
     e + sum < 65536

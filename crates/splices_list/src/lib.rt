@@ -8,9 +8,13 @@ ghost use Rattle.splices_list.specs.Plain.{plainWord, plain};
 ghost use Rattle.splices_list.specs.Promises.{Listed, Good, ListedAll, Tidied, Spliced};
 ghost use Rattle.splices_model.specs.Bounds.{BoundedAll, rowsTo};
 ghost use Rattle.splices_model.specs.SpliceList.{filled};
+use rows_syntax_node::MEASURE;
+use rows_syntax_node::ROW_WORDS;
+use rows_syntax_node::TEXT;
 use rows_syntax_node::number_from;
 use splices_check::judged;
 use splices_check::rows_to;
+use splices_model::SPLICE_WORDS;
 use splices_step::splice_once;
 use words::clear;
 
@@ -72,10 +76,10 @@ fn make_plain(rows: &mut [u32], n: usize)
 {
     let mut i = 0;
     while i < n {
-        let k = rows[3 * i];
-        let m = rows[3 * i + 1];
-        let o = rows[3 * i + 2];
-        rows[3 * i + 2] = plain_word(k, m, o);
+        let k = rows[ROW_WORDS * i];
+        let m = rows[ROW_WORDS * i + MEASURE];
+        let o = rows[ROW_WORDS * i + TEXT];
+        rows[ROW_WORDS * i + TEXT] = plain_word(k, m, o);
         i += 1;
     }
 }
@@ -86,7 +90,7 @@ fn tidy(rows: &mut [u32], n: usize, to: usize)
     ensures { λ _. ⌜ now (rows .exit) ≡ filled (take (3 * n) (plain n (now (rows .entry)))) to (now (rows .entry)) ⌝ }
 {
     make_plain(rows, n);
-    let from = 3 * n;
+    let from = ROW_WORDS * n;
     clear(&mut rows[from..to]);
 }
 
@@ -101,7 +105,7 @@ fn splice_tidy(
     requires { ⌜ Good (now rows) (now marks) (now splices) (now prepared) c ⌝ }
     ensures { λ r. ⌜ Tidied (now (rows .entry)) (now (marks .entry)) (now (splices .entry)) (now (prepared .entry)) c (now (rows .exit)) (now (marks .exit)) r ⌝ }
 {
-    let used = 3 * (marks.len() + rows_to(splices, c));
+    let used = ROW_WORDS * (marks.len() + rows_to(splices, c));
     let n = splice_list(rows, marks, splices, prepared, c);
     tidy(rows, n, used);
     n
@@ -119,7 +123,7 @@ pub enum Outcome {
 pub fn splice_all(rows: &mut [u32], marks: &mut [u32], splices: &[u32], prepared: &[u32]) -> Outcome
     ensures { λ r. ⌜ Spliced (now (rows .entry)) (now (marks .entry)) (now (splices .entry)) (now (prepared .entry)) (now (rows .exit)) (now (marks .exit)) r ⌝ }
 {
-    let c = splices.len() / 6;
+    let c = splices.len() / SPLICE_WORDS;
     let refusal = judged(rows, marks.len(), splices, prepared, c);
     if refusal == 0 {
         return Outcome::Done(splice_tidy(rows, marks, splices, prepared, c));

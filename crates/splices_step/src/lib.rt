@@ -7,10 +7,18 @@ ghost use lib.ListN.{length, getD};
 ghost use Rattle.orders.specs.Lists.{All};
 ghost use Rattle.splices_step.specs.Promises.{leftRun, leftAt, TreesOf, Deletes, Shifted, Started, ParentAt, GapAt, takesBy, Stepped};
 ghost use Rattle.splices_model.specs.Bounds.{BoundedTo};
+use rows_syntax_node::MEASURE;
+use rows_syntax_node::ROW_WORDS;
 use rows_syntax_node::child_row;
 use rows_syntax_node::rows_after;
 use rows_syntax_node::trees_in;
 use run_splice::splice;
+use splices_model::FROM;
+use splices_model::PARENT;
+use splices_model::ROWS;
+use splices_model::SPLICE_WORDS;
+use splices_model::START;
+use splices_model::TO;
 use words::word;
 
 // ── To the left ──
@@ -33,14 +41,14 @@ fn left_of(splices: &[u32], i: usize, j: usize) -> bool
     requires { ⌜ (6 * i + 5 < length (now splices)) × (6 * j + 5 < length (now splices)) ⌝ }
     ensures { λ r. ⌜ r ≡ leftAt (now (splices .entry)) i j ⌝ }
 {
-    if word(splices, 6 * j + 1) == word(splices, 6 * i + 1) {
+    if word(splices, SPLICE_WORDS * j + PARENT) == word(splices, SPLICE_WORDS * i + PARENT) {
         return left_run(
-            word(splices, 6 * j),
-            word(splices, 6 * j + 2),
-            word(splices, 6 * j + 3),
-            word(splices, 6 * i),
-            word(splices, 6 * i + 2),
-            word(splices, 6 * i + 3),
+            word(splices, SPLICE_WORDS * j),
+            word(splices, SPLICE_WORDS * j + FROM),
+            word(splices, SPLICE_WORDS * j + TO),
+            word(splices, SPLICE_WORDS * i),
+            word(splices, SPLICE_WORDS * i + FROM),
+            word(splices, SPLICE_WORDS * i + TO),
         );
     }
     false
@@ -52,8 +60,8 @@ fn trees_of(splices: &[u32], prepared: &[u32], j: usize) -> usize
     requires { ⌜ 3 * getD (now splices) (6 * j + 4) 0 + 3 * getD (now splices) (6 * j + 5) 0 ≤ length (now prepared) ⌝ }
     ensures { λ r. ⌜ TreesOf (now (splices .entry)) (now (prepared .entry)) j r ⌝ }
 {
-    let from = 3 * word(splices, 6 * j + 4);
-    let to = from + 3 * word(splices, 6 * j + 5);
+    let from = ROW_WORDS * word(splices, SPLICE_WORDS * j + START);
+    let to = from + ROW_WORDS * word(splices, SPLICE_WORDS * j + ROWS);
     trees_in(&prepared[from..to])
 }
 
@@ -62,7 +70,7 @@ fn deleted(splices: &[u32], j: usize) -> usize
     requires { ⌜ (6 * j + 5 < length (now splices)) × (getD (now splices) (6 * j + 2) 0 ≤ getD (now splices) (6 * j + 3) 0) ⌝ }
     ensures { λ r. ⌜ Deletes (now (splices .entry)) j r ⌝ }
 {
-    word(splices, 6 * j + 3) - word(splices, 6 * j + 2)
+    word(splices, SPLICE_WORDS * j + TO) - word(splices, SPLICE_WORDS * j + FROM)
 }
 
 // What splices insert and delete.
@@ -97,7 +105,7 @@ fn start_now(splices: &[u32], prepared: &[u32], e: usize, i: usize) -> usize
     ensures { λ r. ⌜ Started (now (splices .entry)) (now (prepared .entry)) i r ⌝ }
 {
     let moves = moves_left(splices, prepared, e, i);
-    let from = word(splices, 6 * i + 2);
+    let from = word(splices, SPLICE_WORDS * i + FROM);
     if from + moves.gained < moves.lost {
         return 0;
     }
@@ -120,7 +128,7 @@ fn parent_now(n: usize, marks: &[u32], splices: &[u32], i: usize) -> usize
     requires { ⌜ (6 * i + 5 < length (now splices)) × (getD (now splices) (6 * i + 1) 0 < length (now marks)) × All (λ m. m < n) (now marks) ⌝ }
     ensures { λ r. ⌜ ParentAt n (now (marks .entry)) (now (splices .entry)) i r ⌝ }
 {
-    let p = word(splices, 6 * i + 1);
+    let p = word(splices, SPLICE_WORDS * i + PARENT);
     word(marks, p)
 }
 
@@ -157,10 +165,10 @@ fn takes(rows: &[u32], parent: usize, lost: usize, gain: usize) -> bool
     requires { ⌜ (3 * parent + 2 < length (now rows)) × (gain < 2 ^ 16) ⌝ }
     ensures { λ r. ⌜ r ≡ takesBy (now (rows .entry)) parent lost gain ⌝ }
 {
-    if word(rows, 3 * parent) < 0x8000_0000 {
+    if word(rows, ROW_WORDS * parent) < 0x8000_0000 {
         return false;
     }
-    let m = word(rows, 3 * parent + 1);
+    let m = word(rows, ROW_WORDS * parent + MEASURE);
     if m < lost {
         return false;
     }
@@ -187,8 +195,8 @@ fn splice_at(
     let q = g.to;
     let lost = g.lost;
     let gain = g.gain;
-    let from = 3 * word(splices, 6 * i + 4);
-    let to = from + 3 * word(splices, 6 * i + 5);
+    let from = ROW_WORDS * word(splices, SPLICE_WORDS * i + START);
+    let to = from + ROW_WORDS * word(splices, SPLICE_WORDS * i + ROWS);
     splice(
         rows,
         n,

@@ -176,21 +176,21 @@ fn word_count(z: Sizes) -> usize
 fn write_words(b: &[u8], z: Sizes, n: usize, destination: &mut [u8]) -> Written
     requires { ⌜ (n ≡ wordCount z) × (28 + 4 * n ≤ length (now b)) × (length (now b) ≤ 65536) ⌝ }
 {
-    let text = 28 + 4 * n;
+    let text = read_layout::ARRAYS + 4 * n;
     let mut list = [0u32; 16384];
-    words::read_words(b, 28, n, &mut list, 0);
+    words::read_words(b, read_layout::ARRAYS, n, &mut list, 0);
     write_elements(z, &list, &b[text..], destination)
 }
 
 // A batch is written as the lists that it is laid out from. One whose length is not what its sizes give is laid out from none: 2 without all of its
 // sizes, else 4.
 pub fn write_again(b: &[u8], destination: &mut [u8]) -> Written {
-    if b.len() < 28 {
+    if b.len() < read_layout::ARRAYS {
         return Written::Refused(2);
     }
     let z = read_sizes(b);
     let n = word_count(z);
-    if 28 + 4 * n + z.text != b.len() {
+    if read_layout::ARRAYS + 4 * n + z.text != b.len() {
         return Written::Refused(4);
     }
     // A batch that is longer than the list has room for has a size beyond its limit.

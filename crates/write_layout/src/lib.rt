@@ -62,7 +62,7 @@ fn all_below(s: &[u32], limit: usize) -> bool
 fn parts_fit(operations: &[u32], counts: &[u32]) -> bool
     ensures { λ r. ⌜ r ≡ not (any (leb 256) (now (operations .entry)) || any (leb 16777216) (now (counts .entry))) ⌝ }
 {
-    if !all_below(operations, 256) {
+    if !all_below(operations, read_layout::OPERATIONS) {
         return false;
     }
     all_below(counts, 16777216)
@@ -155,7 +155,7 @@ fn call_word(operations: &[u32], counts: &[u32], i: usize) -> usize
     requires { ⌜ (i < length (now operations)) × (i < length (now counts)) ⌝ }
     ensures { λ r. ⌜ r ≡ callWord (getD (now (operations .entry)) i 0) (getD (now (counts .entry)) i 0) ⌝ }
 {
-    words::word(operations, i) + 256 * words::word(counts, i)
+    words::word(operations, i) + read_layout::OPERATIONS * words::word(counts, i)
 }
 
 // The call words, behind the first `at` bytes.

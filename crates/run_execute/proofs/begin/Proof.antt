@@ -38,18 +38,6 @@ copy-in-requires c κs = search needs
 number-from-requires : tie.Need-number-from-requires
 number-from-requires c κs = search needs
 
-mul-to : tie.Need-mul-to
-mul-to c = search needs
-
-sub-copy-in-2 : tie.Need-sub-copy-in-2
-sub-copy-in-2 c = search needs
-
-part-copy-in-start-2 : tie.Need-part-copy-in-start-2
-part-copy-in-start-2 c = search needs
-
-part-copy-in-end-2 : tie.Need-part-copy-in-end-2
-part-copy-in-end-2 c = search needs
-
 copy-in-requires-2 : tie.Need-copy-in-requires-2
 copy-in-requires-2 c κs = search needs
 
@@ -80,10 +68,6 @@ begin-spec =
     part-copy-in-end
     copy-in-requires
     number-from-requires
-    mul-to
-    sub-copy-in-2
-    part-copy-in-start-2
-    part-copy-in-end-2
     copy-in-requires-2
     same-length
     same-length-2

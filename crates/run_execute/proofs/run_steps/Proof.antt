@@ -1,6 +1,6 @@
 -- `run_steps` meets its contract. The run is that of the changes left, from what is held now.
 -- Assumes nothing.
-use Rattle.plan_mapping.specs.Mapped.{wordsAt}
+use Rattle.run_prepare.specs.Parts.{wordsIn}
 use native.Mathlib.Omega.{arith}
 use borrow.Author.Needs.{needs}
 use lib.ListN.{length}
@@ -11,12 +11,12 @@ use Rattle.run_execute.proofs.run_steps.Statement.{statement}
 use Rattle.run_execute.proofs.run_steps.Tie as tie
 
 abbrev Inv-loop : tie.InvT-loop
-Inv-loop rows₀ marks₀ notes₀ changed₀ prepared₀ sizes₀ incoming₀ table source first a b listed l changes running s₀ i₀ rows marks notes changed prepared sizes incoming s i =
-    Walking (length marks₀) table source first a (wordsAt b listed l) changes running (length changed₀) s₀ rows₀ marks₀ notes₀ changed₀ s rows marks notes changed i
+Inv-loop rows₀ marks₀ notes₀ changed₀ prepared₀ sizes₀ incoming₀ table source first listed changes running s₀ i₀ rows marks notes changed prepared sizes incoming s i =
+    Walking (length marks₀) table source first (wordsIn listed) changes running (length changed₀) s₀ rows₀ marks₀ notes₀ changed₀ s rows marks notes changed i
     × (length rows ≡ length rows₀) × (length marks ≡ length marks₀) × (length notes ≡ length notes₀) × (length changed ≡ length changed₀) × (length prepared ≡ length prepared₀) × (length sizes ≡ length sizes₀) × (length incoming ≡ length incoming₀)
 
 abbrev μ-loop : tie.MeasureT-loop
-μ-loop rows₀ marks₀ notes₀ changed₀ prepared₀ sizes₀ incoming₀ table source first a b listed l changes running s₀ i₀ rows marks notes changed prepared sizes incoming s i =
+μ-loop rows₀ marks₀ notes₀ changed₀ prepared₀ sizes₀ incoming₀ table source first listed changes running s₀ i₀ rows marks notes changed prepared sizes incoming s i =
     length running - i
 
 loop-holds : tie.Need-loop-holds Inv-loop μ-loop
@@ -26,7 +26,7 @@ word-requires : tie.Need-word-requires Inv-loop μ-loop
 word-requires c κs = search needs
 
 step-requires : tie.Need-step-requires Inv-loop μ-loop
-step-requires c κs = let o = c .before .before .before .before .before .before .before .before .before .before .before .before .before .before .before .before .before .before .before .before .before .before .before in let n = c .before .before .before .before .before .before .before .before .before in let n′ = c .before .before .before .before .before .before .before .before in let w = c .before .before .before .before .before .before .before in let p = o .pre in let v = n .loop .inv in let r = walking-room (n .loop .inv .0) (n′ .loop-test .taken) (w .word .ensures) (o .pre .1 .1 .1 .0) in (walking-standing (v .0), ((omega arith, omega arith, omega arith, omega arith, omega arith), (walking-listed (v .0) (o .args .b .now) (o .args .listed) (o .args .l) (w .word .result) (p .1 .1 .0) (w .word .ensures .1), (walking-performs (n .loop .inv .0) (n′ .loop-test .taken) (w .word .ensures) (o .pre .1 .1 .1 .0), omega arith))))
+step-requires c κs = let o = c .before .before .before .before .before .before .before .before .before .before .before .before .before .before .before .before .before .before .before .before .before .before .before in let n = c .before .before .before .before .before .before .before .before .before in let n′ = c .before .before .before .before .before .before .before .before in let w = c .before .before .before .before .before .before .before in let p = o .pre in let v = n .loop .inv in let r = walking-room (n .loop .inv .0) (n′ .loop-test .taken) (w .word .ensures) (o .pre .1 .1 .1 .0) in (walking-standing (v .0), ((omega arith, omega arith, omega arith, omega arith, omega arith), (walking-listed (v .0) (o .args .listed .now) (w .word .result) (p .1 .1 .0) (w .word .ensures .1), (walking-performs (n .loop .inv .0) (n′ .loop-test .taken) (w .word .ensures) (o .pre .1 .1 .1 .0), omega arith))))
 
 enum-known-next : tie.Need-enum-known-next Inv-loop μ-loop
 enum-known-next c = search needs

@@ -1,26 +1,24 @@
 -- `prepare` meets its contract. At the loop's head what the elements so far yield has come in.
 -- Assumes nothing.
 use native.Mathlib.Omega.{arith}
-use Prim.Native.Nat.{_-_}
+use Prim.Native.Nat.{_-_, _/_}
+use lib.ListN.{length}
 use borrow.Author.Needs.{needs}
 use Rattle.run_prepare.proofs.Turns.{Preparing, listed-low, preparing-start, preparing-done, preparing-over, preparing-next, element-rises, element-low}
 use Rattle.run_prepare.proofs.prepare.Statement.{statement}
 use Rattle.run_prepare.proofs.prepare.Tie as tie
 
 abbrev Inv-loop : tie.InvT-loop
-Inv-loop rows n source marks first a notes k b list count at prepared₀ sizes₀ incoming₀ i₀ m₀ c₀ prepared sizes incoming i m c = Preparing rows n source marks first a notes k b list count at prepared₀ sizes₀ incoming₀ prepared sizes incoming i m c
+Inv-loop rows n source marks first notes k list at prepared₀ sizes₀ incoming₀ i₀ m₀ c₀ prepared sizes incoming i m c = Preparing rows n source marks first notes k list (length list / 4) at prepared₀ sizes₀ incoming₀ prepared sizes incoming i m c
 
 abbrev μ-loop : tie.MeasureT-loop
-μ-loop rows n source marks first a notes k b list count at prepared₀ sizes₀ incoming₀ i₀ m₀ c₀ prepared sizes incoming i m c = count - i
+μ-loop rows n source marks first notes k list at prepared₀ sizes₀ incoming₀ i₀ m₀ c₀ prepared sizes incoming i m c = length list / 4 - i
 
 loop-holds : tie.Need-loop-holds Inv-loop μ-loop
 loop-holds c = search (preparing-start, needs)
 
 mul-read-word : tie.Need-mul-read-word Inv-loop μ-loop
 mul-read-word c = search needs
-
-add-read-word : tie.Need-add-read-word Inv-loop μ-loop
-add-read-word c = search needs
 
 read-word-requires : tie.Need-read-word-requires Inv-loop μ-loop
 read-word-requires c κs = search needs
@@ -61,7 +59,7 @@ slice-write-sizes : tie.Need-slice-write-sizes Inv-loop μ-loop
 slice-write-sizes c = let p = c .before .before .before .before .before .before .before .before .before .before .before .before .before .before .before .before .before .before .before .before .before .before .pre in omega arith
 
 add-i : tie.Need-add-i Inv-loop μ-loop
-add-i c = search needs
+add-i c = let p = c .before .before .before .before .before .before .before .before .before .before .before .before .before .before .before .before .before .before .before .before .before .before .pre in let g = c .before .before .before .before .before .before .before .before .before .before .before .before .before .before .before .before .before .before .before .before .before .before .good in omega arith
 
 loop-less : tie.Need-loop-less Inv-loop μ-loop
 loop-less c = search needs
@@ -89,7 +87,6 @@ prepare-spec =
     μ-loop
     loop-holds
     mul-read-word
-    add-read-word
     read-word-requires
     prepare-element-requires
     enum-told

@@ -8,7 +8,7 @@ use Rattle.run_step.proofs.step.Statement.{statement}
 use Rattle.run_step.proofs.step.Tie as tie
 
 change-gap-requires : tie.Need-change-gap-requires
-change-gap-requires c κs = let o = c .before .before .before .before .before .before .before .before .before .before .before .before .before .before in let q = asks-gap (o .pre .0) (o .args .b .now) (o .args .listed) (o .args .l) (o .args .changes .now) (o .args .k) (o .pre .1 .1 .0) (o .pre .1 .1 .1 .0) in (q .0, (q .1 .0, q .1 .1))
+change-gap-requires c κs = let o = c .before .before .before .before .before .before .before .before .before .before .before .before .before .before in let q = asks-gap (o .pre .0) (o .args .listed .now) (o .args .changes .now) (o .args .k) (o .pre .1 .1 .0) (o .pre .1 .1 .1 .0) in (q .0, (q .1 .0, q .1 .1))
 
 enum-told : tie.Need-enum-told
 enum-told c = search needs
@@ -17,25 +17,37 @@ enum-known-site : tie.Need-enum-known-site
 enum-known-site c = search needs
 
 depth-above-requires : tie.Need-depth-above-requires
-depth-above-requires c κs = let o = c .before .before .before .before .before .before .before .before .before .before .before .before .before .before .before .before .before .before in asks-depth (o .pre .0) (o .args .b .now) (o .args .listed) (o .args .l) (o .args .changes .now) (o .args .k) (o .pre .1 .1 .0) (o .pre .1 .1 .1 .0)
+depth-above-requires c κs = let o = c .before .before .before .before .before .before .before .before .before .before .before .before .before .before .before .before .before .before in asks-depth (o .pre .0) (o .args .listed .now) (o .args .changes .now) (o .args .k) (o .pre .1 .1 .0) (o .pre .1 .1 .1 .0)
 
 is-recorded-requires : tie.Need-is-recorded-requires
-is-recorded-requires c κs = let o = c .before .before .before .before .before .before .before .before .before .before .before .before .before .before .before .before .before .before .before in (asks-depth (o .pre .0) (o .args .b .now) (o .args .listed) (o .args .l) (o .args .changes .now) (o .args .k) (o .pre .1 .1 .0) (o .pre .1 .1 .1 .0)) .1
+is-recorded-requires c κs = let o = c .before .before .before .before .before .before .before .before .before .before .before .before .before .before .before .before .before .before .before in (asks-depth (o .pre .0) (o .args .listed .now) (o .args .changes .now) (o .args .k) (o .pre .1 .1 .0) (o .pre .1 .1 .1 .0)) .1
 
 field-requires : tie.Need-field-requires
-field-requires c κs = let o = c .before .before .before .before .before .before .before .before .before .before .before .before .before .before .before .before .before .before .before .before in ((asks-depth (o .pre .0) (o .args .b .now) (o .args .listed) (o .args .l) (o .args .changes .now) (o .args .k) (o .pre .1 .1 .0) (o .pre .1 .1 .1 .0)) .1, omega arith)
+field-requires c κs = let o = c .before .before .before .before .before .before .before .before .before .before .before .before .before .before .before .before .before .before .before .before in ((asks-depth (o .pre .0) (o .args .listed .now) (o .args .changes .now) (o .args .k) (o .pre .1 .1 .0) (o .pre .1 .1 .1 .0)) .1, omega arith)
 
-mul-list : tie.Need-mul-list
-mul-list c = search needs
-
-add-list : tie.Need-add-list
-add-list c = let o = c .before .before .before .before .before .before .before .before .before .before .before .before .before .before .before .before .before .before .before .before .before in let y = o .args .b in let q = list-within (o .pre .0) (o .args .b .now) (o .args .listed) (o .args .l) (o .args .changes .now) (o .args .k) (o .pre .1 .1 .0) (o .pre .1 .1 .1 .0) (c .field .ensures) in omega (arith, o .good)
+mul-from : tie.Need-mul-from
+mul-from c = search needs
 
 field-requires-2 : tie.Need-field-requires-2
-field-requires-2 c κs = let o = c .before .before .before .before .before .before .before .before .before .before .before .before .before .before .before .before .before .before .before .before .before in ((asks-depth (o .pre .0) (o .args .b .now) (o .args .listed) (o .args .l) (o .args .changes .now) (o .args .k) (o .pre .1 .1 .0) (o .pre .1 .1 .1 .0)) .1, omega arith)
+field-requires-2 c κs = let o = c .before .before .before .before .before .before .before .before .before .before .before .before .before .before .before .before .before .before .before .before .before in ((asks-depth (o .pre .0) (o .args .listed .now) (o .args .changes .now) (o .args .k) (o .pre .1 .1 .0) (o .pre .1 .1 .1 .0)) .1, omega arith)
+
+mul-to : tie.Need-mul-to
+mul-to c = search needs
+
+add-to : tie.Need-add-to
+add-to c = let o = c .before .before .before .before .before .before .before .before .before .before .before .before .before .before .before .before .before .before .before .before .before .before in let y = o .args .listed in let q = list-within (o .pre .0) (o .args .listed .now) (o .args .changes .now) (o .args .k) (o .pre .1 .1 .0) (o .pre .1 .1 .1 .0) (c .before .field .ensures) (c .field2 .ensures) in omega (arith, o .good)
+
+sub-step-at : tie.Need-sub-step-at
+sub-step-at c = omega arith
+
+part-step-at-start : tie.Need-part-step-at-start
+part-step-at-start c = omega arith
+
+part-step-at-end : tie.Need-part-step-at-end
+part-step-at-end c = let o = c .before .before .before .before .before .before .before .before .before .before .before .before .before .before .before .before .before .before .before .before .before .before .before .before .before .before .before .before .before in let q = list-within (o .pre .0) (o .args .listed .now) (o .args .changes .now) (o .args .k) (o .pre .1 .1 .0) (o .pre .1 .1 .1 .0) (c .before .before .before .before .before .before .before .before .field .ensures) (c .before .before .before .before .before .before .before .field2 .ensures) in omega arith
 
 step-at-requires : tie.Need-step-at-requires
-step-at-requires c κs = let o = c .before .before .before .before .before .before .before .before .before .before .before .before .before .before .before .before .before .before .before .before .before .before .before .before .before .before .before .before .before in let g = c .before .before .before .before .before .before .before .before .before .before .before .before .before .before in let p = o .pre in let v = p .0 in let q = listed-low (o .pre .0) (o .args .b .now) (o .args .listed) (o .args .l) (o .args .changes .now) (o .args .k) (o .pre .1 .1 .0) (o .pre .1 .1 .1 .0) (g .change-gap .ensures) (c .before .before .before .before .before .before .before .before .before .before .before .before .site .given .1) (c .before .before .before .before .before .before .before .before .before .before .depth-above .ensures) (c .before .before .before .before .before .before .before .before .before .is-recorded .ensures) (c .before .before .before .before .before .before .before .before .field .ensures) (c .before .before .before .before .before .before .before .field2 .ensures) in let gap = opens (o .pre .0) (o .args .b .now) (o .args .listed) (o .args .l) (o .args .changes .now) (o .args .k) (o .pre .1 .1 .0) (o .pre .1 .1 .1 .0) (g .change-gap .ensures) (c .before .before .before .before .before .before .before .before .before .before .before .before .site .given .1) (c .before .before .before .before .before .before .before .before .before .before .depth-above .ensures) (c .before .before .before .before .before .before .before .before .before .is-recorded .ensures) (c .before .before .before .before .before .before .before .before .field .ensures) (c .before .before .before .before .before .before .before .field2 .ensures) (p .1 .0 .1) (p .1 .1 .1 .1) in let d = c .before .before .before .before .before .before .before .before .before .before .depth-above .ensures .low in (gap, ((p .1 .0 .0, p .1 .0 .1, d), ((bytes-few v, v .measured), ((v .begun .formed .few, v .begun .long, v .begun .longNotes, v .begun .fewNotes), (q, (p .1 .0 .2, p .1 .0 .3, p .1 .0 .4))))))
+step-at-requires c κs = let o = c .before .before .before .before .before .before .before .before .before .before .before .before .before .before .before .before .before .before .before .before .before .before .before .before .before .before .before .before .before .before in let p = o .pre in let v = p .0 in let q = listed-low (o .pre .0) (o .args .listed .now) (o .args .changes .now) (o .args .k) (o .pre .1 .1 .0) (o .pre .1 .1 .1 .0) (c .before .before .before .before .before .before .before .before .before .before .before .before .before .before .before .change-gap .ensures) (c .before .before .before .before .before .before .before .before .before .before .before .before .before .site .given .1) (c .before .before .before .before .before .before .before .before .before .before .before .depth-above .ensures) (c .before .before .before .before .before .before .before .before .before .before .is-recorded .ensures) (c .before .before .before .before .before .before .before .before .before .field .ensures) (c .before .before .before .before .before .before .before .before .field2 .ensures) in let gap = opens (o .pre .0) (o .args .listed .now) (o .args .changes .now) (o .args .k) (o .pre .1 .1 .0) (o .pre .1 .1 .1 .0) (c .before .before .before .before .before .before .before .before .before .before .before .before .before .before .before .change-gap .ensures) (c .before .before .before .before .before .before .before .before .before .before .before .before .before .site .given .1) (c .before .before .before .before .before .before .before .before .before .before .before .depth-above .ensures) (c .before .before .before .before .before .before .before .before .before .before .is-recorded .ensures) (c .before .before .before .before .before .before .before .before .before .field .ensures) (c .before .before .before .before .before .before .before .before .field2 .ensures) (p .1 .0 .1) (p .1 .1 .1 .1) in let d = c .before .before .before .before .before .before .before .before .before .before .before .depth-above .ensures .low in (gap, ((p .1 .0 .0, p .1 .0 .1, d), ((bytes-few v, v .measured), ((v .begun .formed .few, v .begun .long, v .begun .fewNotes), (q, (p .1 .0 .2, p .1 .0 .3, p .1 .0 .4))))))
 
 same-length : tie.Need-same-length
 same-length c = search needs
@@ -44,7 +56,7 @@ same-length-2 : tie.Need-same-length-2
 same-length-2 c = search needs
 
 returns : tie.Need-returns
-returns c = let o = c .before .before .before .before .before .before .before .before .before .before .before .before .before .before .before .before .before in performed-gone (o .pre .0) (o .args .b .now) (o .args .listed) (o .args .l) (o .args .changes .now) (o .args .k) (o .pre .1 .1 .0) (o .pre .1 .1 .1 .0) (c .before .before .change-gap .ensures) (c .enum-told .given .1)
+returns c = let o = c .before .before .before .before .before .before .before .before .before .before .before .before .before .before .before .before .before in performed-gone (o .pre .0) (o .args .listed .now) (o .args .changes .now) (o .args .k) (o .pre .1 .1 .0) (o .pre .1 .1 .1 .0) (c .before .before .change-gap .ensures) (c .enum-told .given .1)
 
 same-length-3 : tie.Need-same-length-3
 same-length-3 c = search needs
@@ -68,7 +80,7 @@ same-length-9 : tie.Need-same-length-9
 same-length-9 c = search needs
 
 returns-2 : tie.Need-returns-2
-returns-2 c = let o = c .before .before .before .before .before .before .before .before .before .before .before .before .before .before .before .before .before .before .before .before .before .before .before .before .before .before .before .before .before .before .before .before .before .before .before .before .before .before .before .before .before .before .before .before in let g = c .before .before .before .before .before .before .before .before .before .before .before .before .before .before .before .before .before .before .before .before .before .before .before .before .before .before .before .before .before in performed (o .pre .0) (o .args .b .now) (o .args .listed) (o .args .l) (o .args .changes .now) (o .args .k) (o .pre .1 .1 .0) (o .pre .1 .1 .1 .0) (g .change-gap .ensures) (c .before .before .before .before .before .before .before .before .before .before .before .before .before .before .before .before .before .before .before .before .before .before .before .before .before .before .before .site .given .1) (c .before .before .before .before .before .before .before .before .before .before .before .before .before .before .before .before .before .before .before .before .before .before .before .before .before .depth-above .ensures) (c .before .before .before .before .before .before .before .before .before .before .before .before .before .before .before .before .before .before .before .before .before .before .before .before .is-recorded .ensures) (c .before .before .before .before .before .before .before .before .before .before .before .before .before .before .before .before .before .before .before .before .before .before .before .field .ensures) (c .before .before .before .before .before .before .before .before .before .before .before .before .before .before .before .before .before .before .before .before .before .before .field2 .ensures) (c .before .before .before .before .before .before .before .before .before .before .before .before .before .before .step-at .ensures)
+returns-2 c = let o = c .before .before .before .before .before .before .before .before .before .before .before .before .before .before .before .before .before .before .before .before .before .before .before .before .before .before .before .before .before .before .before .before .before .before .before .before .before .before .before .before .before .before .before .before .before in performed (o .pre .0) (o .args .listed .now) (o .args .changes .now) (o .args .k) (o .pre .1 .1 .0) (o .pre .1 .1 .1 .0) (c .before .before .before .before .before .before .before .before .before .before .before .before .before .before .before .before .before .before .before .before .before .before .before .before .before .before .before .before .before .before .change-gap .ensures) (c .before .before .before .before .before .before .before .before .before .before .before .before .before .before .before .before .before .before .before .before .before .before .before .before .before .before .before .before .site .given .1) (c .before .before .before .before .before .before .before .before .before .before .before .before .before .before .before .before .before .before .before .before .before .before .before .before .before .before .depth-above .ensures) (c .before .before .before .before .before .before .before .before .before .before .before .before .before .before .before .before .before .before .before .before .before .before .before .before .before .is-recorded .ensures) (c .before .before .before .before .before .before .before .before .before .before .before .before .before .before .before .before .before .before .before .before .before .before .before .before .field .ensures) (c .before .before .before .before .before .before .before .before .before .before .before .before .before .before .before .before .before .before .before .before .before .before .before .field2 .ensures) (c .before .before .before .before .before .before .before .before .before .before .before .before .before .before .step-at .ensures)
 
 pub step-spec : {M : Type 1} → statement M
 step-spec =
@@ -80,9 +92,13 @@ step-spec =
     depth-above-requires
     is-recorded-requires
     field-requires
-    mul-list
-    add-list
+    mul-from
     field-requires-2
+    mul-to
+    add-to
+    sub-step-at
+    part-step-at-start
+    part-step-at-end
     step-at-requires
     same-length
     same-length-2

@@ -1,9 +1,9 @@
 -- `apart` meets its contract.
 -- Assumes nothing.
 use borrow.Author.Needs.{needs}
-use Rattle.splices_check.proofs.Turns.{one-number, in-the-first, in-the-second, overlapping, are-apart}
-use Rattle.splices_check.proofs.apart.Statement.{statement}
-use Rattle.splices_check.proofs.apart.Tie as tie
+use Rattle.splices_apart.proofs.Turns.{one-number, in-the-first, in-the-second, overlapping, are-apart}
+use Rattle.splices_apart.proofs.apart.Statement.{statement}
+use Rattle.splices_apart.proofs.apart.Tie as tie
 
 mul-word : tie.Need-mul-word
 mul-word c = search needs

@@ -1,10 +1,10 @@
 -- `all_apart` meets its contract.
 -- Assumes nothing.
 use borrow.Author.Needs.{needs}
-use Rattle.splices_check.proofs.Turns.{Pairing, pairing-start, pairing-next, pairing-not, pairing-done, rows-first}
+use Rattle.splices_apart.proofs.Turns.{Pairing, pairing-start, pairing-next, pairing-not, pairing-done, rows-first}
 use Prim.Native.Nat.{_-_}
-use Rattle.splices_check.proofs.all_apart.Statement.{statement}
-use Rattle.splices_check.proofs.all_apart.Tie as tie
+use Rattle.splices_apart.proofs.all_apart.Statement.{statement}
+use Rattle.splices_apart.proofs.all_apart.Tie as tie
 
 abbrev Inv-loop : tie.InvT-loop
 Inv-loop rows e splices c k₀ k = Pairing rows e splices c k

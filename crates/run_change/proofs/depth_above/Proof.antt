@@ -2,9 +2,9 @@
 -- Assumes nothing.
 use native.Mathlib.Omega.{arith}
 use borrow.Author.Needs.{needs}
-use Rattle.run_step.proofs.Telling.{above-first, above-other, some-depth, target-line}
-use Rattle.run_step.proofs.depth_above.Statement.{statement}
-use Rattle.run_step.proofs.depth_above.Tie as tie
+use Rattle.run_change.proofs.Telling.{above-first, above-other, some-depth, target-line}
+use Rattle.run_change.proofs.depth_above.Statement.{statement}
+use Rattle.run_change.proofs.depth_above.Tie as tie
 
 field-requires : tie.Need-field-requires
 field-requires c κs = search needs

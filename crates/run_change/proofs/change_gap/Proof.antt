@@ -1,9 +1,9 @@
 -- `change_gap` meets its contract.
 -- Assumes nothing.
 use borrow.Author.Needs.{needs}
-use Rattle.run_step.proofs.Telling.{ends-low, site-told}
-use Rattle.run_step.proofs.change_gap.Statement.{statement}
-use Rattle.run_step.proofs.change_gap.Tie as tie
+use Rattle.run_change.proofs.Telling.{ends-low, site-told}
+use Rattle.run_change.proofs.change_gap.Statement.{statement}
+use Rattle.run_change.proofs.change_gap.Tie as tie
 
 field-requires : tie.Need-field-requires
 field-requires c κs = search needs

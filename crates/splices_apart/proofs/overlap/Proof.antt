@@ -1,9 +1,9 @@
 -- `overlap` meets its contract.
 -- Assumes nothing.
 use borrow.Author.Needs.{needs}
-use Rattle.splices_check.proofs.Turns.{other-parents, right-of, overlaps}
-use Rattle.splices_check.proofs.overlap.Statement.{statement}
-use Rattle.splices_check.proofs.overlap.Tie as tie
+use Rattle.splices_apart.proofs.Turns.{other-parents, right-of, overlaps}
+use Rattle.splices_apart.proofs.overlap.Statement.{statement}
+use Rattle.splices_apart.proofs.overlap.Tie as tie
 
 mul-word : tie.Need-mul-word
 mul-word c = search needs

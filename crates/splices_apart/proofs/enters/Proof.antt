@@ -1,9 +1,9 @@
 -- `enters` meets its contract.
 -- Assumes nothing.
 use borrow.Author.Needs.{needs}
-use Rattle.splices_check.proofs.Turns.{enters-before, enters-there}
-use Rattle.splices_check.proofs.enters.Statement.{statement}
-use Rattle.splices_check.proofs.enters.Tie as tie
+use Rattle.splices_apart.proofs.Turns.{enters-before, enters-there}
+use Rattle.splices_apart.proofs.enters.Statement.{statement}
+use Rattle.splices_apart.proofs.enters.Tie as tie
 
 mul-word : tie.Need-mul-word
 mul-word c = search needs

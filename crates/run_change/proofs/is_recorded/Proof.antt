@@ -1,9 +1,9 @@
 -- `is_recorded` meets its contract.
 -- Assumes nothing.
 use borrow.Author.Needs.{needs}
-use Rattle.run_step.proofs.Telling.{not-recorded, recorded-by}
-use Rattle.run_step.proofs.is_recorded.Statement.{statement}
-use Rattle.run_step.proofs.is_recorded.Tie as tie
+use Rattle.run_change.proofs.Telling.{not-recorded, recorded-by}
+use Rattle.run_change.proofs.is_recorded.Statement.{statement}
+use Rattle.run_change.proofs.is_recorded.Tie as tie
 
 field-requires : tie.Need-field-requires
 field-requires c κs = search needs

@@ -14,7 +14,7 @@ use Rattle.record_changes.specs.ChangeRow.{rowOf}
 use Rattle.record_changes.specs.ChangeRowLaws.{rowAt}
 use Rattle.run_tree_store.specs.Promises.{SiteAt}
 use Rattle.run_tree_store.specs.declared.Site.{Site}
-use Rattle.run_step.specs.Stepping.{AboveBy, recordsBy}
+use Rattle.run_change.specs.Told.{AboveBy, recordsBy}
 
 module _ (changes : List ℕ) (k : ℕ) {op x y : ℕ}
     (eo : (op ≡ getD (drop (13 * k) changes) 0 0) × (op < 2 ^ 32))

@@ -1,11 +1,11 @@
 -- `apart_from` meets its contract.
 -- Assumes nothing.
 use borrow.Author.Needs.{needs}
-use Rattle.splices_check.proofs.Turns.{Parting, parting-start, parting-next, parting-not, parting-done}
+use Rattle.splices_apart.proofs.Turns.{Parting, parting-start, parting-next, parting-not, parting-done}
 use native.Mathlib.Omega.{arith}
 use Prim.Native.Nat.{_-_}
-use Rattle.splices_check.proofs.apart_from.Statement.{statement}
-use Rattle.splices_check.proofs.apart_from.Tie as tie
+use Rattle.splices_apart.proofs.apart_from.Statement.{statement}
+use Rattle.splices_apart.proofs.apart_from.Tie as tie
 
 abbrev Inv-loop : tie.InvT-loop
 Inv-loop rows e splices i j₀ j = Parting rows e splices i j

@@ -1,0 +1,2 @@
+-- Telling      what the row of a change tells
+pub mod Telling

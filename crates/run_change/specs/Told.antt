@@ -1,0 +1,18 @@
+-- What the row of a change tells: by its words, and by the table's.
+-- Assumes nothing.
+use mathlib.Core.Path.{_≡_}
+use mathlib.Core.Bool.{Bool, cond, _&&_}
+use mathlib.Core.List.{List}
+use Prim.Native.Nat.{ℕ, _+_, _-_, _*_, _≤_}
+use lib.ListN.{getD}
+use lib.Dec.{eqb}
+use Rattle.record_changes.specs.ChangeRow.{ChangeRow}
+
+-- the depth of the node below which a change of this operation and target goes, by the table's word
+pub record AboveBy (lines : List ℕ) (op x r : ℕ) : Type 0 where
+  pub depth : r ≡ cond (eqb op 0) (getD lines (8 * x + 3) 0) (getD lines (8 * x + 3) 0 - 1)
+  pub low : r ≤ 64
+
+-- whether a row's change records, by its words
+unfoldable pub recordsBy : ChangeRow → Bool
+recordsBy r = eqb r.fate 0 && eqb r.tree 0

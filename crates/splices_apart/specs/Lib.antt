@@ -1,0 +1,2 @@
+-- What the functions that tell splices apart promise.
+pub mod Promises
