@@ -285,11 +285,12 @@ fn came_out(n: usize, destination: &[u8], batch: &[u8]) -> usize {
     }
 }
 
-// What a batch with this recorded refusal is to come to: line 2, 3 or 4 keeps it whole, lines 5 to 7 make it 14, any other comes out byte for byte.
+// What a batch with this recorded refusal is to come to: line 2, 3 or 4 keeps it whole, lines 5 to 7 and 16 make it 14, any other comes out byte for byte.
 fn due(refusal: usize) -> usize {
     match refusal {
         2..=4 => refusal,
         5..=7 => 14,
+        16 => 14,
         _ => 0,
     }
 }
