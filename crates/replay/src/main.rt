@@ -286,13 +286,14 @@ fn came_out(n: usize, destination: &[u8], batch: &[u8]) -> usize {
     }
 }
 
-// Whether a batch with this recorded refusal comes to what it is to come to: 2 and 4 keep it whole, 5 to 7 make it 14, and so does 3, unless 4 keeps it whole;
+// Whether a batch with this recorded refusal comes to what it is to come to: 2 and 4 keep it whole, 5 to 7 and 16 make it 14, and so does 3, unless 4 keeps it whole;
 // any other comes out byte for byte.
 fn is_due(refusal: usize, again: usize) -> bool {
     match refusal {
         2 | 4 => again == refusal,
         3 => { if again == 4 { true } else { again == 14 } }
         5..=7 => again == 14,
+        16 => again == 14,
         _ => again == 0,
     }
 }
