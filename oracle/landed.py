@@ -35,6 +35,11 @@ def edit_program(batch, model=notes):
     return model.edit_program(batch, level=LEVEL)
 
 
+def account_program(batch, model=notes):
+    """What the account program prints (document 02, Note 5)."""
+    return model.account_program(batch, level=LEVEL)
+
+
 def result(batch):
     """The result's bytes, or a refusal."""
     return notes.result(batch, level=LEVEL)

@@ -1,16 +1,17 @@
-//! Plays batches through the static library:   stream < batch   or   stream --stream
+//! Plays batches through the static library:   stream < batch   or   stream --stream   or   stream --accounts
 //!
 //! Without a word it reads one batch and prints the printed form. With `--stream` it reads batches, each with its length in front (a 32-bit
 //! little-endian word), and answers each with two parts, each with its length in front: the printed form, and what `find_element` gives, as
 //! `find 0:3 1: 2:` (the number asked for, a colon, the element found or nothing) if the batch was accepted. Of a batch of up to 64 elements every
-//! number is asked for, and one beyond the last; of a larger one as many, spread over it.
+//! number is asked for, and one beyond the last; of a larger one as many, spread over it. With `--accounts` the first part is what the account program
+//! prints, told from the fates that the library gives as values, and the second is empty.
 
 use std::{
     fmt::Write as _,
     io::{self, Read, Write},
 };
 
-use syntax_edit::Editor;
+use syntax_edit::{Editor, Fate, Unaccounted};
 
 const MOST_BYTES: usize = 65_536;
 
@@ -18,6 +19,21 @@ fn printed(editor: &mut Editor, batch: &[u8]) -> String {
     match editor.edit_bytes(batch) {
         Ok(answer) => answer.to_string(),
         Err(refusal) => format!("refused {}\n", refusal.number()),
+    }
+}
+
+fn accounted(editor: &mut Editor, batch: &[u8]) -> String {
+    match editor.account_bytes(batch) {
+        Ok(fates) => fates.iter().enumerate().fold(String::new(), |mut out, (number, fate)| {
+            let _ = match fate {
+                Fate::Own => writeln!(out, "{number} own"),
+                Fate::Dependent(change) => writeln!(out, "{number} dependent {change}"),
+                Fate::Discarded(change) => writeln!(out, "{number} discarded {change}"),
+            };
+            out
+        }),
+        Err(Unaccounted::Overlap(first, second)) => format!("overlap {first} {second}\n"),
+        Err(Unaccounted::Refused(refusal)) => format!("{}\n", refusal.number()),
     }
 }
 
@@ -50,13 +66,20 @@ fn write_part(output: &mut impl Write, part: &str) -> io::Result<()> {
 fn main() -> io::Result<()> {
     let mut editor = Editor::new();
     let (mut input, mut output) = (io::stdin().lock(), io::BufWriter::new(io::stdout().lock()));
-    if std::env::args().nth(1).as_deref() != Some("--stream") {
+    let word = std::env::args().nth(1);
+    if !matches!(word.as_deref(), Some("--stream" | "--accounts")) {
         let mut batch = Vec::new();
         input.take(MOST_BYTES as u64).read_to_end(&mut batch)?;
         return output.write_all(printed(&mut editor, &batch).as_bytes());
     }
     while let Some(batch) = next_batch(&mut input)? {
         let batch = &batch[..batch.len().min(MOST_BYTES)];
+        if word.as_deref() == Some("--accounts") {
+            write_part(&mut output, &accounted(&mut editor, batch))?;
+            write_part(&mut output, "")?;
+            output.flush()?;
+            continue;
+        }
         let answer = printed(&mut editor, batch);
         write_part(&mut output, &answer)?;
         let found = if answer.starts_with("ok") { finds(&mut editor, batch) } else { String::new() };
