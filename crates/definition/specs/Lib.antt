@@ -7,6 +7,7 @@
 --     Writing      THE WRITER: the batch laid out from lists, and read as lists            14, 15
 --     Recording    from calls to changes
 --     Planning     sorting, overlap, owners and discarded changes                               8
+--     EdgeRule     owners and discarded changes by edge rule 1
 --     Rewriting    a dependent's targets, and the notes                                     9, 10
 --     Running      the order, and one step                                                 11, 12
 --     Finishing    the result and its bytes                                                    13
@@ -16,6 +17,7 @@
 --     Printed      what the edit program prints
 --     Computing    every definition opened, for examples
 --     Examples     the printed case and the marked examples, one table
+--     EdgeExamples both edge rules where they part, one table
 pub mod Basics
 pub mod Words
 pub mod Batch
@@ -24,6 +26,7 @@ pub mod Refusals
 pub mod Writing
 pub mod Recording
 pub mod Planning
+pub mod EdgeRule
 pub mod Rewriting
 pub mod Running
 pub mod Finishing
@@ -33,3 +36,4 @@ pub mod Performed
 pub mod Printed
 pub mod Computing
 pub mod Examples
+pub mod EdgeExamples
