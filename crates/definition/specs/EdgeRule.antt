@@ -100,10 +100,15 @@ module _ (T : Table) where
 
   -- ── Fates ─────────────────────────────────────────────────────────────────────────────────────────────────
 
+  -- what becomes of a change, by its region and by what becomes of that
+  unfoldable pub fateIn : (ℕ × Change → Fate) → Option (ℕ × Change) → Fate
+  fateIn fate none = own
+  fateIn fate (some r) = inner T (r .0) (fate r) (r .1)
+
   -- what becomes of c, if the regions one around another that decide it are at most n
   unfoldable pub fateWithin : List (ℕ × Change) → ℕ → ℕ × Change → Fate
   fateWithin all zero c = own
-  fateWithin all (suc n) c = elim (regionOf all c) [ none ↦ own | some r ↦ inner T (r .0) (fateWithin all n r) (r .1) ]
+  fateWithin all (suc n) c = fateIn (fateWithin all n) (regionOf all c)
 
   -- what becomes of c: regions that own are one around another at falling depths
   unfoldable pub fateAmong : List (ℕ × Change) → ℕ × Change → Fate
