@@ -1,3 +1,4 @@
 pub mod Region
 pub mod Depths
 pub mod Fates
+pub mod Gone
