@@ -2,3 +2,5 @@ pub mod Region
 pub mod Depths
 pub mod Fates
 pub mod Gone
+pub mod Where
+pub mod Taking
