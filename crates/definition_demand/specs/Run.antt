@@ -122,7 +122,7 @@ module _ (old : Tree ℕ) (others : List (Tree ℕ)) (notes : List Note) where
   first₀ = begin (old ∷ others) T₀ notes
 
   -- before the first step
-  tree0-begin : Tree0 T₀ first₀ (Splices.begin old)
+  pub tree0-begin : Tree0 T₀ first₀ (Splices.begin old)
   unfolding begin forest Splices.begin
   tree0-begin = record {
     kind = 2147483648;

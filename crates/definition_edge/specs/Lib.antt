@@ -4,3 +4,4 @@ pub mod Fates
 pub mod Gone
 pub mod Where
 pub mod Taking
+pub mod Own
