@@ -5,3 +5,4 @@ pub mod Gone
 pub mod Where
 pub mod Taking
 pub mod Own
+pub mod Apart
