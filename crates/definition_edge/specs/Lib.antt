@@ -6,3 +6,5 @@ pub mod Where
 pub mod Taking
 pub mod Own
 pub mod Apart
+pub mod Stands
+pub mod Kept
