@@ -2,28 +2,28 @@
 -- Assumes nothing.
 use mathlib.Core.Path.{_≡_, refl, sym, ap, _∙_, subst}
 use mathlib.Core.Bool.{Bool, true, false, cond, not, _&&_}
-use mathlib.Core.List.{List, [], _∷_, map, zipWith, List·Memᴰ}
+use mathlib.Core.List.{List, [], _∷_, _++_, map, flatMap, zipWith, List·Memᴰ, List·Memᴰ·head, List·Memᴰ·tail, List·Memᴰ·cases-cons, List·Memᴰ·not-nil, Memᴰ·append-left, Memᴰ·append-right, List·Permᴰ, Permᴰ·symm}
+use mathlib.Core.Logic.{_⊎_, inl, inr}
 use mathlib.Core.Option.{Option, none, some}
-use Prim.Native.Nat.{ℕ, suc}
-use lib.Dec.{eqb}
-use lib.ListN.{length}
-use borrow.Author.Tests.{eq-eqb}
+use Prim.Native.Nat.{ℕ, zero, suc, _<_}
+use native.Mathlib.Omega.{arith}
+use lib.ListN.{length, getElem?}
 use Rattle.orders.specs.Lists.{All}
-use Rattle.orders.specs.ListLaws.{bool-absurd, All-map}
-use Rattle.definition.specs.Basics.{Answer, gives, numbered}
-use Rattle.definition.specs.Elements.{Table, tree}
+use Rattle.orders.specs.ListLaws.{bool-absurd, some-inj, none-some, All-mem, All-perm}
+use Rattle.definition.specs.Basics.{Answer, gives, keep, numbered, falling}
+use Rattle.definition.specs.Elements.{Table}
 use Rattle.definition.specs.Refusals.{Accepted}
 use Rattle.definition.specs.Recording.{Change}
-use Rattle.definition.specs.Planning.{Fate, own, dependent, discarded, isDiscarded, nodeByNode, inner, Planned, target, withFates}
+use Rattle.definition.specs.Planning.{Fate, own, dependent, discarded, isDiscarded, nodeByNode, inner, Planned, key, withFates}
 use Rattle.definition.specs.Rewriting.{mapping, rewriteOne, rewriting, rewritten, settled}
 use Rattle.definition.specs.EdgeRule.{takes, regionDepth, regionOf, fateIn, fateWithin, fateAmong, fates1}
 use Rattle.definition.specs.Running.{owned, ranked, order}
 use Rattle.definition.specs.Answers.{Plan, rewriteChanges, performed}
-use Rattle.definition_laws.specs.Answers.{gives-inj, given, both-given}
+use Rattle.definition_laws.specs.Answers.{gives-inj, given}
 use Rattle.definition_laws.specs.Right.{Right}
+use Rattle.definition_laws.specs.Sorting.{falling-perm}
 use Rattle.definition_laws.specs.Stages.{order-all, ranked-all, rewritten-all}
-use Rattle.definition_account.specs.Words.{dependentIn0}
-use Rattle.definition_edge.specs.Region.{mem-All, numbered-rises, region-none}
+use Rattle.definition_edge.specs.Region.{mem-All, mem-keep, numbered-rises, region-none}
 
 -- no region of the changes takes c, which is one of them
 pub record Free (T : Table) (cs : List Change) (c : Change) : Type 0 where
@@ -109,3 +109,79 @@ module _ (a : Accepted) (cs : List Change) (p : Plan) (e : planned1 a cs ≡ giv
 
   pub performed-right : All (Right a.table) cs → All (λ q. Right a.table q.change) (performed a p)
   performed-right h = performed-all (λ q. Right a.table q.change) (λ r y. (rewritten-all a.table (mapping a.mappings) ps r y) .right (with-fates (Right a.table) cs (fates1 a.table cs) h))
+
+-- ── Every own change is performed ───────────────────────────────────────────────────────────────────────────
+
+-- a change without an owner
+abbrev pub alone : Change → Planned
+alone c = record { change = c; fate = own }
+
+module _ {A : Type 0} where
+  perm-mem : {l m : List A} → List·Permᴰ l m → (x : A) → List·Memᴰ x l → List·Memᴰ x m
+  perm-mem {l} {m} d x k = All-mem (λ y. List·Memᴰ y m) l x (All-perm (λ y. List·Memᴰ y m) (Permᴰ·symm d) (mem-All (λ y. List·Memᴰ y m) m (λ y z. z))) k
+
+  mem-numbered : (n : ℕ) (l : List A) (x : A) → List·Memᴰ x l → (i : ℕ) × List·Memᴰ (i, x) (numbered n l)
+  unfolding numbered
+  mem-numbered n [] x m = absurd (List·Memᴰ·not-nil m)
+  mem-numbered n (y ∷ l) x m = go (List·Memᴰ·cases-cons m) (λ m. mem-numbered (suc n) l x m)
+    where
+      go : (x ≡ y) ⊎ List·Memᴰ x l → (List·Memᴰ x l → (i : ℕ) × List·Memᴰ (i, x) (numbered (suc n) l)) → (i : ℕ) × List·Memᴰ (i, x) (numbered n (y ∷ l))
+      go (inl e) k = (n, List·Memᴰ·head (ap (λ x. (n, x)) e))
+      go (inr m) k = let (i, q) = k m in (i, List·Memᴰ·tail q)
+
+mem-flatMap : {A B : Type 0} (f : A → List B) (l : List A) (x : A) (y : B) → List·Memᴰ x l → List·Memᴰ y (f x) → List·Memᴰ y (flatMap f l)
+unfolding flatMap
+mem-flatMap f [] x y m n = absurd (List·Memᴰ·not-nil m)
+mem-flatMap {B = B} f (z ∷ l) x y m n = go (List·Memᴰ·cases-cons m) (λ m. mem-flatMap f l x y m n)
+  where
+    go : (x ≡ z) ⊎ List·Memᴰ x l → (List·Memᴰ x l → List·Memᴰ y (flatMap f l)) → List·Memᴰ y (f z ++ flatMap f l)
+    go (inl e) k = let m : List·Memᴰ y (f z) = rw (← e) n in Memᴰ·append-left (flatMap f l) m
+    go (inr m) k = Memᴰ·append-right (f z) (k m)
+
+mem-fates : (cs : List Change) (fs : List Fate) (i : ℕ) (c : Change) (f : Fate) → getElem? cs i ≡ some c → getElem? fs i ≡ some f → List·Memᴰ (record { change = c; fate = f }) (withFates cs fs)
+unfolding withFates zipWith
+mem-fates [] fs i c f e z = none-some e
+mem-fates (d ∷ cs) [] i c f e z = none-some z
+mem-fates (d ∷ cs) (g ∷ fs) zero c f e z = let same : _≡_ {A = Planned} (record { change = c; fate = f }) (record { change = d; fate = g }) = rw (some-inj e, some-inj z) in List·Memᴰ·head same
+mem-fates (d ∷ cs) (g ∷ fs) (suc i) c f e z = List·Memᴰ·tail (mem-fates cs fs i c f e z)
+
+module _ (T : Table) (mapped : ℕ → Option ℕ) (c : Change) where
+  mem-stays : (cs : List Change) (ps : List Planned) (r : List Planned × ℕ) → rewriting T mapped cs ps ≡ gives r → List·Memᴰ (alone c) ps → List·Memᴰ (alone c) (r .0)
+  unfolding rewriting rewriteOne
+  mem-stays cs [] r e m = absurd (List·Memᴰ·not-nil m)
+  mem-stays cs (p ∷ ps) r e m =
+      given (rewriting T mapped cs ps) _ e λ later a e.
+      given (rewriteOne T mapped cs p.fate p.change) _ e λ n b e.
+      rw (← gives-inj e) (go later n b (List·Memᴰ·cases-cons m) (λ m. mem-stays cs ps later a m))
+    where
+      go : (later : List Planned × ℕ) (n : Change × ℕ) → rewriteOne T mapped cs p.fate p.change ≡ gives n → (alone c ≡ p) ⊎ List·Memᴰ (alone c) ps → (List·Memᴰ (alone c) ps → List·Memᴰ (alone c) (later .0))
+          → List·Memᴰ (alone c) (record { change = n .0; fate = p .fate } ∷ later .0)
+      go later n b (inl z) k =
+          let same : (c, 0) ≡ n = gives-inj (ap (λ (p : Planned). rewriteOne T mapped cs p.fate p.change) z ∙ b) in
+          let is : alone c ≡ record { change = n .0; fate = p .fate } = rw (← same, ← z) in
+          List·Memᴰ·head is
+      go later n b (inr m) k = List·Memᴰ·tail (k m)
+
+  order-mem : (qs : List (ℕ × Planned)) (n i : ℕ) → List·Memᴰ (i, alone c) qs → 0 < n → List·Memᴰ (alone c) (order qs n none)
+  unfolding order owned
+  order-mem qs zero i m h = absurd (omega arith)
+  order-mem qs (suc n) i m h =
+      mem-flatMap (λ (q : ℕ × Planned). order qs n (some (q .0)) ++ (q .1 ∷ [])) (keep (λ (q : ℕ × Planned). owned none (q .1 .fate)) qs) (i, alone c) (alone c)
+      (mem-keep (λ (q : ℕ × Planned). owned none (q .1 .fate)) qs (i, alone c) m refl) (Memᴰ·append-right (order qs n (some i)) (List·Memᴰ·head refl))
+
+-- a change that the account calls own is performed, as it was recorded
+pub own-performed : (a : Accepted) (cs : List Change) (p : Plan) → planned1 a cs ≡ gives p → (i : ℕ) (c : Change) → getElem? cs i ≡ some c → getElem? (fates1 a.table cs) i ≡ some own → List·Memᴰ (alone c) (performed a p)
+unfolding performed rewriteChanges rewritten ranked falling
+own-performed a cs p e i c x y =
+    let T = a .table in
+    let ps = withFates cs (fates1 T cs) in
+    let m = mem-fates cs (fates1 T cs) i c own x y in
+    given (rewritten T (mapping a.mappings) ps) _ e λ r z e.
+    given (settled T (mapping a.mappings) 0 a.notes) _ e λ notes u e.
+    let k = mem-stays T (mapping a.mappings) c (map (λ q. q .change) ps) ps r z m in
+    let (j, n) = mem-numbered 0 (r .0) (alone c) k in
+    rw (← gives-inj e) (order-mem T (mapping a.mappings) c (ranked T (r .0)) (length (r .0)) j (perm-mem (falling-perm (λ q. key T (q .1 .change)) (numbered 0 (r .0))) (j, alone c) n) (long (r .0) k))
+  where
+    long : (l : List Planned) → List·Memᴰ (alone c) l → 0 < length l
+    long [] m = absurd (List·Memᴰ·not-nil m)
+    long (q ∷ l) m = omega arith

@@ -33,7 +33,7 @@ module _ {A : Type 0} where
         go y true h a e = rw (← some-inj e) (a, h)
         go y false h a e = none-some e
 
-    mem-keep : (l : List A) (x : A) → List·Memᴰ x l → p x ≡ true → List·Memᴰ x (keep p l)
+    pub mem-keep : (l : List A) (x : A) → List·Memᴰ x l → p x ≡ true → List·Memᴰ x (keep p l)
     unfolding keep
     mem-keep l x m h = mem-pick (λ y. cond (p y) (some y) none) l x x m (rw h)
 
