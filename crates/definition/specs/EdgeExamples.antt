@@ -1,7 +1,7 @@
 -- Both edge rules on the cases where they part: one table, by computation.
 -- Assumes nothing.
 use mathlib.Core.Path.{_≡_, refl}
-use mathlib.Core.List.{List, [], _∷_, map}
+use mathlib.Core.List.{List, [], _∷_, _++_, map}
 use Prim.Native.Nat.{ℕ}
 use Prim.Native.String.{String}
 use Rattle.orders.specs.Tree.{Tree}
@@ -42,6 +42,12 @@ onEmpty = on (nodeOf 1 (nodeOf 2 [] ∷ nodeOf 2 [] ∷ nodeOf 2 [] ∷ tokenOf 
 -- calls on root(X(Y(a)), b): X is 1, Y 2, a 3; c is 6, its root 5
 abbrev onY : List Call → Told
 onY = on (nodeOf 1 (nodeOf 2 (nodeOf 3 (tokenOf 3 "a" ∷ []) ∷ []) ∷ tokenOf 4 "b" ∷ []) ∷ nodeOf 5 (tokenOf 6 "c" ∷ []) ∷ [])
+
+-- calls on root(X(Y(a)), b) beside R(X′(Y′(a))) and Q(Y″(a)), X mapped to X′ and Y to Y″: X is 1, Y 2, a 3; c is 6, R 7, Q 11
+abbrev nestedOwners : List Call → Told
+nestedOwners calls =
+    let Y : Tree ℕ = nodeOf 3 (tokenOf 3 "a" ∷ []) in
+    record { trees = (onY []) .trees ++ (nodeOf 7 (nodeOf 2 (Y ∷ []) ∷ []) ∷ nodeOf 8 (Y ∷ []) ∷ []); calls = calls; mappings = (1, 8) ∷ (2, 12) ∷ []; notes = [] }
 
 -- ── What is told of each ────────────────────────────────────────────────────────────────────────────────────
 
@@ -115,6 +121,14 @@ cases =
     ∷ case (onEmpty (call 5 1 (3 ∷ 6 ∷ []) ∷ call 5 1 (3 ∷ 7 ∷ []) ∷ [])) (own ∷ discarded 0 ∷ []) (text "cb") (text "cb")
     -- delete Z, the run from Y to V by c
     ∷ case (onEmpty (call 3 2 [] ∷ call 5 1 (3 ∷ 6 ∷ []) ∷ [])) (own ∷ discarded 0 ∷ []) (text "cb") (text "cb")
+    -- Z by a node, the run from Y to V, c into Z: the run takes the replacement, which takes c, and so discards it
+    ∷ case (onEmpty (call 2 2 (5 ∷ []) ∷ call 5 1 (3 ∷ []) ∷ call 0 2 (6 ∷ []) ∷ [])) (own ∷ discarded 0 ∷ discarded 1 ∷ []) (text "b") (text "b")
+    -- X by a node, Y in it by a node, c after a: owners one around another
+    ∷ case (nestedOwners (call 2 1 (7 ∷ []) ∷ call 2 2 (11 ∷ []) ∷ call 1 3 (6 ∷ []) ∷ [])) (own ∷ dependent 0 ∷ dependent 1 ∷ []) (text "acb") (text "acb")
+    -- one editor deletes Y, another replaces it by a node, c into Y: of two regions at one depth the last
+    ∷ case (onEmpty (call 3 1 [] ∷ call 6 0 [] ∷ call 2 1 (5 ∷ []) ∷ call 0 1 (6 ∷ []) ∷ [])) (own ∷ own ∷ dependent 1 ∷ []) (text "b") (refused 9)
+    -- delete Y, the root by a node, c into Y: the root's replacement is the outermost, though sorted later
+    ∷ case (onEmpty (call 3 1 [] ∷ call 2 0 (5 ∷ []) ∷ call 0 1 (6 ∷ []) ∷ [])) (dependent 1 ∷ own ∷ discarded 0 ∷ []) (refused 9) (refused 9)
     -- two editors delete Y
     ∷ case (onEmpty (call 3 1 [] ∷ call 6 0 [] ∷ call 3 1 [] ∷ [])) (own ∷ own ∷ []) (text "b") (refused 11)
     -- the root by a node, c as first child of the root: the region is the root's replacement, sorted later

@@ -9,7 +9,7 @@ use mathlib.Core.Option.{Option, none, some, Option·map, bind}
 use Prim.Native.Nat.{ℕ, zero, suc, _<_}
 use native.Mathlib.Omega.{arith}
 use lib.Dec.{eqb}
-use lib.ListN.{length, take}
+use lib.ListN.{length, getElem?}
 use borrow.Author.Tests.{eq-eqb}
 use Rattle.orders.specs.Lists.{pick, All}
 use Rattle.orders.specs.ListLaws.{bool-absurd, All-map, All-mem, mem-pick}
@@ -36,8 +36,9 @@ use Rattle.definition_demand.specs.Run.{splicesIn0, DemandedOf, met-step}
 use Rattle.definition_demand.specs.Answered.{ApartIn, AnswersOneGo, table-demanded, result-shows}
 use Rattle.definition_account.specs.Words.{keepsRoot, noDependentIn0}
 use Rattle.definition_account.specs.Run.{first-present}
+use Rattle.definition_edge.specs.Fates.{FateAt}
 use Rattle.definition_edge.specs.Where.{At, Beside, beside, goes-at}
-use Rattle.definition_edge.specs.Own.{planned1, performed-right}
+use Rattle.definition_edge.specs.Own.{planned1, performed-right, alone, own-performed}
 use Rattle.definition_edge.specs.Apart.{apart-by-rule-1}
 use Rattle.definition_edge.specs.Stands.{StandsIn, prepared-stands}
 
@@ -168,3 +169,7 @@ module _ (bytes : List ℕ) (a : Accepted) (cs : List Change) (p : Plan) (w : Wo
       let k = accepts bytes a (h .accepted) in
       let x = ran-apart .1 in
       table-stood p.notes old (performed a p) w a.table a.trees (k .table) ran-demanded (x .apart) (All-map (λ q c. right-sits a.table q.change c) (performed a p) (performed-right a cs p (h .planned) (h .right))) (x .unreplaced) (h .ran)
+
+  -- so does what a change that the account calls own puts into tree 0
+  pub own-stood : (i : ℕ) (c : Change) → getElem? cs i ≡ some c → FateAt a.table cs i own → tree a.table (target c) ≡ 0 → Stood a.table (atFirst a p) (performed a p) w (alone c)
+  own-stood i c e f z = ran-stood (alone c) (own-performed a cs p (h .planned) i c e f) z
