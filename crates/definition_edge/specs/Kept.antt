@@ -19,8 +19,8 @@ use Rattle.orders.specs.Splices.{Splice, oneGo, AllApart}
 use Rattle.definition.specs.Basics.{Answer, refused, gives, numbered}
 use Rattle.definition.specs.Elements.{Table, table, row, root?, tree, child}
 use Rattle.definition.specs.Refusals.{Accepted, accepted}
-use Rattle.definition.specs.Recording.{firstChild, after, Change, insert, replace, delete, replaceWithMany, replaceAll}
-use Rattle.definition.specs.Planning.{own, Planned, target}
+use Rattle.definition.specs.Recording.{firstChild, after, Change, insert, replace, delete, replaceWithMany, replaceAll, recorded}
+use Rattle.definition.specs.Planning.{own, Planned, target, sorted}
 use Rattle.definition.specs.Rewriting.{Note}
 use Rattle.definition.specs.EdgeRule.{parentOrRoot, targetParent}
 use Rattle.definition.specs.Running.{World, Run, begin, present, place, fromTo, emptyAt, step, steps}
@@ -30,6 +30,8 @@ use Rattle.definition.specs.Performed.{inTree0, toSplice, met, told, yields, sp
 use Rattle.definition_laws.specs.Answers.{given}
 use Rattle.definition_laws.specs.Accepted.{accepts}
 use Rattle.definition_laws.specs.Kin.{path-long, not-root}
+use Rattle.definition_laws.specs.Plans.{checked}
+use Rattle.definition_laws.specs.Plans as Plans
 use Rattle.definition_laws.specs.Right.{Right, Sits, right-sits}
 use Rattle.definition_demand.specs.Aims.{replacesRoot}
 use Rattle.definition_demand.specs.Run.{splicesIn0, DemandedOf, met-step}
@@ -134,7 +136,11 @@ table-stood notes old ps w T ts e = rw e (λ d h. stood ts notes old ps w d h)
 
 -- ── The one-go tree ─────────────────────────────────────────────────────────────────────────────────────────
 
--- a batch planned by rule 1, its run not refused, the root of tree 0 not replaced, no dependent change ending in tree 0
+-- the sorted changes of a batch are such as line 6 accepts
+pub changes-right : (bytes : List ℕ) (a : Accepted) → accepted bytes ≡ gives a → All (Right a.table) (sorted a.table (recorded a.calls))
+changes-right bytes a x = Plans.changes-right a (checked bytes a (accepts bytes a x))
+
+-- a batch with these changes planned by rule 1, its run not refused, the root of tree 0 not replaced, no dependent change ending in tree 0
 pub record Ran1 (bytes : List ℕ) (a : Accepted) (cs : List Change) (p : Plan) (w : World) : Type 0 where
   pub accepted : accepted bytes ≡ gives a
   pub right : All (Right a.table) cs

@@ -22,3 +22,4 @@ pub mod Own
 pub mod Apart
 pub mod Stands
 pub mod Kept
+pub mod Examples
