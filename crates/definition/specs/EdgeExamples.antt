@@ -106,6 +106,8 @@ cases =
     ∷ case (onY (call 3 1 [] ∷ call 2 2 (5 ∷ []) ∷ call 1 3 (6 ∷ []) ∷ [])) (own ∷ discarded 0 ∷ discarded 1 ∷ []) (text "b") (text "b")
     -- the run from A to C goes, x before it, y after A, y after C
     ∷ case (onRow (call 5 1 (5 ∷ []) ∷ call 0 0 (9 ∷ []) ∷ call 1 1 (10 ∷ []) ∷ call 1 5 (10 ∷ []) ∷ [])) (own ∷ own ∷ discarded 1 ∷ own ∷ []) (text "xd") (text "xyd")
+    -- the run from A to C goes, x into C
+    ∷ case (onRow (call 5 1 (5 ∷ []) ∷ call 0 5 (9 ∷ []) ∷ [])) (own ∷ discarded 0 ∷ []) (text "d") (text "d")
     -- the run from A to C, and B deleted: 8 keeps its rule
     ∷ case (onRow (call 5 1 (5 ∷ []) ∷ call 3 3 [] ∷ [])) (own ∷ discarded 0 ∷ []) (refused 8) (refused 8)
     -- delete Z, c into Y: both stand at one offset
