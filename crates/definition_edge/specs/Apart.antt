@@ -2,10 +2,10 @@
 -- Assumes nothing.
 use mathlib.Core.Path.{_≡_, refl, sym, ap, _∙_, subst}
 use mathlib.Core.Bool.{Bool, true, false, not, _&&_}
-use mathlib.Core.List.{List, [], _∷_, _++_, map, headD, head-eq-of-cons-eq, nil≢cons, List·Memᴰ}
+use mathlib.Core.List.{List, [], _∷_, _++_, headD, nil≢cons}
 use mathlib.Core.Logic.{_⊎_, inl, inr}
-use mathlib.Core.Option.{Option, none, some}
-use Prim.Native.Nat.{ℕ, zero, suc, _-_, _≤_, _<_}
+use mathlib.Core.Option.{none, some}
+use Prim.Native.Nat.{ℕ, _-_, _≤_, _<_}
 use native.Mathlib.Omega.{arith}
 use lib.Dec.{eqb}
 use lib.ListN.{length, take, getElem?}
@@ -13,7 +13,7 @@ use borrow.Author.Tests.{not-true, eq-eqb}
 use Rattle.orders.specs.Lists.{pick, All, Pairs}
 use Rattle.orders.specs.ListLaws.{bool-absurd, some-inj, lt-or-le, All-map, All-map₂, All-mem, All-over, All-pick, none-passes}
 use Rattle.orders.specs.Tree.{Tree, Path}
-use Rattle.orders.specs.Splices.{Splice, Enters, Overlap, Apart, AllApart}
+use Rattle.orders.specs.Splices.{Splice, Enters, Overlap, Apart}
 use Rattle.orders.specs.Splices as Splices
 use Rattle.orders.specs.Target.{Rising}
 use Rattle.definition.specs.Basics.{gives, numbered}
@@ -22,10 +22,10 @@ use Rattle.definition.specs.Refusals.{Accepted, accepted}
 use Rattle.definition.specs.Recording.{firstChild, after, Change, insert, replace, delete, replaceWithMany, replaceAll}
 use Rattle.definition.specs.Planning.{Fate, own, dependent, discarded, Planned, target}
 use Rattle.definition.specs.Rewriting.{Note}
-use Rattle.definition.specs.EdgeRule.{parentOrRoot, targetParent, ofRoot, takes}
+use Rattle.definition.specs.EdgeRule.{parentOrRoot, targetParent, ofRoot, takes, fates1}
 use Rattle.definition.specs.Running.{World, Run, begin, place, owned, steps}
 use Rattle.definition.specs.Answers.{Plan, performed, atFirst, ran}
-use Rattle.definition.specs.Performed.{inTree0, toSplice, met, told, yields, splices}
+use Rattle.definition.specs.Performed.{inTree0, toSplice, met, told, splices}
 use Rattle.definition_laws.specs.Answers.{bound}
 use Rattle.definition_laws.specs.Accepted.{accepts}
 use Rattle.definition_laws.specs.Spelling.{Worded}
@@ -37,7 +37,7 @@ use Rattle.definition_demand.specs.Aims.{replacesRoot}
 use Rattle.definition_demand.specs.Run.{splicesIn0, splices-rise, run-made, tree0-begin}
 use Rattle.definition_demand.specs.Answered.{ApartIn}
 use Rattle.definition_account.specs.Words.{dependentIn0, keepsRoot, noDependentIn0}
-use Rattle.definition_edge.specs.Gone.{End, Missed, missed}
+use Rattle.definition_edge.specs.Gone.{Missed, missed}
 use Rattle.definition_edge.specs.Where.{span, At, Beside, beside, goes-at}
 use Rattle.definition_edge.specs.Taking.{deeper-taken, inside-taken}
 use Rattle.definition_edge.specs.Own.{Free, OwnFree, planned1, performed-free, performed-right}
@@ -195,7 +195,7 @@ unfolding ran splices atFirst keepsRoot
 apart-by-rule-1 bytes a x cs h p y w e r d =
     let k = accepts bytes a x in
     let (old, t, z) = zeroth a.trees (omega (arith, k .limits .some-tree, k .roots)) in
-    let right = performed-right a cs p y h in
+    let right = performed-right a cs (fates1 a.table cs) p y h in
     let pairs = table-pairs old p.notes cs (performed a p) w a.table a.trees t (k .table) (k .spells .worded) right (performed-free a cs p y) e r d in
     let placed = splices-placed a p old z (k .table) (k .spells .worded) right in
     (old, record { tree0 = t; apart = record { fits = placed .fits; apart = pairs }; unreplaced = none-passes (λ q. replacesRoot a.table q.change) (performed a p) (not-true _ r) })

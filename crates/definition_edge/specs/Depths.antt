@@ -1,26 +1,24 @@
 -- Depths: a region that makes inner changes dependent has a lower target parent than what belongs to it. So the regions that decide a fate are soon at an end.
 -- Assumes nothing.
 use mathlib.Core.Path.{_≡_, refl, sym, ap, _∙_}
-use mathlib.Core.Bool.{Bool, true, false, cond, not, _&&_, _||_}
-use mathlib.Core.List.{List, [], _∷_, _++_, List·Memᴰ}
+use mathlib.Core.Bool.{Bool, true, false, cond, not, _&&_}
+use mathlib.Core.List.{List}
 use mathlib.Core.Logic.{_⊎_, inl, inr}
 use mathlib.Core.Option.{Option, none, some, Option·getD}
-use Prim.Native.Nat.{ℕ, zero, suc, _-_, _≤_, _<_}
+use Prim.Native.Nat.{ℕ, suc, _-_, _≤_, _<_}
 use native.Mathlib.Omega.{arith}
 use lib.Dec.{leb}
 use lib.ListN.{length, length-append}
 use borrow.Author.Tests.{not-true}
-use Rattle.orders.specs.Lists.{All}
-use Rattle.orders.specs.ListLaws.{bool-absurd, bool?, both-true, either-true, any-mem, All-mem}
+use Rattle.orders.specs.ListLaws.{bool-absurd, both-true, either-true, any-mem}
 use Rattle.orders.specs.Tree.{Tree}
-use Rattle.definition.specs.Elements.{Table, table, row, node?, root?, depth, parent, child}
+use Rattle.definition.specs.Elements.{Table, table, row, root?, depth, parent, child}
 use Rattle.definition.specs.Refusals.{sameParent}
 use Rattle.definition.specs.Recording.{firstChild, after, Change, insert, replace, delete, replaceWithMany, replaceAll}
-use Rattle.definition.specs.Planning.{Fate, own, dependent, discarded, isDiscarded, above, parentDepth, addsRegion, nodeByNode, inner}
-use Rattle.definition.specs.EdgeRule.{inRun, atOrBelow, parentOrRoot, targetParent, ofRoot, removes, inside, takes, regionDepth, regionOf, fateWithin, fateAmong}
+use Rattle.definition.specs.Planning.{above, parentDepth, addsRegion, nodeByNode}
+use Rattle.definition.specs.EdgeRule.{inRun, atOrBelow, parentOrRoot, targetParent, ofRoot, removes, inside, takes, regionDepth}
 use Rattle.definition_laws.specs.Kin.{IsParent, parent-is, root-is, line-above, depth-path, path-long}
 use Rattle.definition_laws.specs.Right.{Sits, same-parent}
-use Rattle.definition_edge.specs.Region.{Rising, Innermost, region-some}
 
 module _ (ts : List (Tree ℕ)) where
   abbrev T : Table

@@ -4,12 +4,12 @@ use mathlib.Core.Path.{_≡_, refl, sym, ap, _∙_}
 use mathlib.Core.Bool.{Bool, true, false, cond, not, _&&_}
 use mathlib.Core.List.{List, [], _∷_, map, List·Memᴰ, List·Memᴰ·not-nil, List·Memᴰ·cases-cons}
 use mathlib.Core.Logic.{_↔_, _⊎_, inl, inr}
-use mathlib.Core.Option.{Option, none, some, Option·map}
+use mathlib.Core.Option.{Option, none, some}
 use Prim.Native.Nat.{ℕ, zero, suc, _+_, _<_}
 use native.Mathlib.Omega.{arith}
-use lib.ListN.{length, getElem?, length-map}
+use lib.ListN.{getElem?}
 use Rattle.orders.specs.Lists.{All}
-use Rattle.orders.specs.ListLaws.{bool-absurd, some-inj, none-some, All-mem, get-mem}
+use Rattle.orders.specs.ListLaws.{some-inj, none-some, All-mem, get-mem}
 use Rattle.orders.specs.Tree.{Tree}
 use Rattle.definition.specs.Basics.{numbered}
 use Rattle.definition.specs.Elements.{Table, table}
@@ -18,7 +18,7 @@ use Rattle.definition.specs.Planning.{Fate, own, dependent, discarded, isDiscar
 use Rattle.definition.specs.EdgeRule.{takes, regionDepth, regionOf, fateIn, fateWithin, fateAmong, fates1}
 use Rattle.definition_laws.specs.Right.{Sits}
 use Rattle.definition_laws.specs.Stages.{numbered-all}
-use Rattle.definition_edge.specs.Region.{Rising, numbered-rises, place-tells, Innermost, region-some, region-innermost, region-nowhere}
+use Rattle.definition_edge.specs.Region.{Rising, numbered-rises, Innermost, region-some, region-innermost, region-nowhere}
 use Rattle.definition_edge.specs.Depths.{taken-deeper}
 
 -- ── What a region makes of inner changes ────────────────────────────────────────────────────────────────────

@@ -1,30 +1,29 @@
 -- UNDER RULE 1 NO OWN INSERTION IS LOST: a batch that replaces no root of tree 0, and has no dependent change ending there, answers with the one-go tree, and what each own
 -- change puts into tree 0 stands in it.
 -- Assumes nothing.
-use mathlib.Core.Path.{_≡_, refl, sym, ap, _∙_, subst}
-use mathlib.Core.Bool.{Bool, true, false, cond, not, _&&_}
-use mathlib.Core.List.{List, [], _∷_, _++_, map, headD, List·Memᴰ, List·Memᴰ·head, List·Memᴰ·tail, List·Memᴰ·cases-cons, List·Memᴰ·not-nil}
+use mathlib.Core.Path.{_≡_, refl, sym, ap, _∙_}
+use mathlib.Core.Bool.{Bool, true, false, cond}
+use mathlib.Core.List.{List, [], _∷_, map, headD, List·Memᴰ, List·Memᴰ·head, List·Memᴰ·tail, List·Memᴰ·cases-cons, List·Memᴰ·not-nil}
 use mathlib.Core.Logic.{_⊎_, inl, inr}
-use mathlib.Core.Option.{Option, none, some, Option·map, bind}
-use Prim.Native.Nat.{ℕ, zero, suc, _<_}
+use mathlib.Core.Option.{some, Option·map, bind}
+use Prim.Native.Nat.{ℕ, suc, _<_}
 use native.Mathlib.Omega.{arith}
-use lib.Dec.{eqb}
 use lib.ListN.{length, getElem?}
 use borrow.Author.Tests.{eq-eqb}
 use Rattle.orders.specs.Lists.{pick, All}
 use Rattle.orders.specs.ListLaws.{bool-absurd, All-map, All-mem, mem-pick}
 use Rattle.orders.specs.Tree.{Tree, Path, front, last}
 use Rattle.orders.specs.TreeLaws.{front-child}
-use Rattle.orders.specs.Splices.{Splice, oneGo, AllApart}
-use Rattle.definition.specs.Basics.{Answer, refused, gives, numbered}
+use Rattle.orders.specs.Splices.{oneGo, AllApart}
+use Rattle.definition.specs.Basics.{gives, numbered}
 use Rattle.definition.specs.Elements.{Table, table, row, root?, tree, child}
 use Rattle.definition.specs.Refusals.{Accepted, accepted}
 use Rattle.definition.specs.Recording.{firstChild, after, Change, insert, replace, delete, replaceWithMany, replaceAll, recorded}
-use Rattle.definition.specs.Planning.{own, Planned, target, sorted}
+use Rattle.definition.specs.Planning.{Fate, own, Planned, target, sorted}
 use Rattle.definition.specs.Rewriting.{Note}
-use Rattle.definition.specs.EdgeRule.{parentOrRoot, targetParent}
+use Rattle.definition.specs.EdgeRule.{targetParent, fates1}
 use Rattle.definition.specs.Running.{World, Run, begin, present, place, fromTo, emptyAt, step, steps}
-use Rattle.definition.specs.Finishing.{newTree, Result, result}
+use Rattle.definition.specs.Finishing.{newTree, result}
 use Rattle.definition.specs.Answers.{Plan, performed, atFirst, ran}
 use Rattle.definition.specs.Performed.{inTree0, toSplice, met, told, yields, splices}
 use Rattle.definition_laws.specs.Answers.{given}
@@ -39,8 +38,8 @@ use Rattle.definition_demand.specs.Answered.{ApartIn, AnswersOneGo, table-deman
 use Rattle.definition_account.specs.Words.{keepsRoot, noDependentIn0}
 use Rattle.definition_account.specs.Run.{first-present}
 use Rattle.definition_edge.specs.Fates.{FateAt}
-use Rattle.definition_edge.specs.Where.{At, Beside, beside, goes-at}
-use Rattle.definition_edge.specs.Own.{planned1, performed-right, alone, own-performed}
+use Rattle.definition_edge.specs.Where.{goes-at}
+use Rattle.definition_edge.specs.Own.{plannedBy, planned1, performed-right, alone, own-performed}
 use Rattle.definition_edge.specs.Apart.{apart-by-rule-1}
 use Rattle.definition_edge.specs.Stands.{StandsIn, prepared-stands}
 
@@ -116,6 +115,7 @@ module _ (ts : List (Tree ℕ)) (notes : List Note) where
   in0 : (r : Run) (p : Path) → r .parent ≡ 0 ∷ p → inTree0 r ≡ some (record { parent = p; from = r .from; to = r .to })
   unfolding inTree0
   in0 r p e = rw e
+
   module _ (old : Tree ℕ) (ps : List Planned) (w : World) (d : DemandedOf old (splicesIn0 T first ps) T w) (h : AllApart old (splicesIn0 T first ps)) where
     stood : All (λ q. Sits T q.change) ps → All (λ q. replacesRoot T q.change ≡ false) ps → steps T first first ps ≡ gives w → (q : Planned) → List·Memᴰ q ps → tree T (target q.change) ≡ 0 → Stood T first ps w q
     unfolding told bind toSplice
@@ -140,6 +140,15 @@ table-stood notes old ps w T ts e = rw e (λ d h. stood ts notes old ps w d h)
 pub changes-right : (bytes : List ℕ) (a : Accepted) → accepted bytes ≡ gives a → All (Right a.table) (sorted a.table (recorded a.calls))
 changes-right bytes a x = Plans.changes-right a (checked bytes a (accepts bytes a x))
 
+-- DEMAND 3'S LAST SENTENCE FOR EITHER RULE, whatever the fates: a batch so planned, whose splices are apart and leave the root unreplaced, answers with the one-go tree
+pub either-rule : (bytes : List ℕ) (a : Accepted) → accepted bytes ≡ gives a → (cs : List Change) → All (Right a.table) cs → (fs : List Fate) (p : Plan) → plannedBy a cs fs ≡ gives p → (w : World) → ran a p ≡ gives w
+    → (old : Tree ℕ) → ApartIn old a p → AnswersOneGo old a p (result p.changes p.climbs w)
+unfolding ran atFirst splices
+either-rule bytes a x cs h fs p y w e old k =
+    let sits = All-map (λ q c. right-sits a.table q.change c) (performed a p) (performed-right a cs fs p y h) in
+    let d = table-demanded old p.notes w (performed a p) a.table a.trees (k .tree0) ((accepts bytes a x) .table) sits (k .unreplaced) e (k .apart) in
+    record { end = w; run = e; demanded = d; shows = result-shows (oneGo (splices a p) old) p.changes p.climbs w (d .tree ∙ ap (λ t. t ∷ []) (d .demanded .tree)) }
+
 -- a batch with these changes planned by rule 1, its run not refused, the root of tree 0 not replaced, no dependent change ending in tree 0
 pub record Ran1 (bytes : List ℕ) (a : Accepted) (cs : List Change) (p : Plan) (w : World) : Type 0 where
   pub accepted : accepted bytes ≡ gives a
@@ -157,24 +166,19 @@ module _ (bytes : List ℕ) (a : Accepted) (cs : List Change) (p : Plan) (w : Wo
   abbrev old : Tree ℕ
   old = ran-apart .0
 
-  ran-demanded : DemandedOf old (splices a p) a.table w
-  unfolding ran atFirst splices
-  ran-demanded =
-      let k = accepts bytes a (h .accepted) in
-      let x = ran-apart .1 in
-      table-demanded old p.notes w (performed a p) a.table a.trees (x .tree0) (k .table) (All-map (λ q c. right-sits a.table q.change c) (performed a p) (performed-right a cs p (h .planned) (h .right))) (x .unreplaced) (h .ran) (x .apart)
-
   -- so it answers with the one-go tree
   pub ran-one-go : AnswersOneGo old a p (result p.changes p.climbs w)
-  ran-one-go = let d = ran-demanded in record { end = w; run = h .ran; demanded = d; shows = result-shows (oneGo (splices a p) old) p.changes p.climbs w (d .tree ∙ ap (λ t. t ∷ []) (d .demanded .tree)) }
+  ran-one-go = either-rule bytes a (h .accepted) cs (h .right) (fates1 a.table cs) p (h .planned) w (h .ran) old (ran-apart .1)
 
   -- AND WHAT EACH CHANGE PERFORMED IN TREE 0 PUTS IN STANDS THERE: all of them are own, so no own insertion is lost
   pub ran-stood : (q : Planned) → List·Memᴰ q (performed a p) → tree a.table (target q.change) ≡ 0 → Stood a.table (atFirst a p) (performed a p) w q
-  unfolding ran atFirst splices
+  unfolding ran atFirst splices ran-one-go either-rule
   ran-stood =
       let k = accepts bytes a (h .accepted) in
       let x = ran-apart .1 in
-      table-stood p.notes old (performed a p) w a.table a.trees (k .table) ran-demanded (x .apart) (All-map (λ q c. right-sits a.table q.change c) (performed a p) (performed-right a cs p (h .planned) (h .right))) (x .unreplaced) (h .ran)
+      let y = ran-one-go in
+      let sits = All-map (λ q c. right-sits a.table q.change c) (performed a p) (performed-right a cs (fates1 a.table cs) p (h .planned) (h .right)) in
+      table-stood p.notes old (performed a p) w a.table a.trees (k .table) (y .demanded) (x .apart) sits (x .unreplaced) (h .ran)
 
   -- so does what a change that the account calls own puts into tree 0
   pub own-stood : (i : ℕ) (c : Change) → getElem? cs i ≡ some c → FateAt a.table cs i own → tree a.table (target c) ≡ 0 → Stood a.table (atFirst a p) (performed a p) w (alone c)

@@ -1,6 +1,6 @@
 -- A change that rule 1 calls own is taken by no region, and stays so: it is not rewritten, and performed as it was recorded.
 -- Assumes nothing.
-use mathlib.Core.Path.{_≡_, refl, sym, ap, _∙_, subst}
+use mathlib.Core.Path.{_≡_, refl, sym, ap, _∙_}
 use mathlib.Core.Bool.{Bool, true, false, cond, not, _&&_}
 use mathlib.Core.List.{List, [], _∷_, _++_, map, flatMap, zipWith, List·Memᴰ, List·Memᴰ·head, List·Memᴰ·tail, List·Memᴰ·cases-cons, List·Memᴰ·not-nil, Memᴰ·append-left, Memᴰ·append-right, List·Permᴰ, Permᴰ·symm}
 use mathlib.Core.Logic.{_⊎_, inl, inr}
@@ -81,9 +81,13 @@ module _ (T : Table) (mapped : ℕ → Option ℕ) (F : Change → Type 0) where
 
 -- ── What is performed ───────────────────────────────────────────────────────────────────────────────────────
 
+-- the plan of these changes with these fates
+abbrev pub plannedBy : Accepted → List Change → List Fate → Answer Plan
+plannedBy a cs fs = rewriteChanges a (withFates cs fs)
+
 -- the plan of these changes by edge rule 1
 abbrev pub planned1 : Accepted → List Change → Answer Plan
-planned1 a cs = rewriteChanges a (withFates cs (fates1 a.table cs))
+planned1 a cs = plannedBy a cs (fates1 a.table cs)
 
 with-fates : (P : Change → Type 0) (cs : List Change) (fs : List Fate) → All P cs → All (λ q. P q.change) (withFates cs fs)
 unfolding withFates zipWith
@@ -91,24 +95,24 @@ with-fates P [] fs h = tt
 with-fates P (c ∷ cs) [] h = tt
 with-fates P (c ∷ cs) (f ∷ fs) h = (h .0, with-fates P cs fs (h .1))
 
-module _ (a : Accepted) (cs : List Change) (p : Plan) (e : planned1 a cs ≡ gives p) where
-  abbrev ps : List Planned
-  ps = withFates cs (fates1 a.table cs)
-
+module _ (a : Accepted) (cs : List Change) (fs : List Fate) (p : Plan) (e : plannedBy a cs fs ≡ gives p) where
   -- what each rewritten change has, each performed one has
-  performed-all : (P : Planned → Type 0) → ((r : List Planned × ℕ) → rewritten a.table (mapping a.mappings) ps ≡ gives r → All P (r .0)) → All P (performed a p)
+  performed-all : (P : Planned → Type 0) → ((r : List Planned × ℕ) → rewritten a.table (mapping a.mappings) (withFates cs fs) ≡ gives r → All P (r .0)) → All P (performed a p)
   unfolding performed rewriteChanges
   performed-all P f =
-      given (rewritten a.table (mapping a.mappings) ps) _ e λ r y e.
+      given (rewritten a.table (mapping a.mappings) (withFates cs fs)) _ e λ r y e.
       given (settled a.table (mapping a.mappings) 0 a.notes) _ e λ notes z e.
       rw (← gives-inj e) (order-all P (ranked a.table (r .0)) (length (r .0)) none (ranked-all a.table P (r .0) (f r y)))
 
-  pub performed-free : All (OwnFree a.table cs) (performed a p)
-  unfolding rewritten
-  performed-free = performed-all (OwnFree a.table cs) (λ r y. all-stay a.table (mapping a.mappings) (Free a.table cs) (map (λ q. q .change) ps) ps r y (planned-free a.table cs))
-
+  -- whatever the fates
   pub performed-right : All (Right a.table) cs → All (λ q. Right a.table q.change) (performed a p)
-  performed-right h = performed-all (λ q. Right a.table q.change) (λ r y. (rewritten-all a.table (mapping a.mappings) ps r y) .right (with-fates (Right a.table) cs (fates1 a.table cs) h))
+  performed-right h = performed-all (λ q. Right a.table q.change) (λ r y. (rewritten-all a.table (mapping a.mappings) (withFates cs fs) r y) .right (with-fates (Right a.table) cs fs h))
+
+pub performed-free : (a : Accepted) (cs : List Change) (p : Plan) → planned1 a cs ≡ gives p → All (OwnFree a.table cs) (performed a p)
+unfolding rewritten
+performed-free a cs p e =
+    let ps = withFates cs (fates1 a.table cs) in
+    performed-all a cs (fates1 a.table cs) p e (OwnFree a.table cs) (λ r y. all-stay a.table (mapping a.mappings) (Free a.table cs) (map (λ q. q .change) ps) ps r y (planned-free a.table cs))
 
 -- ── Every own change is performed ───────────────────────────────────────────────────────────────────────────
 

@@ -2,20 +2,19 @@
 -- Assumes nothing.
 use mathlib.Core.Path.{_≡_, refl, sym, ap, _∙_}
 use mathlib.Core.Bool.{Bool, true, false, cond}
-use mathlib.Core.List.{List, [], _∷_, map, List·Memᴰ, List·Memᴰ·head, List·Memᴰ·tail, List·Memᴰ·cases-cons, List·Memᴰ·not-nil}
+use mathlib.Core.List.{List, [], _∷_, List·Memᴰ, List·Memᴰ·head, List·Memᴰ·tail, List·Memᴰ·cases-cons, List·Memᴰ·not-nil}
 use mathlib.Core.Logic.{_↔_, _⊎_, inl, inr}
 use mathlib.Core.Option.{Option, none, some}
 use Prim.Native.Nat.{ℕ, suc, _≤_, _<_}
 use native.Mathlib.Omega.{arith}
 use lib.Dec.{ltb}
-use borrow.Author.Tests.{ltb-true, ltb-false, lt-ltb, le-ltb}
-use Rattle.orders.specs.Lists.{pick, All, Pairs}
+use borrow.Author.Tests.{ltb-true, ltb-false}
+use Rattle.orders.specs.Lists.{All, Pairs}
 use Rattle.orders.specs.ListLaws.{bool-absurd, bool?, some-inj, none-some, All-map, All-mem, Pairs-pick, pick-mem, mem-pick}
 use Rattle.definition.specs.Basics.{keep, numbered}
 use Rattle.definition.specs.Elements.{Table}
 use Rattle.definition.specs.Recording.{Change}
 use Rattle.definition.specs.EdgeRule.{takes, regionDepth, innermost, regionOf}
-use Rattle.definition_laws.specs.Basics.{keep-yes, keep-no}
 
 -- ── Lists ───────────────────────────────────────────────────────────────────────────────────────────────────
 

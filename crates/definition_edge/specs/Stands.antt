@@ -1,7 +1,7 @@
 -- What splices that are apart put in stands in the new tree: every prepared list, as it is, among the children of where its parent went.
 -- Assumes nothing.
 use mathlib.Core.Path.{_≡_, refl, sym, ap, _∙_}
-use mathlib.Core.List.{List, [], _∷_, _++_, append-assoc, List·Memᴰ, List·Memᴰ·head, List·Memᴰ·tail, List·Memᴰ·cases-cons, List·Memᴰ·not-nil}
+use mathlib.Core.List.{List, [], _∷_, _++_, append-assoc, List·Memᴰ, List·Memᴰ·cases-cons, List·Memᴰ·not-nil}
 use mathlib.Core.Logic.{_⊎_, inl, inr}
 use mathlib.Core.Option.{Option, none, some}
 use Prim.Native.Nat.{ℕ, _-_}
@@ -11,7 +11,7 @@ use Rattle.orders.specs.Lists.{All, Pairs}
 use Rattle.orders.specs.ListLaws.{All-mem, All-perm, mem-pick}
 use Rattle.orders.specs.Tree.{Tree, Trees, node, list, Path, resolve}
 use Rattle.orders.specs.TreeLaws.{list-forest}
-use Rattle.orders.specs.Splices.{Splice, State, under, fromRoot, fromChild, atRoot, below, leftToRight, newChildren, oneGo, oneGoAll, splicesIn, Enters, EntersDeleted, Apart, AllApart}
+use Rattle.orders.specs.Splices.{Splice, State, under, fromRoot, fromChild, atRoot, below, leftToRight, newChildren, oneGo, oneGoAll, splicesIn, EntersDeleted, Apart, AllApart}
 use Rattle.orders.specs.Children.{sort-perm}
 use Rattle.orders.specs.Parts.{fromChild-in}
 use Rattle.orders.specs.Demand.{Demanded}

@@ -1,17 +1,15 @@
 -- When the region of one change takes another: where the other goes at or below a deleted child, and where it goes inside a run.
 -- Assumes nothing.
 use mathlib.Core.Path.{_≡_, refl, sym, ap, _∙_}
-use mathlib.Core.Bool.{Bool, true, false, not, _&&_, _||_}
+use mathlib.Core.Bool.{Bool, true, false, _||_}
 use mathlib.Core.List.{List, [], _∷_, _++_, List·Memᴰ, append-assoc, append-nil}
-use mathlib.Core.Logic.{_≢_}
 use mathlib.Core.Option.{Option, some}
 use Prim.Native.Nat.{ℕ, suc, _≤_, _<_}
 use native.Mathlib.Omega.{arith}
-use lib.Dec.{leb, eqb}
-use lib.ListN.{length, length-append}
+use lib.ListN.{length}
 use borrow.Author.Tests.{le-leb, ne-eqb}
 use Rattle.orders.specs.Lists.{All}
-use Rattle.orders.specs.ListLaws.{some-inj, mem-any}
+use Rattle.orders.specs.ListLaws.{mem-any}
 use Rattle.orders.specs.Tree.{Tree, Path}
 use Rattle.definition.specs.Elements.{Table, table, row, node?, root?, parent, child}
 use Rattle.definition.specs.Recording.{firstChild, after, Change, insert, replace, delete, replaceWithMany, replaceAll}
@@ -136,5 +134,5 @@ module _ (ts : List (Tree ℕ)) where
           rw (
             in-run x y e p (omega (arith, f .from, g .from)) (omega (arith, f .to, g .to, s .4)),
             in-run x y d (sym (s .3) ∙ p) (omega (arith, f .from, g .from, s .4)) (omega (arith, f .to, g .to)),
-            ne-eqb e x (λ z. omega (arith, ap (child T) z, f .from, g .from))
+            ne-eqb e x (λ z. omega (arith, ap (child T) z, f .from, g .from)),
           )

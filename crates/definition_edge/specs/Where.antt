@@ -1,30 +1,28 @@
 -- Where a change goes in tree 0, by elements and by paths; and by both, when the region of one change takes another.
 -- Assumes nothing.
-use mathlib.Core.Path.{_≡_, refl, sym, ap, _∙_, subst}
-use mathlib.Core.Bool.{Bool, true, false, cond, not, _&&_, _||_}
+use mathlib.Core.Path.{_≡_, refl, sym, ap, _∙_}
+use mathlib.Core.Bool.{Bool, true, false, cond}
 use mathlib.Core.List.{List, [], _∷_, _++_, List·Memᴰ, List·Memᴰ·head, List·Memᴰ·tail, append-nil, append-assoc}
-use mathlib.Core.Logic.{_⊎_, inl, inr}
 use mathlib.Core.Option.{Option, none, some, Option·getD, bind}
-use Prim.Native.Nat.{ℕ, zero, suc, _≤_, _<_}
+use Prim.Native.Nat.{ℕ, zero, suc, _<_}
 use native.Mathlib.Omega.{arith}
-use lib.Dec.{leb, eqb}
+use lib.Dec.{eqb}
 use lib.ListN.{length, length-append}
-use borrow.Author.Tests.{eqb-true, le-leb, eq-eqb, ne-eqb}
+use borrow.Author.Tests.{eqb-true}
 use Rattle.orders.specs.Lists.{All}
-use Rattle.orders.specs.ListLaws.{bool-absurd, some-inj, none-some, bind-some, mem-any}
+use Rattle.orders.specs.ListLaws.{some-inj, none-some, bind-some}
 use Rattle.orders.specs.Tree.{Tree, node, token, forest, label, resolve, Path, front, last}
 use Rattle.orders.specs.TreeLaws.{front-child, last-child, front-same, last-same, front-last, resolve-append}
 use Rattle.definition.specs.Elements.{Table, table, row, isNode, node?, root?, parent, child}
 use Rattle.definition.specs.Recording.{firstChild, after, Change, insert, replace, delete, replaceWithMany, replaceAll}
-use Rattle.definition.specs.Planning.{addsRegion}
-use Rattle.definition.specs.EdgeRule.{inRun, atOrBelow, parentOrRoot, targetParent, ofRoot, removes, onlyIn, isRunOf, inside, takes}
+use Rattle.definition.specs.EdgeRule.{parentOrRoot, targetParent, ofRoot}
 use Rattle.definition.specs.Rewriting.{Note}
 use Rattle.definition.specs.Running.{World, begin, present, Run, fromTo, emptyAt, place}
 use Rattle.definition.specs.Performed.{inTree0}
 use Rattle.definition_laws.specs.Answers.{bound}
 use Rattle.definition_laws.specs.Spelling.{Worded, forest-worded}
-use Rattle.definition_laws.specs.Kin.{IsParent, Kin, root, below, kin, path-leads, path-tells, path-long, not-root, root-is}
-use Rattle.definition_laws.specs.Right.{Sits, parent-same}
+use Rattle.definition_laws.specs.Kin.{IsParent, Kin, root, below, kin, path-leads, path-tells, not-root, root-is}
+use Rattle.definition_laws.specs.Right.{Sits}
 use Rattle.definition_laws.specs.Running.{worded-resolve}
 use Rattle.definition_account.specs.Run.{first-present}
 
