@@ -14,6 +14,7 @@ use Rattle.definition.specs.Refusals
 use Rattle.definition.specs.Writing
 use Rattle.definition.specs.Recording
 use Rattle.definition.specs.Planning
+use Rattle.definition.specs.EdgeRule
 use Rattle.definition.specs.Rewriting
 use Rattle.definition.specs.Running
 use Rattle.definition.specs.Finishing
@@ -37,6 +38,7 @@ unfolding
     Writing.sizesOf Writing.sevenSizes Writing.callWords Writing.laidOut Writing.differ Writing.outOfStep Writing.unfitting Writing.unlayable Writing.wrongLists Writing.write Writing.listsOf Writing.lists
     Recording.run Recording.change Recording.call Recording.merges Recording.merged Recording.merge Recording.queued Recording.recordCall Recording.recorded
     Planning.target Planning.rank Planning.from Planning.to Planning.above Planning.parentDepth Planning.key Planning.sorted Planning.peers Planning.exceeds Planning.overlapping Planning.overlap Planning.isDiscarded Planning.around Planning.fate Planning.addsRegion Planning.nodeByNode Planning.inner Planning.pushed Planning.fatesFrom Planning.fates Planning.withFates Planning.planned Planning.judge
+    EdgeRule.inRun EdgeRule.atOrBelow EdgeRule.parentOrRoot EdgeRule.targetParent EdgeRule.ofRoot EdgeRule.removes EdgeRule.onlyIn EdgeRule.isRunOf EdgeRule.inside EdgeRule.takes EdgeRule.regionDepth EdgeRule.innermost EdgeRule.regionOf EdgeRule.fateIn EdgeRule.fateWithin EdgeRule.fateAmong EdgeRule.fates1
     Rewriting.mapping Rewriting.replacement Rewriting.mappedOr Rewriting.climb Rewriting.trail Rewriting.land Rewriting.moved Rewriting.retarget Rewriting.rewriteInto Rewriting.rewriteOne Rewriting.rewriting Rewriting.rewritten Rewriting.nearest Rewriting.isParent Rewriting.noteFrom Rewriting.settle Rewriting.settled
     Running.owned Running.ranked Running.order Running.begin Running.present Running.withPath Running.notesAt Running.yieldAt Running.yield Running.news Running.fromTo Running.emptyAt Running.place Running.placed Running.spliced Running.tooLarge Running.records Running.step Running.steps
     Finishing.newTree Finishing.newTable Finishing.numberAt Finishing.changedElements Finishing.noteElements Finishing.result Finishing.sixSizes Finishing.encoded Finishing.fitting

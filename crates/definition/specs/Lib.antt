@@ -7,6 +7,7 @@
 --     Writing      THE WRITER: the batch laid out from lists, and read as lists            14, 15
 --     Recording    from calls to changes
 --     Planning     sorting, overlap, owners and discarded changes                               8
+--     EdgeRule     owners and discarded changes by edge rule 1
 --     Rewriting    a dependent's targets, and the notes                                     9, 10
 --     Running      the order, and one step                                                 11, 12
 --     Finishing    the result and its bytes                                                    13
@@ -17,6 +18,7 @@
 --     Account      what becomes of each change, as the account program prints it
 --     Computing    every definition opened, for examples
 --     Examples     the printed case and the marked examples, one table
+--     EdgeExamples both edge rules where they part, one table
 pub mod Basics
 pub mod Words
 pub mod Batch
@@ -25,6 +27,7 @@ pub mod Refusals
 pub mod Writing
 pub mod Recording
 pub mod Planning
+pub mod EdgeRule
 pub mod Rewriting
 pub mod Running
 pub mod Finishing
@@ -35,3 +38,4 @@ pub mod Printed
 pub mod Account
 pub mod Computing
 pub mod Examples
+pub mod EdgeExamples

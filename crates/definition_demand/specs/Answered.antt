@@ -51,7 +51,7 @@ pub record AnswersOneGo (old : Tree ℕ) (a : Accepted) (p : Plan) (r : Result) 
 
 -- ── It does ─────────────────────────────────────────────────────────────────────────────────────────────────
 
-table-demanded : (old : Tree ℕ) (notes : List Note) (w : World) (ps : List Planned) (T : Table) (ts : List (Tree ℕ)) → take 1 ts ≡ old ∷ [] → T ≡ table 0 0 ts
+pub table-demanded : (old : Tree ℕ) (notes : List Note) (w : World) (ps : List Planned) (T : Table) (ts : List (Tree ℕ)) → take 1 ts ≡ old ∷ [] → T ≡ table 0 0 ts
     → All (λ q. Sits T q.change) ps → All (λ q. replacesRoot T q.change ≡ false) ps → steps T (begin ts T notes) (begin ts T notes) ps ≡ gives w
     → AllApart old (splicesIn0 T (begin ts T notes) ps) → DemandedOf old (splicesIn0 T (begin ts T notes) ps) T w
 table-demanded old notes w ps T [] t q = absurd (nil≢cons t)
@@ -64,7 +64,7 @@ ran-demanded old bytes a p w x y e h =
     let right = performed-right a p (plan-known a (checked bytes a k) p y) in
     table-demanded old p.notes w (performed a p) a.table a.trees (h .tree0) (k .table) (All-map (λ q c. right-sits a.table q.change c) (performed a p) right) (h .unreplaced) e (h .apart)
 
-result-shows : (t : Tree ℕ) (ps : List Planned) (climbs : ℕ) (w : World) → newTree w ≡ t ∷ [] → Shows t (result ps climbs w)
+pub result-shows : (t : Tree ℕ) (ps : List Planned) (climbs : ℕ) (w : World) → newTree w ≡ t ∷ [] → Shows t (result ps climbs w)
 unfolding result flatMap
 result-shows t ps climbs w e = record {
   kinds = ap (λ l. map label (flatMap preorder l)) e ∙ ap (map label) (append-nil (preorder t));

@@ -99,7 +99,7 @@ module _ (ts : List (Tree ℕ)) (old : Tree ℕ) (zeroth : getElem? ts 0 ≡ som
       aim r s i j (these k l h a b) = these k l h (i ∙ a) (j ∙ b)
 
 -- what each performed change has, each has that is met
-met-all : (T : Table) (first : World) (P : Planned → Type 0) (w : World) (ps : List Planned) → All P ps → All (λ m. P (m .1)) (met T first w ps)
+pub met-all : (T : Table) (first : World) (P : Planned → Type 0) (w : World) (ps : List Planned) → All P ps → All (λ m. P (m .1)) (met T first w ps)
 unfolding met
 met-all T first P w [] h = tt
 met-all T first P w (p ∷ ps) h = (h .0, go (step T first w p) (λ next. met-all T first P next ps (h .1)))

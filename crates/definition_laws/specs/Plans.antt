@@ -139,7 +139,7 @@ plan-fated a ps e = rw (e, disjoint)
 
 module _ (a : Accepted) (k : Checked a) where
   -- the changes as sorted, before they are rewritten
-  changes-right : All (Right a.table) (sorted a.table (recorded a.calls))
+  pub changes-right : All (Right a.table) (sorted a.table (recorded a.calls))
   changes-right =
       sorted-all a.table (Right a.table) (recorded a.calls)
       (recorded-all (Right a.table) a.calls (All-map (λ c e h. change-right a.table c e h) a.calls (k .calls)))

@@ -1,0 +1,145 @@
+-- Both edge rules on the cases where they part: one table, by computation.
+-- Assumes nothing.
+use mathlib.Core.Path.{_≡_, refl}
+use mathlib.Core.List.{List, [], _∷_, _++_, map}
+use Prim.Native.Nat.{ℕ}
+use Prim.Native.String.{String}
+use Rattle.orders.specs.Tree.{Tree}
+use Rattle.definition.specs.Basics.{Answer, refused, gives, _>>=_, refuse, isSome}
+use Rattle.definition.specs.Elements.{Table}
+use Rattle.definition.specs.Refusals.{Call, accepted}
+use Rattle.definition.specs.Recording.{Change, recorded}
+use Rattle.definition.specs.Planning.{Fate, own, dependent, discarded, sorted, overlap, fates, withFates}
+use Rattle.definition.specs.EdgeRule.{fates1}
+use Rattle.definition.specs.Finishing.{result}
+use Rattle.definition.specs.Answers.{rewriteChanges, ran}
+use Rattle.definition.specs.Printed.{ascii}
+use Rattle.definition.specs.Computing.{computed}
+use Rattle.definition.specs.Examples.{Told, inLists, inBytes, nodeOf, tokenOf, call, onS}
+
+-- ── Batches ─────────────────────────────────────────────────────────────────────────────────────────────────
+
+-- calls on these trees
+abbrev on : List (Tree ℕ) → List Call → Told
+on trees calls = record { trees = trees; calls = calls; mappings = []; notes = [] }
+
+-- calls on S (Examples) with an element mapped to another
+abbrev onSWith : ℕ → ℕ → List Call → Told
+onSWith input output calls = record { trees = (onS []) .trees; calls = calls; mappings = (input, output) ∷ []; notes = [] }
+
+-- calls on a block of two statements, root(block(s, t), u): the block is 1, s 2, t 4, u 6; c is 8. The block and t end at one offset
+abbrev onBlock : List Call → Told
+onBlock = on (nodeOf 1 (nodeOf 2 (nodeOf 3 (tokenOf 4 "s" ∷ []) ∷ nodeOf 3 (tokenOf 4 "t" ∷ []) ∷ []) ∷ tokenOf 4 "u" ∷ []) ∷ nodeOf 5 (tokenOf 6 "c" ∷ []) ∷ [])
+
+-- calls on root(A(a), B(b), C(c), d): A is 1, B 3, C 5, d 7; x is 9, y 10
+abbrev onRow : List Call → Told
+onRow = on (nodeOf 1 (nodeOf 2 (tokenOf 3 "a" ∷ []) ∷ nodeOf 2 (tokenOf 3 "b" ∷ []) ∷ nodeOf 2 (tokenOf 3 "c" ∷ []) ∷ tokenOf 3 "d" ∷ []) ∷ nodeOf 5 (tokenOf 6 "x" ∷ tokenOf 6 "y" ∷ []) ∷ [])
+
+-- calls on root(Y, Z, V, b), Y, Z and V empty: Y is 1, Z 2, V 3; c is 6, d 7
+abbrev onEmpty : List Call → Told
+onEmpty = on (nodeOf 1 (nodeOf 2 [] ∷ nodeOf 2 [] ∷ nodeOf 2 [] ∷ tokenOf 4 "b" ∷ []) ∷ nodeOf 5 (tokenOf 6 "c" ∷ tokenOf 6 "d" ∷ []) ∷ [])
+
+-- calls on root(X(Y(a)), b): X is 1, Y 2, a 3; c is 6, its root 5
+abbrev onY : List Call → Told
+onY = on (nodeOf 1 (nodeOf 2 (nodeOf 3 (tokenOf 3 "a" ∷ []) ∷ []) ∷ tokenOf 4 "b" ∷ []) ∷ nodeOf 5 (tokenOf 6 "c" ∷ []) ∷ [])
+
+-- calls on root(X(Y(a)), b) beside R(X′(Y′(a))) and Q(Y″(a)), X mapped to X′ and Y to Y″: X is 1, Y 2, a 3; c is 6, R 7, Q 11
+abbrev nestedOwners : List Call → Told
+nestedOwners calls =
+    let Y : Tree ℕ = nodeOf 3 (tokenOf 3 "a" ∷ []) in
+    record { trees = (onY []) .trees ++ (nodeOf 7 (nodeOf 2 (Y ∷ []) ∷ []) ∷ nodeOf 8 (Y ∷ []) ∷ []); calls = calls; mappings = (1, 8) ∷ (2, 12) ∷ []; notes = [] }
+
+-- ── What is told of each ────────────────────────────────────────────────────────────────────────────────────
+
+-- a rule for fates, of sorted changes
+abbrev Rule : Type 0
+Rule = Table → List Change → List Fate
+
+-- the fates by a rule, in sorted order
+unfoldable pub fatesBy : Rule → Told → Answer (List Fate)
+fatesBy rule b = accepted (inBytes b) >>= λ a. gives (rule a.table (sorted a.table (recorded a.calls)))
+
+-- the text that a rule gives
+unfoldable pub textBy : Rule → Told → Answer (List ℕ)
+textBy rule b = do
+  a ← accepted (inBytes b)
+  let cs = sorted a.table (recorded a.calls)
+  _ ← refuse 8 (isSome (overlap a.table cs))
+  p ← rewriteChanges a (withFates cs (rule a.table cs))
+  w ← ran a p
+  gives ((result p.changes p.climbs w) .text)
+
+-- a text
+abbrev text : String → Answer (List ℕ)
+text s = gives (ascii s)
+
+-- a batch; its fates by rule 1; its text by rule 0 and by rule 1
+pub record Case : Type 0 where
+  pub batch : Told
+  pub fates : List Fate
+  pub zeroth : Answer (List ℕ)
+  pub first : Answer (List ℕ)
+
+abbrev case : Told → List Fate → Answer (List ℕ) → Answer (List ℕ) → Case
+case b f z o = record { batch = b; fates = f; zeroth = z; first = o }
+
+-- each case, and what is told of it
+abbrev pub cases : List Case
+cases =
+    -- THE CLOSING CALL: a block's last statement is deleted, c after the block
+    case (onBlock (call 3 4 [] ∷ call 1 1 (8 ∷ []) ∷ [])) (own ∷ own ∷ []) (text "su") (text "scu")
+    -- delete X, c after X
+    ∷ case (onS (call 3 1 [] ∷ call 1 1 (5 ∷ []) ∷ [])) (own ∷ own ∷ []) (text "b") (text "cb")
+    -- X by R, c after X: no dependent
+    ∷ case (onS (call 2 1 (8 ∷ []) ∷ call 1 1 (5 ∷ []) ∷ [])) (own ∷ own ∷ []) (refused 9) (text "acb")
+    -- X by R, X mapped to X′, c after a: a dependent
+    ∷ case (onSWith 1 9 (call 2 1 (8 ∷ []) ∷ call 1 2 (5 ∷ []) ∷ [])) (own ∷ dependent 0 ∷ []) (text "acb") (text "acb")
+    -- delete X, c as first child of X
+    ∷ case (onS (call 3 1 [] ∷ call 0 1 (5 ∷ []) ∷ [])) (own ∷ discarded 0 ∷ []) (text "b") (text "b")
+    -- delete X, b by d, c after a: rule 0 says own, and c goes with X; rule 1 says who takes it
+    ∷ case (onS (call 3 1 [] ∷ call 2 3 (7 ∷ []) ∷ call 1 2 (5 ∷ []) ∷ [])) (own ∷ own ∷ discarded 0 ∷ []) (text "d") (text "d")
+    -- delete the token a, c after a: a token adds no region
+    ∷ case (onS (call 3 2 [] ∷ call 1 2 (5 ∷ []) ∷ [])) (own ∷ own ∷ []) (text "cb") (text "cb")
+    -- delete X, c after X′ in another tree
+    ∷ case (onS (call 3 1 [] ∷ call 1 9 (5 ∷ []) ∷ [])) (own ∷ own ∷ []) (text "b") (text "b")
+    -- delete X, Y by a node, c after a: a discarded change is a region too, and discards
+    ∷ case (onY (call 3 1 [] ∷ call 2 2 (5 ∷ []) ∷ call 1 3 (6 ∷ []) ∷ [])) (own ∷ discarded 0 ∷ discarded 1 ∷ []) (text "b") (text "b")
+    -- the run from A to C goes, x before it, y after A, y after C
+    ∷ case (onRow (call 5 1 (5 ∷ []) ∷ call 0 0 (9 ∷ []) ∷ call 1 1 (10 ∷ []) ∷ call 1 5 (10 ∷ []) ∷ [])) (own ∷ own ∷ discarded 1 ∷ own ∷ []) (text "xd") (text "xyd")
+    -- the run from A to C goes, x into C
+    ∷ case (onRow (call 5 1 (5 ∷ []) ∷ call 0 5 (9 ∷ []) ∷ [])) (own ∷ discarded 0 ∷ []) (text "d") (text "d")
+    -- the run from A to C, and B deleted: 8 keeps its rule
+    ∷ case (onRow (call 5 1 (5 ∷ []) ∷ call 3 3 [] ∷ [])) (own ∷ discarded 0 ∷ []) (refused 8) (refused 8)
+    -- delete Z, c into Y: both stand at one offset
+    ∷ case (onEmpty (call 3 2 [] ∷ call 0 1 (6 ∷ []) ∷ [])) (own ∷ own ∷ []) (text "b") (text "cb")
+    -- the run from Y to V, c after Y: the region is sorted after its change
+    ∷ case (onEmpty (call 5 1 (3 ∷ []) ∷ call 1 1 (6 ∷ []) ∷ [])) (discarded 1 ∷ own ∷ []) (refused 11) (text "b")
+    -- the run from Y to V, c after V, which is between no two of the run
+    ∷ case (onEmpty (call 5 1 (3 ∷ []) ∷ call 1 3 (6 ∷ []) ∷ [])) (own ∷ own ∷ []) (refused 11) (refused 11)
+    -- the run from Z to V, then the run from Y to V by c: the outer one takes the inner one, whichever is sorted first
+    ∷ case (onEmpty (call 5 2 (3 ∷ []) ∷ call 5 1 (3 ∷ 6 ∷ []) ∷ [])) (discarded 1 ∷ own ∷ []) (text "b") (text "cb")
+    ∷ case (onEmpty (call 5 1 (3 ∷ 6 ∷ []) ∷ call 5 2 (3 ∷ []) ∷ [])) (own ∷ discarded 0 ∷ []) (text "cb") (text "cb")
+    -- the run from Y to V by c and again by d: the first sorted takes the equal one
+    ∷ case (onEmpty (call 5 1 (3 ∷ 6 ∷ []) ∷ call 5 1 (3 ∷ 7 ∷ []) ∷ [])) (own ∷ discarded 0 ∷ []) (text "cb") (text "cb")
+    -- delete Z, the run from Y to V by c
+    ∷ case (onEmpty (call 3 2 [] ∷ call 5 1 (3 ∷ 6 ∷ []) ∷ [])) (own ∷ discarded 0 ∷ []) (text "cb") (text "cb")
+    -- Z by a node, the run from Y to V, c into Z: the run takes the replacement, which takes c, and so discards it
+    ∷ case (onEmpty (call 2 2 (5 ∷ []) ∷ call 5 1 (3 ∷ []) ∷ call 0 2 (6 ∷ []) ∷ [])) (own ∷ discarded 0 ∷ discarded 1 ∷ []) (text "b") (text "b")
+    -- X by a node, Y in it by a node, c after a: owners one around another
+    ∷ case (nestedOwners (call 2 1 (7 ∷ []) ∷ call 2 2 (11 ∷ []) ∷ call 1 3 (6 ∷ []) ∷ [])) (own ∷ dependent 0 ∷ dependent 1 ∷ []) (text "acb") (text "acb")
+    -- one editor deletes Y, another replaces it by a node, c into Y: of two regions at one depth the last
+    ∷ case (onEmpty (call 3 1 [] ∷ call 6 0 [] ∷ call 2 1 (5 ∷ []) ∷ call 0 1 (6 ∷ []) ∷ [])) (own ∷ own ∷ dependent 1 ∷ []) (text "b") (refused 9)
+    -- delete Y, the root by a node, c into Y: the root's replacement is the outermost, though sorted later
+    ∷ case (onEmpty (call 3 1 [] ∷ call 2 0 (5 ∷ []) ∷ call 0 1 (6 ∷ []) ∷ [])) (dependent 1 ∷ own ∷ discarded 0 ∷ []) (refused 9) (refused 9)
+    -- two editors delete Y
+    ∷ case (onEmpty (call 3 1 [] ∷ call 6 0 [] ∷ call 3 1 [] ∷ [])) (own ∷ own ∷ []) (text "b") (refused 11)
+    -- the root by a node, c as first child of the root: the region is the root's replacement, sorted later
+    ∷ case (onS (call 2 0 (4 ∷ []) ∷ call 0 0 (5 ∷ []) ∷ [])) (dependent 1 ∷ own ∷ []) (refused 11) (refused 9)
+    ∷ []
+
+-- Each case is as told: its fates by rule 1, its text by rule 0, its text by rule 1.
+pub both-rules : (map (λ c. fatesBy fates1 c.batch) cases ≡ map (λ c. gives c.fates) cases)
+    × (map (λ c. textBy fates c.batch) cases ≡ map (λ c. c .zeroth) cases)
+    × (map (λ c. textBy fates1 c.batch) cases ≡ map (λ c. c .first) cases)
+unfolding computed inLists inBytes fatesBy textBy
+both-rules = (refl, refl, refl)
