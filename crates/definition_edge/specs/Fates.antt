@@ -16,9 +16,10 @@ use Rattle.definition.specs.Elements.{Table, table}
 use Rattle.definition.specs.Recording.{Change}
 use Rattle.definition.specs.Planning.{Fate, own, dependent, discarded, isDiscarded, nodeByNode, inner}
 use Rattle.definition.specs.EdgeRule.{takes, regionDepth, regionOf, fateIn, fateWithin, fateAmong, fates1}
+use Rattle.definition_laws.specs.Performed.{numbered-rising}
 use Rattle.definition_laws.specs.Right.{Sits}
 use Rattle.definition_laws.specs.Stages.{numbered-all}
-use Rattle.definition_edge.specs.Region.{Rising, numbered-rises, Innermost, region-some, region-innermost, region-nowhere}
+use Rattle.definition_edge.specs.Region.{Rising, Innermost, region-some, region-innermost, region-nowhere}
 use Rattle.definition_edge.specs.Depths.{taken-deeper}
 
 -- ── What a region makes of inner changes ────────────────────────────────────────────────────────────────────
@@ -129,7 +130,7 @@ module _ (ts : List (Tree ℕ)) (cs : List Change) (s : All (Sits (table 0 0 ts)
   all = numbered 0 cs
 
   rising : Rising all
-  rising = (numbered-rises 0 cs) .1
+  rising = (numbered-rising 0 cs) .1
 
   -- at each place, what is told of the change there
   fate-at : (i : ℕ) (c : Change) → getElem? cs i ≡ some c → FateAt T₀ cs i (fateAmong T₀ all (i, c))

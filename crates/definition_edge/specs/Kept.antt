@@ -3,7 +3,7 @@
 -- Assumes nothing.
 use mathlib.Core.Path.{_≡_, refl, sym, ap, _∙_}
 use mathlib.Core.Bool.{Bool, true, false, cond}
-use mathlib.Core.List.{List, [], _∷_, map, headD, List·Memᴰ, List·Memᴰ·head, List·Memᴰ·tail, List·Memᴰ·cases-cons, List·Memᴰ·not-nil}
+use mathlib.Core.List.{List, [], _∷_, headD, List·Memᴰ, List·Memᴰ·head, List·Memᴰ·tail, List·Memᴰ·cases-cons, List·Memᴰ·not-nil, Memᴰ·map}
 use mathlib.Core.Logic.{_⊎_, inl, inr}
 use mathlib.Core.Option.{some, Option·map, bind}
 use Prim.Native.Nat.{ℕ, suc, _<_}
@@ -15,7 +15,7 @@ use Rattle.orders.specs.ListLaws.{bool-absurd, All-map, All-mem, mem-pick}
 use Rattle.orders.specs.Tree.{Tree, Path, front, last}
 use Rattle.orders.specs.TreeLaws.{front-child}
 use Rattle.orders.specs.Splices.{oneGo, AllApart}
-use Rattle.definition.specs.Basics.{gives, numbered}
+use Rattle.definition.specs.Basics.{gives}
 use Rattle.definition.specs.Elements.{Table, table, row, root?, tree, child}
 use Rattle.definition.specs.Refusals.{Accepted, accepted}
 use Rattle.definition.specs.Recording.{firstChild, after, Change, insert, replace, delete, replaceWithMany, replaceAll, recorded}
@@ -39,7 +39,7 @@ use Rattle.definition_account.specs.Words.{keepsRoot, noDependentIn0}
 use Rattle.definition_account.specs.Run.{first-present}
 use Rattle.definition_edge.specs.Fates.{FateAt}
 use Rattle.definition_edge.specs.Where.{goes-at}
-use Rattle.definition_edge.specs.Own.{plannedBy, planned1, performed-right, alone, own-performed}
+use Rattle.definition_edge.specs.Own.{plannedBy, planned1, performed-right, alone, mem-numbered, own-performed}
 use Rattle.definition_edge.specs.Apart.{apart-by-rule-1}
 use Rattle.definition_edge.specs.Stands.{StandsIn, prepared-stands}
 
@@ -66,16 +66,6 @@ met-mem T first (p ∷ ps) w last q e m =
     go : (next : World) → (q ≡ p) ⊎ List·Memᴰ q ps → (List·Memᴰ q ps → (m : World) × List·Memᴰ (m, q) (met T first next ps)) → (m : World) × List·Memᴰ (m, q) ((w, p) ∷ met T first next ps)
     go next (inl z) k = (w, List·Memᴰ·head (ap (λ (q : Planned). (w, q)) z))
     go next (inr z) k = let (m, y) = k z in (m, List·Memᴰ·tail y)
-
--- each told run is one of the splices
-mem-splices : (n : ℕ) (l : List (Run × List (Tree ℕ))) (x : Run × List (Tree ℕ)) → List·Memᴰ x l → (k : ℕ) × List·Memᴰ (toSplice (k, x)) (map toSplice (numbered n l))
-unfolding numbered
-mem-splices n [] x m = absurd (List·Memᴰ·not-nil m)
-mem-splices n (y ∷ l) x m = go (List·Memᴰ·cases-cons m) (λ m. mem-splices (suc n) l x m)
-  where
-    go : (x ≡ y) ⊎ List·Memᴰ x l → (List·Memᴰ x l → (k : ℕ) × List·Memᴰ (toSplice (k, x)) (map toSplice (numbered (suc n) l))) → (k : ℕ) × List·Memᴰ (toSplice (k, x)) (map toSplice (numbered n (y ∷ l)))
-    go (inl z) f = (n, List·Memᴰ·head (ap (λ x. toSplice (n, x)) z))
-    go (inr z) f = let (k, q) = f z in (k, List·Memᴰ·tail q)
 
 module _ (ts : List (Tree ℕ)) (notes : List Note) where
   abbrev T : Table
@@ -125,8 +115,8 @@ module _ (ts : List (Tree ℕ)) (notes : List Note) where
         let (v, n) = met-mem T first ps first w q e m in
         let run : Run = record { parent = p; from = r .from; to = r .to } in
         let tells : told T first (v, q) ≡ some (run, yields T first (v, q)) = rw (x, in0 r p y) in
-        let (k, one) = mem-splices 0 (pick (told T first) (met T first first ps)) (run, yields T first (v, q)) (mem-pick (told T first) (met T first first ps) (v, q) (run, yields T first (v, q)) n tells) in
-        let (g, u, stands) = prepared-stands old (splicesIn0 T first ps) (d .now) h (d .demanded) (toSplice (k, (run, yields T first (v, q)))) one in
+        let (k, one) = mem-numbered 0 (pick (told T first) (met T first first ps)) (run, yields T first (v, q)) (mem-pick (told T first) (met T first first ps) (v, q) (run, yields T first (v, q)) n tells) in
+        let (g, u, stands) = prepared-stands old (splicesIn0 T first ps) (d .now) h (d .demanded) (toSplice (k, (run, yields T first (v, q)))) (Memᴰ·map toSplice one) in
         let at = goes-at ts notes q.change r run s x (in0 r p y) in
         record { then = v; met = n; path = g; parent = d .paths (targetParent T q.change) p (at .within) (at .parent) ∙ ap (Option·map (λ p. 0 ∷ p)) u; tree = d .now .tree; new = d .tree; stands = stands }
 

@@ -21,9 +21,10 @@ use Rattle.definition.specs.Running.{owned, ranked, order}
 use Rattle.definition.specs.Answers.{Plan, rewriteChanges, performed}
 use Rattle.definition_laws.specs.Answers.{gives-inj, given}
 use Rattle.definition_laws.specs.Right.{Right}
+use Rattle.definition_laws.specs.Performed.{numbered-rising}
 use Rattle.definition_laws.specs.Sorting.{falling-perm}
 use Rattle.definition_laws.specs.Stages.{order-all, ranked-all, rewritten-all}
-use Rattle.definition_edge.specs.Region.{mem-All, mem-keep, numbered-rises, region-none}
+use Rattle.definition_edge.specs.Region.{mem-All, mem-keep, region-none}
 
 -- no region of the changes takes c, which is one of them
 pub record Free (T : Table) (cs : List Change) (c : Change) : Type 0 where
@@ -49,7 +50,7 @@ module _ (T : Table) (cs : List Change) where
   own-taken q e = go (fateWithin T all (regionDepth T (q .1))) (regionOf T all q) refl e
     where
       go : (f : ℕ × Change → Fate) (o : Option (ℕ × Change)) → regionOf T all q ≡ o → fateIn T f o ≡ own → All (λ r. takes T r q ≡ false) all
-      go f none z e = region-none T all ((numbered-rises 0 cs) .1) q z
+      go f none z e = region-none T all ((numbered-rising 0 cs) .1) q z
       go f (some r) z e = not-own (not (isDiscarded (f r)) && nodeByNode T (r .1)) (r .0) e
 
   -- changes with their fates
@@ -124,7 +125,7 @@ module _ {A : Type 0} where
   perm-mem : {l m : List A} → List·Permᴰ l m → (x : A) → List·Memᴰ x l → List·Memᴰ x m
   perm-mem {l} {m} d x k = All-mem (λ y. List·Memᴰ y m) l x (All-perm (λ y. List·Memᴰ y m) (Permᴰ·symm d) (mem-All (λ y. List·Memᴰ y m) m (λ y z. z))) k
 
-  mem-numbered : (n : ℕ) (l : List A) (x : A) → List·Memᴰ x l → (i : ℕ) × List·Memᴰ (i, x) (numbered n l)
+  pub mem-numbered : (n : ℕ) (l : List A) (x : A) → List·Memᴰ x l → (i : ℕ) × List·Memᴰ (i, x) (numbered n l)
   unfolding numbered
   mem-numbered n [] x m = absurd (List·Memᴰ·not-nil m)
   mem-numbered n (y ∷ l) x m = go (List·Memᴰ·cases-cons m) (λ m. mem-numbered (suc n) l x m)

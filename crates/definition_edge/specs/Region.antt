@@ -5,13 +5,13 @@ use mathlib.Core.Bool.{Bool, true, false, cond}
 use mathlib.Core.List.{List, [], _∷_, List·Memᴰ, List·Memᴰ·head, List·Memᴰ·tail, List·Memᴰ·cases-cons, List·Memᴰ·not-nil}
 use mathlib.Core.Logic.{_↔_, _⊎_, inl, inr}
 use mathlib.Core.Option.{Option, none, some}
-use Prim.Native.Nat.{ℕ, suc, _≤_, _<_}
+use Prim.Native.Nat.{ℕ, _≤_, _<_}
 use native.Mathlib.Omega.{arith}
 use lib.Dec.{ltb}
 use borrow.Author.Tests.{ltb-true, ltb-false}
 use Rattle.orders.specs.Lists.{All, Pairs}
 use Rattle.orders.specs.ListLaws.{bool-absurd, bool?, some-inj, none-some, All-map, All-mem, Pairs-pick, pick-mem, mem-pick}
-use Rattle.definition.specs.Basics.{keep, numbered}
+use Rattle.definition.specs.Basics.{keep}
 use Rattle.definition.specs.Elements.{Table}
 use Rattle.definition.specs.Recording.{Change}
 use Rattle.definition.specs.EdgeRule.{takes, regionDepth, innermost, regionOf}
@@ -50,13 +50,6 @@ module _ {A : Type 0} where
 -- places rise
 abbrev pub Rising : {A : Type 0} → List (ℕ × A) → Type 0
 Rising l = Pairs (λ q r. q .0 < r .0) l
-
-pub numbered-rises : {A : Type 0} (n : ℕ) (l : List A) → All (λ q. n ≤ q .0) (numbered n l) × Rising (numbered n l)
-unfolding numbered
-numbered-rises n [] = (tt, tt)
-numbered-rises n (x ∷ l) =
-    let (a, b) = numbered-rises (suc n) l in
-    ((omega arith, All-map (λ q h. omega arith) (numbered (suc n) l) a), (All-map (λ q h. h) (numbered (suc n) l) a, b))
 
 -- where places rise, a place tells its element
 pub place-tells : {A : Type 0} (l : List (ℕ × A)) (q r : ℕ × A) → Rising l → List·Memᴰ q l → List·Memᴰ r l → q .0 ≡ r .0 → q ≡ r

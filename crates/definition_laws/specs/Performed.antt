@@ -109,7 +109,7 @@ met-all T first P w (p ∷ ps) h = (h .0, go (step T first w p) (λ next. met-al
     go (gives next) r = r next
 
 -- numbers as given rise
-numbered-rising : {A : Type 0} (n : ℕ) (l : List A) → All (λ q. n ≤ q .0) (numbered n l) × Pairs (λ q r. q .0 < r .0) (numbered n l)
+pub numbered-rising : {A : Type 0} (n : ℕ) (l : List A) → All (λ q. n ≤ q .0) (numbered n l) × Pairs (λ q r. q .0 < r .0) (numbered n l)
 unfolding numbered
 numbered-rising n [] = (tt, tt)
 numbered-rising n (x ∷ l) =
