@@ -5,15 +5,17 @@ use mathlib.Core.List.{List, [], _∷_, _++_, map}
 use Prim.Native.Nat.{ℕ}
 use Prim.Native.String.{String}
 use Rattle.orders.specs.Tree.{Tree}
-use Rattle.definition.specs.Basics.{Answer, refused, gives, _>>=_, refuse, isSome}
-use Rattle.definition.specs.Elements.{Table}
+use Rattle.definition.specs.Basics.{Answer, refused, gives, _>>=_}
+use Rattle.definition.specs.Choices.{Choices}
 use Rattle.definition.specs.Refusals.{Call, accepted}
-use Rattle.definition.specs.Recording.{Change, recorded}
-use Rattle.definition.specs.Planning.{Fate, own, dependent, discarded, sorted, overlap, fates, withFates}
-use Rattle.definition.specs.EdgeRule.{fates1}
-use Rattle.definition.specs.Finishing.{result}
-use Rattle.definition.specs.Answers.{rewriteChanges, ran}
-use Rattle.definition.specs.Printed.{ascii}
+use Rattle.definition.specs.Recording.{recorded}
+use Rattle.definition.specs.Planning.{Fate, own, dependent, discarded, sorted}
+use Rattle.definition.specs.EdgeRule.{fatesBy}
+use Rattle.definition.specs.Finishing.{Result}
+use Rattle.definition.specs.Answers.{edit, edited}
+use Rattle.definition.specs.FindElement.{findElement}
+use Rattle.definition.specs.Printed.{ascii, printed}
+use Rattle.definition.specs.Account.{accounted, accountPrinted}
 use Rattle.definition.specs.Computing.{computed}
 use Rattle.definition.specs.Examples.{Told, inLists, inBytes, nodeOf, tokenOf, call, onS}
 
@@ -30,6 +32,10 @@ onSWith input output calls = record { trees = (onS []) .trees; calls = calls; ma
 -- calls on a block of two statements, root(block(s, t), u): the block is 1, s 2, t 4, u 6; c is 8. The block and t end at one offset
 abbrev onBlock : List Call → Told
 onBlock = on (nodeOf 1 (nodeOf 2 (nodeOf 3 (tokenOf 4 "s" ∷ []) ∷ nodeOf 3 (tokenOf 4 "t" ∷ []) ∷ []) ∷ tokenOf 4 "u" ∷ []) ∷ nodeOf 5 (tokenOf 6 "c" ∷ []) ∷ [])
+
+-- THE CLOSING CALL: the block's last statement is deleted, c after the block
+abbrev pub closingCall : Told
+closingCall = onBlock (call 3 4 [] ∷ call 1 1 (8 ∷ []) ∷ [])
 
 -- calls on root(A(a), B(b), C(c), d): A is 1, B 3, C 5, d 7; x is 9, y 10
 abbrev onRow : List Call → Told
@@ -51,23 +57,17 @@ nestedOwners calls =
 
 -- ── What is told of each ────────────────────────────────────────────────────────────────────────────────────
 
--- a rule for fates, of sorted changes
-abbrev Rule : Type 0
-Rule = Table → List Change → List Fate
+-- an edge rule chosen
+abbrev pub edge : ℕ → Choices
+edge n = record { edge = n }
 
--- the fates by a rule, in sorted order
-unfoldable pub fatesBy : Rule → Told → Answer (List Fate)
-fatesBy rule b = accepted (inBytes b) >>= λ a. gives (rule a.table (sorted a.table (recorded a.calls)))
+-- the fates by a choice, in sorted order
+unfoldable pub fatesOf : Choices → Told → Answer (List Fate)
+fatesOf h b = accepted (inBytes b) >>= λ a. gives (fatesBy h a.table (sorted a.table (recorded a.calls)))
 
--- the text that a rule gives
-unfoldable pub textBy : Rule → Told → Answer (List ℕ)
-textBy rule b = do
-  a ← accepted (inBytes b)
-  let cs = sorted a.table (recorded a.calls)
-  _ ← refuse 8 (isSome (overlap a.table cs))
-  p ← rewriteChanges a (withFates cs (rule a.table cs))
-  w ← ran a p
-  gives ((result p.changes p.climbs w) .text)
+-- the text that a choice gives
+unfoldable pub textBy : Choices → Told → Answer (List ℕ)
+textBy h b = edit h (inBytes b) >>= λ r. gives (r .text)
 
 -- a text
 abbrev text : String → Answer (List ℕ)
@@ -86,8 +86,7 @@ case b f z o = record { batch = b; fates = f; zeroth = z; first = o }
 -- each case, and what is told of it
 abbrev pub cases : List Case
 cases =
-    -- THE CLOSING CALL: a block's last statement is deleted, c after the block
-    case (onBlock (call 3 4 [] ∷ call 1 1 (8 ∷ []) ∷ [])) (own ∷ own ∷ []) (text "su") (text "scu")
+    case closingCall (own ∷ own ∷ []) (text "su") (text "scu")
     -- delete X, c after X
     ∷ case (onS (call 3 1 [] ∷ call 1 1 (5 ∷ []) ∷ [])) (own ∷ own ∷ []) (text "b") (text "cb")
     -- X by R, c after X: no dependent
@@ -138,8 +137,22 @@ cases =
     ∷ []
 
 -- Each case is as told: its fates by rule 1, its text by rule 0, its text by rule 1.
-pub both-rules : (map (λ c. fatesBy fates1 c.batch) cases ≡ map (λ c. gives c.fates) cases)
-    × (map (λ c. textBy fates c.batch) cases ≡ map (λ c. c .zeroth) cases)
-    × (map (λ c. textBy fates1 c.batch) cases ≡ map (λ c. c .first) cases)
-unfolding computed inLists inBytes fatesBy textBy
+pub both-rules : (map (λ c. fatesOf (edge 1) c.batch) cases ≡ map (λ c. gives c.fates) cases)
+    × (map (λ c. textBy (edge 0) c.batch) cases ≡ map (λ c. c .zeroth) cases)
+    × (map (λ c. textBy (edge 1) c.batch) cases ≡ map (λ c. c .first) cases)
+unfolding computed inLists inBytes fatesOf textBy
 both-rules = (refl, refl, refl)
+
+-- 17 comes before 1 and before a batch of no bytes, for the edit, for `find_element` and for the account; else 1 before the batch.
+pub wrong-choice : (map (λ n. edited (edge n) ((0, 1) ∷ []) [] 0) (0 ∷ 1 ∷ 2 ∷ []) ≡ refused 1 ∷ refused 1 ∷ refused 17 ∷ [])
+    × (map (λ n. findElement (edge n) ((0, 1) ∷ []) [] 0) (0 ∷ 1 ∷ 2 ∷ []) ≡ refused 1 ∷ refused 1 ∷ refused 17 ∷ [])
+    × (map (λ n. accounted (edge n) ((0, 1) ∷ []) [] 0) (0 ∷ 1 ∷ 2 ∷ []) ≡ refused 1 ∷ refused 1 ∷ refused 17 ∷ [])
+    × (map (λ n. printed (edge n) []) (0 ∷ 1 ∷ 2 ∷ []) ≡ map ascii ("refused 2\n" ∷ "refused 2\n" ∷ "refused 17\n" ∷ []))
+    × (map (λ n. accountPrinted (edge n) []) (0 ∷ 1 ∷ 2 ∷ []) ≡ map ascii ("2\n" ∷ "2\n" ∷ "17\n" ∷ []))
+unfolding computed
+wrong-choice = (refl, refl, refl, refl, refl)
+
+-- The account of the closing call by either rule: "The account of Note 5 names that region instead."
+pub closing-call-told : map (λ n. accountPrinted (edge n) (inBytes closingCall)) (0 ∷ 1 ∷ []) ≡ map ascii ("0 own\n1 discarded 0\n" ∷ "0 own\n1 own\n" ∷ [])
+unfolding computed inLists inBytes
+closing-call-told = refl

@@ -1,4 +1,4 @@
--- Edge rule 1 (document 02, Note 6): what becomes of each change by where it stands in the tree. Rule 0 (Planning) goes by offsets. Sorting and overlap are the same for both.
+-- Edge rule 1 (document 02, Note 6): what becomes of each change by where it stands in the tree. Rule 0 (Planning) goes by offsets. "Sorting and overlap keep their rules."
 -- Assumes nothing.
 use mathlib.Core.Bool.{Bool, false, cond, not, _&&_, _||_}
 use mathlib.Core.List.{List, [], _∷_, map}
@@ -6,10 +6,11 @@ use mathlib.Core.Option.{Option, none, some, Option·getD}
 use Prim.Native.Nat.{ℕ, zero, suc}
 use lib.Dec.{leb, ltb, eqb}
 use Rattle.definition.specs.Basics.{any, keep, numbered}
+use Rattle.definition.specs.Choices.{Choices}
 use Rattle.definition.specs.Elements.{Table, row, root?, parent, child}
 use Rattle.definition.specs.Refusals.{sameParent}
 use Rattle.definition.specs.Recording.{firstChild, after, Change, insert, replace, delete, replaceWithMany, replaceAll}
-use Rattle.definition.specs.Planning.{Fate, own, parentDepth, addsRegion, inner}
+use Rattle.definition.specs.Planning.{Fate, own, parentDepth, addsRegion, inner, overlap, fates, Planned, withFates, Judgement, overlaps, fated}
 
 module _ (T : Table) where
   -- ── Where elements stand ──────────────────────────────────────────────────────────────────────────────────
@@ -117,3 +118,18 @@ module _ (T : Table) where
   -- RULE 1: what becomes of each of the sorted changes
   unfoldable pub fates1 : List Change → List Fate
   fates1 cs = let all = numbered 0 cs in map (fateAmong all) all
+
+-- ── By the choice ───────────────────────────────────────────────────────────────────────────────────────────
+
+module _ (h : Choices) (T : Table) where
+  -- "edge rule 1 beside today's rule 0": the rule for fates
+  unfoldable pub fatesBy : List Change → List Fate
+  fatesBy cs = cond (eqb h.edge 0) (fates T cs) (fates1 T cs)
+
+  -- sorted changes with what becomes of them
+  unfoldable pub planned : List Change → List Planned
+  planned cs = withFates cs (fatesBy cs)
+
+  -- sorted changes judged
+  unfoldable pub judge : List Change → Judgement
+  judge cs = elim (overlap T cs) [ none ↦ fated (planned cs) | some p ↦ overlaps (p .0) (p .1) ]
