@@ -58,7 +58,8 @@ pub table-demanded : (old : Tree ℕ) (notes : List Note) (w : World) (ps : List
 table-demanded old notes w ps T [] t q = absurd (nil≢cons t)
 table-demanded old notes w ps T (c ∷ others) t q = let z : c ≡ old = head-eq-of-cons-eq t in rw (← z, q) (λ s k e h. run-demanded c others notes ps w s k e h)
 
-ran-demanded : (h : Choices) (old : Tree ℕ) (bytes : List ℕ) (a : Accepted) (p : Plan) (w : World) → accepted bytes ≡ gives a → plan h a ≡ gives p → ran a p ≡ gives w → ApartIn old a p → DemandedOf old (splices a p) a.table w
+-- the run of an accepted batch whose splices are apart
+pub ran-demanded : (h : Choices) (old : Tree ℕ) (bytes : List ℕ) (a : Accepted) (p : Plan) (w : World) → accepted bytes ≡ gives a → plan h a ≡ gives p → ran a p ≡ gives w → ApartIn old a p → DemandedOf old (splices a p) a.table w
 unfolding ran atFirst splices
 ran-demanded c old bytes a p w x y e h =
     let k = accepts bytes a x in

@@ -8,32 +8,20 @@ use lib.ListN.{take}
 use Rattle.orders.specs.Tree.{text}
 use Rattle.orders.specs.Splices
 use Rattle.orders.specs.Check
-use Rattle.definition.specs.Basics.{Answer, gives, _>>=_, refuse, isSome}
-use Rattle.definition.specs.Elements.{Table}
+use Rattle.definition.specs.Basics.{Answer, gives, _>>=_}
 use Rattle.definition.specs.Refusals.{Call, accepted}
-use Rattle.definition.specs.Recording.{Change, recorded}
-use Rattle.definition.specs.Planning.{Fate, sorted, overlap, fates, withFates}
-use Rattle.definition.specs.EdgeRule.{fates1}
 use Rattle.definition.specs.Finishing.{result}
-use Rattle.definition.specs.Answers.{rewriteChanges, performed, ran}
+use Rattle.definition.specs.Answers.{plan, performed, ran}
 use Rattle.definition.specs.Performed.{splices}
 use Rattle.definition.specs.Printed.{ascii}
 use Rattle.definition.specs.Computing.{computed}
 use Rattle.definition.specs.Examples.{Told, inLists, inBytes, nodeOf, tokenOf, call}
+use Rattle.definition.specs.EdgeExamples.{edge, closingCall}
 use Rattle.definition_demand.specs.Aims.{replacesRoot}
 use Rattle.definition_demand.specs.Answered.{apartIn?}
 use Rattle.definition_account.specs.Words.{dependentIn0, keepsRoot, noDependentIn0}
 
 -- ── Batches ─────────────────────────────────────────────────────────────────────────────────────────────────
-
--- THE CLOSING CALL: on root(block(s, t), u), t deleted, c after the block. The block is 1, t 4; c is 8
-abbrev closingCall : Told
-closingCall = record {
-  trees = nodeOf 1 (nodeOf 2 (nodeOf 3 (tokenOf 4 "s" ∷ []) ∷ nodeOf 3 (tokenOf 4 "t" ∷ []) ∷ []) ∷ tokenOf 4 "u" ∷ []) ∷ nodeOf 5 (tokenOf 6 "c" ∷ []) ∷ [];
-  calls = call 3 4 [] ∷ call 1 1 (8 ∷ []) ∷ [];
-  mappings = [];
-  notes = [];
-}
 
 -- calls on root(P(a, z), b), z an empty node, beside a tree of c, d and e: P is 1, a 2, z 3, b 4; c is 6, d 7, e 8, their root 5
 abbrev onP : List Call → Told
@@ -63,27 +51,25 @@ dependentIn = record {
 
 -- ── What is told of each ────────────────────────────────────────────────────────────────────────────────────
 
--- both halves of the condition, and whether the splices are apart; the new text, and that of tree 0 rewritten in one go
+-- by an edge rule: both halves of the condition, and whether the splices are apart; the new text, and that of tree 0 rewritten in one go
 abbrev Compared : Type 0
 Compared = Answer ((Bool × Bool × Bool) × List ℕ × List ℕ)
 
-unfoldable pub comparedBy : (Table → List Change → List Fate) → Told → Compared
-comparedBy rule b = do
+unfoldable pub comparedBy : ℕ → Told → Compared
+comparedBy n b = do
   a ← accepted (inBytes b)
-  let T = a .table
-  let cs = sorted T (recorded a.calls)
-  _ ← refuse 8 (isSome (overlap T cs))
-  p ← rewriteChanges a (withFates cs (rule T cs))
+  p ← plan (edge n) a
   w ← ran a p
+  let T = a .table
   let S = splices a p
   gives ((keepsRoot T (performed a p), noDependentIn0 T (performed a p), apartIn? a.trees S), (result p.changes p.climbs w) .text, flatMap text (map (Splices.oneGo S) (take 1 a.trees)))
 
-pub compares : (comparedBy fates closingCall ≡ gives ((true, true, true), ascii "su", ascii "su"))
-    × (comparedBy fates1 closingCall ≡ gives ((true, true, true), ascii "scu", ascii "scu"))
-    × (comparedBy fates insideRun ≡ gives ((true, true, false), ascii "e", ascii "ce"))
-    × (comparedBy fates1 insideRun ≡ gives ((true, true, true), ascii "e", ascii "e"))
-    × (comparedBy fates1 rootReplaced ≡ gives ((false, true, true), ascii "cde", ascii "ab"))
-    × (comparedBy fates1 dependentIn ≡ gives ((true, false, false), ascii "ac", ascii "ac"))
+pub compares : (comparedBy 0 closingCall ≡ gives ((true, true, true), ascii "su", ascii "su"))
+    × (comparedBy 1 closingCall ≡ gives ((true, true, true), ascii "scu", ascii "scu"))
+    × (comparedBy 0 insideRun ≡ gives ((true, true, false), ascii "e", ascii "ce"))
+    × (comparedBy 1 insideRun ≡ gives ((true, true, true), ascii "e", ascii "e"))
+    × (comparedBy 1 rootReplaced ≡ gives ((false, true, true), ascii "cde", ascii "ab"))
+    × (comparedBy 1 dependentIn ≡ gives ((true, false, false), ascii "ac", ascii "ac"))
 unfolding
     computed inLists inBytes comparedBy replacesRoot apartIn? dependentIn0 keepsRoot noDependentIn0
     Check.each Check.pairs Check.enters? Check.run? Check.fits? Check.apart? Check.allApart?

@@ -14,27 +14,28 @@ use Rattle.orders.specs.Lists.{pick, All}
 use Rattle.orders.specs.ListLaws.{bool-absurd, All-map, All-mem, mem-pick}
 use Rattle.orders.specs.Tree.{Tree, Path, front, last}
 use Rattle.orders.specs.TreeLaws.{front-child}
-use Rattle.orders.specs.Splices.{oneGo, AllApart}
-use Rattle.definition.specs.Basics.{gives}
+use Rattle.orders.specs.Splices.{AllApart}
+use Rattle.definition.specs.Basics.{gives, _>>=_}
+use Rattle.definition.specs.Choices.{Choices}
 use Rattle.definition.specs.Elements.{Table, table, row, root?, tree, child}
 use Rattle.definition.specs.Refusals.{Accepted, accepted}
-use Rattle.definition.specs.Recording.{firstChild, after, Change, insert, replace, delete, replaceWithMany, replaceAll, recorded}
-use Rattle.definition.specs.Planning.{Fate, own, Planned, target, sorted}
+use Rattle.definition.specs.Recording.{firstChild, after, Change, insert, replace, delete, replaceWithMany, replaceAll}
+use Rattle.definition.specs.Planning.{own, Planned, target}
 use Rattle.definition.specs.Rewriting.{Note}
-use Rattle.definition.specs.EdgeRule.{targetParent, fates1}
+use Rattle.definition.specs.EdgeRule.{targetParent, fates1, planned}
 use Rattle.definition.specs.Running.{World, Run, begin, present, place, fromTo, emptyAt, step, steps}
 use Rattle.definition.specs.Finishing.{newTree, result}
-use Rattle.definition.specs.Answers.{Plan, performed, atFirst, ran}
+use Rattle.definition.specs.Answers.{Plan, plan, performed, atFirst, ran, edit}
 use Rattle.definition.specs.Performed.{inTree0, toSplice, met, told, yields, splices}
 use Rattle.definition_laws.specs.Answers.{given}
-use Rattle.definition_laws.specs.Accepted.{accepts}
+use Rattle.definition_laws.specs.Accepted.{Known, accepts}
 use Rattle.definition_laws.specs.Kin.{path-long, not-root}
-use Rattle.definition_laws.specs.Plans.{checked}
-use Rattle.definition_laws.specs.Plans as Plans
+use Rattle.definition_laws.specs.Plans.{checked, changes, changes-right, plan-parts}
+use Rattle.definition_laws.specs.Stages.{fatesBy-1}
 use Rattle.definition_laws.specs.Right.{Right, Sits, right-sits}
 use Rattle.definition_demand.specs.Aims.{replacesRoot}
 use Rattle.definition_demand.specs.Run.{splicesIn0, DemandedOf, met-step}
-use Rattle.definition_demand.specs.Answered.{ApartIn, AnswersOneGo, table-demanded, result-shows}
+use Rattle.definition_demand.specs.Answered.{ApartIn, AnswersOneGo, ran-demanded, answers-one-go}
 use Rattle.definition_account.specs.Words.{keepsRoot, noDependentIn0}
 use Rattle.definition_account.specs.Run.{first-present}
 use Rattle.definition_edge.specs.Fates.{FateAt}
@@ -124,52 +125,69 @@ table-stood : (notes : List Note) (old : Tree ℕ) (ps : List Planned) (w : Worl
     → All (λ q. Sits T q.change) ps → All (λ q. replacesRoot T q.change ≡ false) ps → steps T (begin ts T notes) (begin ts T notes) ps ≡ gives w → (q : Planned) → List·Memᴰ q ps → tree T (target q.change) ≡ 0 → Stood T (begin ts T notes) ps w q
 table-stood notes old ps w T ts e = rw e (λ d h. stood ts notes old ps w d h)
 
--- ── The one-go tree ─────────────────────────────────────────────────────────────────────────────────────────
+-- ── Planned by rule 1 ───────────────────────────────────────────────────────────────────────────────────────
 
--- the sorted changes of a batch are such as line 6 accepts
-pub changes-right : (bytes : List ℕ) (a : Accepted) → accepted bytes ≡ gives a → All (Right a.table) (sorted a.table (recorded a.calls))
-changes-right bytes a x = Plans.changes-right a (checked bytes a (accepts bytes a x))
+-- a batch's plan by rule 1 is that of its changes with the fates of rule 1
+plan-by-1 : (h : Choices) (a : Accepted) (p : Plan) → h .edge ≡ 1 → plan h a ≡ gives p → planned1 a (changes a) ≡ gives p
+unfolding planned
+plan-by-1 h a p e y = ap (plannedBy a (changes a)) (sym (fatesBy-1 h a.table e (changes a))) ∙ (plan-parts h a p y) .1
 
--- DEMAND 3'S LAST SENTENCE FOR EITHER RULE, whatever the fates: a batch so planned, whose splices are apart and leave the root unreplaced, answers with the one-go tree
-pub either-rule : (bytes : List ℕ) (a : Accepted) → accepted bytes ≡ gives a → (cs : List Change) → All (Right a.table) cs → (fs : List Fate) (p : Plan) → plannedBy a cs fs ≡ gives p → (w : World) → ran a p ≡ gives w
-    → (old : Tree ℕ) → ApartIn old a p → AnswersOneGo old a p (result p.changes p.climbs w)
-unfolding ran atFirst splices
-either-rule bytes a x cs h fs p y w e old k =
-    let sits = All-map (λ q c. right-sits a.table q.change c) (performed a p) (performed-right a cs fs p y h) in
-    let d = table-demanded old p.notes w (performed a p) a.table a.trees (k .tree0) ((accepts bytes a x) .table) sits (k .unreplaced) e (k .apart) in
-    record { end = w; run = e; demanded = d; shows = result-shows (oneGo (splices a p) old) p.changes p.climbs w (d .tree ∙ ap (λ t. t ∷ []) (d .demanded .tree)) }
-
--- a batch with these changes planned by rule 1, its run not refused, the root of tree 0 not replaced, no dependent change ending in tree 0
-pub record Ran1 (bytes : List ℕ) (a : Accepted) (cs : List Change) (p : Plan) (w : World) : Type 0 where
+-- AN ACCEPTED BATCH UNDER RULE 1, its run not refused, that does not replace the root of tree 0 and has no dependent change ending there
+pub record Ran1 (h : Choices) (bytes : List ℕ) (a : Accepted) (p : Plan) (w : World) : Type 0 where
+  pub rule : h .edge ≡ 1
   pub accepted : accepted bytes ≡ gives a
-  pub right : All (Right a.table) cs
-  pub planned : planned1 a cs ≡ gives p
+  pub planned : plan h a ≡ gives p
   pub ran : ran a p ≡ gives w
   pub unreplaced : keepsRoot a.table (performed a p) ≡ true
   pub aside : noDependentIn0 a.table (performed a p) ≡ true
 
-module _ (bytes : List ℕ) (a : Accepted) (cs : List Change) (p : Plan) (w : World) (h : Ran1 bytes a cs p w) where
+-- WHAT IT ANSWERS
+pub record Kept1 (h : Choices) (bytes : List ℕ) (a : Accepted) (p : Plan) (w : World) : Type 0 where
+  pub edits : edit h bytes ≡ gives (result p.changes p.climbs w)
   -- its splices are apart
-  pub ran-apart : (old : Tree ℕ) × ApartIn old a p
-  ran-apart = apart-by-rule-1 bytes a (h .accepted) cs (h .right) p (h .planned) w (h .ran) (h .unreplaced) (h .aside)
-
-  abbrev old : Tree ℕ
-  old = ran-apart .0
-
+  pub old : Tree ℕ
+  pub apart : ApartIn old a p
   -- so it answers with the one-go tree
-  pub ran-one-go : AnswersOneGo old a p (result p.changes p.climbs w)
-  ran-one-go = either-rule bytes a (h .accepted) cs (h .right) (fates1 a.table cs) p (h .planned) w (h .ran) old (ran-apart .1)
+  pub answers : AnswersOneGo old a p (result p.changes p.climbs w)
+  -- AND WHAT EACH CHANGE PERFORMED IN TREE 0 PUTS IN STANDS THERE
+  pub stood : (q : Planned) → List·Memᴰ q (performed a p) → tree a.table (target q.change) ≡ 0 → Stood a.table (atFirst a p) (performed a p) w q
+  -- so does what a change that the account calls own puts into tree 0: no own insertion is lost
+  pub own : (i : ℕ) (c : Change) → getElem? (changes a) i ≡ some c → FateAt a.table (changes a) i own → tree a.table (target c) ≡ 0 → Stood a.table (atFirst a p) (performed a p) w (alone c)
 
-  -- AND WHAT EACH CHANGE PERFORMED IN TREE 0 PUTS IN STANDS THERE: all of them are own, so no own insertion is lost
-  pub ran-stood : (q : Planned) → List·Memᴰ q (performed a p) → tree a.table (target q.change) ≡ 0 → Stood a.table (atFirst a p) (performed a p) w q
-  unfolding ran atFirst splices ran-one-go either-rule
-  ran-stood =
-      let k = accepts bytes a (h .accepted) in
-      let x = ran-apart .1 in
-      let y = ran-one-go in
-      let sits = All-map (λ q c. right-sits a.table q.change c) (performed a p) (performed-right a cs (fates1 a.table cs) p (h .planned) (h .right)) in
-      table-stood p.notes old (performed a p) w a.table a.trees (k .table) (y .demanded) (x .apart) sits (x .unreplaced) (h .ran)
+module _ (h : Choices) (bytes : List ℕ) (a : Accepted) (p : Plan) (w : World) (g : Ran1 h bytes a p w) where
+  abbrev known : Known bytes a
+  known = accepts bytes a (g .accepted)
 
-  -- so does what a change that the account calls own puts into tree 0
-  pub own-stood : (i : ℕ) (c : Change) → getElem? cs i ≡ some c → FateAt a.table cs i own → tree a.table (target c) ≡ 0 → Stood a.table (atFirst a p) (performed a p) w (alone c)
-  own-stood i c e f z = ran-stood (alone c) (own-performed a cs p (h .planned) i c e f) z
+  abbrev right : All (Right a.table) (changes a)
+  right = changes-right a (checked bytes a known)
+
+  by-1 : planned1 a (changes a) ≡ gives p
+  by-1 = plan-by-1 h a p (g .rule) (g .planned)
+
+  splices-apart : (old : Tree ℕ) × ApartIn old a p
+  splices-apart = apart-by-rule-1 bytes a (g .accepted) (changes a) right p by-1 w (g .ran) (g .unreplaced) (g .aside)
+
+  edits-so : edit h bytes ≡ gives (result p.changes p.climbs w)
+  unfolding edit _>>=_
+  edits-so = rw (g .accepted, g .planned, g .ran)
+
+  stands-so : (q : Planned) → List·Memᴰ q (performed a p) → tree a.table (target q.change) ≡ 0 → Stood a.table (atFirst a p) (performed a p) w q
+  unfolding ran atFirst splices
+  stands-so =
+      let (old, x) = splices-apart in
+      let d = ran-demanded h old bytes a p w (g .accepted) (g .planned) (g .ran) x in
+      let sits = All-map (λ q c. right-sits a.table q.change c) (performed a p) (performed-right a (changes a) (fates1 a.table (changes a)) p by-1 right) in
+      table-stood p.notes old (performed a p) w a.table a.trees (known .table) d (x .apart) sits (x .unreplaced) (g .ran)
+
+  -- UNDER RULE 1 NO OWN INSERTION IS LOST
+  pub kept-by-rule-1 : Kept1 h bytes a p w
+  kept-by-rule-1 =
+      let (old, x) = splices-apart in
+      record {
+        edits = edits-so;
+        old = old;
+        apart = x;
+        answers = answers-one-go h bytes (result p.changes p.climbs w) edits-so a p (g .accepted) (g .planned) old x;
+        stood = stands-so;
+        own = λ i c e f z. stands-so (alone c) (own-performed a (changes a) p by-1 i c e f) z;
+      }

@@ -2,7 +2,7 @@
 -- To know what is said, read:
 --     Fates     THE ACCOUNT IS TRUE (`fates-true`): each fate names the innermost region that takes the change, or there is none; the rule for fates without counting (`fate-by-region`)
 --     Apart     THE SPLICES ARE APART (`apart-by-rule-1`) of an accepted batch that replaces no root of tree 0 and has no dependent change ending there
---     Kept      so it answers with the one-go tree (`ran-one-go`), and what each own change puts into tree 0 stands in it (`ran-stood`, `own-stood`)
+--     Kept      so it answers with the one-go tree, and what each own change puts into tree 0 stands in it (`kept-by-rule-1`)
 --     Examples  both rules on batches where they part; each half of the condition is needed
 -- The proof, each file resting on those above it:
 --     Region    the innermost of the regions that take a change, and no other

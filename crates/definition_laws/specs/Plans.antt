@@ -17,7 +17,8 @@ use Rattle.definition.specs.Choices.{Choices}
 use Rattle.definition.specs.Elements.{Table, table, row, node?, placeBelow, descend}
 use Rattle.definition.specs.Refusals.{Call, mostListed, listsTooMany, wrongCall, wrongMapping, wrongNote, Accepted}
 use Rattle.definition.specs.Recording.{Change, change, recorded}
-use Rattle.definition.specs.Planning.{Planned, sorted, Judgement, overlaps, fated}
+use Rattle.definition.specs.EdgeRule.{planned}
+use Rattle.definition.specs.Planning.{Planned, sorted, overlap, Judgement, overlaps, fated}
 use Rattle.definition.specs.Rewriting.{mapping, mappedOr, land, rewritten, nearest, isParent, noteFrom, settle, Note, settled}
 use Rattle.definition.specs.Running.{news, ranked}
 use Rattle.definition.specs.Answers.{judgeChanges, disjoint, Plan, rewriteChanges, plan, performed}
@@ -138,34 +139,45 @@ pub plan-fated : (h : Choices) (a : Accepted) (ps : List Planned) → judgeChang
 unfolding plan disjoint _>>=_
 plan-fated h a ps e = rw (e, disjoint)
 
+-- the changes of a batch as sorted, before they are rewritten
+abbrev pub changes : Accepted → List Change
+changes a = sorted a.table (recorded a.calls)
+
+-- a plan's changes were judged so, and then rewritten
+pub plan-parts : (h : Choices) (a : Accepted) (p : Plan) → plan h a ≡ gives p → (overlap a.table (changes a) ≡ none) × (rewriteChanges a (planned h a.table (changes a)) ≡ gives p)
+unfolding plan judgeChanges
+plan-parts h a p e =
+    given (disjoint (judgeChanges h a)) _ e λ ps x e.
+    let (apart, same) = judge-fated h a.table (changes a) ps (disjoint-fated (judgeChanges h a) ps x) in
+    (apart, ap (rewriteChanges a) (sym same) ∙ e)
+
 module _ (a : Accepted) (k : Checked a) where
-  -- the changes as sorted, before they are rewritten
-  pub changes-right : All (Right a.table) (sorted a.table (recorded a.calls))
+  pub changes-right : All (Right a.table) (changes a)
   changes-right =
       sorted-all a.table (Right a.table) (recorded a.calls)
       (recorded-all (Right a.table) a.calls (All-map (λ c e h. change-right a.table c e h) a.calls (k .calls)))
 
-  changes-few : All (λ c. lists c ≤ mostListed) (sorted a.table (recorded a.calls))
+  changes-few : All (λ c. lists c ≤ mostListed) (changes a)
   changes-few =
       sorted-all a.table (λ c. lists c ≤ mostListed) (recorded a.calls)
       (recorded-all (λ c. lists c ≤ mostListed) a.calls (All-map (λ c e h. change-few c e) a.calls (k .few)))
 
-  changes-listed : listsAll (sorted a.table (recorded a.calls)) ≤ total (λ c. true) (λ c. length c.listed) a.calls
+  changes-listed : listsAll (changes a) ≤ total (λ c. true) (λ c. length c.listed) a.calls
   changes-listed =
       rw (sorted-total a.table (λ c. true) lists (recorded a.calls))
       (recorded-total lists (λ c. length c.listed) a.calls (All-map (λ c e h. change-lists a.table c e) a.calls (k .calls)))
 
-  changes-count : length (sorted a.table (recorded a.calls)) ≤ length a.calls
+  changes-count : length (changes a) ≤ length a.calls
   changes-count =
       let one : total (λ c. true) (λ (c : Change). 1) (recorded a.calls) ≤ total (λ c. true) (λ (c : Call). 1) a.calls = recorded-total (λ c. 1) (λ c. 1) a.calls (All-map (λ c e h. omega arith) a.calls (k .calls)) in
-      omega (arith, total-length (sorted a.table (recorded a.calls)), sorted-total a.table (λ c. true) (λ c. 1) (recorded a.calls), one, total-length a.calls)
+      omega (arith, total-length (changes a), sorted-total a.table (λ c. true) (λ c. 1) (recorded a.calls), one, total-length a.calls)
 
   -- the changes that are judged are those that were sorted
   pub judged-known : (h : Choices) (ps : List Planned) → judgeChanges h a ≡ fated ps → Judging a ps
   unfolding judgeChanges
   judged-known h ps e =
       let T = a .table in
-      let cs = sorted T (recorded a.calls) in
+      let cs = changes a in
       let same : map (λ q. q .change) ps ≡ cs = ap (map (λ q. q .change)) ((judge-fated h T cs ps e) .1) ∙ planned-changes h T cs in
       let long : length ps ≡ length cs = sym (length-map ps (λ q. q .change)) ∙ ap length same in
       let sum : total (λ q. true) (λ q. lists q.change) ps ≡ listsAll cs = total-map (λ q. q .change) lists ps ∙ ap listsAll same in
