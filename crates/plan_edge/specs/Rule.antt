@@ -11,6 +11,10 @@ use Rattle.record_changes.specs.ChangeRow.{ChangeRow}
 use Rattle.record_changes.specs.ChangeRowLaws.{rowAt}
 use Rattle.plan_sort.specs.Rows.{withFate}
 
+-- the change is a run from x to y
+unfoldable pub isRunOf : ℕ → ℕ → ChangeRow → Bool
+isRunOf x y c = eqb c.operation 5 && (eqb c.target x && eqb c.end y)
+
 -- ── Which region takes a change, by the table's words w ─────────────────────────────────────────────────────
 
 module _ (w : List ℕ) where
@@ -44,10 +48,6 @@ module _ (w : List ℕ) where
       cond (eqb c.operation 0) false
       (cond (eqb c.operation 1) (inRun x y c.target && not (eqb c.target y))
       (inRun x y c.target && inRun x y c.end))
-
-  -- the change is a run from x to y
-  unfoldable pub isRunOf : ℕ → ℕ → ChangeRow → Bool
-  isRunOf x y c = eqb c.operation 5 && (eqb c.target x && eqb c.end y)
 
   -- r, at place j, is a run that has the change c, at place k, inside: "a run not .. itself or .. an equal one sorted later"
   unfoldable pub inside : ℕ → ChangeRow → ℕ → ChangeRow → Bool
@@ -104,6 +104,10 @@ module _ (w v regions : List ℕ) where
   abbrev pub fatedAt : ℕ → ChangeRow
   fatedAt k = withFate (rowAt v k) (fateAt k)
 
--- n rows with their fates
+  -- n rows with their fates
+  unfoldable pub fatedRows : ℕ → List ChangeRow
+  fatedRows n = map fatedAt (upFrom 0 n)
+
+-- RULE 1 of n rows
 unfoldable pub edgeRows : List ℕ → ℕ → List ℕ → List ChangeRow
-edgeRows w n v = map (fatedAt w v (regionsOf w v n)) (upFrom 0 n)
+edgeRows w n v = fatedRows w v (regionsOf w v n) n

@@ -122,7 +122,7 @@ module _ (n : ℕ) (w s : List ℕ) (W : Wellformed n w s) where
         go (replaceWithMany e l) t = one e (within e (t .0))
         go (replaceAll e d l) t = rw (in-run x y e h k (within e (t .0)), in-run x y d h k (within d (t .1)))
 
-    run-placed : (x y : ℕ) → isRunOf w x y r ≡ edge.isRunOf T x y c
+    run-placed : (x y : ℕ) → isRunOf x y r ≡ edge.isRunOf T x y c
     unfolding isRunOf edge.isRunOf target operation endOf
     run-placed x y = rw (p .operationTold, p .targetTold, p .endTold) (go c)
       where
@@ -155,7 +155,7 @@ module _ (n : ℕ) (w s : List ℕ) (W : Wellformed n w s) where
     unfolding inside edge.inside target operation endOf
     inside-placed j k c q o u = rw (p .operationTold, p .targetTold, p .endTold) (go d t)
       where
-        go : (d : Change) → Sits T d → (eqb (operation d) 5 && (onlyIn w (target d) (endOf d) q && not (isRunOf w (target d) (endOf d) q && leb k j))) ≡ edge.inside T j d (k, c)
+        go : (d : Change) → Sits T d → (eqb (operation d) 5 && (onlyIn w (target d) (endOf d) q && not (isRunOf (target d) (endOf d) q && leb k j))) ≡ edge.inside T j d (k, c)
         go (insert firstChild x m) t = refl
         go (insert after x m) t = refl
         go (replace x y) t = refl

@@ -24,7 +24,7 @@ use Rattle.read_element_table.specs.Wellformed.{Wellformed}
 use Rattle.record_changes.specs.ChangeRow.{ChangeRow, rowsOf}
 use Rattle.record_changes.specs.ChangeRowLaws.{rowAt, rows-from, length-rowsOf}
 use Rattle.plan_sort.specs.Rows.{withFate}
-use Rattle.plan_edge.specs.Rule.{takes, regionDepth, innermost, regionFrom, regionsOf, isDiscarded, fateWithin, fateAt, fatedAt, edgeRows}
+use Rattle.plan_edge.specs.Rule.{takes, regionDepth, innermost, regionFrom, regionsOf, isDiscarded, fateWithin, fateAt, fatedAt, fatedRows, edgeRows}
 use Rattle.plan_edge.specs.Taking.{Placed, takes-placed, depth-placed, owns-placed}
 
 -- ── Lists ───────────────────────────────────────────────────────────────────────────────────────────────────
@@ -170,7 +170,7 @@ module _ (t : ℕ) (w src : List ℕ) (W : Wellformed t w src) {X : Type 0} (row
 
     -- EACH ROW gets the fate that rule 1 gives its change
     pub edge-fates-told : (xs : List X) → rowsOf n v ≡ map row xs → All RowTells xs → edgeRows w n v ≡ zipWith (λ x f. withFate (row x) f) xs (edge.fates1 (view t w src) (map change xs))
-    unfolding edgeRows edge.fates1
+    unfolding edgeRows fatedRows edge.fates1
     edge-fates-told xs e a =
         let long : length xs ≡ n = sym (length-map xs row) ∙ (ap length (sym e) ∙ length-rowsOf n v) in
         let z : rowsOf (length xs) (drop (13 * 0) v) ≡ map row xs = ap (λ (m : ℕ). rowsOf m v) long ∙ e in
