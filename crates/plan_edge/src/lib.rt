@@ -189,7 +189,9 @@ fn innermost_of(rows: &[u32], table: &[u32], k: usize, j: usize, b: usize) -> us
     if b == 0 {
         return j + 1;
     }
-    if region_depth(rows, table, b - 1) < region_depth(rows, table, j) {
+    let behind = region_depth(rows, table, b - 1);
+    let here = region_depth(rows, table, j);
+    if behind < here {
         return j + 1;
     }
     b
