@@ -32,7 +32,7 @@ unfolding
     Lists.pick Lists.any
     Tree.list Tree.forest Tree.label Tree.resolve Tree.zone Tree.adjust Tree.modify Tree.splice Tree.preorder Tree.preorders Tree.elements Tree.elementsOf Tree.text Tree.textOf Tree.deepest Tree.deepestOf Tree.measure Tree.children Tree.last Tree.front Tree.strip
     Basics._>>=_ Basics.refuse Basics.orRefuse Basics.isRefused Basics.isSome Basics.among Basics.keep Basics.first Basics.numbered Basics.lower Basics.insertBy Basics.sortBy Basics.rising Basics.falling
-    Choices.byDefault Choices.chosen
+    Choices.byDefault Choices.chosen Choices.digit Choices.given
     Words.word Words.words Words.bytes Words.written
     Batch.sizes Batch.beyond Batch.whole Batch.arrays Batch.batch
     Elements.isNode Elements.kindOf Elements.malformed Elements.pieces Elements.plant Elements.grow Elements.startsWithToken Elements.unspelled Elements.spelled Elements.numbers Elements.rows Elements.rowsBelow Elements.table Elements.noRow Elements.row Elements.node? Elements.parent Elements.root? Elements.depth Elements.tree Elements.child Elements.placeBelow Elements.descend

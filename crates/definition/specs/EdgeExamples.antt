@@ -4,9 +4,10 @@ use mathlib.Core.Path.{_≡_, refl}
 use mathlib.Core.List.{List, [], _∷_, _++_, map}
 use Prim.Native.Nat.{ℕ}
 use Prim.Native.String.{String}
+use lib.ListN.{replicate}
 use Rattle.orders.specs.Tree.{Tree}
 use Rattle.definition.specs.Basics.{Answer, refused, gives, _>>=_}
-use Rattle.definition.specs.Choices.{Choices}
+use Rattle.definition.specs.Choices.{Choices, noRule, given}
 use Rattle.definition.specs.Refusals.{Call, accepted}
 use Rattle.definition.specs.Recording.{recorded}
 use Rattle.definition.specs.Planning.{Fate, own, dependent, discarded, sorted}
@@ -151,6 +152,14 @@ pub wrong-choice : (map (λ n. edited (edge n) ((0, 1) ∷ []) [] 0) (0 ∷ 1 �
     × (map (λ n. accountPrinted (edge n) []) (0 ∷ 1 ∷ 2 ∷ []) ≡ map ascii ("2\n" ∷ "2\n" ∷ "17\n" ∷ []))
 unfolding computed
 wrong-choice = (refl, refl, refl, refl, refl)
+
+-- The programs' arguments, beside a batch of no bytes (2): without one, and with `0` or `1`; any other first argument is 17.
+pub arguments-told : (map (λ a. printed (given a) []) ([] ∷ map (λ a. ascii a ∷ []) ("0" ∷ "1" ∷ [])) ≡ map ascii ("refused 2\n" ∷ "refused 2\n" ∷ "refused 2\n" ∷ []))
+    × (map (λ a. printed (given (ascii a ∷ [])) []) ("2" ∷ "9" ∷ "01" ∷ "10" ∷ "x" ∷ "/" ∷ ":" ∷ "-1" ∷ " 1" ∷ "" ∷ []) ≡ replicate 10 (ascii "refused 17\n"))
+    × (map (λ a. (given a) .edge) ([] ∷ map (λ a. ascii a ∷ []) ("0" ∷ "1" ∷ "2" ∷ "01" ∷ "x" ∷ "" ∷ [])) ≡ 0 ∷ 0 ∷ 1 ∷ 2 ∷ noRule ∷ noRule ∷ noRule ∷ [])
+    × ((given (ascii "1" ∷ ascii "0" ∷ [])) .edge ≡ 1)
+unfolding computed
+arguments-told = (refl, refl, refl, refl)
 
 -- The account of the closing call by either rule: "The account of Note 5 names that region instead."
 pub closing-call-told : map (λ n. accountPrinted (edge n) (inBytes closingCall)) (0 ∷ 1 ∷ []) ≡ map ascii ("0 own\n1 discarded 0\n" ∷ "0 own\n1 own\n" ∷ [])
