@@ -45,18 +45,18 @@ digit-value (b ∷ []) h l m = rw (le-ltb b 48 l, le-ltb 57 b m) refl
 digit-value (b ∷ c ∷ a) h l m = omega arith
 
 -- no argument
-pub edge-none : (count : ℕ) (first : List ℕ) → count < 2 → 0 ≡ (given (arguments count first)) .edge
+pub none-given : (count : ℕ) (first : List ℕ) → count < 2 → record { edge = 0 } ≡ given (arguments count first)
 unfolding given byDefault
-edge-none zero first h = refl
-edge-none (suc zero) first h = refl
-edge-none (suc (suc n)) first h = absurd (omega arith)
+none-given zero first h = refl
+none-given (suc zero) first h = refl
+none-given (suc (suc n)) first h = absurd (omega arith)
 
 -- a first argument
-pub edge-first : (count : ℕ) (first : List ℕ) (r : ℕ) → 2 ≤ count → r ≡ digit first → r ≡ (given (arguments count first)) .edge
+pub first-given : (count : ℕ) (first : List ℕ) (r : ℕ) → 2 ≤ count → r ≡ digit first → record { edge = r } ≡ given (arguments count first)
 unfolding given
-edge-first zero first r h e = absurd (omega arith)
-edge-first (suc zero) first r h e = absurd (omega arith)
-edge-first (suc (suc n)) first r h e = let s : suc (suc n) - 1 ≡ suc n = omega arith in rw s e
+first-given zero first r h e = absurd (omega arith)
+first-given (suc zero) first r h e = absurd (omega arith)
+first-given (suc (suc n)) first r h e = let s : suc (suc n) - 1 ≡ suc n = omega arith in rw (s, e) refl
 
 -- ── Refused ─────────────────────────────────────────────────────────────────────────────────────────────────
 
