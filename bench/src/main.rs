@@ -3,7 +3,7 @@
 
 use std::{env, hint::black_box};
 
-use syntax_edit::{Editor, raw};
+use syntax_edit::{Choices, Editor, raw};
 
 use batches::Case;
 use time::{Clock, Contestant, Effort, FULL, QUICK, medians, shown};
@@ -53,14 +53,14 @@ struct Times {
 fn ours(batch: &[u8]) -> Contestant<'_> {
     let (mut work, mut result) = (raw::Work::new(), vec![0; syntax_edit::MOST_ANSWER]);
     Box::new(move |clock| {
-        clock.time(|| raw::edit(black_box(batch), &mut result, work.slices()));
+        clock.time(|| raw::edit(Choices::default(), black_box(batch), &mut result, work.slices()));
     })
 }
 
 /// What a call of ours cannot do without: the batch read once, the answer written once, every work slice set to zero.
 fn floor(batch: &[u8]) -> Contestant<'_> {
     let (mut work, mut answer) = (raw::Work::new(), vec![0; syntax_edit::MOST_ANSWER]);
-    let length = raw::edit(batch, &mut answer, work.slices());
+    let length = raw::edit(Choices::default(), batch, &mut answer, work.slices());
     answer.truncate(length as usize);
     let (mut read, mut written) = (vec![0; batch.len()], vec![0; answer.len()]);
     Box::new(move |clock| {

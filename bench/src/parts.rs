@@ -2,7 +2,7 @@
 
 extern crate library;
 
-use syntax_edit::raw;
+use syntax_edit::{Choices, raw};
 
 mod batches;
 
@@ -11,6 +11,6 @@ fn main() {
     let all = batches::sorts().into_iter().chain(batches::by_calls());
     let case = all.into_iter().find(|it| it.name.starts_with(&name)).expect("a batch of that name");
     let (mut work, mut result) = (raw::Work::new(), vec![0; syntax_edit::MOST_ANSWER]);
-    std::hint::black_box(raw::edit(&case.batch, &mut result, work.slices()));
+    std::hint::black_box(raw::edit(Choices::default(), &case.batch, &mut result, work.slices()));
     println!("{}", case.name);
 }

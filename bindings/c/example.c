@@ -62,14 +62,14 @@ int main(void)
 {
     int64_t written = build(), length = written;
     if (length >= 0)
-        length = syntax_edit_with(&work, batch, (size_t)written, result, sizeof result);
+        length = syntax_edit_with(&work, SYNTAX_EDGE_BY_OFFSET, batch, (size_t)written, result, sizeof result);
     if (length < 0)
         printf("refused %" PRId64 "\n", -length);
     else
         print();
     if (written < 0)
         return 0;
-    length = syntax_account_with(&work, batch, (size_t)written, result, sizeof result);
+    length = syntax_account_with(&work, SYNTAX_EDGE_BY_OFFSET, batch, (size_t)written, result, sizeof result);
     if (length < 0)
         printf("%" PRId64 "\n", -length);
     else

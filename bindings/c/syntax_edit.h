@@ -46,6 +46,12 @@ enum { SYNTAX_DRAFT = 49180, SYNTAX_MOST_BATCH = 49180 };
 /* What syntax_find_element answers if there is no such element. */
 enum { SYNTAX_NONE = -1000 };
 
+/* The edge rule, which every call that edits takes first: to which replacement or run a change at its edge belongs. Any other number is refused (17). */
+enum {
+    SYNTAX_EDGE_BY_OFFSET = 0,  /* by text ranges, as rust-analyzer does: the usual one */
+    SYNTAX_EDGE_BY_TREE = 1     /* by where elements stand: an insertion after a node is not lost with the node's last child */
+};
+
 /* Refusals. A call returns one of these with a minus. */
 enum {
     SYNTAX_SHORT_WORK = 1,      /* a work slice is too short */
@@ -63,11 +69,13 @@ enum {
     SYNTAX_SHORT_RESULT = 13,   /* the result buffer is too short */
     SYNTAX_LISTS = 14,          /* lists in step differ in length, or the lists make a batch that 3 to 7 or 16 would refuse */
     SYNTAX_SHORT_DESTINATION = 15,  /* the destination is too short, checked after 14 */
-    SYNTAX_LISTED = 16          /* a call lists more than 41 elements, a run's end not counted; checked right after 6 */
+    SYNTAX_LISTED = 16,         /* a call lists more than 41 elements, a run's end not counted; checked right after 6 */
+    SYNTAX_EDGE = 17            /* an edge rule other than 0 or 1; checked before 1 */
 };
 
-/* Edits: the length of the answer that now stands at the start of the result, or a refusal with a minus. */
+/* Edits by an edge rule: the length of the answer that now stands at the start of the result, or a refusal with a minus. */
 int64_t syntax_edit(
+    uint64_t edge,
     const uint8_t *batch, size_t batch_length,
     uint8_t *result, size_t result_length,
     uint32_t *table, size_t table_length,
@@ -80,8 +88,9 @@ int64_t syntax_edit(
     uint32_t *rows, size_t rows_length,
     uint32_t *prepared, size_t prepared_length);
 
-/* The first node of the new tree with the kind and the text start of node `number` of tree 0: its number, SYNTAX_NONE, or a refusal with a minus. */
+/* The first node of the new tree, edited by an edge rule, with the kind and the text start of node `number` of tree 0: its number, SYNTAX_NONE, or a refusal with a minus. */
 int64_t syntax_find_element(
+    uint64_t edge,
     const uint8_t *batch, size_t batch_length,
     uint64_t number,
     uint32_t *table, size_t table_length,
@@ -94,10 +103,11 @@ int64_t syntax_find_element(
     uint32_t *rows, size_t rows_length,
     uint32_t *prepared, size_t prepared_length);
 
-/* Accounts: the length of the text that now stands at the start of the result, or a refusal with a minus, never SYNTAX_OVERLAP. The text has a line for each
+/* Accounts by an edge rule: the length of the text that now stands at the start of the result, or a refusal with a minus, never SYNTAX_OVERLAP. The text has a line for each
  * recorded change in sorted order: its number, from 0, then `own`, `dependent k` or `discarded k`, k being the number of a change; or, where replacements
  * overlap, the one line `overlap j k`. */
 int64_t syntax_account(
+    uint64_t edge,
     const uint8_t *batch, size_t batch_length,
     uint8_t *result, size_t result_length,
     uint32_t *table, size_t table_length,
@@ -143,23 +153,23 @@ typedef struct syntax_work {
 } syntax_work;
 
 /* The three calls over one struct of work memory. */
-static inline int64_t syntax_edit_with(syntax_work *w, const uint8_t *batch, size_t batch_length, uint8_t *result, size_t result_length)
+static inline int64_t syntax_edit_with(syntax_work *w, uint64_t edge, const uint8_t *batch, size_t batch_length, uint8_t *result, size_t result_length)
 {
-    return syntax_edit(batch, batch_length, result, result_length, w->table, SYNTAX_TABLE, w->source, SYNTAX_SOURCE, w->changes, SYNTAX_CHANGES,
+    return syntax_edit(edge, batch, batch_length, result, result_length, w->table, SYNTAX_TABLE, w->source, SYNTAX_SOURCE, w->changes, SYNTAX_CHANGES,
         w->notes, SYNTAX_NOTES, w->incoming, SYNTAX_INCOMING, w->changed, SYNTAX_CHANGED, w->marks, SYNTAX_MARKS, w->rows, SYNTAX_ROWS,
         w->prepared, SYNTAX_PREPARED);
 }
 
-static inline int64_t syntax_find_element_with(syntax_work *w, const uint8_t *batch, size_t batch_length, uint64_t number)
+static inline int64_t syntax_find_element_with(syntax_work *w, uint64_t edge, const uint8_t *batch, size_t batch_length, uint64_t number)
 {
-    return syntax_find_element(batch, batch_length, number, w->table, SYNTAX_TABLE, w->source, SYNTAX_SOURCE, w->changes, SYNTAX_CHANGES,
+    return syntax_find_element(edge, batch, batch_length, number, w->table, SYNTAX_TABLE, w->source, SYNTAX_SOURCE, w->changes, SYNTAX_CHANGES,
         w->notes, SYNTAX_NOTES, w->incoming, SYNTAX_INCOMING, w->changed, SYNTAX_CHANGED, w->marks, SYNTAX_MARKS, w->rows, SYNTAX_ROWS,
         w->prepared, SYNTAX_PREPARED);
 }
 
-static inline int64_t syntax_account_with(syntax_work *w, const uint8_t *batch, size_t batch_length, uint8_t *result, size_t result_length)
+static inline int64_t syntax_account_with(syntax_work *w, uint64_t edge, const uint8_t *batch, size_t batch_length, uint8_t *result, size_t result_length)
 {
-    return syntax_account(batch, batch_length, result, result_length, w->table, SYNTAX_TABLE, w->source, SYNTAX_SOURCE, w->changes, SYNTAX_CHANGES,
+    return syntax_account(edge, batch, batch_length, result, result_length, w->table, SYNTAX_TABLE, w->source, SYNTAX_SOURCE, w->changes, SYNTAX_CHANGES,
         w->notes, SYNTAX_NOTES, w->incoming, SYNTAX_INCOMING, w->changed, SYNTAX_CHANGED, w->marks, SYNTAX_MARKS, w->rows, SYNTAX_ROWS,
         w->prepared, SYNTAX_PREPARED);
 }

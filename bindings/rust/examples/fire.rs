@@ -10,7 +10,7 @@
 
 use std::{env, fs, path::PathBuf};
 
-use syntax_edit::{Answer, raw};
+use syntax_edit::{Answer, Choices, raw};
 
 const GUARD: usize = 64;
 
@@ -66,7 +66,7 @@ impl<T: Copy + PartialEq> Buffer<T> {
 struct Fire {
     random: Random,
     guard: usize,
-    told: [u64; 14],
+    told: [u64; 18],
     calls: u64,
 }
 
@@ -85,22 +85,27 @@ impl Fire {
         })
     }
 
+    /// Either edge rule, seldom a wrong one.
+    fn choices(&mut self) -> Choices {
+        Choices { edge: if self.random.one_in(50) { self.random.next().max(2) } else { self.random.below(2) as u64 } }
+    }
+
     /// One call, with every check on memory; the answer's bytes, or the refusal.
-    fn call(&mut self, batch: &[u8], room: usize, pattern: u32) -> Result<Vec<u8>, i64> {
+    fn call(&mut self, choices: Choices, batch: &[u8], room: usize, pattern: u32) -> Result<Vec<u8>, i64> {
         self.calls += 1;
         let mut work = self.work(pattern);
         let short = work.iter().zip(raw::LENGTHS).any(|(it, least)| it.held().len() < least);
         let mut input = Buffer::new(batch.len(), self.guard, pattern as u8);
         input.lent().copy_from_slice(batch);
         let mut result = Buffer::new(room, self.guard, pattern as u8);
-        let answer = raw::edit(input.held(), result.lent(), work.each_mut().map(Buffer::lent));
+        let answer = raw::edit(choices, input.held(), result.lent(), work.each_mut().map(Buffer::lent));
         assert!(input.held() == batch && input.guards_stand(), "the batch is changed");
         assert!(result.guards_stand(), "a byte beside the result is written");
         assert!(work.iter().all(Buffer::guards_stand), "a word beside a work slice is written");
         assert!(work.iter().all(|it| it.held().iter().all(|&it| it == 0)), "a work slice is not zeros");
-        assert!((-13..=61_464).contains(&answer) && answer != 0, "no answer: {answer}");
-        assert!(!short || answer == -1, "a short work slice is not refused");
-        assert!(short || answer != -1, "no work slice is short");
+        assert!((-17..=61_464).contains(&answer) && answer != 0, "no answer: {answer}");
+        assert_eq!(choices.edge > 1, answer == -17, "a wrong edge rule, and it alone, is refused by 17");
+        assert_eq!(short && choices.edge <= 1, answer == -1, "a short work slice, and it alone, is refused by 1");
         let length = usize::try_from(answer).unwrap_or(0);
         assert!(length <= room, "the answer is longer than the result");
         assert!(result.held()[length..].iter().all(|&it| it == pattern as u8), "the result is written beyond the answer");
@@ -112,15 +117,15 @@ impl Fire {
     }
 
     /// `find_element`, with the same checks.
-    fn find(&mut self, batch: &[u8], number: u64) -> i64 {
+    fn find(&mut self, choices: Choices, batch: &[u8], number: u64) -> i64 {
         let mut work = self.work(0x3c3c_3c3c);
         let mut input = Buffer::new(batch.len(), self.guard, 0x3c);
         input.lent().copy_from_slice(batch);
-        let answer = raw::find_element(input.held(), number, work.each_mut().map(Buffer::lent));
+        let answer = raw::find_element(choices, input.held(), number, work.each_mut().map(Buffer::lent));
         assert!(input.held() == batch && input.guards_stand(), "the batch is changed");
         assert!(work.iter().all(Buffer::guards_stand), "a word beside a work slice is written");
         assert!(work.iter().all(|it| it.held().iter().all(|&it| it == 0)), "a work slice is not zeros");
-        assert!(answer == raw::NONE || (-12..=4_095).contains(&answer), "no answer: {answer}");
+        assert!(answer == raw::NONE || (-17..=4_095).contains(&answer), "no answer: {answer}");
         answer
     }
 
@@ -128,13 +133,14 @@ impl Fire {
     fn one(&mut self, batch: &[u8]) {
         let room = if self.random.one_in(4) { self.random.below(2_000) } else { 65_536 };
         let pattern = self.random.next() as u32 | 0x0101_0101;
-        let first = self.call(batch, room, pattern);
+        let choices = self.choices();
+        let first = self.call(choices, batch, room, pattern);
         let exact = first.as_ref().map_or(65_536, Vec::len);
-        let second = self.call(batch, exact, !pattern);
+        let second = self.call(choices, batch, exact, !pattern);
         let slices = |it: &Result<Vec<u8>, i64>| matches!(it, Err(1 | 13));
         assert!(slices(&first) || slices(&second) || first == second, "two answers to one batch");
         let number = if self.random.one_in(20) { self.random.next() } else { self.random.below(40) as u64 };
-        let found = self.find(batch, number);
+        let found = self.find(choices, batch, number);
         match second {
             _ if found == -1 || slices(&second) => (),
             Ok(_) => assert!(found >= 0 || found == raw::NONE, "find_element is refused"),
@@ -251,7 +257,7 @@ fn main() {
     let root = PathBuf::from(concat!(env!("CARGO_MANIFEST_DIR"), "/../.."));
     let read = |path: &str| fs::read(root.join(path)).expect(path);
     let cases = recorded(&read("crates/replay/stdin"), if exact { 1_000 } else { 65_536 });
-    let mut fire = Fire { random: Random(seed), guard: if exact { 0 } else { GUARD }, told: [0; 14], calls: 0 };
+    let mut fire = Fire { random: Random(seed), guard: if exact { 0 } else { GUARD }, told: [0; 18], calls: 0 };
     let seeds = ["examples/printed_case.batch", "examples/dosing.batch", "examples/overlap.batch"];
     for path in &seeds[..if exact { 1 } else { 3 }] {
         fire.damage(&read(path));

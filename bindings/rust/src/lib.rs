@@ -21,11 +21,19 @@ pub const MOST_ANSWER: usize = 61_464;
 /// The most bytes that an account has.
 pub const MOST_ACCOUNT: usize = 8_192;
 
+/// How a batch is edited. The default is what rust-analyzer does.
+#[derive(Clone, Copy, Debug, Default, PartialEq, Eq, Hash)]
+pub struct Choices {
+    /// The edge rule, to which replacement or run a change at its edge belongs: 0 by text ranges, 1 by where elements stand in the tree. Any other number is
+    /// refused (17), before anything else is looked at.
+    pub edge: u64,
+}
+
 /// Why a batch got no answer, or lists made no batch: a number of the list of refusals.
 #[derive(Clone, Copy, Debug, PartialEq, Eq, Hash)]
 pub struct Refusal(u8);
 
-const MEANINGS: [&str; 16] = [
+const MEANINGS: [&str; 17] = [
     "a work slice is too short",
     "the batch has under 28 bytes",
     "a size is out of its limits",
@@ -42,12 +50,13 @@ const MEANINGS: [&str; 16] = [
     "the lists differ in length or make a batch that is not well formed",
     "the destination is too short",
     "a call lists more than 41 elements",
+    "an edge rule is neither 0 nor 1",
 ];
 
 impl Refusal {
-    /// The refusal of this number, 1 to 16.
+    /// The refusal of this number, 1 to 17.
     fn numbered(number: i64) -> Option<Refusal> {
-        u8::try_from(number).ok().filter(|it| (1..=16).contains(it)).map(Refusal)
+        u8::try_from(number).ok().filter(|it| (1..=17).contains(it)).map(Refusal)
     }
 
     pub fn number(self) -> u8 {
@@ -67,8 +76,9 @@ impl fmt::Display for Refusal {
 
 impl Error for Refusal {}
 
-/// The editor with its work memory and a result buffer in which every answer fits.
+/// The editor with its choices, its work memory and a result buffer in which every answer fits.
 pub struct Editor {
+    choices: Choices,
     work: raw::Work,
     result: Vec<u8>,
 }
@@ -80,8 +90,14 @@ impl Default for Editor {
 }
 
 impl Editor {
+    /// An editor by the default choices.
     pub fn new() -> Editor {
-        Editor { work: raw::Work::new(), result: vec![0; MOST_ANSWER] }
+        Editor::by(Choices::default())
+    }
+
+    /// An editor by these choices.
+    pub fn by(choices: Choices) -> Editor {
+        Editor { choices, work: raw::Work::new(), result: vec![0; MOST_ANSWER] }
     }
 
     /// The answer of a batch, or its refusal.
@@ -91,7 +107,7 @@ impl Editor {
 
     /// The same, of bytes that were laid out elsewhere.
     pub fn edit_bytes(&mut self, batch: &[u8]) -> Result<Answer<'_>, Refusal> {
-        let length = told(raw::edit(batch, &mut self.result, self.work.slices()))?;
+        let length = told(raw::edit(self.choices, batch, &mut self.result, self.work.slices()))?;
         let bytes = self.result.get(..length).expect("an answer ends within the result buffer");
         Ok(Answer::read(bytes).expect("an answer is as long as its sizes tell"))
     }
@@ -103,14 +119,14 @@ impl Editor {
 
     /// The same, of bytes that were laid out elsewhere.
     pub fn account_bytes(&mut self, batch: &[u8]) -> Result<Vec<Fate>, Unaccounted> {
-        let length = told(raw::account(batch, &mut self.result, self.work.slices()))?;
+        let length = told(raw::account(self.choices, batch, &mut self.result, self.work.slices()))?;
         let text = self.result.get(..length).expect("an account ends within the result buffer");
         account::read(std::str::from_utf8(text).expect("an account is plain text")).expect("an account is a line for each change, or a pair")
     }
 
     /// The element of the new tree that `find_element` gives for an element of the batch: the first node with its kind and text start.
     pub fn find_element(&mut self, batch: &[u8], number: u32) -> Result<Option<usize>, Refusal> {
-        match raw::find_element(batch, u64::from(number), self.work.slices()) {
+        match raw::find_element(self.choices, batch, u64::from(number), self.work.slices()) {
             raw::NONE => Ok(None),
             answer => told(answer).map(Some),
         }
@@ -121,6 +137,6 @@ impl Editor {
 fn told(answer: i64) -> Result<usize, Refusal> {
     match usize::try_from(answer) {
         Ok(number) => Ok(number),
-        Err(_) => Err(Refusal::numbered(-answer).expect("a refusal is numbered 1 to 16")),
+        Err(_) => Err(Refusal::numbered(-answer).expect("a refusal is numbered 1 to 17")),
     }
 }

@@ -4,6 +4,8 @@
 //! the answer (the batch) and beyond it what it held, or, on refusal, all that it held; every work slice ends as zeros of its own length, whatever it
 //! held and however long it is.
 
+use crate::Choices;
+
 /// The lengths in words that the work slices need, in the order in which they are lent.
 pub const LENGTHS: [usize; 9] = [16_384, 6_147, 3_328, 3_072, 3_072, 1_024, 2_048, 12_291, 12_288];
 
@@ -87,6 +89,7 @@ impl WriterWork {
 mod library {
     unsafe extern "C" {
         pub fn syntax_edit(
+            edge: u64,
             batch: *const u8, batch_length: usize,
             result: *mut u8, result_length: usize,
             table: *mut u32, table_length: usize,
@@ -101,6 +104,7 @@ mod library {
         ) -> i64;
 
         pub fn syntax_find_element(
+            edge: u64,
             batch: *const u8, batch_length: usize,
             number: u64,
             table: *mut u32, table_length: usize,
@@ -115,6 +119,7 @@ mod library {
         ) -> i64;
 
         pub fn syntax_account(
+            edge: u64,
             batch: *const u8, batch_length: usize,
             result: *mut u8, result_length: usize,
             table: *mut u32, table_length: usize,
@@ -151,12 +156,13 @@ mod library {
 
 /// The length of the answer that now stands at the start of `result`, or a refusal's number with a minus.
 #[rustfmt::skip]
-pub fn edit(batch: &[u8], result: &mut [u8], work: Slices<'_>) -> i64 {
+pub fn edit(choices: Choices, batch: &[u8], result: &mut [u8], work: Slices<'_>) -> i64 {
     let [table, source, changes, notes, incoming, changed, marks, rows, prepared] = work;
     // Safety: each pointer comes with the length of the slice that it starts, and no two of the slices overlap, since all but the batch are unique
     // references. The library reads and writes nothing else, and keeps none of them.
     unsafe {
         library::syntax_edit(
+            choices.edge,
             batch.as_ptr(), batch.len(),
             result.as_mut_ptr(), result.len(),
             table.as_mut_ptr(), table.len(),
@@ -174,11 +180,12 @@ pub fn edit(batch: &[u8], result: &mut [u8], work: Slices<'_>) -> i64 {
 
 /// The number of the element found, [`NONE`], or a refusal's number with a minus.
 #[rustfmt::skip]
-pub fn find_element(batch: &[u8], number: u64, work: Slices<'_>) -> i64 {
+pub fn find_element(choices: Choices, batch: &[u8], number: u64, work: Slices<'_>) -> i64 {
     let [table, source, changes, notes, incoming, changed, marks, rows, prepared] = work;
     // Safety: as in `edit`.
     unsafe {
         library::syntax_find_element(
+            choices.edge,
             batch.as_ptr(), batch.len(),
             number,
             table.as_mut_ptr(), table.len(),
@@ -196,11 +203,12 @@ pub fn find_element(batch: &[u8], number: u64, work: Slices<'_>) -> i64 {
 
 /// The length of the account's text that now stands at the start of `result`, or a refusal's number (never 8) with a minus.
 #[rustfmt::skip]
-pub fn account(batch: &[u8], result: &mut [u8], work: Slices<'_>) -> i64 {
+pub fn account(choices: Choices, batch: &[u8], result: &mut [u8], work: Slices<'_>) -> i64 {
     let [table, source, changes, notes, incoming, changed, marks, rows, prepared] = work;
     // Safety: as in `edit`.
     unsafe {
         library::syntax_account(
+            choices.edge,
             batch.as_ptr(), batch.len(),
             result.as_mut_ptr(), result.len(),
             table.as_mut_ptr(), table.len(),

@@ -1,6 +1,6 @@
 //! The printed case, the marked examples of document 01, and every refusal from 2 to 12, through `Editor`.
 
-use syntax_edit::{Answer, Batch, BatchBuilder, Editor, Element, Fate, Note, Refusal, Unaccounted, Unfit};
+use syntax_edit::{Answer, Batch, BatchBuilder, Choices, Editor, Element, Fate, Note, Refusal, Unaccounted, Unfit};
 
 /// S, root(X(a), b), with c and d as tokens of other trees.
 struct S {
@@ -251,6 +251,36 @@ fn an_empty_node_takes_insertions() {
     builder.close();
     builder.insert_first(d, &[d]);
     assert!(matches!(builder.finish(), Err(Unfit::Refused(it)) if it.number() == 14));
+}
+
+/// The closing call: the block's last statement is deleted, c goes in after the block, and both end at one offset.
+#[test]
+fn an_insertion_at_the_edge() {
+    let mut builder = BatchBuilder::new();
+    builder.open(1);
+    let block = builder.open(2);
+    builder.token(3, b"s");
+    let t = builder.open(4);
+    builder.token(3, b"t");
+    builder.close();
+    builder.close();
+    builder.token(3, b"u");
+    builder.close();
+    builder.open(1);
+    let c = builder.token(3, b"c");
+    builder.close();
+    builder.delete(t);
+    builder.insert_after(block, &[c]);
+    let batch = builder.finish().expect("it is small");
+    let text = |edge| Editor::by(Choices { edge }).edit(&batch).map(|it| it.text().to_vec()).map_err(Refusal::number);
+    let fates = |edge| Editor::by(Choices { edge }).account(&batch).expect("it is accepted");
+    assert_eq!(text(0), Ok(b"su".to_vec()));
+    assert_eq!(text(1), Ok(b"scu".to_vec()));
+    assert_eq!(text(2), Err(17));
+    assert_eq!(fates(0), [Fate::Own, Fate::Discarded(0)]);
+    assert_eq!(fates(1), [Fate::Own, Fate::Own]);
+    let refusal = Editor::by(Choices { edge: 2 }).find_element(batch.bytes(), 0).unwrap_err();
+    assert_eq!(refusal.to_string(), "refused 17: an edge rule is neither 0 nor 1");
 }
 
 #[test]

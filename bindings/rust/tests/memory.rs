@@ -1,7 +1,8 @@
-//! What the calls leave in every slice, of any length: demand 1, with refusals 1, 13, 14 and 15.
+//! What the calls leave in every slice, of any length: demand 1, with refusals 1, 13, 14, 15 and 17.
 
-use syntax_edit::raw;
+use syntax_edit::{Choices, raw};
 
+const RULE_0: Choices = Choices { edge: 0 };
 const PRINTED_CASE: &[u8] = include_bytes!("../../../examples/printed_case.batch");
 const DOSING: &[u8] = include_bytes!("../../../examples/dosing.batch");
 const OVERLAP: &[u8] = include_bytes!("../../../examples/overlap.batch");
@@ -24,18 +25,18 @@ fn an_answer_leaves_the_rest_of_the_result() {
     for batch in [PRINTED_CASE, DOSING] {
         let mut memory = work(|_, least| least);
         let mut result = vec![0xa5; 65_536];
-        let length = raw::edit(batch, &mut result, lent(&mut memory));
+        let length = raw::edit(RULE_0, batch, &mut result, lent(&mut memory));
         assert!((24..=61_464).contains(&length));
         assert!(result[length as usize..].iter().all(|&it| it == 0xa5));
         assert_zeros(&memory);
 
         // Just enough room, with nothing beyond it; and one byte less, which is 13 and writes nothing.
         let mut exact = vec![0; length as usize];
-        assert_eq!(raw::edit(batch, &mut exact, lent(&mut memory)), length);
+        assert_eq!(raw::edit(RULE_0, batch, &mut exact, lent(&mut memory)), length);
         assert_eq!(exact, result[..length as usize]);
         for room in 0..length as usize {
             let mut short = vec![0x5a; room];
-            assert_eq!(raw::edit(batch, &mut short, lent(&mut memory)), -13);
+            assert_eq!(raw::edit(RULE_0, batch, &mut short, lent(&mut memory)), -13);
             assert!(short.iter().all(|&it| it == 0x5a));
         }
     }
@@ -45,9 +46,9 @@ fn an_answer_leaves_the_rest_of_the_result() {
 fn a_refusal_leaves_the_result() {
     let mut memory = work(|_, least| least);
     let mut result = vec![0xa5; 1_000];
-    assert_eq!(raw::edit(OVERLAP, &mut result, lent(&mut memory)), -8);
-    assert_eq!(raw::edit(&[], &mut result, lent(&mut memory)), -2);
-    assert_eq!(raw::edit(&[7; 1_000], &mut result, lent(&mut memory)), -3);
+    assert_eq!(raw::edit(RULE_0, OVERLAP, &mut result, lent(&mut memory)), -8);
+    assert_eq!(raw::edit(RULE_0, &[], &mut result, lent(&mut memory)), -2);
+    assert_eq!(raw::edit(RULE_0, &[7; 1_000], &mut result, lent(&mut memory)), -3);
     assert!(result.iter().all(|&it| it == 0xa5));
     assert_zeros(&memory);
 }
@@ -57,17 +58,17 @@ fn an_account_leaves_the_rest_of_the_result() {
     for (batch, text) in [(PRINTED_CASE, "0 own\n"), (OVERLAP, "overlap 0 1\n")] {
         let mut memory = work(|_, least| least);
         let mut result = vec![0xa5; 1_000];
-        assert_eq!(raw::account(batch, &mut result, lent(&mut memory)), text.len() as i64);
+        assert_eq!(raw::account(RULE_0, batch, &mut result, lent(&mut memory)), text.len() as i64);
         assert_eq!(&result[..text.len()], text.as_bytes());
         assert!(result[text.len()..].iter().all(|&it| it == 0xa5));
         assert_zeros(&memory);
         for room in 0..text.len() {
             let mut short = vec![0x5a; room];
-            assert_eq!(raw::account(batch, &mut short, lent(&mut memory)), -13);
+            assert_eq!(raw::account(RULE_0, batch, &mut short, lent(&mut memory)), -13);
             assert!(short.iter().all(|&it| it == 0x5a));
         }
         let mut memory = work(|i, least| if i == 2 { least - 1 } else { least });
-        assert_eq!(raw::account(batch, &mut result, lent(&mut memory)), -1);
+        assert_eq!(raw::account(RULE_0, batch, &mut result, lent(&mut memory)), -1);
         assert_zeros(&memory);
     }
 }
@@ -78,13 +79,31 @@ fn a_short_work_slice_is_refused_and_cleared() {
         for length in [0, 1, raw::LENGTHS[short] - 1] {
             let mut memory = work(|i, least| if i == short { length } else { least });
             let mut result = vec![0xa5; 1_000];
-            assert_eq!(raw::edit(PRINTED_CASE, &mut result, lent(&mut memory)), -1);
+            assert_eq!(raw::edit(RULE_0, PRINTED_CASE, &mut result, lent(&mut memory)), -1);
             assert!(result.iter().all(|&it| it == 0xa5));
             assert_zeros(&memory);
             let mut memory = work(|i, least| if i == short { length } else { least });
-            assert_eq!(raw::find_element(PRINTED_CASE, 0, lent(&mut memory)), -1);
+            assert_eq!(raw::find_element(RULE_0, PRINTED_CASE, 0, lent(&mut memory)), -1);
             assert_zeros(&memory);
         }
+    }
+}
+
+#[test]
+fn a_wrong_edge_rule_is_refused_first() {
+    for (edge, told) in [(0, -1), (1, -1), (2, -17), (u64::MAX, -17)] {
+        let choices = Choices { edge };
+        let mut memory = work(|i, least| if i == 4 { least - 1 } else { least });
+        let mut result = vec![0xa5; 1_000];
+        assert_eq!(raw::edit(choices, &[], &mut result, lent(&mut memory)), told);
+        assert_zeros(&memory);
+        let mut memory = work(|i, least| if i == 4 { least - 1 } else { least });
+        assert_eq!(raw::account(choices, &[], &mut result, lent(&mut memory)), told);
+        assert_zeros(&memory);
+        let mut memory = work(|i, least| if i == 4 { least - 1 } else { least });
+        assert_eq!(raw::find_element(choices, &[], 0, lent(&mut memory)), told);
+        assert_zeros(&memory);
+        assert!(result.iter().all(|&it| it == 0xa5));
     }
 }
 
@@ -92,13 +111,13 @@ fn a_short_work_slice_is_refused_and_cleared() {
 fn a_longer_work_slice_is_cleared_whole() {
     let mut memory = work(|i, least| least + 1 + 100 * i);
     let mut result = vec![0xa5; 1_000];
-    assert!(raw::edit(PRINTED_CASE, &mut result, lent(&mut memory)) > 0);
+    assert!(raw::edit(RULE_0, PRINTED_CASE, &mut result, lent(&mut memory)) > 0);
     assert_zeros(&memory);
     let mut memory = work(|i, least| least + 1 + 100 * i);
-    assert_eq!(raw::find_element(PRINTED_CASE, 0, lent(&mut memory)), 0);
+    assert_eq!(raw::find_element(RULE_0, PRINTED_CASE, 0, lent(&mut memory)), 0);
     assert_zeros(&memory);
     for number in [1, 3, 5, u64::MAX] {
-        assert_eq!(raw::find_element(PRINTED_CASE, number, lent(&mut memory)), raw::NONE);
+        assert_eq!(raw::find_element(RULE_0, PRINTED_CASE, number, lent(&mut memory)), raw::NONE);
     }
 }
 

@@ -1,7 +1,7 @@
 //! The recorded cases of the oracle: every byte of every answer, every refusal, every recorded `find_element` call; and each batch taken apart and written
 //! again.
 
-use syntax_edit::raw;
+use syntax_edit::{Choices, raw};
 
 const CASES: &[u8] = include_bytes!("../../../crates/replay/stdin");
 
@@ -31,7 +31,7 @@ fn recorded_cases() {
     let mut result = vec![0; 65_536];
     for case in 0..cases.word() {
         let (batch, refusal, expected) = (cases.bytes(), cases.word(), cases.bytes());
-        let answer = raw::edit(batch, &mut result, work.slices());
+        let answer = raw::edit(Choices::default(), batch, &mut result, work.slices());
         if refusal == 0 {
             assert_eq!(answer, expected.len() as i64, "case {case}");
             assert!(result[..expected.len()] == *expected, "case {case}");
@@ -41,7 +41,7 @@ fn recorded_cases() {
         for _ in 0..cases.word() {
             let (old, new) = (cases.word(), cases.word());
             let expected = if new == u32::MAX { raw::NONE } else { i64::from(new) };
-            assert_eq!(raw::find_element(batch, u64::from(old), work.slices()), expected, "case {case}, element {old}");
+            assert_eq!(raw::find_element(Choices::default(), batch, u64::from(old), work.slices()), expected, "case {case}, element {old}");
         }
     }
     assert!(cases.0.is_empty());

@@ -1,37 +1,43 @@
 -- THE ACCOUNT OF A BATCH (document 02, Note 5): the fates said are true, the overlap told is true, and both agree with the edit itself.
 -- Assumes nothing.
 use mathlib.Core.Path.{_≡_, refl, sym, ap, _∙_}
-use mathlib.Core.Bool.{Bool, true, false, not}
+use mathlib.Core.Bool.{Bool, true, false, cond, not}
 use mathlib.Core.List.{List, [], _∷_, map, headD, List·Permᴰ}
 use mathlib.Core.Logic.{_↔_}
 use mathlib.Core.Option.{Option, none, some}
-use Prim.Native.Nat.{ℕ, _≤_, _<_}
+use Prim.Native.Nat.{ℕ, zero, suc, _≤_, _<_}
 use native.Mathlib.Omega.{arith}
-use lib.ListN.{length, getD, length-map, List·getD-map}
-use Rattle.orders.specs.Lists.{pick}
-use Rattle.orders.specs.ListLaws.{get-lt, All-map}
+use lib.Dec.{eqb}
+use borrow.Author.Tests.{not-true}
+use lib.ListN.{length, getD, getElem?, length-map, List·getD-map}
+use Rattle.orders.specs.Lists.{All, pick}
+use Rattle.orders.specs.ListLaws.{some-inj, both-true, get-lt, lt-get, get-mem, All-map, All-mem}
 use Rattle.orders.specs.Tree.{Tree, node, forest, Path, resolve}
 use Rattle.orders.specs.TreeLaws.{list-forest, resolve-child}
 use Rattle.definition.specs.Basics.{gives, keep}
+use Rattle.definition.specs.Choices.{Choices}
 use Rattle.definition.specs.Elements.{Table, table, row, tree}
 use Rattle.definition.specs.Refusals.{Accepted, accepted}
 use Rattle.definition.specs.Recording.{firstChild, after, Change, insert, replace, delete, replaceWithMany, replaceAll, change, recorded}
-use Rattle.definition.specs.Planning.{target, sorted, overlap, Fate, own, dependent, isDiscarded, nodeByNode, fates, Planned, Judgement, overlaps, fated, planned, judge}
+use Rattle.definition.specs.Planning.{target, sorted, overlap, Fate, own, dependent, isDiscarded, nodeByNode, fates, Planned, Judgement, overlaps, fated}
+use Rattle.definition.specs.EdgeRule.{regionDepth, fates1, fatesBy, planned, judge}
 use Rattle.definition.specs.Rewriting.{mapping, rewritten, settled}
 use Rattle.definition.specs.Running.{World}
 use Rattle.definition.specs.Finishing.{Result, result, sixSizes}
 use Rattle.definition.specs.Answers.{judgeChanges, disjoint, rewriteChanges, Plan, plan, performed, ran, edit}
 use Rattle.definition_laws.specs.Basics.{keep-yes, keep-no}
 use Rattle.definition_laws.specs.Answers.{given, gives-inj}
-use Rattle.definition_laws.specs.Kin.{path-leads, path-long}
+use Rattle.definition_laws.specs.Kin.{path-leads, path-long, get-getD}
 use Rattle.definition_laws.specs.Right.{Right, Sits, right-sits, change-right}
 use Rattle.definition_laws.specs.Accepted.{Known, accepts}
-use Rattle.definition_laws.specs.Stages.{planned-fates, judge-fated, sorted-all, recorded-all, rewritten-all, fates-length}
-use Rattle.definition_laws.specs.Plans.{disjoint-fated}
+use Rattle.definition_laws.specs.Stages.{planned-fates, judge-fated, sorted-all, recorded-all, rewritten-all, fates-length, fates1-length, fatesBy-0, fatesBy-1}
+use Rattle.definition_laws.specs.Plans.{disjoint-fated, checked, changes, changes-right}
+use Rattle.definition_edge.specs.Depths.{taken-deeper}
+use Rattle.definition_edge.specs.Fates.{FateAt, Says, owns, fates-true, numbered-get}
 use Rattle.account_laws.specs.Words.{at, named, treeOf, InTrees, fateAt, Contains, Owns, Owner, Overlap}
 use Rattle.account_laws.specs.Owners.{named-exactly, own-exactly, dependent-exactly, named-contains}
 use Rattle.account_laws.specs.Overlap.{overlap-true, overlap-first, overlap-none}
-use Rattle.account_laws.specs.Runs.{nothing, Led, fateOf, order-permutes}
+use Rattle.account_laws.specs.Runs.{nothing, Led, led-by, fateOf, order-permutes}
 
 -- ── Trees ───────────────────────────────────────────────────────────────────────────────────────────────────
 
@@ -54,10 +60,6 @@ target-within T (replaceWithMany x l) s = s .0
 target-within T (replaceAll x y l) s = s .0
 
 -- ── The changes of a batch ──────────────────────────────────────────────────────────────────────────────────
-
--- its changes in sorted order, from 0
-abbrev pub changes : Accepted → List Change
-changes a = sorted a.table (recorded a.calls)
 
 -- "at most 16 trees": every change of an accepted batch is of one of the trees 0 to 15
 pub sorted-in-trees : (bytes : List ℕ) (a : Accepted) → accepted bytes ≡ gives a → InTrees a.table (changes a)
@@ -96,33 +98,45 @@ fates-accounted T cs h = record {
 }
 
 -- what is judged without overlap has the definition's fates
-judged-fates : (a : Accepted) (ps : List Planned) → judgeChanges a ≡ fated ps → map (λ p. p .fate) ps ≡ fates a.table (changes a)
+judged-fates : (h : Choices) (a : Accepted) (ps : List Planned) → judgeChanges h a ≡ fated ps → map (λ p. p .fate) ps ≡ fatesBy h a.table (changes a)
 unfolding judgeChanges
-judged-fates a ps e = ap (map (λ p. p .fate)) ((judge-fated a.table (changes a) ps e) .1) ∙ planned-fates a.table (changes a)
+judged-fates h a ps e = ap (map (λ p. p .fate)) ((judge-fated h a.table (changes a) ps e) .1) ∙ planned-fates h a.table (changes a)
 
--- WHAT IS SAID OF EACH CHANGE IS TRUE
-pub account-true : (bytes : List ℕ) (a : Accepted) (ps : List Planned) → accepted bytes ≡ gives a → judgeChanges a ≡ fated ps → Accounted a.table (changes a) (map (λ p. p .fate) ps)
-account-true bytes a ps e j = rw (judged-fates a ps j) (fates-accounted a.table (changes a) (sorted-in-trees bytes a e))
+-- WHAT IS SAID OF EACH CHANGE IS TRUE, by rule 0
+pub account-true : (h : Choices) (bytes : List ℕ) (a : Accepted) (ps : List Planned) → h .edge ≡ 0 → accepted bytes ≡ gives a → judgeChanges h a ≡ fated ps → Accounted a.table (changes a) (map (λ p. p .fate) ps)
+account-true h bytes a ps z e j = rw (judged-fates h a ps j, fatesBy-0 h a.table z (changes a)) (fates-accounted a.table (changes a) (sorted-in-trees bytes a e))
 
-judged-overlap : (a : Accepted) (j k : ℕ) → judgeChanges a ≡ overlaps j k → overlap a.table (changes a) ≡ some (j, k)
+-- the changes of an accepted batch have their targets in its trees
+changes-sit : (bytes : List ℕ) (a : Accepted) → accepted bytes ≡ gives a → All (Sits a.table) (changes a)
+changes-sit bytes a e = All-map (λ c r. right-sits a.table c r) (changes a) (changes-right a (checked bytes a (accepts bytes a e)))
+
+table-true : (ts : List (Tree ℕ)) (T : Table) → T ≡ table 0 0 ts → (cs : List Change) → All (Sits T) cs → (i : ℕ) (c : Change) → getElem? cs i ≡ some c → (f : Fate) → FateAt T cs i f ↔ Says T cs i c f
+table-true ts T q = rw q (λ cs s i c e f. fates-true ts cs s i c e f)
+
+-- AND BY RULE 1: "The account of Note 5 names that region instead.": the innermost that takes the change, and `own` exactly if none does
+pub account-true-1 : (h : Choices) (bytes : List ℕ) (a : Accepted) (ps : List Planned) → h .edge ≡ 1 → accepted bytes ≡ gives a → judgeChanges h a ≡ fated ps
+    → (i : ℕ) (c : Change) → getElem? (changes a) i ≡ some c → (f : Fate) → (getElem? (map (λ p. p .fate) ps) i ≡ some f) ↔ Says a.table (changes a) i c f
+account-true-1 h bytes a ps z e j = rw (judged-fates h a ps j, fatesBy-1 h a.table z (changes a)) (table-true a.trees a.table ((accepts bytes a e) .table) (changes a) (changes-sit bytes a e))
+
+judged-overlap : (h : Choices) (a : Accepted) (j k : ℕ) → judgeChanges h a ≡ overlaps j k → overlap a.table (changes a) ≡ some (j, k)
 unfolding judgeChanges judge
-judged-overlap a j k e = go (overlap a.table (changes a)) refl e
+judged-overlap h a j k e = go (overlap a.table (changes a)) refl e
   where
-    go : (o : Option (ℕ × ℕ)) → overlap a.table (changes a) ≡ o → elim o as (λ _. Judgement) [ none ↦ fated (planned a.table (changes a)) | some p ↦ overlaps (p .0) (p .1) ] ≡ overlaps j k → overlap a.table (changes a) ≡ some (j, k)
-    go none h e = absurd (let z : _≡_ {A = ℕ} 0 1 = cc in omega arith)
-    go (some p) h e =
+    go : (o : Option (ℕ × ℕ)) → overlap a.table (changes a) ≡ o → elim o as (λ _. Judgement) [ none ↦ fated (planned h a.table (changes a)) | some p ↦ overlaps (p .0) (p .1) ] ≡ overlaps j k → overlap a.table (changes a) ≡ some (j, k)
+    go none g e = absurd (let z : _≡_ {A = ℕ} 0 1 = cc in omega arith)
+    go (some p) g e =
         let x : p .0 ≡ j = cc in
         let y : p .1 ≡ k = cc in
-        h ∙ rw (← x, ← y)
+        g ∙ rw (← x, ← y)
 
 -- THE PAIR THAT IS TOLD OVERLAPS, and no pair overlaps whose later change comes before k
-pub overlap-told : (a : Accepted) (j k : ℕ) → judgeChanges a ≡ overlaps j k → Overlap a.table (changes a) j k × ((i m : ℕ) → Overlap a.table (changes a) i m → k ≤ m)
-overlap-told a j k e = let o = judged-overlap a j k e in (overlap-true a.table (changes a) j k o, λ i m. overlap-first a.table (changes a) j k o i m)
+pub overlap-told : (h : Choices) (a : Accepted) (j k : ℕ) → judgeChanges h a ≡ overlaps j k → Overlap a.table (changes a) j k × ((i m : ℕ) → Overlap a.table (changes a) i m → k ≤ m)
+overlap-told h a j k e = let o = judged-overlap h a j k e in (overlap-true a.table (changes a) j k o, λ i m. overlap-first a.table (changes a) j k o i m)
 
 -- what is judged without overlap has no pair that overlaps
-pub disjoint-told : (a : Accepted) (ps : List Planned) → judgeChanges a ≡ fated ps → (j k : ℕ) → ¬ Overlap a.table (changes a) j k
+pub disjoint-told : (h : Choices) (a : Accepted) (ps : List Planned) → judgeChanges h a ≡ fated ps → (j k : ℕ) → ¬ Overlap a.table (changes a) j k
 unfolding judgeChanges
-disjoint-told a ps e j k = overlap-none a.table (changes a) .0 ((judge-fated a.table (changes a) ps e) .0) j k
+disjoint-told h a ps e j k = overlap-none a.table (changes a) .0 ((judge-fated h a.table (changes a) ps e) .0) j k
 
 -- ── The edit itself ─────────────────────────────────────────────────────────────────────────────────────────
 
@@ -136,17 +150,17 @@ pub record Agrees (a : Accepted) (fs : List Fate) (p : Plan) (r : Result) : Type
   pub counted : getD (sixSizes r) 4 0 ≡ length (keep isDiscarded fs)
 
 -- a plan's changes were judged, and each keeps its fate as it is rewritten
-plan-judged : (a : Accepted) (p : Plan) → plan a ≡ gives p → (ps : List Planned) × (judgeChanges a ≡ fated ps) × (map (λ q. q .fate) p.changes ≡ map (λ q. q .fate) ps)
+plan-judged : (h : Choices) (a : Accepted) (p : Plan) → plan h a ≡ gives p → (ps : List Planned) × (judgeChanges h a ≡ fated ps) × (map (λ q. q .fate) p.changes ≡ map (λ q. q .fate) ps)
 unfolding plan rewriteChanges
-plan-judged a p e =
-    given (disjoint (judgeChanges a)) _ e λ ps x e.
+plan-judged h a p e =
+    given (disjoint (judgeChanges h a)) _ e λ ps x e.
     given (rewritten a.table (mapping a.mappings) ps) _ e λ r y e.
     given (settled a.table (mapping a.mappings) 0 a.notes) _ e λ notes z e.
-    (ps, disjoint-fated (judgeChanges a) ps x, rw (← gives-inj e) ((rewritten-all a.table (mapping a.mappings) ps r y) .fates))
+    (ps, disjoint-fated (judgeChanges h a) ps x, rw (← gives-inj e) ((rewritten-all a.table (mapping a.mappings) ps r y) .fates))
 
 -- THE FATES SAID ARE THOSE OF THE PLAN
-pub plan-fates : (a : Accepted) (p : Plan) → plan a ≡ gives p → map (λ q. q .fate) p.changes ≡ fates a.table (changes a)
-plan-fates a p e = let (ps, j, s) = plan-judged a p e in s ∙ judged-fates a ps j
+pub plan-fates : (h : Choices) (a : Accepted) (p : Plan) → plan h a ≡ gives p → map (λ q. q .fate) p.changes ≡ fatesBy h a.table (changes a)
+plan-fates h a p e = let (ps, j, s) = plan-judged h a p e in s ∙ judged-fates h a ps j
 
 -- of changes with the definition's fates, each dependent one's owner comes before it and is not discarded
 fates-led : (T : Table) (cs : List Change) (qs : List Planned) → InTrees T cs → map (λ q. q .fate) qs ≡ fates T cs → Led (fateOf qs) (length qs)
@@ -162,10 +176,51 @@ fates-led T cs qs h e = record { level = λ x. x; low = λ x b. b; owner = one }
         let before : y < x = o .owns .contains .before in
         (omega arith, before, ap isDiscarded (sym (said y)) ∙ c)
 
+-- the fate at a place
+get-fate : (qs : List Planned) (i : ℕ) → i < length qs → getElem? (map (λ q. q .fate) qs) i ≡ some (fateOf qs i)
+get-fate [] i h = absurd (omega arith)
+get-fate (q ∷ qs) zero h = refl
+get-fate (q ∷ qs) (suc i) h = get-fate qs i (omega arith)
+
+-- by rule 1 the owner is one of them, not discarded, and its target parent is further out
+fates1-led : (ts : List (Tree ℕ)) (T : Table) → T ≡ table 0 0 ts → (cs : List Change) → All (Sits T) cs → (qs : List Planned) → map (λ q. q .fate) qs ≡ fates1 T cs → Led (fateOf qs) (length qs)
+fates1-led ts T z = rw z led
+  where
+    led : (cs : List Change) → All (Sits (table 0 0 ts)) cs → (qs : List Planned) → map (λ q. q .fate) qs ≡ fates1 (table 0 0 ts) cs → Led (fateOf qs) (length qs)
+    led cs s qs e = led-by (fateOf qs) (length qs) (λ x. regionDepth (table 0 0 ts) (at cs x)) one
+      where
+        long : length qs ≡ length cs
+        long = sym (length-map qs (λ q. q .fate)) ∙ (ap length e ∙ fates1-length (table 0 0 ts) cs)
+
+        told : (i : ℕ) → i < length qs → FateAt (table 0 0 ts) cs i (fateOf qs i)
+        told i b = ap (λ l. getElem? l i) (sym e) ∙ get-fate qs i b
+
+        one : (x y : ℕ) → x < length qs → fateOf qs x ≡ dependent y → (y < length qs) × (regionDepth (table 0 0 ts) (at cs y) < regionDepth (table 0 0 ts) (at cs x)) × (isDiscarded (fateOf qs y) ≡ false)
+        one x y b d =
+            let (c, g) = lt-get cs x (omega (arith, long)) in
+            let u = fates-true ts cs s x c g (dependent y) .0 (told x b ∙ ap some d) in
+            let (j, n, r) = numbered-get 0 cs (y, u .region) (u .innermost .one) in
+            let k : j ≡ y = omega arith in
+            let r : getElem? cs y ≡ some (u .region) = rw k at r in
+            let within : y < length qs = omega (arith, get-lt cs y r, long) in
+            let (stays, whole) = both-true (not (isDiscarded (u .fate))) (nodeByNode (table 0 0 ts) (u .region)) (u .owns) in
+            let same : fateOf qs y ≡ u .fate = some-inj (sym (told y within) ∙ u .told) in
+            let sits : (i : ℕ) (m : Change) → getElem? cs i ≡ some m → Sits (table 0 0 ts) m = λ i m q. All-mem (Sits (table 0 0 ts)) cs m s (get-mem cs i m q) in
+            (within, rw (get-getD cs y (u .region) (delete 0) r, get-getD cs x c (delete 0) g) (taken-deeper ts (y, u .region) (x, c) (sits y (u .region) r) (sits x c g) (u .innermost .belongs) whole), rw same (not-true _ stays))
+
+-- so by whatever choice
+by-led : (h : Choices) (bytes : List ℕ) (a : Accepted) → accepted bytes ≡ gives a → (qs : List Planned) → map (λ q. q .fate) qs ≡ fatesBy h a.table (changes a) → Led (fateOf qs) (length qs)
+unfolding fatesBy
+by-led h bytes a x qs e = go (eqb h.edge 0) e
+  where
+    go : (b : Bool) → map (λ q. q .fate) qs ≡ cond b (fates a.table (changes a)) (fates1 a.table (changes a)) → Led (fateOf qs) (length qs)
+    go true e = fates-led a.table (changes a) qs (sorted-in-trees bytes a x) e
+    go false e = fates1-led a.trees a.table ((accepts bytes a x) .table) (changes a) (changes-sit bytes a x) qs e
+
 -- WHAT IS PERFORMED IS A PERMUTATION OF WHAT IS NOT DISCARDED
-pub performed-not-discarded : (bytes : List ℕ) (a : Accepted) (p : Plan) → accepted bytes ≡ gives a → plan a ≡ gives p → List·Permᴰ (keep (λ q. not (isDiscarded q.fate)) p.changes) (performed a p)
+pub performed-not-discarded : (h : Choices) (bytes : List ℕ) (a : Accepted) (p : Plan) → accepted bytes ≡ gives a → plan h a ≡ gives p → List·Permᴰ (keep (λ q. not (isDiscarded q.fate)) p.changes) (performed a p)
 unfolding performed
-performed-not-discarded bytes a p e g = order-permutes a.table p.changes (fates-led a.table (changes a) p.changes (sorted-in-trees bytes a e) (plan-fates a p g))
+performed-not-discarded h bytes a p e g = order-permutes a.table p.changes (by-led h bytes a e p.changes (plan-fates h a p g))
 
 -- as many planned changes are discarded as fates say
 kept-fates : (qs : List Planned) → length (keep (λ q. isDiscarded q.fate) qs) ≡ length (keep isDiscarded (map (λ q. q .fate) qs))
@@ -179,17 +234,17 @@ kept-fates (q ∷ qs) = go (isDiscarded q.fate) refl (kept-fates qs)
     go false e h = rw (keep-no (λ q. isDiscarded q.fate) q qs e, keep-no isDiscarded q.fate (map (λ q. q .fate) qs) e) h
 
 -- THE RESULT'S FIFTH SIZE COUNTS THE FATES THAT SAY `discarded`
-pub discards-counted : (a : Accepted) (p : Plan) (w : World) → plan a ≡ gives p → getD (sixSizes (result p.changes p.climbs w)) 4 0 ≡ length (keep isDiscarded (fates a.table (changes a)))
+pub discards-counted : (h : Choices) (a : Accepted) (p : Plan) (w : World) → plan h a ≡ gives p → getD (sixSizes (result p.changes p.climbs w)) 4 0 ≡ length (keep isDiscarded (fatesBy h a.table (changes a)))
 unfolding sixSizes result
-discards-counted a p w e = kept-fates p.changes ∙ ap (λ l. length (keep isDiscarded l)) (plan-fates a p e)
+discards-counted h a p w e = kept-fates p.changes ∙ ap (λ l. length (keep isDiscarded l)) (plan-fates h a p e)
 
 -- THE ACCOUNT AGREES WITH THE EDIT: a batch that is edited was judged without overlap, and the fates said of its changes are those of the edit
-pub account-agrees : (bytes : List ℕ) (r : Result) → edit bytes ≡ gives r
-    → (a : Accepted) × (ps : List Planned) × (p : Plan) × (accepted bytes ≡ gives a) × (judgeChanges a ≡ fated ps) × (plan a ≡ gives p) × Agrees a (map (λ q. q .fate) ps) p r
+pub account-agrees : (h : Choices) (bytes : List ℕ) (r : Result) → edit h bytes ≡ gives r
+    → (a : Accepted) × (ps : List Planned) × (p : Plan) × (accepted bytes ≡ gives a) × (judgeChanges h a ≡ fated ps) × (plan h a ≡ gives p) × Agrees a (map (λ q. q .fate) ps) p r
 unfolding edit
-account-agrees bytes r e =
+account-agrees h bytes r e =
     given (accepted bytes) _ e λ a x e.
-    given (plan a) _ e λ p y e.
+    given (plan h a) _ e λ p y e.
     given (ran a p) _ e λ w z e.
-    let (ps, j, s) = plan-judged a p y in
-    (a, ps, p, x, j, y, record { said = s; runs = performed-not-discarded bytes a p x y; counted = rw (← gives-inj e, judged-fates a ps j) (discards-counted a p w y) })
+    let (ps, j, s) = plan-judged h a p y in
+    (a, ps, p, x, j, y, record { said = s; runs = performed-not-discarded h bytes a p x y; counted = rw (← gives-inj e, judged-fates h a ps j) (discards-counted h a p w y) })

@@ -12,7 +12,7 @@ use Rattle.definition.specs.Computing.{computed}
 use Rattle.definition.specs.Examples.{Told, inLists, inBytes, nodeOf, tokenOf, call}
 use Rattle.definition_laws.specs.Basics.{upFrom}
 use Rattle.account_laws.specs.Words.{lastBelow, everyBelow, spares, owns, owner}
-use Rattle.account_laws.specs.Account.{changes}
+use Rattle.definition_laws.specs.Plans.{changes}
 
 -- calls on root(X(Y(a)), b) beside trees W(c) and R(V(d)), X mapped to V: X is 1, Y 2, a 3, b 4; W is 5, c 6; R 7, V 8, d 9
 abbrev onXY : List Call → Told

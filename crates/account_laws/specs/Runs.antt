@@ -7,9 +7,9 @@ use mathlib.Core.Logic.{_⊎_, inl, inr}
 use mathlib.Core.Option.{Option, none, some}
 use Prim.Native.Nat.{ℕ, zero, suc, _+_, _≤_, _<_}
 use native.Mathlib.Omega.{arith}
-use lib.Dec.{eqb}
+use lib.Dec.{ltb, eqb}
 use lib.ListN.{length, getD}
-use borrow.Author.Tests.{ne-eqb}
+use borrow.Author.Tests.{ne-eqb, ltb-true, lt-ltb, le-ltb}
 use Rattle.orders.specs.Lists.{All, pick, total}
 use Rattle.orders.specs.ListLaws.{lt-or-le, map-append, All-map, All-perm, total-perm, total-none}
 use Rattle.definition.specs.Basics.{keep, numbered, falling}
@@ -43,6 +43,53 @@ pub record Led (f : ℕ → Fate) (N : ℕ) : Type 0 where
   pub level : ℕ → ℕ
   pub low : (x : ℕ) → x < N → level x < N
   pub owner : (x y : ℕ) → x < N → f x ≡ dependent y → (y < N) × (level y < level x) × (isDiscarded (f y) ≡ false)
+
+-- how many numbers below n pass the test
+unfoldable passing : ℕ → (ℕ → Bool) → ℕ
+passing zero p = 0
+passing (suc n) p = cond (p n) 1 0 + passing n p
+
+module _ (p q : ℕ → Bool) (h : (k : ℕ) → p k ≡ true → q k ≡ true) where
+  one-passes : (k : ℕ) → cond (p k) 1 0 ≤ cond (q k) 1 0
+  one-passes k = go (p k) refl
+    where
+      go : (b : Bool) → p k ≡ b → cond b 1 0 ≤ cond (q k) 1 0
+      go true e = rw (h k e) (omega arith)
+      go false e = omega arith
+
+  passing-le : (n : ℕ) → passing n p ≤ passing n q
+  unfolding passing
+  passing-le zero = omega arith
+  passing-le (suc n) = omega (arith, one-passes n, passing-le n)
+
+  passing-lt : (n x : ℕ) → x < n → p x ≡ false → q x ≡ true → passing n p < passing n q
+  unfolding passing
+  passing-lt zero x b e f = absurd (omega arith)
+  passing-lt (suc n) x b e f = go (lt-or-le x n) (λ b. passing-lt n x b e f)
+    where
+      go : (x < n) ⊎ (n ≤ x) → (x < n → passing n p < passing n q) → passing (suc n) p < passing (suc n) q
+      go (inl l) r = omega (arith, one-passes n, r l)
+      go (inr l) r = let z : x ≡ n = omega arith in rw (rw z at e, rw z at f) (omega (arith, passing-le n))
+
+passing-all : (n : ℕ) → passing n (λ k. true) ≡ n
+unfolding passing
+passing-all zero = refl
+passing-all (suc n) = omega (arith, passing-all n)
+
+-- it is enough that some number falls from a dependent to its owner, however large: how many changes have a lower one is a level
+pub led-by : (f : ℕ → Fate) (N : ℕ) (d : ℕ → ℕ) → ((x y : ℕ) → x < N → f x ≡ dependent y → (y < N) × (d y < d x) × (isDiscarded (f y) ≡ false)) → Led f N
+led-by f N d h = record { level = λ x. passing N (lower x); low = low; owner = owner }
+  where
+    lower : ℕ → ℕ → Bool
+    lower x k = ltb (d k) (d x)
+
+    low : (x : ℕ) → x < N → passing N (lower x) < N
+    low x b = omega (arith, passing-lt (lower x) (λ k. true) (λ k e. refl) N x b (le-ltb (d x) (d x) (omega arith)) refl, passing-all N)
+
+    owner : (x y : ℕ) → x < N → f x ≡ dependent y → (y < N) × (passing N (lower y) < passing N (lower x)) × (isDiscarded (f y) ≡ false)
+    owner x y b e =
+        let (u, v, w) = h x y b e in
+        (u, passing-lt (lower y) (lower x) (λ k e. lt-ltb (d k) (d x) (omega (arith, ltb-true (d k) (d y) e))) N y u (le-ltb (d y) (d y) (omega arith)) (lt-ltb (d y) (d x) v), w)
 
 -- what g tells of an owner, 0 if there is none
 abbrev ofOwner : (ℕ → ℕ) → Fate → ℕ

@@ -5,10 +5,11 @@ use Prim.Native.Nat.{ℕ}
 use lib.ListN.{length, take}
 use lib.Dec.{ltb}
 use Rattle.definition.specs.Basics.{Answer, refused, gives, _>>=_, refuse, numbered}
+use Rattle.definition.specs.Choices.{Choices, chosen}
 use Rattle.definition.specs.Refusals.{Accepted, accepted}
 use Rattle.definition.specs.Planning.{Fate, own, dependent, discarded, Planned, Judgement, overlaps, fated}
 use Rattle.definition.specs.Finishing.{result, fitting}
-use Rattle.definition.specs.Answers.{judgeChanges, rewriteChanges, ran, withWork}
+use Rattle.definition.specs.Answers.{judgeChanges, rewriteChanges, ran, withChoices}
 use Rattle.definition.specs.Printed.{decimal, line, programRoom}
 
 -- ── What is said ────────────────────────────────────────────────────────────────────────────────────────────
@@ -43,10 +44,10 @@ said a (fated ps) = do
   gives (fateLines (map (λ q. q .fate) ps))
 
 -- THE ACCOUNT of a batch's changes, or its refusal other than 8
-unfoldable pub account : List ℕ → Answer (List ℕ)
-account bytes = do
+unfoldable pub account : Choices → List ℕ → Answer (List ℕ)
+account h bytes = do
   a ← accepted bytes
-  said a (judgeChanges a)
+  said a (judgeChanges h a)
 
 -- 13: "The result buffer is too short."
 unfoldable pub inRoom : ℕ → List ℕ → Answer (List ℕ)
@@ -55,9 +56,9 @@ inRoom room text = do
   gives text
 
 -- the account as a public call gives it, in a buffer of `room` bytes
-unfoldable pub accounted : List (ℕ × ℕ) → List ℕ → ℕ → Answer (List ℕ)
-accounted work bytes room = withWork work (do
-  text ← account bytes
+unfoldable pub accounted : Choices → List (ℕ × ℕ) → List ℕ → ℕ → Answer (List ℕ)
+accounted h work bytes room = withChoices h work (do
+  text ← account h bytes
   inRoom room text)
 
 -- ── Printed ─────────────────────────────────────────────────────────────────────────────────────────────────
@@ -68,5 +69,7 @@ tell (refused k) = after k (line "" [])
 tell (gives text) = text
 
 -- what the account program prints for an input
-unfoldable pub accountPrinted : List ℕ → List ℕ
-accountPrinted input = tell (account (take programRoom input))
+unfoldable pub accountPrinted : Choices → List ℕ → List ℕ
+accountPrinted h input = tell (do
+  _ ← chosen h
+  account h (take programRoom input))

@@ -1,4 +1,4 @@
--- The public calls: from a batch to its answer; refusal 1.
+-- The public calls: from a batch to its answer; refusals 17 and 1.
 -- Assumes nothing.
 use mathlib.Core.Bool.{Bool}
 use mathlib.Core.List.{List}
@@ -7,9 +7,11 @@ use Prim.Native.Nat.{ℕ}
 use lib.ListN.{length}
 use lib.Dec.{ltb}
 use Rattle.definition.specs.Basics.{Answer, refused, gives, _>>=_, refuse, any}
+use Rattle.definition.specs.Choices.{Choices, chosen}
 use Rattle.definition.specs.Refusals.{Accepted, accepted}
 use Rattle.definition.specs.Recording.{recorded}
-use Rattle.definition.specs.Planning.{Planned, sorted, Judgement, overlaps, fated, judge}
+use Rattle.definition.specs.Planning.{Planned, sorted, Judgement, overlaps, fated}
+use Rattle.definition.specs.EdgeRule.{judge}
 use Rattle.definition.specs.Rewriting.{Note, mapping, rewritten, settled}
 use Rattle.definition.specs.Running.{World, begin, ranked, order, steps}
 use Rattle.definition.specs.Finishing.{Result, result, fitting, encoded}
@@ -17,8 +19,8 @@ use Rattle.definition.specs.Finishing.{Result, result, fitting, encoded}
 -- ── Planning ────────────────────────────────────────────────────────────────────────────────────────────────
 
 -- THE FIRST STAGE: what is recorded, in sorted order, is judged
-unfoldable pub judgeChanges : Accepted → Judgement
-judgeChanges a = judge a.table (sorted a.table (recorded a.calls))
+unfoldable pub judgeChanges : Choices → Accepted → Judgement
+judgeChanges h a = judge h a.table (sorted a.table (recorded a.calls))
 
 -- 8: "Replacements overlap."
 unfoldable pub disjoint : Judgement → Answer (List Planned)
@@ -40,9 +42,9 @@ rewriteChanges a ps = do
   gives (record { changes = rs .0; climbs = rs .1; notes = notes })
 
 -- both: the plan, or the refusal out of 8, 9 and 10
-unfoldable pub plan : Accepted → Answer Plan
-plan a = do
-  ps ← disjoint (judgeChanges a)
+unfoldable pub plan : Choices → Accepted → Answer Plan
+plan h a = do
+  ps ← disjoint (judgeChanges h a)
   rewriteChanges a ps
 
 -- ── Running ─────────────────────────────────────────────────────────────────────────────────────────────────
@@ -59,11 +61,11 @@ atFirst a p = begin a.trees a.table p.notes
 unfoldable pub ran : Accepted → Plan → Answer World
 ran a p = steps a.table (atFirst a p) (atFirst a p) (performed a p)
 
--- a batch's edit, or its refusal out of 2 to 12
-unfoldable pub edit : List ℕ → Answer Result
-edit bytes = do
+-- a batch's edit, or its refusal out of 2 to 12 and 16
+unfoldable pub edit : Choices → List ℕ → Answer Result
+edit h bytes = do
   a ← accepted bytes
-  p ← plan a
+  p ← plan h a
   w ← ran a p
   gives (result p.changes p.climbs w)
 
@@ -79,9 +81,15 @@ withWork work answer = do
   _ ← refuse 1 (tooShort work)
   answer
 
--- THE EDIT: the bytes of the result, in a buffer of `room` bytes, or the refusal out of 1 to 13
-unfoldable pub edited : List (ℕ × ℕ) → List ℕ → ℕ → Answer (List ℕ)
-edited work bytes room = withWork work (do
-  r ← edit bytes
+-- an answer that is given by choices: 17 is "checked before line 1"
+unfoldable pub withChoices : {A : Type 0} → Choices → List (ℕ × ℕ) → Answer A → Answer A
+withChoices h work answer = do
+  _ ← chosen h
+  withWork work answer
+
+-- THE EDIT: the bytes of the result, in a buffer of `room` bytes, or the refusal out of 1 to 13, 16 and 17
+unfoldable pub edited : Choices → List (ℕ × ℕ) → List ℕ → ℕ → Answer (List ℕ)
+edited h work bytes room = withChoices h work (do
+  r ← edit h bytes
   r ← fitting room r
   gives (encoded r))

@@ -9,10 +9,12 @@ use lib.ListN.{length, replicate}
 use Rattle.definition.specs.Basics.{Answer, refused, gives, _>>=_}
 use Rattle.orders.specs.Tree.{Tree, node, token, forest, label, text, measure, preorder}
 use Rattle.orders.specs.Splices.{Splice}
+use Rattle.definition.specs.Choices.{byDefault}
 use Rattle.definition.specs.Refusals.{Call, accepted}
 use Rattle.definition.specs.Writing.{Lists, laidOut, write, lists}
 use Rattle.definition.specs.Recording.{recorded}
-use Rattle.definition.specs.Planning.{Fate, own, discarded, sorted, planned}
+use Rattle.definition.specs.Planning.{Fate, own, discarded, sorted}
+use Rattle.definition.specs.EdgeRule.{planned}
 use Rattle.definition.specs.Finishing.{Result}
 use Rattle.definition.specs.Answers.{edit}
 use Rattle.definition.specs.FindElement.{findElement}
@@ -323,7 +325,7 @@ withNotesLines = "ok 6 3 1 3 0 1\nn 1 2\nn 7 1\nn 2 2\nt 3 1\nt 6 1\nt 4 1\ntext
 
 -- the fates of a batch's changes, in sorted order
 unfoldable pub fatesOf : List ℕ → Answer (List Fate)
-fatesOf bytes = accepted bytes >>= λ a. gives (map (λ p. p .fate) (planned a.table (sorted a.table (recorded a.calls))))
+fatesOf bytes = accepted bytes >>= λ a. gives (map (λ p. p .fate) (planned byDefault a.table (sorted a.table (recorded a.calls))))
 
 -- delete X, delete Y, c after a: a discarded change adds a region too
 abbrev nested : Told
@@ -398,19 +400,19 @@ told es = map (λ m. m .1) es
 
 -- the answer to each example
 abbrev pub answered : List (Told × Short) → List Short
-answered es = map (λ m. short (edit (inBytes (m .0)))) es
+answered es = map (λ m. short (edit byDefault (inBytes (m .0)))) es
 
 -- Each marked example gives what is told of it; the printed case has 91 bytes and prints its lines. So with the further examples; and of `withNotes`
 -- `find_element` finds X (element 1) as X′ (2), and nothing for the token a or for a number of E. A batch is read as the lists that it was laid out from; the
 -- writer lays the printed case out where there is room for it, and without room it refuses wrong lists by 14, before 15. Lists of 41 elements pass, of 42 not.
 pub examples : (answered marked ≡ told marked)
     × (length (inBytes printedCase) ≡ 91)
-    × (printed (inBytes printedCase) ≡ ascii printedLines)
+    × (printed byDefault (inBytes printedCase) ≡ ascii printedLines)
     × (answered further ≡ told further)
-    × (printed (inBytes withNotes) ≡ ascii withNotesLines)
+    × (printed byDefault (inBytes withNotes) ≡ ascii withNotesLines)
     × (fatesOf (inBytes nested) ≡ gives (own ∷ discarded 0 ∷ discarded 1 ∷ []))
-    × (splicesOf (inBytes twoAfterX) ≡ gives twoSplices)
-    × (map (findElement [] (inBytes withNotes)) (1 ∷ 2 ∷ 11 ∷ []) ≡ gives (some 2) ∷ gives none ∷ gives none ∷ [])
+    × (splicesOf byDefault (inBytes twoAfterX) ≡ gives twoSplices)
+    × (map (findElement byDefault [] (inBytes withNotes)) (1 ∷ 2 ∷ 11 ∷ []) ≡ gives (some 2) ∷ gives none ∷ gives none ∷ [])
     × (lists (inBytes withNotes) ≡ gives (inLists withNotes))
     × (map (write (inLists printedCase)) (91 ∷ 90 ∷ []) ≡ gives (inBytes printedCase) ∷ refused 15 ∷ [])
     × (map (λ l. write l 0) tried ≡ refused 15 ∷ refused 14 ∷ refused 14 ∷ refused 14 ∷ refused 14 ∷ [])
@@ -419,7 +421,7 @@ unfolding computed short inLists inBytes fatesOf refusal
 examples = (refl, refl, refl, refl, refl, refl, refl, refl, refl, refl, refl, refl)
 
 -- Each example of the account prints what is told of it; the last, of 18 bytes, is refused by 13 where there is room for 17.
-pub accounts-told : (map (λ m. accountPrinted (inBytes (m .0))) accounts ≡ map (λ m. ascii (m .1)) accounts)
-    × (map (accounted [] (inBytes lostWithX)) (18 ∷ 17 ∷ []) ≡ gives (ascii "0 own\n1 own\n2 own\n") ∷ refused 13 ∷ [])
+pub accounts-told : (map (λ m. accountPrinted byDefault (inBytes (m .0))) accounts ≡ map (λ m. ascii (m .1)) accounts)
+    × (map (accounted byDefault [] (inBytes lostWithX)) (18 ∷ 17 ∷ []) ≡ gives (ascii "0 own\n1 own\n2 own\n") ∷ refused 13 ∷ [])
 unfolding computed inLists inBytes
 accounts-told = (refl, refl)

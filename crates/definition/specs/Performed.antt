@@ -12,6 +12,7 @@ use Rattle.orders.specs.Lists.{All, pick}
 use Rattle.orders.specs.Tree.{Tree}
 use Rattle.orders.specs.Splices.{Splice}
 use Rattle.definition.specs.Basics.{Answer, refused, gives, _>>=_, numbered}
+use Rattle.definition.specs.Choices.{Choices}
 use Rattle.definition.specs.Elements.{Table}
 use Rattle.definition.specs.Refusals.{mostListed, Accepted, accepted}
 use Rattle.definition.specs.Planning.{Planned}
@@ -47,13 +48,13 @@ splices a p =
     map toSplice (numbered 0 (pick (told a.table first) (met a.table first first (performed a p))))
 
 -- the splices of a batch that is not refused
-unfoldable pub splicesOf : List ℕ → Answer (List (Splice ℕ))
-splicesOf bytes = do
+unfoldable pub splicesOf : Choices → List ℕ → Answer (List (Splice ℕ))
+splicesOf h bytes = do
   a ← accepted bytes
-  p ← plan a
+  p ← plan h a
   _ ← ran a p
   gives (splices a p)
 
 -- "no splice inserts more than 41 subtrees" (document 02, Note 3): every splice of a batch that is not refused
-abbrev pub InsertsFew : List ℕ → Type 0
-InsertsFew bytes = (S : List (Splice ℕ)) → splicesOf bytes ≡ gives S → All (λ s. length s.prepared ≤ mostListed) S
+abbrev pub InsertsFew : Choices → List ℕ → Type 0
+InsertsFew h bytes = (S : List (Splice ℕ)) → splicesOf h bytes ≡ gives S → All (λ s. length s.prepared ≤ mostListed) S

@@ -165,7 +165,7 @@ module _ (T : Table) where
       let rs = around (from T c) (to T c) (getD stacks t []) in
       fate rs ∷ fatesFrom (suc k) (set stacks t (pushed k c rs)) cs
 
-  -- what becomes of each of the sorted changes: at most 16 trees, each with an empty stack at first
+  -- RULE 0: what becomes of each of the sorted changes, at most 16 trees, each with an empty stack at first
   unfoldable pub fates : List Change → List Fate
   fates cs = fatesFrom 0 (replicate 16 []) cs
 
@@ -179,12 +179,3 @@ withFates cs fs = zipWith (λ c f. record { change = c; fate = f }) cs fs
 pub data Judgement : Type 0 where
   overlaps : ℕ → ℕ → Judgement
   fated : List Planned → Judgement
-
-module _ (T : Table) where
-  -- sorted changes with what becomes of them
-  unfoldable pub planned : List Change → List Planned
-  planned cs = withFates cs (fates T cs)
-
-  -- sorted changes judged
-  unfoldable pub judge : List Change → Judgement
-  judge cs = elim (overlap T cs) [ none ↦ fated (planned cs) | some p ↦ overlaps (p .0) (p .1) ]

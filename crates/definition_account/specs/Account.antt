@@ -16,6 +16,7 @@ use Rattle.orders.specs.Tree.{Tree, forest, Path}
 use Rattle.orders.specs.Splices as Splices
 use Rattle.orders.specs.Splices.{Splice, State, EntersDeleted}
 use Rattle.definition.specs.Basics.{gives}
+use Rattle.definition.specs.Choices.{Choices}
 use Rattle.definition.specs.Elements.{Table, table, row, noRow, tree}
 use Rattle.definition.specs.Refusals.{Accepted, accepted}
 use Rattle.definition.specs.Planning.{Planned, target}
@@ -152,10 +153,10 @@ pub full-account : (ts : List (Tree ℕ)) (notes : List Note) (ps : List Planned
 full-account ts notes ps w h r d = record { each = each-one-of ts notes ps w h d; nowhere = nowhere-if-deleted ts notes ps w h r }
 
 -- what a batch performs
-pub ran-performed : (bytes : List ℕ) (a : Accepted) (p : Plan) (w : World) → accepted bytes ≡ gives a → plan a ≡ gives p → ran a p ≡ gives w → Performed a.trees p.notes (performed a p) w
+pub ran-performed : (h : Choices) (bytes : List ℕ) (a : Accepted) (p : Plan) (w : World) → accepted bytes ≡ gives a → plan h a ≡ gives p → ran a p ≡ gives w → Performed a.trees p.notes (performed a p) w
 unfolding ran atFirst
-ran-performed bytes a p w x y e =
-    let R = ran-known bytes a p w x y e in
+ran-performed h bytes a p w x y e =
+    let R = ran-known h bytes a p w x y e in
     let t : a .table ≡ table 0 0 a.trees = R .known .table in
     record {
       worded = R .known .spells .worded;
@@ -165,16 +166,16 @@ ran-performed bytes a p w x y e =
     }
 
 -- the invariant, of every batch that is not refused
-pub ran-apart : (bytes : List ℕ) (a : Accepted) (p : Plan) (w : World) → accepted bytes ≡ gives a → plan a ≡ gives p → ran a p ≡ gives w → ChangedApart w × ChangedApartInNew w
-ran-apart bytes a p w x y e =
-    let h = ran-performed bytes a p w x y e in
-    (performed-apart a.trees p.notes (performed a p) w h, performed-apart-in-new a.trees p.notes (performed a p) w h)
+pub ran-apart : (h : Choices) (bytes : List ℕ) (a : Accepted) (p : Plan) (w : World) → accepted bytes ≡ gives a → plan h a ≡ gives p → ran a p ≡ gives w → ChangedApart w × ChangedApartInNew w
+ran-apart h bytes a p w x y e =
+    let k = ran-performed h bytes a p w x y e in
+    (performed-apart a.trees p.notes (performed a p) w k, performed-apart-in-new a.trees p.notes (performed a p) w k)
 
 -- "It holds for an accepted batch that does not replace the root and has no dependent change ending in tree 0."
-pub note-13 : (bytes : List ℕ) (a : Accepted) (p : Plan) (w : World) → accepted bytes ≡ gives a → plan a ≡ gives p → ran a p ≡ gives w
+pub note-13 : (h : Choices) (bytes : List ℕ) (a : Accepted) (p : Plan) (w : World) → accepted bytes ≡ gives a → plan h a ≡ gives p → ran a p ≡ gives w
     → keepsRoot a.table (performed a p) ≡ true → noDependentIn0 a.table (performed a p) ≡ true → FullAccount a.table (splices a p) w
 unfolding splices atFirst
-note-13 bytes a p w x y e =
-    let R = ran-known bytes a p w x y e in
+note-13 h bytes a p w x y e =
+    let R = ran-known h bytes a p w x y e in
     subst (λ (T : Table). keepsRoot T (performed a p) ≡ true → noDependentIn0 T (performed a p) ≡ true → FullAccount T (splicesIn0 T (begin a.trees T p.notes) (performed a p)) w)
-    (sym (R .known .table)) (full-account a.trees p.notes (performed a p) w (ran-performed bytes a p w x y e))
+    (sym (R .known .table)) (full-account a.trees p.notes (performed a p) w (ran-performed h bytes a p w x y e))

@@ -11,6 +11,7 @@ use Rattle.orders.specs.Splices.{Splice}
 use Rattle.orders.specs.Check.{enters?}
 use Rattle.orders.specs.Check
 use Rattle.definition.specs.Basics.{Answer, gives, _>>=_, isSome, numbered}
+use Rattle.definition.specs.Choices.{byDefault}
 use Rattle.definition.specs.Elements.{row}
 use Rattle.definition.specs.Refusals.{Call, accepted}
 use Rattle.definition.specs.Finishing.{newTable}
@@ -50,7 +51,7 @@ Shown = (Bool × Bool) × List (ℕ × ℕ) × List (Bool × Bool)
 unfoldable pub shown : List ℕ → Answer Shown
 shown bytes = do
   a ← accepted bytes
-  p ← plan a
+  p ← plan byDefault a
   w ← ran a p
   let ps = performed a p
   let S : List (Splice ℕ) = splices a p

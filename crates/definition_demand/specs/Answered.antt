@@ -13,13 +13,14 @@ use Rattle.orders.specs.Tree.{Tree, label, preorder, text, measure}
 use Rattle.orders.specs.Splices.{Splice, oneGo, AllApart}
 use Rattle.orders.specs.Check.{allApart?, says-all-apart}
 use Rattle.definition.specs.Basics.{Answer, gives, _>>=_, refuse}
+use Rattle.definition.specs.Choices.{Choices, chosen}
 use Rattle.definition.specs.Elements.{Table, table}
 use Rattle.definition.specs.Refusals.{Accepted, accepted}
 use Rattle.definition.specs.Planning.{Planned}
 use Rattle.definition.specs.Rewriting.{Note}
 use Rattle.definition.specs.Running.{World, begin, steps}
 use Rattle.definition.specs.Finishing.{newTree, Result, result, encoded, fitting}
-use Rattle.definition.specs.Answers.{Plan, plan, performed, atFirst, ran, edit, tooShort, withWork, edited}
+use Rattle.definition.specs.Answers.{Plan, plan, performed, atFirst, ran, edit, tooShort, withWork, withChoices, edited}
 use Rattle.definition.specs.Performed.{splices}
 use Rattle.definition_laws.specs.Answers.{gives-inj, given, both-given}
 use Rattle.definition_laws.specs.Accepted.{accepts}
@@ -51,20 +52,21 @@ pub record AnswersOneGo (old : Tree ℕ) (a : Accepted) (p : Plan) (r : Result) 
 
 -- ── It does ─────────────────────────────────────────────────────────────────────────────────────────────────
 
-table-demanded : (old : Tree ℕ) (notes : List Note) (w : World) (ps : List Planned) (T : Table) (ts : List (Tree ℕ)) → take 1 ts ≡ old ∷ [] → T ≡ table 0 0 ts
+pub table-demanded : (old : Tree ℕ) (notes : List Note) (w : World) (ps : List Planned) (T : Table) (ts : List (Tree ℕ)) → take 1 ts ≡ old ∷ [] → T ≡ table 0 0 ts
     → All (λ q. Sits T q.change) ps → All (λ q. replacesRoot T q.change ≡ false) ps → steps T (begin ts T notes) (begin ts T notes) ps ≡ gives w
     → AllApart old (splicesIn0 T (begin ts T notes) ps) → DemandedOf old (splicesIn0 T (begin ts T notes) ps) T w
 table-demanded old notes w ps T [] t q = absurd (nil≢cons t)
 table-demanded old notes w ps T (c ∷ others) t q = let z : c ≡ old = head-eq-of-cons-eq t in rw (← z, q) (λ s k e h. run-demanded c others notes ps w s k e h)
 
-ran-demanded : (old : Tree ℕ) (bytes : List ℕ) (a : Accepted) (p : Plan) (w : World) → accepted bytes ≡ gives a → plan a ≡ gives p → ran a p ≡ gives w → ApartIn old a p → DemandedOf old (splices a p) a.table w
+-- the run of an accepted batch whose splices are apart
+pub ran-demanded : (h : Choices) (old : Tree ℕ) (bytes : List ℕ) (a : Accepted) (p : Plan) (w : World) → accepted bytes ≡ gives a → plan h a ≡ gives p → ran a p ≡ gives w → ApartIn old a p → DemandedOf old (splices a p) a.table w
 unfolding ran atFirst splices
-ran-demanded old bytes a p w x y e h =
+ran-demanded c old bytes a p w x y e h =
     let k = accepts bytes a x in
-    let right = performed-right a p (plan-known a (checked bytes a k) p y) in
-    table-demanded old p.notes w (performed a p) a.table a.trees (h .tree0) (k .table) (All-map (λ q c. right-sits a.table q.change c) (performed a p) right) (h .unreplaced) e (h .apart)
+    let right = performed-right a p (plan-known a (checked bytes a k) c p y) in
+    table-demanded old p.notes w (performed a p) a.table a.trees (h .tree0) (k .table) (All-map (λ q s. right-sits a.table q.change s) (performed a p) right) (h .unreplaced) e (h .apart)
 
-result-shows : (t : Tree ℕ) (ps : List Planned) (climbs : ℕ) (w : World) → newTree w ≡ t ∷ [] → Shows t (result ps climbs w)
+pub result-shows : (t : Tree ℕ) (ps : List Planned) (climbs : ℕ) (w : World) → newTree w ≡ t ∷ [] → Shows t (result ps climbs w)
 unfolding result flatMap
 result-shows t ps climbs w e = record {
   kinds = ap (λ l. map label (flatMap preorder l)) e ∙ ap (map label) (append-nil (preorder t));
@@ -73,25 +75,26 @@ result-shows t ps climbs w e = record {
 }
 
 -- an answer that is given has each of its parts
-edit-parts : (bytes : List ℕ) (r : Result) → edit bytes ≡ gives r
-    → (a : Accepted) × (p : Plan) × (w : World) × (accepted bytes ≡ gives a) × (plan a ≡ gives p) × (ran a p ≡ gives w) × (result p.changes p.climbs w ≡ r)
+edit-parts : (h : Choices) (bytes : List ℕ) (r : Result) → edit h bytes ≡ gives r
+    → (a : Accepted) × (p : Plan) × (w : World) × (accepted bytes ≡ gives a) × (plan h a ≡ gives p) × (ran a p ≡ gives w) × (result p.changes p.climbs w ≡ r)
 unfolding edit
-edit-parts bytes r e = given (accepted bytes) _ e λ a x e. given (plan a) _ e λ p y e. given (ran a p) _ e λ w z e. (a, p, w, x, y, z, gives-inj e)
+edit-parts h bytes r e = given (accepted bytes) _ e λ a x e. given (plan h a) _ e λ p y e. given (ran a p) _ e λ w z e. (a, p, w, x, y, z, gives-inj e)
 
 -- "every accepted batch whose splices are apart and leave the root unreplaced answers with that tree"
-pub answers-one-go : (bytes : List ℕ) (r : Result) → edit bytes ≡ gives r → (a : Accepted) (p : Plan) → accepted bytes ≡ gives a → plan a ≡ gives p → (old : Tree ℕ) → ApartIn old a p → AnswersOneGo old a p r
+pub answers-one-go : (h : Choices) (bytes : List ℕ) (r : Result) → edit h bytes ≡ gives r → (a : Accepted) (p : Plan) → accepted bytes ≡ gives a → plan h a ≡ gives p → (old : Tree ℕ) → ApartIn old a p → AnswersOneGo old a p r
 unfolding edit _>>=_
-answers-one-go bytes r e a p x y old h =
+answers-one-go c bytes r e a p x y old h =
     let (w, z, u) = both-given (ran a p) (λ w. gives (result p.changes p.climbs w)) (rw (x, y) at e) in
-    let d = ran-demanded old bytes a p w x y z h in
+    let d = ran-demanded c old bytes a p w x y z h in
     record { end = w; run = z; demanded = d; shows = rw (← gives-inj u) (result-shows (oneGo (splices a p) old) p.changes p.climbs w (d .tree ∙ ap (λ t. t ∷ []) (d .demanded .tree))) }
 
 -- the bytes that an edit writes are those of its result
-pub edited-result : (work : List (ℕ × ℕ)) (bytes : List ℕ) (room : ℕ) (out : List ℕ) → edited work bytes room ≡ gives out → (r : Result) × (edit bytes ≡ gives r) × (encoded r ≡ out)
-unfolding edited withWork fitting
-edited-result work bytes room out e =
+pub edited-result : (h : Choices) (work : List (ℕ × ℕ)) (bytes : List ℕ) (room : ℕ) (out : List ℕ) → edited h work bytes room ≡ gives out → (r : Result) × (edit h bytes ≡ gives r) × (encoded r ≡ out)
+unfolding edited withChoices withWork fitting
+edited-result h work bytes room out e =
+    given (chosen h) _ e λ s i e.
     given (refuse 1 (tooShort work)) _ e λ u x e.
-    given (edit bytes) _ e λ r y e.
+    given (edit h bytes) _ e λ r y e.
     given (fitting room r) _ e λ s z e.
     given (refuse 13 (ltb room (length (encoded r)))) _ z λ v a z.
     (r, y, ap encoded (gives-inj z) ∙ gives-inj e)
@@ -108,18 +111,18 @@ unfoldable pub apartPlan? : Accepted → Plan → Bool
 apartPlan? a p = apartIn? a.trees (splices a p) && not (any (λ q. replacesRoot a.table q.change) (performed a p))
 
 -- the same of a batch that is not refused
-unfoldable pub apartBatch? : List ℕ → Answer Bool
-apartBatch? bytes = do
+unfoldable pub apartBatch? : Choices → List ℕ → Answer Bool
+apartBatch? h bytes = do
   a ← accepted bytes
-  p ← plan a
+  p ← plan h a
   _ ← ran a p
   gives (apartPlan? a p)
 
 -- tree 0 of a batch, rewritten in one go by its splices (a list of one)
-unfoldable pub oneGoOf : List ℕ → Answer (List (Tree ℕ))
-oneGoOf bytes = do
+unfoldable pub oneGoOf : Choices → List ℕ → Answer (List (Tree ℕ))
+oneGoOf h bytes = do
   a ← accepted bytes
-  p ← plan a
+  p ← plan h a
   gives (map (oneGo (splices a p)) (take 1 a.trees))
 
 pub plan-apart : (a : Accepted) (p : Plan) → apartPlan? a p ≡ true → (old : Tree ℕ) × ApartIn old a p
@@ -142,10 +145,10 @@ apart-plan old a p h = rw (passes-none (λ q. replacesRoot a.table q.change) (pe
     go (c ∷ others) t = let z : c ≡ old = head-eq-of-cons-eq t in rw ((says-all-apart c (splices a p)) .1 (rw z (h .apart)))
 
 -- Where the test says so, the answer shows the tree rewritten in one go.
-pub tested-one-go : (bytes : List ℕ) (r : Result) → edit bytes ≡ gives r → apartBatch? bytes ≡ gives true → (t : Tree ℕ) × (oneGoOf bytes ≡ gives (t ∷ [])) × Shows t r
+pub tested-one-go : (h : Choices) (bytes : List ℕ) (r : Result) → edit h bytes ≡ gives r → apartBatch? h bytes ≡ gives true → (t : Tree ℕ) × (oneGoOf h bytes ≡ gives (t ∷ [])) × Shows t r
 unfolding apartBatch? oneGoOf _>>=_
-tested-one-go bytes r e c =
-    let (a, p, w, x, y, z, u) = edit-parts bytes r e in
-    let (old, h) = plan-apart a p (gives-inj (rw (x, y, z) at c)) in
-    let o = answers-one-go bytes r e a p x y old h in
-    (oneGo (splices a p) old, rw (x, y) (ap (λ ts. gives (map (oneGo (splices a p)) ts)) (h .tree0)), o .shows)
+tested-one-go h bytes r e c =
+    let (a, p, w, x, y, z, u) = edit-parts h bytes r e in
+    let (old, k) = plan-apart a p (gives-inj (rw (x, y, z) at c)) in
+    let o = answers-one-go h bytes r e a p x y old k in
+    (oneGo (splices a p) old, rw (x, y) (ap (λ ts. gives (map (oneGo (splices a p)) ts)) (k .tree0)), o .shows)

@@ -9,6 +9,7 @@ use Rattle.orders.specs.Tree.{Tree, Path}
 use Rattle.orders.specs.Splices.{Splice, begin, performs, AllApart}
 use Rattle.orders.specs.Demand.{Demanded, demand, orders-agree}
 use Rattle.definition.specs.Basics.{gives}
+use Rattle.definition.specs.Choices.{Choices}
 use Rattle.definition.specs.Elements.{table}
 use Rattle.definition.specs.Refusals.{Accepted, accepted}
 use Rattle.definition.specs.Planning.{Planned}
@@ -36,10 +37,10 @@ pub record Demand3 : Type 1 where
       let first = Running.begin (old ∷ others) T notes in
       (ps : List Planned) (w : World) → All (λ p. Sits T p.change) ps → All (λ p. replacesRoot T p.change ≡ false) ps → steps T first first ps ≡ gives w → AllApart old (splicesIn0 T first ps)
       → DemandedOf old (splicesIn0 T first ps) T w
-  -- "every accepted batch whose splices are apart and leave the root unreplaced answers with that tree"
-  pub answer : (bytes : List ℕ) (r : Result) → edit bytes ≡ gives r → (a : Accepted) (p : Plan) → accepted bytes ≡ gives a → plan a ≡ gives p → (old : Tree ℕ) → ApartIn old a p → AnswersOneGo old a p r
+  -- "every accepted batch whose splices are apart and leave the root unreplaced answers with that tree"; "the law about orders is shown for either" edge rule (document 02, Note 6): whatever is chosen
+  pub answer : (h : Choices) (bytes : List ℕ) (r : Result) → edit h bytes ≡ gives r → (a : Accepted) (p : Plan) → accepted bytes ≡ gives a → plan h a ≡ gives p → (old : Tree ℕ) → ApartIn old a p → AnswersOneGo old a p r
   -- and what THE EDIT writes is such an answer, as bytes
-  pub bytes : (work : List (ℕ × ℕ)) (bytes : List ℕ) (room : ℕ) (out : List ℕ) → edited work bytes room ≡ gives out → (r : Result) × (edit bytes ≡ gives r) × (encoded r ≡ out)
+  pub bytes : (h : Choices) (work : List (ℕ × ℕ)) (bytes : List ℕ) (room : ℕ) (out : List ℕ) → edited h work bytes room ≡ gives out → (r : Result) × (edit h bytes ≡ gives r) × (encoded r ≡ out)
 
 pub demand-3 : Demand3
 demand-3 = record { law = demand; agree = orders-agree; run = run-demanded; answer = answers-one-go; bytes = edited-result }

@@ -2,17 +2,20 @@
 -- Assumes nothing.
 use mathlib.Core.Path.{_≡_, refl}
 use mathlib.Core.Bool.{Bool, true, false}
-use mathlib.Core.List.{List, [], _∷_, _++_, flatMap}
+use mathlib.Core.List.{List, [], _∷_, _++_, map, flatMap}
 use Prim.Native.Nat.{ℕ}
+use Prim.Native.String.{String}
 use Rattle.orders.specs.Tree.{text}
 use Rattle.orders.specs.Splices
 use Rattle.orders.specs.Check
 use Rattle.definition.specs.Basics.{Answer, gives, _>>=_}
+use Rattle.definition.specs.Choices.{Choices}
 use Rattle.definition.specs.Refusals.{Call}
 use Rattle.definition.specs.Answers.{edit}
 use Rattle.definition.specs.Printed.{ascii}
 use Rattle.definition.specs.Computing.{computed}
 use Rattle.definition.specs.Examples.{Told, inLists, inBytes, nodeOf, tokenOf, call}
+use Rattle.definition.specs.EdgeExamples.{edge, closingCall}
 use Rattle.definition_demand.specs.Aims.{replacesRoot}
 use Rattle.definition_demand.specs.Answered.{apartIn?, apartPlan?, apartBatch?, oneGoOf}
 
@@ -29,7 +32,7 @@ onP calls = record {
 abbrev apart : Told
 apart = onP (call 1 1 (6 ∷ []) ∷ call 1 2 (7 ∷ []) ∷ call 2 4 (8 ∷ []) ∷ [])
 
--- the run from a to z deleted, b replaced by e, c after a: the empty run behind a is strictly inside the run from a to z, and what comes there is deleted with it
+-- the run from a to z deleted, b replaced by e, c after a. By rule 0 c is own: the empty run behind a is strictly inside the run from a to z, and what comes there is deleted with it. By rule 1 the run takes c
 abbrev notApart : Told
 notApart = onP (call 5 2 (3 ∷ []) ∷ call 2 4 (8 ∷ []) ∷ call 1 2 (6 ∷ []) ∷ [])
 
@@ -50,19 +53,24 @@ dependent = record {
 abbrev intoEmpty : Told
 intoEmpty = onP (call 0 3 (6 ∷ []) ∷ call 0 3 (7 ∷ []) ∷ call 1 3 (8 ∷ []) ∷ [])
 
--- of a batch: whether demand 3's last sentence speaks of it, its new text, and that of tree 0 rewritten in one go
+-- of a batch, by a choice: whether demand 3's last sentence speaks of it, its new text, and that of tree 0 rewritten in one go
 abbrev Compared : Type 0
 Compared = Answer Bool × Answer (List ℕ) × Answer (List ℕ)
 
-unfoldable pub compared : Told → Compared
-compared b = (apartBatch? (inBytes b), (edit (inBytes b) >>= λ r. gives (r .text)), (oneGoOf (inBytes b) >>= λ ts. gives (flatMap text ts)))
+-- it speaks of the batch, and both texts are this one
+abbrev agree : String → Compared
+agree s = (gives true, gives (ascii s), gives (ascii s))
 
--- Where it speaks, both texts are one; where splices are not apart, or the root is replaced, they differ.
-pub compares : (compared apart ≡ (gives true, gives (ascii "adce"), gives (ascii "adce")))
-    × (compared dependent ≡ (gives true, gives (ascii "acb"), gives (ascii "acb")))
-    × (compared intoEmpty ≡ (gives true, gives (ascii "adceb"), gives (ascii "adceb")))
-    × (compared notApart ≡ (gives false, gives (ascii "e"), gives (ascii "ce")))
-    × (compared rootReplaced ≡ (gives false, gives (ascii "cde"), gives (ascii "ab")))
+unfoldable pub compared : Choices → Told → Compared
+compared h b = (apartBatch? h (inBytes b), (edit h (inBytes b) >>= λ r. gives (r .text)), (oneGoOf h (inBytes b) >>= λ ts. gives (flatMap text ts)))
+
+-- THE CLOSING CALL (`definition`): by rule 0 only the deletion is a splice, by rule 1 the insertion after the block is one too.
+-- Where the sentence speaks, both texts are one; where splices are not apart, or the root is replaced, they differ.
+pub compares : (map (compared (edge 0)) (apart ∷ dependent ∷ intoEmpty ∷ []) ≡ (agree "adce" ∷ agree "acb" ∷ agree "adceb" ∷ []))
+    × (map (compared (edge 1)) (apart ∷ dependent ∷ intoEmpty ∷ []) ≡ (agree "adce" ∷ agree "acb" ∷ agree "adceb" ∷ []))
+    × (map (λ n. compared (edge n) closingCall) (0 ∷ 1 ∷ []) ≡ (agree "su" ∷ agree "scu" ∷ []))
+    × (map (λ n. compared (edge n) notApart) (0 ∷ 1 ∷ []) ≡ ((gives false, gives (ascii "e"), gives (ascii "ce")) ∷ agree "e" ∷ []))
+    × (map (λ n. compared (edge n) rootReplaced) (0 ∷ 1 ∷ []) ≡ ((gives false, gives (ascii "cde"), gives (ascii "ab")) ∷ (gives false, gives (ascii "cde"), gives (ascii "ab")) ∷ []))
 unfolding
     computed inLists inBytes compared replacesRoot apartIn? apartPlan? apartBatch? oneGoOf
     Check.each Check.pairs Check.enters? Check.run? Check.fits? Check.apart? Check.allApart?

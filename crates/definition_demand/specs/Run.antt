@@ -67,7 +67,7 @@ pub record Made (T : Table) (S : List (Splice ℕ)) (now : State ℕ) (end : Wor
   pub tree0 : Tree0 T end final
 
 module _ (T : Table) (first : World) where
-  met-step : (w next : World) (p : Planned) (ps : List Planned) → step T first w p ≡ gives next → met T first w (p ∷ ps) ≡ (w, p) ∷ met T first next ps
+  pub met-step : (w next : World) (p : Planned) (ps : List Planned) → step T first w p ≡ gives next → met T first w (p ∷ ps) ≡ (w, p) ∷ met T first next ps
   unfolding met
   met-step w next p ps e = rw (e, met)
 
@@ -122,7 +122,7 @@ module _ (old : Tree ℕ) (others : List (Tree ℕ)) (notes : List Note) where
   first₀ = begin (old ∷ others) T₀ notes
 
   -- before the first step
-  tree0-begin : Tree0 T₀ first₀ (Splices.begin old)
+  pub tree0-begin : Tree0 T₀ first₀ (Splices.begin old)
   unfolding begin forest Splices.begin
   tree0-begin = record {
     kind = 2147483648;

@@ -13,20 +13,12 @@ use borrow.Author.Tests.{leb-true, le-leb, lt-leb, lt-ltb, le-ltb}
 use Rattle.orders.specs.ListLaws.{bool-absurd, both-true, some-inj, none-some, map-some, bind-some, lt-or-le, any-mem, mem-any}
 use Rattle.orders.specs.Tree.{Tree, list, forest, Path, elements, elementsOf, textOf, children, front, last}
 use Rattle.orders.specs.TreeLaws.{front-last}
-use Rattle.definition.specs.Basics.{any}
 use Rattle.definition.specs.Elements.{Table, table, row, parent, child}
 use Rattle.definition.specs.Refusals.{sameParent}
+use Rattle.definition.specs.EdgeRule.{inRun, atOrBelow}
 use Rattle.definition_laws.specs.Rows.{Element, rowOf, before, childOf, elementAt, rootOf, element, row-below, child-within, reach-tree}
 use Rattle.definition_laws.specs.Kin.{child-is, element-append, element-path, element-below, element-child, elementAt-one, Stands, row-told, element-stands, stands, stands-within, line-above, root-kin, child-kin, parent-is}
 use Rattle.definition_laws.specs.Right.{same-parent, parent-same}
-
--- e is one of the siblings from x to y
-unfoldable pub inRun : Table → ℕ → ℕ → ℕ → Bool
-inRun T x y e = sameParent (parent T e) (parent T x) && leb (child T x) (child T e) && leb (child T e) (child T y)
-
--- e is one of them or below one: one of its line is
-unfoldable pub atOrBelow : Table → ℕ → ℕ → ℕ → Bool
-atOrBelow T x y e = any (inRun T x y) ((row T e) .line)
 
 -- ── Trees one behind another ────────────────────────────────────────────────────────────────────────────────
 

@@ -18,6 +18,7 @@ use Rattle.orders.specs.TreeLaws.{list-forest, forest-list}
 use Rattle.definition.specs.Basics.{Answer, refused, gives, _>>=_, refuse, orRefuse, keep}
 use Rattle.definition.specs.Words.{bytes, written}
 use Rattle.definition.specs.Elements.{Table, table, row, tree}
+use Rattle.definition.specs.Choices.{Choices}
 use Rattle.definition.specs.Refusals.{Call, calls, countOf, operationOf, Accepted, accepted}
 use Rattle.definition.specs.Planning.{Planned, target, isDiscarded}
 use Rattle.definition.specs.Rewriting.{Note}
@@ -271,14 +272,14 @@ module _ (bytes : List ℕ) (a : Accepted) (p : Plan) where
       omega (arith, steps-changed a.table first (performed a p) first w e, performed-records k q)
 
 -- Every accepted answer is within the limits.
-pub edit-within : (bytes : List ℕ) (r : Result) → edit bytes ≡ gives r → Within r
+pub edit-within : (h : Choices) (bytes : List ℕ) (r : Result) → edit h bytes ≡ gives r → Within r
 unfolding edit
-edit-within bytes r e =
+edit-within h bytes r e =
     given (accepted bytes) _ e λ a x e.
-    given (plan a) _ e λ p y e.
+    given (plan h a) _ e λ p y e.
     given (ran a p) _ e λ w z e.
     let k = accepts bytes a x in
-    let q = plan-known a (checked bytes a k) p y in
+    let q = plan-known a (checked bytes a k) h p y in
     let n = edit-count bytes a p k q in
     rw (← gives-inj e) (result-within p.changes p.climbs w (ran-small bytes a p w k q z) n (edit-climbs bytes a p k q n) (ran-changed bytes a p w k q z))
 
@@ -289,17 +290,17 @@ abbrev pub mostBytes : ℕ
 mostBytes = 61464
 
 -- An accepted answer has at most so many.
-pub encoded-within : (bytes : List ℕ) (r : Result) → edit bytes ≡ gives r → length (encoded r) ≤ mostBytes
-encoded-within bytes r e = let w = edit-within bytes r e in omega (arith, encoded-length r (w .measures) (w .noted), w .elements, w .changed, w .notes, w .text)
+pub encoded-within : (h : Choices) (bytes : List ℕ) (r : Result) → edit h bytes ≡ gives r → length (encoded r) ≤ mostBytes
+encoded-within h bytes r e = let w = edit-within h bytes r e in omega (arith, encoded-length r (w .measures) (w .noted), w .elements, w .changed, w .notes, w .text)
 
 -- With that much room the buffer is never too short.
-pub room-suffices : (bytes : List ℕ) (room : ℕ) → mostBytes ≤ room → (edit bytes >>= λ r. fitting room r) ≡ edit bytes
+pub room-suffices : (h : Choices) (bytes : List ℕ) (room : ℕ) → mostBytes ≤ room → (edit h bytes >>= λ r. fitting room r) ≡ edit h bytes
 unfolding fitting refuse _>>=_
-room-suffices bytes room h = go (edit bytes) refl
+room-suffices h bytes room l = go (edit h bytes) refl
   where
-    go : (o : Answer Result) → edit bytes ≡ o → (o >>= λ r. fitting room r) ≡ o
+    go : (o : Answer Result) → edit h bytes ≡ o → (o >>= λ r. fitting room r) ≡ o
     go (refused n) e = refl
-    go (gives r) e = rw (le-ltb room (length (encoded r)) (omega (arith, encoded-within bytes r e)))
+    go (gives r) e = rw (le-ltb room (length (encoded r)) (omega (arith, encoded-within h bytes r e)))
 
 -- ── A run, all together ─────────────────────────────────────────────────────────────────────────────────────
 
@@ -312,10 +313,10 @@ pub record Ran (bytes : List ℕ) (a : Accepted) (p : Plan) (w : World) : Type 0
   pub holds : Holds w
   pub small : Small w
 
-pub ran-known : (bytes : List ℕ) (a : Accepted) (p : Plan) (w : World) → accepted bytes ≡ gives a → plan a ≡ gives p → ran a p ≡ gives w → Ran bytes a p w
-ran-known bytes a p w x y z =
+pub ran-known : (h : Choices) (bytes : List ℕ) (a : Accepted) (p : Plan) (w : World) → accepted bytes ≡ gives a → plan h a ≡ gives p → ran a p ≡ gives w → Ran bytes a p w
+ran-known h bytes a p w x y z =
     let k = accepts bytes a x in
-    let q = plan-known a (checked bytes a k) p y in
+    let q = plan-known a (checked bytes a k) h p y in
     let c = performed-right a p q in
     record {
       known = k;

@@ -17,6 +17,7 @@ use Rattle.orders.specs.TreeLaws.{list-forest, run-child}
 use Rattle.orders.specs.Splices.{Splice, Fits}
 use Rattle.orders.specs.Target.{Target, firstChild, afterChild, children, Rising}
 use Rattle.definition.specs.Basics.{Answer, refused, gives, numbered}
+use Rattle.definition.specs.Choices.{Choices}
 use Rattle.definition.specs.Elements.{Table, table, row, root?}
 use Rattle.definition.specs.Refusals.{mostListed, Accepted, accepted}
 use Rattle.definition.specs.Recording.{Place, Change, insert, replace, delete, replaceWithMany, replaceAll}
@@ -99,7 +100,7 @@ module _ (ts : List (Tree ℕ)) (old : Tree ℕ) (zeroth : getElem? ts 0 ≡ som
       aim r s i j (these k l h a b) = these k l h (i ∙ a) (j ∙ b)
 
 -- what each performed change has, each has that is met
-met-all : (T : Table) (first : World) (P : Planned → Type 0) (w : World) (ps : List Planned) → All P ps → All (λ m. P (m .1)) (met T first w ps)
+pub met-all : (T : Table) (first : World) (P : Planned → Type 0) (w : World) (ps : List Planned) → All P ps → All (λ m. P (m .1)) (met T first w ps)
 unfolding met
 met-all T first P w [] h = tt
 met-all T first P w (p ∷ ps) h = (h .0, go (step T first w p) (λ next. met-all T first P next ps (h .1)))
@@ -109,7 +110,7 @@ met-all T first P w (p ∷ ps) h = (h .0, go (step T first w p) (λ next. met-al
     go (gives next) r = r next
 
 -- numbers as given rise
-numbered-rising : {A : Type 0} (n : ℕ) (l : List A) → All (λ q. n ≤ q .0) (numbered n l) × Pairs (λ q r. q .0 < r .0) (numbered n l)
+pub numbered-rising : {A : Type 0} (n : ℕ) (l : List A) → All (λ q. n ≤ q .0) (numbered n l) × Pairs (λ q r. q .0 < r .0) (numbered n l)
 unfolding numbered
 numbered-rising n [] = (tt, tt)
 numbered-rising n (x ∷ l) =
@@ -155,27 +156,27 @@ splices-placed a p old z q h c = go a.table q (performed a p) c
 -- ── "no splice inserts more than 41 subtrees" ───────────────────────────────────────────────────────────────
 
 -- Every change that a batch performs inserts no more, in whichever tree.
-pub performed-inserts : (bytes : List ℕ) (a : Accepted) (p : Plan) → accepted bytes ≡ gives a → plan a ≡ gives p
+pub performed-inserts : (h : Choices) (bytes : List ℕ) (a : Accepted) (p : Plan) → accepted bytes ≡ gives a → plan h a ≡ gives p
     → All (λ m. length (yields a.table (atFirst a p) m) ≤ mostListed) (met a.table (atFirst a p) (atFirst a p) (performed a p))
 unfolding yields
-performed-inserts bytes a p x y =
+performed-inserts h bytes a p x y =
     let first = atFirst a p in
-    let few = performed-few a p (plan-known a (checked bytes a (accepts bytes a x)) p y) in
+    let few = performed-few a p (plan-known a (checked bytes a (accepts bytes a x)) h p y) in
     All-map (λ m h. rw (length-map (news (m .1 .change)) (λ e. (yield first (m .0) e) .tree)) h) (met a.table first first (performed a p)) (met-all a.table first (λ q. length (news q.change) ≤ mostListed) first (performed a p) few)
 
 -- So no splice of a batch does.
-pub inserts-few : (bytes : List ℕ) → InsertsFew bytes
+pub inserts-few : (h : Choices) (bytes : List ℕ) → InsertsFew h bytes
 unfolding splicesOf splices told toSplice
-inserts-few bytes S e =
+inserts-few h bytes S e =
     given (accepted bytes) _ e λ a x e.
-    given (plan a) _ e λ p y e.
+    given (plan h a) _ e λ p y e.
     given (ran a p) _ e λ w z e.
     let first = atFirst a p in
     let steps = met a.table first first (performed a p) in
     rw (← gives-inj e)
     (All-over toSplice (λ q. length (q .1 .1) ≤ mostListed) (λ s. length s.prepared ≤ mostListed) (λ q h. h) (numbered 0 (pick (told a.table first) steps))
     (numbered-all (λ x. length (x .1) ≤ mostListed) 0 (pick (told a.table first) steps)
-    (All-pick (told a.table first) (λ m. length (yields a.table first m) ≤ mostListed) (λ x. length (x .1) ≤ mostListed) (λ m x e h. as-told a p m x e h) steps (performed-inserts bytes a p x y))))
+    (All-pick (told a.table first) (λ m. length (yields a.table first m) ≤ mostListed) (λ x. length (x .1) ≤ mostListed) (λ m x e h. as-told a p m x e h) steps (performed-inserts h bytes a p x y))))
   where
     as-told : (a : Accepted) (p : Plan) (m : World × Planned) (x : Run × List (Tree ℕ)) → told a.table (atFirst a p) m ≡ some x → length (yields a.table (atFirst a p) m) ≤ mostListed → length (x .1) ≤ mostListed
     as-told a p m x e h =

@@ -13,10 +13,12 @@ use Rattle.orders.specs.Lists.{All, total}
 use Rattle.orders.specs.ListLaws.{bool-absurd, some-inj, none-some, All-map, All-over}
 use Rattle.orders.specs.Tree.{Tree}
 use Rattle.definition.specs.Basics.{Answer, refused, gives, _>>=_, refuse, orRefuse, isSome}
+use Rattle.definition.specs.Choices.{Choices}
 use Rattle.definition.specs.Elements.{Table, table, row, node?, placeBelow, descend}
 use Rattle.definition.specs.Refusals.{Call, mostListed, listsTooMany, wrongCall, wrongMapping, wrongNote, Accepted}
 use Rattle.definition.specs.Recording.{Change, change, recorded}
-use Rattle.definition.specs.Planning.{Planned, sorted, Judgement, overlaps, fated}
+use Rattle.definition.specs.EdgeRule.{planned}
+use Rattle.definition.specs.Planning.{Planned, sorted, overlap, Judgement, overlaps, fated}
 use Rattle.definition.specs.Rewriting.{mapping, mappedOr, land, rewritten, nearest, isParent, noteFrom, settle, Note, settled}
 use Rattle.definition.specs.Running.{news, ranked}
 use Rattle.definition.specs.Answers.{judgeChanges, disjoint, Plan, rewriteChanges, plan, performed}
@@ -129,43 +131,54 @@ disjoint-fated (overlaps i k) ps e = refused-gives e
 disjoint-fated (fated qs) ps e = ap fated (gives-inj e)
 
 -- the plan by what the first stage finds
-pub plan-overlap : (a : Accepted) (j k : ℕ) → judgeChanges a ≡ overlaps j k → plan a ≡ refused 8
+pub plan-overlap : (h : Choices) (a : Accepted) (j k : ℕ) → judgeChanges h a ≡ overlaps j k → plan h a ≡ refused 8
 unfolding plan disjoint _>>=_
-plan-overlap a j k e = rw (e, disjoint)
+plan-overlap h a j k e = rw (e, disjoint)
 
-pub plan-fated : (a : Accepted) (ps : List Planned) → judgeChanges a ≡ fated ps → plan a ≡ rewriteChanges a ps
+pub plan-fated : (h : Choices) (a : Accepted) (ps : List Planned) → judgeChanges h a ≡ fated ps → plan h a ≡ rewriteChanges a ps
 unfolding plan disjoint _>>=_
-plan-fated a ps e = rw (e, disjoint)
+plan-fated h a ps e = rw (e, disjoint)
+
+-- the changes of a batch as sorted, before they are rewritten
+abbrev pub changes : Accepted → List Change
+changes a = sorted a.table (recorded a.calls)
+
+-- a plan's changes were judged so, and then rewritten
+pub plan-parts : (h : Choices) (a : Accepted) (p : Plan) → plan h a ≡ gives p → (overlap a.table (changes a) ≡ none) × (rewriteChanges a (planned h a.table (changes a)) ≡ gives p)
+unfolding plan judgeChanges
+plan-parts h a p e =
+    given (disjoint (judgeChanges h a)) _ e λ ps x e.
+    let (apart, same) = judge-fated h a.table (changes a) ps (disjoint-fated (judgeChanges h a) ps x) in
+    (apart, ap (rewriteChanges a) (sym same) ∙ e)
 
 module _ (a : Accepted) (k : Checked a) where
-  -- the changes as sorted, before they are rewritten
-  changes-right : All (Right a.table) (sorted a.table (recorded a.calls))
+  pub changes-right : All (Right a.table) (changes a)
   changes-right =
       sorted-all a.table (Right a.table) (recorded a.calls)
       (recorded-all (Right a.table) a.calls (All-map (λ c e h. change-right a.table c e h) a.calls (k .calls)))
 
-  changes-few : All (λ c. lists c ≤ mostListed) (sorted a.table (recorded a.calls))
+  changes-few : All (λ c. lists c ≤ mostListed) (changes a)
   changes-few =
       sorted-all a.table (λ c. lists c ≤ mostListed) (recorded a.calls)
       (recorded-all (λ c. lists c ≤ mostListed) a.calls (All-map (λ c e h. change-few c e) a.calls (k .few)))
 
-  changes-listed : listsAll (sorted a.table (recorded a.calls)) ≤ total (λ c. true) (λ c. length c.listed) a.calls
+  changes-listed : listsAll (changes a) ≤ total (λ c. true) (λ c. length c.listed) a.calls
   changes-listed =
       rw (sorted-total a.table (λ c. true) lists (recorded a.calls))
       (recorded-total lists (λ c. length c.listed) a.calls (All-map (λ c e h. change-lists a.table c e) a.calls (k .calls)))
 
-  changes-count : length (sorted a.table (recorded a.calls)) ≤ length a.calls
+  changes-count : length (changes a) ≤ length a.calls
   changes-count =
       let one : total (λ c. true) (λ (c : Change). 1) (recorded a.calls) ≤ total (λ c. true) (λ (c : Call). 1) a.calls = recorded-total (λ c. 1) (λ c. 1) a.calls (All-map (λ c e h. omega arith) a.calls (k .calls)) in
-      omega (arith, total-length (sorted a.table (recorded a.calls)), sorted-total a.table (λ c. true) (λ c. 1) (recorded a.calls), one, total-length a.calls)
+      omega (arith, total-length (changes a), sorted-total a.table (λ c. true) (λ c. 1) (recorded a.calls), one, total-length a.calls)
 
   -- the changes that are judged are those that were sorted
-  pub judged-known : (ps : List Planned) → judgeChanges a ≡ fated ps → Judging a ps
+  pub judged-known : (h : Choices) (ps : List Planned) → judgeChanges h a ≡ fated ps → Judging a ps
   unfolding judgeChanges
-  judged-known ps e =
+  judged-known h ps e =
       let T = a .table in
-      let cs = sorted T (recorded a.calls) in
-      let same : map (λ q. q .change) ps ≡ cs = ap (map (λ q. q .change)) ((judge-fated T cs ps e) .1) ∙ planned-changes T cs in
+      let cs = changes a in
+      let same : map (λ q. q .change) ps ≡ cs = ap (map (λ q. q .change)) ((judge-fated h T cs ps e) .1) ∙ planned-changes h T cs in
       let long : length ps ≡ length cs = sym (length-map ps (λ q. q .change)) ∙ ap length same in
       let sum : total (λ q. true) (λ q. lists q.change) ps ≡ listsAll cs = total-map (λ q. q .change) lists ps ∙ ap listsAll same in
       record { right = map-All (Right T) (λ q. q .change) ps (rw same changes-right); few = map-All (λ c. lists c ≤ mostListed) (λ q. q .change) ps (rw same changes-few); count = omega (arith, changes-count); listed = omega (arith, changes-listed) }
@@ -204,14 +217,14 @@ module _ (a : Accepted) (k : Checked a) where
       → settled T (mapping a.mappings) 0 a.notes ≡ gives notes → (length notes ≡ length a.notes) × All (λ n. (e : ℕ) × (e < length T) × (n .path ≡ (row T e) .path)) notes
   settled-known notes T q = rw q (λ w n g. settled-notes a.trees (mapping a.mappings) w 0 a.notes notes n g)
 
-  pub plan-known : (p : Plan) → plan a ≡ gives p → Planning a p
+  pub plan-known : (h : Choices) (p : Plan) → plan h a ≡ gives p → Planning a p
   unfolding plan rewriteChanges
-  plan-known p e =
+  plan-known h p e =
       let T = a .table in
-      given (disjoint (judgeChanges a)) _ e λ ps x e.
+      given (disjoint (judgeChanges h a)) _ e λ ps x e.
       given (rewritten T (mapping a.mappings) ps) _ e λ r y e.
       given (settled T (mapping a.mappings) 0 a.notes) _ e λ notes z e.
-      rw (← gives-inj e) (rewritten-known ps r notes (rewritten-all T (mapping a.mappings) ps r y) (judged-known ps (disjoint-fated (judgeChanges a) ps x)) (settled-known notes T (k .table) outputs-within notes-within z))
+      rw (← gives-inj e) (rewritten-known ps r notes (rewritten-all T (mapping a.mappings) ps r y) (judged-known h ps (disjoint-fated (judgeChanges h a) ps x)) (settled-known notes T (k .table) outputs-within notes-within z))
 
 -- lines 6, 16 and 7 have passed what is accepted
 pub checked : (bytes : List ℕ) (a : Accepted) → Known bytes a → Checked a

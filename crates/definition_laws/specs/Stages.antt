@@ -7,15 +7,18 @@ use mathlib.Core.Option.{Option, none, some}
 use Prim.Native.Nat.{ℕ, zero, suc, _+_, _*_, _≤_, _<_}
 use native.Mathlib.Omega.{arith}
 use lib.Dec.{eqb}
-use lib.ListN.{length, getD}
+use lib.ListN.{length, getD, length-map}
+use borrow.Author.Tests.{eq-eqb, ne-eqb}
 use Rattle.orders.specs.Lists.{All, total}
 use Rattle.orders.specs.Tree.{Path}
 use Rattle.orders.specs.ListLaws.{bool-absurd}
 use Rattle.definition.specs.Basics.{Answer, refused, gives, refuse, orRefuse, keep, numbered, rising, falling, lower}
+use Rattle.definition.specs.Choices.{Choices}
 use Rattle.definition.specs.Elements.{Table, parent, child, placeBelow}
 use Rattle.definition.specs.Refusals.{Call, wrongCall}
 use Rattle.definition.specs.Recording.{Change, insert, replace, delete, replaceWithMany, replaceAll, change, call, merges, merged, merge, queued, Queues, recordCall, recorded}
-use Rattle.definition.specs.Planning.{Fate, own, dependent, discarded, Planned, Region, target, sorted, key, overlap, fatesFrom, fates, withFates, Judgement, overlaps, fated, planned, judge}
+use Rattle.definition.specs.Planning.{Fate, own, dependent, discarded, Planned, Region, target, sorted, key, overlap, fatesFrom, fates, withFates, Judgement, overlaps, fated}
+use Rattle.definition.specs.EdgeRule.{fateAmong, fates1, fatesBy, planned, judge}
 use Rattle.definition.specs.Rewriting.{replacement, mappedOr, climb, trail, land, moved, retarget, rewriteInto, rewriteOne, rewriting, rewritten}
 use Rattle.definition.specs.Running.{news, owned, ranked, order}
 use Rattle.definition_laws.specs.Basics.{All-append, All-keep, All-flatMap, total-append, total-le, total-zeros, total-flatMap}
@@ -153,42 +156,26 @@ withFates-fates [] (f ∷ fs) e = absurd (omega arith)
 withFates-fates (c ∷ cs) [] e = absurd (omega arith)
 withFates-fates (c ∷ cs) (f ∷ fs) e = ap {B = List Fate} (λ r. f ∷ r) (withFates-fates cs fs (omega arith))
 
+-- as many places as elements
+pub numbered-length : {A : Type 0} (n : ℕ) (l : List A) → length (numbered n l) ≡ length l
+unfolding numbered
+numbered-length n [] = refl
+numbered-length n (x ∷ l) = ap suc (numbered-length (suc n) l)
+
 module _ (T : Table) where
   fatesFrom-length : (k : ℕ) (stacks : List (List Region)) (cs : List Change) → length (fatesFrom T k stacks cs) ≡ length cs
   unfolding fatesFrom
   fatesFrom-length k stacks [] = refl
   fatesFrom-length k stacks (c ∷ cs) = ap suc (fatesFrom-length (suc k) _ cs)
 
-  -- as many fates as changes
+  -- as many fates as changes, by either rule
   pub fates-length : (cs : List Change) → length (fates T cs) ≡ length cs
   unfolding fates
   fates-length cs = fatesFrom-length 0 _ cs
 
-  -- planning keeps the changes, and gives each its fate
-  pub planned-changes : (cs : List Change) → map (λ p. p .change) (planned T cs) ≡ cs
-  unfolding planned
-  planned-changes cs = withFates-changes cs (fates T cs) (fates-length cs)
-
-  pub planned-fates : (cs : List Change) → map (λ p. p .fate) (planned T cs) ≡ fates T cs
-  unfolding planned
-  planned-fates cs = withFates-fates cs (fates T cs) (fates-length cs)
-
-  -- changes that overlap are judged so, and others are planned
-  pub judge-overlap : (cs : List Change) (j k : ℕ) → overlap T cs ≡ some (j, k) → judge T cs ≡ overlaps j k
-  unfolding judge
-  judge-overlap cs j k e = rw (e, judge)
-
-  pub judge-disjoint : (cs : List Change) → overlap T cs ≡ none → judge T cs ≡ fated (planned T cs)
-  unfolding judge
-  judge-disjoint cs e = rw (e, judge)
-
-  pub judge-fated : (cs : List Change) (ps : List Planned) → judge T cs ≡ fated ps → (overlap T cs ≡ none) × (ps ≡ planned T cs)
-  unfolding judge
-  judge-fated cs ps e = go (overlap T cs) refl e
-    where
-      go : (o : Option (ℕ × ℕ)) → overlap T cs ≡ o → elim o as (λ _. Judgement) [ none ↦ fated (planned T cs) | some p ↦ overlaps (p .0) (p .1) ] ≡ fated ps → (overlap T cs ≡ none) × (ps ≡ planned T cs)
-      go none h e = (h, cc)
-      go (some p) h e = absurd (let z : _≡_ {A = ℕ} 0 1 = cc in omega arith)
+  pub fates1-length : (cs : List Change) → length (fates1 T cs) ≡ length cs
+  unfolding fates1
+  fates1-length cs = length-map (numbered 0 cs) (fateAmong T (numbered 0 cs)) ∙ numbered-length 0 cs
 
   pub sorted-all : (P : Change → Type 0) (cs : List Change) → All P cs → All P (sorted T cs)
   unfolding sorted rising
@@ -197,6 +184,51 @@ module _ (T : Table) where
   pub sorted-total : (p : Change → Bool) (f : Change → ℕ) (cs : List Change) → total p f (sorted T cs) ≡ total p f cs
   unfolding sorted rising
   sorted-total p f cs = sort-total (λ x y. lower (key T x) (key T y)) p f cs
+
+-- by whatever choice
+module _ (h : Choices) (T : Table) where
+  pub fatesBy-length : (cs : List Change) → length (fatesBy h T cs) ≡ length cs
+  unfolding fatesBy
+  fatesBy-length cs = go (eqb h.edge 0)
+    where
+      go : (b : Bool) → length (cond b (fates T cs) (fates1 T cs)) ≡ length cs
+      go true = fates-length T cs
+      go false = fates1-length T cs
+
+  -- planning keeps the changes, and gives each its fate
+  pub planned-changes : (cs : List Change) → map (λ p. p .change) (planned h T cs) ≡ cs
+  unfolding planned
+  planned-changes cs = withFates-changes cs (fatesBy h T cs) (fatesBy-length cs)
+
+  pub planned-fates : (cs : List Change) → map (λ p. p .fate) (planned h T cs) ≡ fatesBy h T cs
+  unfolding planned
+  planned-fates cs = withFates-fates cs (fatesBy h T cs) (fatesBy-length cs)
+
+  -- changes that overlap are judged so, and others are planned
+  pub judge-overlap : (cs : List Change) (j k : ℕ) → overlap T cs ≡ some (j, k) → judge h T cs ≡ overlaps j k
+  unfolding judge
+  judge-overlap cs j k e = rw (e, judge)
+
+  pub judge-disjoint : (cs : List Change) → overlap T cs ≡ none → judge h T cs ≡ fated (planned h T cs)
+  unfolding judge
+  judge-disjoint cs e = rw (e, judge)
+
+  pub judge-fated : (cs : List Change) (ps : List Planned) → judge h T cs ≡ fated ps → (overlap T cs ≡ none) × (ps ≡ planned h T cs)
+  unfolding judge
+  judge-fated cs ps e = go (overlap T cs) refl e
+    where
+      go : (o : Option (ℕ × ℕ)) → overlap T cs ≡ o → elim o as (λ _. Judgement) [ none ↦ fated (planned h T cs) | some p ↦ overlaps (p .0) (p .1) ] ≡ fated ps → (overlap T cs ≡ none) × (ps ≡ planned h T cs)
+      go none g e = (g, cc)
+      go (some p) g e = absurd (let z : _≡_ {A = ℕ} 0 1 = cc in omega arith)
+
+  -- the rule that is chosen
+  pub fatesBy-0 : h .edge ≡ 0 → (cs : List Change) → fatesBy h T cs ≡ fates T cs
+  unfolding fatesBy
+  fatesBy-0 e cs = rw (eq-eqb (h .edge) 0 e) refl
+
+  pub fatesBy-1 : h .edge ≡ 1 → (cs : List Change) → fatesBy h T cs ≡ fates1 T cs
+  unfolding fatesBy
+  fatesBy-1 e cs = rw (ne-eqb (h .edge) 0 (λ z. omega arith)) refl
 
 -- ── Rewriting ───────────────────────────────────────────────────────────────────────────────────────────────
 

@@ -8,10 +8,11 @@ use lib.Seq.{paste}
 use borrow.Author.Tests.{lt-ltb, le-ltb}
 use Rattle.orders.specs.Tree.{forest, elementsOf}
 use Rattle.definition.specs.Basics.{Answer, refused, gives, _>>=_, refuse, keep}
+use Rattle.definition.specs.Choices.{Choices}
 use Rattle.definition.specs.Planning.{Planned, isDiscarded}
 use Rattle.definition.specs.Running.{World}
 use Rattle.definition.specs.Finishing.{newTree, Result, result, encoded, fitting}
-use Rattle.definition.specs.Answers.{edit, withWork, edited}
+use Rattle.definition.specs.Answers.{edit, withChoices, edited}
 use Rattle.definition_laws.specs.Held.{Holds}
 use Rattle.rows_syntax_node.specs.Promises.{Part}
 use Rattle.run_model.specs.Store.{HeldNote, Store, store}
@@ -60,9 +61,9 @@ answered-bytes {d} {r} {n} {out} e h w = record { answer = rw (fits (length d) r
 -- ── The definition's ────────────────────────────────────────────────────────────────────────────────────────
 
 -- the edit's bytes are what fits
-pub edited-fitted : (work : List (ℕ × ℕ)) (bytes : List ℕ) (room : ℕ) → edited work bytes room ≡ withWork work (edit bytes >>= fitted room)
+pub edited-fitted : (h : Choices) (work : List (ℕ × ℕ)) (bytes : List ℕ) (room : ℕ) → edited h work bytes room ≡ withChoices h work (edit h bytes >>= fitted room)
 unfolding edited fitted
-edited-fitted work bytes room = refl
+edited-fitted h work bytes room = refl
 
 -- what is answered from what the run leaves is the answer of the definition's result
 pub answered-result : (ps : List Planned) (climbs : ℕ) (w : World) {s : Store} {d out : List ℕ} {a : Finished} → Holds w → store w ≡ s

@@ -1,4 +1,4 @@
--- One promise for every job of `serve`: refusal 1, what is answered, and that work slices end as zeros. The promises of the public calls follow from it.
+-- One promise for every job of `serve`: refusals 17 and 1, what is answered, and that work slices end as zeros. The promises of the public calls follow from it.
 -- Assumes nothing.
 use mathlib.Core.Path.{_≡_, refl, ap, _∙_}
 use mathlib.Core.Bool.{Bool, true, false}
@@ -7,12 +7,13 @@ use mathlib.Core.Option.{Option, none, some}
 use Prim.Native.Nat.{ℕ}
 use lib.ListN.{length}
 use Rattle.definition.specs.Basics.{Answer, gives, refused, _>>=_, refuse}
-use Rattle.definition.specs.Answers.{edited, withWork, tooShort}
+use Rattle.definition.specs.Choices.{Choices, chosen}
+use Rattle.definition.specs.Answers.{edited, withWork, withChoices, tooShort}
 use Rattle.definition.specs.FindElement.{findElement}
 use Rattle.definition_laws.specs.Performed.{inserts-few}
 use Rattle.definition.specs.Account.{accounted}
 use Rattle.promises.specs.Slices.{needed, lengths, zeroed}
-use Rattle.promises.specs.Promises.{leftIn, Edits, Finds, Accounts, applied, found, recounted}
+use Rattle.promises.specs.Promises.{leftIn, Edits, Finds, Accounts, applied, found, recounted, wrongly-chosen, with-short}
 use Rattle.promises.specs.declared.Job.{Job}
 use Rattle.promises.specs.declared.Job.the-variants.{Edit, Find, Account}
 use Rattle.promises.specs.declared.Outcome.{Outcome}
@@ -33,15 +34,15 @@ tellBytes bytes = gives (Bytes (length bytes), bytes)
 abbrev pub tellPlace : Option ℕ → Answer (Outcome × List ℕ)
 tellPlace e = gives (place e, [])
 
--- what a job answers where no work slice is too short: how it is told, and the bytes that it writes
-unfoldable pub reached : Job → List ℕ → ℕ → Answer (Outcome × List ℕ)
-reached Edit b room = applied b room >>= tellBytes
-reached (Find n) b room = found b n >>= tellPlace
-reached Account b room = recounted b room >>= tellBytes
+-- what a job answers where neither 17 nor 1 refuses: how it is told, and the bytes that it writes
+unfoldable pub reached : Choices → Job → List ℕ → ℕ → Answer (Outcome × List ℕ)
+reached h Edit b room = applied h b room >>= tellBytes
+reached h (Find n) b room = found h b n >>= tellPlace
+reached h Account b room = recounted h b room >>= tellBytes
 
--- refusal 1 comes before every job
-unfoldable pub served : Job → List (ℕ × ℕ) → List ℕ → ℕ → Answer (Outcome × List ℕ)
-served j work b room = withWork work (reached j b room)
+-- refusals 17 and 1 come before every job
+unfoldable pub served : Choices → Job → List (ℕ × ℕ) → List ℕ → ℕ → Answer (Outcome × List ℕ)
+served h j work b room = withChoices h work (reached h j b room)
 
 -- how it is told
 unfoldable pub outcome : Answer (Outcome × List ℕ) → Outcome
@@ -58,9 +59,9 @@ pub record Tells (want : Answer (Outcome × List ℕ)) (held : List ℕ) (r : Ou
   pub answer : r ≡ outcome want
   pub result : holds ≡ leftIn held (written want)
 
--- THE PROMISE of `serve` for each job, from the batch b, the result slice and the work slices as they were lent
-pub record Serves (j : Job) (b held : List ℕ) (work : List (List ℕ)) (r : Outcome) (holds : List ℕ) (left : List (List ℕ)) : Type 0 where
-  pub told : Tells (served j (lengths needed work) b (length held)) held r holds
+-- THE PROMISE of `serve` for each job, from the choices h, the batch b, the result slice and the work slices as they were lent
+pub record Serves (h : Choices) (j : Job) (b held : List ℕ) (work : List (List ℕ)) (r : Outcome) (holds : List ℕ) (left : List (List ℕ)) : Type 0 where
+  pub told : Tells (served h j (lengths needed work) b (length held)) held r holds
   -- "Work slices end as zeros."
   pub zeros : left ≡ zeroed work
 
@@ -101,40 +102,50 @@ find-written held (gives e) = refl
 
 -- ── What follows ────────────────────────────────────────────────────────────────────────────────────────────
 
--- refusal 1 before what comes of an answer is refusal 1 before the answer
-with-then : {A B : Type 0} (work : List (ℕ × ℕ)) (x : Answer A) (f : A → Answer B) → withWork work (x >>= f) ≡ (withWork work x >>= f)
-unfolding withWork refuse _>>=_
-with-then work x f = go (tooShort work) refl
+-- refusals 17 and 1 before what comes of an answer are those before the answer
+with-then : {A B : Type 0} (h : Choices) (work : List (ℕ × ℕ)) (x : Answer A) (f : A → Answer B) → withChoices h work (x >>= f) ≡ (withChoices h work x >>= f)
+unfolding withChoices withWork refuse _>>=_
+with-then h work x f = go (chosen h) refl (tooShort work) refl
   where
-    go : (t : Bool) → tooShort work ≡ t → withWork work (x >>= f) ≡ (withWork work x >>= f)
-    go true e = rw e refl
-    go false e = rw e refl
+    go : (o : Answer (Unit {0})) → chosen h ≡ o → (t : Bool) → tooShort work ≡ t → withChoices h work (x >>= f) ≡ (withChoices h work x >>= f)
+    go (refused k) c t e = rw c refl
+    go (gives u) c true e = rw (c, e) refl
+    go (gives u) c false e = rw (c, e) refl
 
 -- What `serve` answers to `Edit` tells an answer that keeps the promise of `edit`.
-pub serves-edits : {b held holds : List ℕ} {work left : List (List ℕ)} {r : Outcome} → Serves Edit b held work r holds left → (a : Answer ℕ) × (r ≡ ofLength a) × Edits b held work a holds left
+pub serves-edits : (h : Choices) {b held holds : List ℕ} {work left : List (List ℕ)} {r : Outcome} → Serves h Edit b held work r holds left → (a : Answer ℕ) × (r ≡ ofLength a) × Edits h b held work a holds left
 unfolding served reached edited applied
-serves-edits {b} {held} {holds} {work} {left} {r} s =
-    let x = edited (lengths needed work) b (length held) in
-    let same = with-then (lengths needed work) (applied b (length held)) tellBytes in
-    (x >>= (λ bytes. gives (length bytes)), s .told .answer ∙ (ap outcome same ∙ edit-outcome x), record { answer = refl; result = s .told .result ∙ ap (leftIn held) (ap written same ∙ edit-written x); zeros = s .zeros; inserts = inserts-few b })
+serves-edits h {b} {held} {holds} {work} {left} {r} s =
+    let x = edited h (lengths needed work) b (length held) in
+    let same = with-then h (lengths needed work) (applied h b (length held)) tellBytes in
+    (x >>= (λ bytes. gives (length bytes)), s .told .answer ∙ (ap outcome same ∙ edit-outcome x), record { answer = refl; result = s .told .result ∙ ap (leftIn held) (ap written same ∙ edit-written x); zeros = s .zeros; inserts = inserts-few h b })
 
 -- What it answers to `Account` tells an answer that keeps the promise of `account`.
-pub serves-accounts : {b held holds : List ℕ} {work left : List (List ℕ)} {r : Outcome} → Serves Account b held work r holds left → (a : Answer ℕ) × (r ≡ ofLength a) × Accounts b held work a holds left
+pub serves-accounts : (h : Choices) {b held holds : List ℕ} {work left : List (List ℕ)} {r : Outcome} → Serves h Account b held work r holds left → (a : Answer ℕ) × (r ≡ ofLength a) × Accounts h b held work a holds left
 unfolding served reached accounted recounted
-serves-accounts {b} {held} {holds} {work} {left} {r} s =
-    let x = accounted (lengths needed work) b (length held) in
-    let same = with-then (lengths needed work) (recounted b (length held)) tellBytes in
+serves-accounts h {b} {held} {holds} {work} {left} {r} s =
+    let x = accounted h (lengths needed work) b (length held) in
+    let same = with-then h (lengths needed work) (recounted h b (length held)) tellBytes in
     (x >>= (λ text. gives (length text)), s .told .answer ∙ (ap outcome same ∙ edit-outcome x), record { answer = refl; result = s .told .result ∙ ap (leftIn held) (ap written same ∙ edit-written x); zeros = s .zeros })
 
 -- What it answers to `Find n` tells an answer that keeps the promise of `find_element`.
-pub serves-finds : {b held holds : List ℕ} {n : ℕ} {work left : List (List ℕ)} {r : Outcome} → Serves (Find n) b held work r holds left → (a : Answer (Option ℕ)) × (r ≡ ofPlace a) × Finds b n work a left
+pub serves-finds : (h : Choices) {b held holds : List ℕ} {n : ℕ} {work left : List (List ℕ)} {r : Outcome} → Serves h (Find n) b held work r holds left → (a : Answer (Option ℕ)) × (r ≡ ofPlace a) × Finds h b n work a left
 unfolding served reached findElement found
-serves-finds {b} {held} {holds} {n} {work} {left} {r} s =
-    let x = findElement (lengths needed work) b n in
-    let same = with-then (lengths needed work) (found b n) tellPlace in
-    (x, s .told .answer ∙ (ap outcome same ∙ find-outcome x), record { element = refl; zeros = s .zeros; inserts = inserts-few b })
+serves-finds h {b} {held} {holds} {n} {work} {left} {r} s =
+    let x = findElement h (lengths needed work) b n in
+    let same = with-then h (lengths needed work) (found h b n) tellPlace in
+    (x, s .told .answer ∙ (ap outcome same ∙ find-outcome x), record { element = refl; zeros = s .zeros; inserts = inserts-few h b })
 
--- Every job is refused by 1 where a work slice is too short, and then the result slice holds all that it held.
-pub serves-short : {j : Job} {b held holds : List ℕ} {work left : List (List ℕ)} {r : Outcome} → Serves j b held work r holds left → tooShort (lengths needed work) ≡ true → (r ≡ Refused 1) × (holds ≡ held)
-unfolding served withWork refuse outcome written leftIn _>>=_
-serves-short {j} {b} {held} {holds} {work} {left} {r} s h = let t = s .told in let u : Tells (refused 1) held r holds = rw h at t in (u .answer, u .result)
+-- what is told of a refusal: its number, and the result slice holds all that it held
+tells-refused : {want : Answer (Outcome × List ℕ)} {held holds : List ℕ} {r : Outcome} (k : ℕ) → want ≡ refused k → Tells want held r holds → (r ≡ Refused k) × (holds ≡ held)
+unfolding outcome written leftIn
+tells-refused k e t = let u = rw e at t in (u .answer, u .result)
+
+-- EVERY JOB IS REFUSED BY 17 FIRST, where an edge rule is neither 0 nor 1, and then by 1, where a work slice is too short.
+pub serves-wrong : {h : Choices} {j : Job} {b held holds : List ℕ} {work left : List (List ℕ)} {r : Outcome} (k : ℕ) → Serves h j b held work r holds left → chosen h ≡ refused k → (r ≡ Refused k) × (holds ≡ held)
+unfolding served
+serves-wrong {h} {j} {b} {held} {holds} {work} k s e = tells-refused k (wrongly-chosen h (lengths needed work) (reached h j b (length held)) k e) (s .told)
+
+pub serves-short : {h : Choices} {j : Job} {b held holds : List ℕ} {work left : List (List ℕ)} {r : Outcome} → Serves h j b held work r holds left → chosen h ≡ gives tt → tooShort (lengths needed work) ≡ true → (r ≡ Refused 1) × (holds ≡ held)
+unfolding served
+serves-short {h} {j} {b} {held} {holds} {work} s e t = tells-refused 1 (with-short h (lengths needed work) (reached h j b (length held)) e t) (s .told)

@@ -9,8 +9,9 @@ use native.Mathlib.Omega.{arith}
 use lib.ListN.{length, drop}
 use borrow.Author.Tests.{le-ltb}
 use Rattle.definition.specs.Basics.{Answer, refused, gives, _>>=_, refuse, any}
+use Rattle.definition.specs.Choices.{Choices, chosen}
 use Rattle.definition.specs.Finishing.{Result, encoded, fitting}
-use Rattle.definition.specs.Answers.{edit, edited, tooShort, withWork}
+use Rattle.definition.specs.Answers.{edit, edited, tooShort, withWork, withChoices}
 use Rattle.definition.specs.FindElement.{findElement}
 use Rattle.definition_laws.specs.Limits.{edit-within, mostBytes, encoded-within}
 use Rattle.result_laws.specs.Worded.{Bytes, edit-worded}
@@ -19,34 +20,35 @@ use Rattle.result_laws.specs.Encoded.{decoded-encoded}
 use Rattle.promises.specs.Slices.{needed, lengths}
 use Rattle.promises.specs.Promises.{leftIn, Edits, Finds, applied, found, long-edited, long-found}
 
--- what is lent suffices: each work slice has its length, and the result slice has room for the answer
-pub record Lent (b held : List ℕ) (work : List (List ℕ)) : Type 0 where
+-- what is lent suffices: the choices are some, each work slice has its length, and the result slice has room for the answer
+pub record Lent (h : Choices) (b held : List ℕ) (work : List (List ℕ)) : Type 0 where
+  pub chosen : chosen h ≡ gives tt
   pub works : tooShort (lengths needed work) ≡ false
-  pub room : (R : Result) → edit b ≡ gives R → length (encoded R) ≤ length held
+  pub room : (R : Result) → edit h b ≡ gives R → length (encoded R) ≤ length held
 
 -- As much room as the longest result needs is room for every answer.
-pub lent-most : (b held : List ℕ) (work : List (List ℕ)) → tooShort (lengths needed work) ≡ false → mostBytes ≤ length held → Lent b held work
-lent-most b held work h k = record { works = h; room = λ R e. omega (arith, encoded-within b R e) }
+pub lent-most : (h : Choices) (b held : List ℕ) (work : List (List ℕ)) → chosen h ≡ gives tt → tooShort (lengths needed work) ≡ false → mostBytes ≤ length held → Lent h b held work
+lent-most h b held work c w k = record { chosen = c; works = w; room = λ R e. omega (arith, encoded-within h b R e) }
 
 -- what an answer leaves: its refusal, and all that was held; or the number of its bytes, and these with what was held beyond them
 abbrev pub Leaves : Answer Result → List ℕ → Answer ℕ → List ℕ → Type 0
 Leaves (refused k) held r holds = (r ≡ refused k) × (holds ≡ held)
 Leaves (gives R) held r holds = (r ≡ gives (length (encoded R))) × (holds ≡ encoded R ++ drop (length (encoded R)) held)
 
-edit-leaves : (b held : List ℕ) (work : List (List ℕ)) (r : Answer ℕ) (holds : List ℕ) (left : List (List ℕ)) → Edits b held work r holds left → Lent b held work → Leaves (edit b) held r holds
+edit-leaves : (h : Choices) (b held : List ℕ) (work : List (List ℕ)) (r : Answer ℕ) (holds : List ℕ) (left : List (List ℕ)) → Edits h b held work r holds left → Lent h b held work → Leaves (edit h b) held r holds
 unfolding applied fitting refuse leftIn _>>=_
-edit-leaves b held work r holds left p l = go (edit b) refl long
+edit-leaves h b held work r holds left p l = go (edit h b) refl long
   where
     fit : Result → Answer (List ℕ)
     fit R = fitting (length held) R >>= λ S. gives (encoded S)
 
-    long : edited (lengths needed work) b (length held) ≡ (edit b >>= fit)
-    long = long-edited work b (length held) (l .works)
+    long : edited h (lengths needed work) b (length held) ≡ (edit h b >>= fit)
+    long = long-edited h (l .chosen) work b (length held) (l .works)
 
-    go : (o : Answer Result) → edit b ≡ o → edited (lengths needed work) b (length held) ≡ (o >>= fit) → Leaves o held r holds
+    go : (o : Answer Result) → edit h b ≡ o → edited h (lengths needed work) b (length held) ≡ (o >>= fit) → Leaves o held r holds
     go (refused k) e w = (p .answer ∙ ap (λ x. x >>= λ bytes. gives (length bytes)) w, p .result ∙ ap (leftIn held) w)
     go (gives R) e w =
-        let z : edited (lengths needed work) b (length held) ≡ gives (encoded R) = w ∙ rw (le-ltb (length held) (length (encoded R)) (l .room R e)) refl in
+        let z : edited h (lengths needed work) b (length held) ≡ gives (encoded R) = w ∙ rw (le-ltb (length held) (length (encoded R)) (l .room R e)) refl in
         (p .answer ∙ ap (λ x. x >>= λ bytes. gives (length bytes)) z, p .result ∙ ap (leftIn held) z)
 
 -- the answer that stands in the slice: a refusal, or the result read there
@@ -55,27 +57,27 @@ answerIn (refused k) holds = refused k
 answerIn (gives n) holds = gives (decoded holds)
 
 -- what is left is read as the answer
-leaves-read : (b held : List ℕ) (r : Answer ℕ) (holds : List ℕ) → Bytes b → Leaves (edit b) held r holds → answerIn r holds ≡ edit b
+leaves-read : (h : Choices) (b held : List ℕ) (r : Answer ℕ) (holds : List ℕ) → Bytes b → Leaves (edit h b) held r holds → answerIn r holds ≡ edit h b
 unfolding answerIn
-leaves-read b held r holds h l = go (edit b) refl l
+leaves-read h b held r holds y l = go (edit h b) refl l
   where
-    go : (o : Answer Result) → edit b ≡ o → Leaves o held r holds → answerIn r holds ≡ o
+    go : (o : Answer Result) → edit h b ≡ o → Leaves o held r holds → answerIn r holds ≡ o
     go (refused k) e l = ap (λ x. answerIn x holds) (l .0)
-    go (gives R) e l = ap (λ x. answerIn x holds) (l .0) ∙ ap {B = Answer Result} gives (decoded-encoded R holds _ (l .1) (edit-within b R e) (edit-worded b R h e))
+    go (gives R) e l = ap (λ x. answerIn x holds) (l .0) ∙ ap {B = Answer Result} gives (decoded-encoded R holds _ (l .1) (edit-within h b R e) (edit-worded h b R y e))
 
 -- the answer to a batch, as it stands in the result slice
-pub record Answered (b held : List ℕ) (r : Answer ℕ) (holds : List ℕ) : Type 0 where
-  pub leaves : Leaves (edit b) held r holds
-  pub read : answerIn r holds ≡ edit b
+pub record Answered (h : Choices) (b held : List ℕ) (r : Answer ℕ) (holds : List ℕ) : Type 0 where
+  pub leaves : Leaves (edit h b) held r holds
+  pub read : answerIn r holds ≡ edit h b
 
 -- Every call that keeps its promise leaves what the definition answers, and nothing else; and who reads the result slice reads that answer. (A batch that is lent is
 -- a slice of `u8`, and so of bytes.)
-pub edit-answered : (b held : List ℕ) (work : List (List ℕ)) (r : Answer ℕ) (holds : List ℕ) (left : List (List ℕ)) → Edits b held work r holds left → Bytes b → Lent b held work → Answered b held r holds
-edit-answered b held work r holds left p h l =
-    let z = edit-leaves b held work r holds left p l in
-    record { leaves = z; read = leaves-read b held r holds h z }
+pub edit-answered : (h : Choices) (b held : List ℕ) (work : List (List ℕ)) (r : Answer ℕ) (holds : List ℕ) (left : List (List ℕ)) → Edits h b held work r holds left → Bytes b → Lent h b held work → Answered h b held r holds
+edit-answered h b held work r holds left p y l =
+    let z = edit-leaves h b held work r holds left p l in
+    record { leaves = z; read = leaves-read h b held r holds y z }
 
 -- Every call of `find_element` that keeps its promise finds what the definition finds.
-pub find-answered : (b : List ℕ) (n : ℕ) (work : List (List ℕ)) (r : Answer (Option ℕ)) (left : List (List ℕ)) → Finds b n work r left → tooShort (lengths needed work) ≡ false → r ≡ findElement [] b n
-unfolding findElement withWork tooShort any refuse found _>>=_
-find-answered b n work r left p h = p .element ∙ long-found work b n h
+pub find-answered : (h : Choices) (b : List ℕ) (n : ℕ) (work : List (List ℕ)) (r : Answer (Option ℕ)) (left : List (List ℕ)) → Finds h b n work r left → chosen h ≡ gives tt → tooShort (lengths needed work) ≡ false → r ≡ findElement h [] b n
+unfolding findElement withChoices withWork tooShort any refuse found _>>=_
+find-answered h b n work r left p c w = p .element ∙ (long-found h c work b n w ∙ rw c refl)

@@ -10,6 +10,7 @@ use Rattle.orders.specs.Tree.{Tree, label, measure, preorder}
 use Rattle.orders.specs.Tree as Tree
 use Rattle.orders.specs.Splices.{oneGo}
 use Rattle.definition.specs.Basics.{Answer, gives, _>>=_}
+use Rattle.definition.specs.Choices.{Choices}
 use Rattle.definition.specs.Words.{word, words}
 use Rattle.definition.specs.Refusals.{Accepted, accepted}
 use Rattle.definition.specs.Finishing.{Result, encoded}
@@ -35,7 +36,7 @@ pub record Shown (t : Tree ℕ) (n : ℕ) (holds : List ℕ) : Type 0 where
   pub measures : words (length (preorder t)) (drop (24 + 4 * length (preorder t)) holds) ≡ map measure (preorder t)
   pub text : take (length (Tree.text t)) (drop (n - length (Tree.text t)) holds) ≡ Tree.text t
 
-module _ (b held : List ℕ) (n : ℕ) (holds : List ℕ) (h : Bytes b) (f : Finished b held n holds) where
+module _ (h : Choices) (b held : List ℕ) (n : ℕ) (holds : List ℕ) (y : Bytes b) (f : Finished h b held n holds) where
   -- the result that is answered
   abbrev R : Result
   R = f .result
@@ -44,11 +45,11 @@ module _ (b held : List ℕ) (n : ℕ) (holds : List ℕ) (h : Bytes b) (f : Fin
   there = sym (take-append-drop n holds) ∙ ap (λ (l : List ℕ). l ++ drop n holds) (f .front)
 
   within : Within R
-  within = edit-within b R (f .edits)
+  within = edit-within h b R (f .edits)
 
   -- which is read in the slice
   pub finished-read : decoded holds ≡ R
-  finished-read = decoded-encoded R holds (drop n holds) there within (edit-worded b R h (f .edits))
+  finished-read = decoded-encoded R holds (drop n holds) there within (edit-worded h b R y (f .edits))
 
   -- what is finished shows its tree at these places
   pub finished-shown : (t : Tree ℕ) → Shows t R → Shown t n holds
@@ -67,21 +68,22 @@ module _ (b held : List ℕ) (n : ℕ) (holds : List ℕ) (h : Bytes b) (f : Fin
 
 -- ── The demand ──────────────────────────────────────────────────────────────────────────────────────────────
 
--- "every accepted batch whose splices are apart and leave the root unreplaced answers with that tree": so does every call that keeps its promise and does not refuse.
+-- "every accepted batch whose splices are apart and leave the root unreplaced answers with that tree": so does every call that keeps its promise and does not refuse,
+-- whatever edge rule is chosen.
 -- Its splices are `splicesOf` of the batch, `old` is tree 0; of the result the kind words, measures and text are meant.
-pub demand-3-answered : (b held : List ℕ) (work : List (List ℕ)) (r : Answer ℕ) (holds : List ℕ) (left : List (List ℕ)) → Edits b held work r holds left → Bytes b
-    → (n : ℕ) → r ≡ gives n → (a : Accepted) (p : Plan) → accepted b ≡ gives a → plan a ≡ gives p → (old : Tree ℕ) → ApartIn old a p
-    → (splicesOf b ≡ gives (splices a p)) × Shown (oneGo (splices a p) old) n holds
+pub demand-3-answered : (h : Choices) (b held : List ℕ) (work : List (List ℕ)) (r : Answer ℕ) (holds : List ℕ) (left : List (List ℕ)) → Edits h b held work r holds left → Bytes b
+    → (n : ℕ) → r ≡ gives n → (a : Accepted) (p : Plan) → accepted b ≡ gives a → plan h a ≡ gives p → (old : Tree ℕ) → ApartIn old a p
+    → (splicesOf h b ≡ gives (splices a p)) × Shown (oneGo (splices a p) old) n holds
 unfolding splicesOf _>>=_
-demand-3-answered b held work r holds left q h n e a p x y old s =
-    let f = (demand-1 b held work r holds left q) .finished n e in
-    let o = demand-3 .answer b (f .result) (f .edits) a p x y old s in
-    (rw (x, y, o .run) refl, finished-shown b held n holds h f (oneGo (splices a p) old) (o .shows))
+demand-3-answered c b held work r holds left q h n e a p x y old s =
+    let f = (demand-1 c b held work r holds left q) .finished n e in
+    let o = demand-3 .answer c b (f .result) (f .edits) a p x y old s in
+    (rw (x, y, o .run) refl, finished-shown c b held n holds h f (oneGo (splices a p) old) (o .shows))
 
 -- The same where a test on the batch alone says that its splices are apart and leave the root.
-pub demand-3-tested : (b held : List ℕ) (work : List (List ℕ)) (r : Answer ℕ) (holds : List ℕ) (left : List (List ℕ)) → Edits b held work r holds left → Bytes b
-    → (n : ℕ) → r ≡ gives n → apartBatch? b ≡ gives true → (t : Tree ℕ) × (oneGoOf b ≡ gives (t ∷ [])) × Shown t n holds
-demand-3-tested b held work r holds left q h n e c =
-    let f = (demand-1 b held work r holds left q) .finished n e in
-    let (t, o, s) = tested-one-go b (f .result) (f .edits) c in
-    (t, o, finished-shown b held n holds h f t s)
+pub demand-3-tested : (h : Choices) (b held : List ℕ) (work : List (List ℕ)) (r : Answer ℕ) (holds : List ℕ) (left : List (List ℕ)) → Edits h b held work r holds left → Bytes b
+    → (n : ℕ) → r ≡ gives n → apartBatch? h b ≡ gives true → (t : Tree ℕ) × (oneGoOf h b ≡ gives (t ∷ [])) × Shown t n holds
+demand-3-tested h b held work r holds left q y n e c =
+    let f = (demand-1 h b held work r holds left q) .finished n e in
+    let (t, o, s) = tested-one-go h b (f .result) (f .edits) c in
+    (t, o, finished-shown h b held n holds y f t s)

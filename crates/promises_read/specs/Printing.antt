@@ -6,7 +6,8 @@ use mathlib.Core.List.{List}
 use Prim.Native.Nat.{ℕ}
 use native.Mathlib.Omega.{arith}
 use lib.ListN.{length, take}
-use Rattle.definition.specs.Basics.{Answer}
+use Rattle.definition.specs.Basics.{Answer, gives, _>>=_}
+use Rattle.definition.specs.Choices.{Choices, chosen}
 use Rattle.definition.specs.Answers.{tooShort}
 use Rattle.definition.specs.Printed.{print, printed}
 use Rattle.definition_laws.specs.Limits.{room-suffices}
@@ -16,9 +17,9 @@ use Rattle.promises.specs.Promises.{Edits}
 use Rattle.promises_read.specs.Answered.{lent-most, answerIn, edit-answered}
 
 -- "Its batch and result buffers have 65,536 bytes each; of a longer input it judges the first 65,536": what is read in the result slice prints what the definition prints of the input.
-pub printed-run : (input held : List ℕ) (work : List (List ℕ)) (r : Answer ℕ) (holds : List ℕ) (left : List (List ℕ)) → Edits (take 65536 input) held work r holds left → Bytes (take 65536 input)
-    → tooShort (lengths needed work) ≡ false → length held ≡ 65536 → print (answerIn r holds) ≡ printed input
-unfolding printed
-printed-run input held work r holds left p b h k =
-    let z = edit-answered (take 65536 input) held work r holds left p b (lent-most (take 65536 input) held work h (omega arith)) in
-    ap print (z .read ∙ sym (room-suffices (take 65536 input) 65536 (omega arith)))
+pub printed-run : (h : Choices) (input held : List ℕ) (work : List (List ℕ)) (r : Answer ℕ) (holds : List ℕ) (left : List (List ℕ)) → Edits h (take 65536 input) held work r holds left → Bytes (take 65536 input)
+    → chosen h ≡ gives tt → tooShort (lengths needed work) ≡ false → length held ≡ 65536 → print (answerIn r holds) ≡ printed h input
+unfolding printed _>>=_
+printed-run h input held work r holds left p b c w k =
+    let z = edit-answered h (take 65536 input) held work r holds left p b (lent-most h (take 65536 input) held work c w (omega arith)) in
+    rw c (ap print (z .read ∙ sym (room-suffices h (take 65536 input) 65536 (omega arith))))

@@ -1,4 +1,4 @@
--- Refused: by which numbers each stage refuses; so 13 comes only where the result slice has no room, and 1 only where a work slice is too short.
+-- Refused: by which numbers each stage refuses; so 13 comes only where the result slice has no room, 1 only where a work slice is too short, and 17 only where there is no such edge rule.
 -- Assumes nothing.
 use mathlib.Core.Path.{_≡_, refl, sym, ap, _∙_}
 use mathlib.Core.Bool.{Bool, true, false, not, _&&_, _||_}
@@ -12,6 +12,7 @@ use borrow.Author.Tests.{ltb-true, ltb-false, eqb-true, not-false}
 use Rattle.orders.specs.ListLaws.{bool-absurd, either-false}
 use Rattle.orders.specs.Tree.{Path}
 use Rattle.definition.specs.Basics.{Answer, refused, gives, _>>=_, refuse, orRefuse, any, among}
+use Rattle.definition.specs.Choices.{Choices, chosen}
 use Rattle.definition.specs.Batch.{batch, sizes, beyond, whole}
 use Rattle.definition.specs.Elements.{Table, table, spelled, node?, parent, child, placeBelow, descend}
 use Rattle.definition.specs.Refusals.{calls, listsTooMany, wrongCall, wrongMapping, wrongNote, Accepted, accepted}
@@ -20,7 +21,7 @@ use Rattle.definition.specs.Planning.{Fate, own, dependent, discarded, Planned,
 use Rattle.definition.specs.Rewriting.{mapping, replacement, mappedOr, climb, trail, land, moved, retarget, rewriteInto, rewriteOne, rewriting, rewritten, nearest, isParent, noteFrom, settle, settled}
 use Rattle.definition.specs.Running.{World, place, yield, news, spliced, tooLarge, records, step, steps}
 use Rattle.definition.specs.Finishing.{Result, result, encoded, fitting}
-use Rattle.definition.specs.Answers.{judgeChanges, disjoint, rewriteChanges, Plan, plan, performed, atFirst, ran, edit, edited, tooShort, withWork}
+use Rattle.definition.specs.Answers.{judgeChanges, disjoint, rewriteChanges, Plan, plan, performed, atFirst, ran, edit, edited, tooShort, withWork, withChoices}
 use Rattle.definition.specs.FindElement.{findIn, findElement}
 use Rattle.definition.specs.Printed.{programRoom}
 use Rattle.definition.specs.Account.{said, account, inRoom, accounted}
@@ -50,12 +51,12 @@ stepLines = 11 ∷ 12 ∷ []
 abbrev pub editLines : List ℕ
 editLines = batchLines ++ planLines ++ stepLines
 
--- THE NUMBERS that each public call can give: 1 for a work slice, 13 for the result slice
+-- THE NUMBERS that each public call can give: 17 for the edge rule, 1 for a work slice, 13 for the result slice
 abbrev pub editNumbers : List ℕ
-editNumbers = 1 ∷ 13 ∷ editLines
+editNumbers = 17 ∷ 1 ∷ 13 ∷ editLines
 
 abbrev pub findNumbers : List ℕ
-findNumbers = 1 ∷ editLines
+findNumbers = 17 ∷ 1 ∷ editLines
 
 pub refused-inj : {A : Type 0} {j k : ℕ} → _≡_ {A = Answer A} (refused j) (refused k) → j ≡ k
 refused-inj e = cc
@@ -218,9 +219,9 @@ rewrite-by a ps =
     by-then planLines (settled T mapped 0 a.notes) _ (settled-by T mapped 0 a.notes) λ notes. tt
 
 -- Planning refuses by 8 to 10.
-pub plan-by : (a : Accepted) → By planLines (plan a)
+pub plan-by : (h : Choices) (a : Accepted) → By planLines (plan h a)
 unfolding plan
-plan-by a = by-then planLines (disjoint (judgeChanges a)) _ (disjoint-by (judgeChanges a)) λ ps. rewrite-by a ps
+plan-by h a = by-then planLines (disjoint (judgeChanges h a)) _ (disjoint-by (judgeChanges h a)) λ ps. rewrite-by a ps
 
 -- ── Lines 11 and 12 ─────────────────────────────────────────────────────────────────────────────────────────
 
@@ -241,17 +242,17 @@ unfolding ran
 ran-by a p = steps-by a.table (atFirst a p) (atFirst a p) (performed a p)
 
 -- Whatever is told of what a batch's run leaves: the batch is refused by 2 to 12 or 16.
-stages-by : {A : Type 0} (b : List ℕ) (tell : Accepted → Plan → World → A) → By editLines (accepted b >>= λ a. plan a >>= λ p. ran a p >>= λ w. gives (tell a p w))
+stages-by : {A : Type 0} (h : Choices) (b : List ℕ) (tell : Accepted → Plan → World → A) → By editLines (accepted b >>= λ a. plan h a >>= λ p. ran a p >>= λ w. gives (tell a p w))
 unfolding among any
-stages-by b tell =
+stages-by h b tell =
     by-then editLines (accepted b) _ (by-more batchLines editLines (accepted b) refl (accepted-by b)) λ a.
-    by-then editLines (plan a) _ (by-more planLines editLines (plan a) refl (plan-by a)) λ p.
+    by-then editLines (plan h a) _ (by-more planLines editLines (plan h a) refl (plan-by h a)) λ p.
     by-then editLines (ran a p) _ (by-more stepLines editLines (ran a p) refl (ran-by a p)) λ w. tt
 
 -- The edit of a batch refuses by 2 to 12 or 16.
-pub edit-by : (b : List ℕ) → By editLines (edit b)
+pub edit-by : (h : Choices) (b : List ℕ) → By editLines (edit h b)
 unfolding edit
-edit-by b = stages-by b (λ a p w. result p.changes p.climbs w)
+edit-by h b = stages-by h b (λ a p w. result p.changes p.climbs w)
 
 -- ── `find_element` ──────────────────────────────────────────────────────────────────────────────────────────
 
@@ -268,9 +269,9 @@ alike-then (refused k) f g h = refl
 alike-then (gives a) f g h = h a
 
 -- "the batch's refusals come first": `find_element` is refused just where the edit is.
-pub found-alike : (b : List ℕ) (n : ℕ) → Alike (found b n) (edit b)
+pub found-alike : (h : Choices) (b : List ℕ) (n : ℕ) → Alike (found h b n) (edit h b)
 unfolding found edit
-found-alike b n = alike-then (accepted b) _ _ λ a. alike-then (plan a) _ _ λ p. alike-then (ran a p) _ _ λ w. tt
+found-alike h b n = alike-then (accepted b) _ _ λ a. alike-then (plan h a) _ _ λ p. alike-then (ran a p) _ _ λ w. tt
 
 -- ── The public calls ────────────────────────────────────────────────────────────────────────────────────────
 
@@ -279,17 +280,25 @@ fitting-by : (room : ℕ) (r : Result) → By editNumbers (fitting room r)
 unfolding fitting among any
 fitting-by room r = by-then editNumbers (refuse 13 (ltb room (length (encoded r)))) _ (by-refuse editNumbers 13 _ refl) λ u. tt
 
--- `edit` refuses by one of its numbers.
-pub edited-by : (work : List (ℕ × ℕ)) (b : List ℕ) (room : ℕ) → By editNumbers (edited work b room)
-unfolding edited withWork among any
-edited-by work b room =
-    by-then editNumbers (refuse 1 (tooShort work)) _ (by-refuse editNumbers 1 _ refl) λ u.
-    by-then editNumbers (edit b) _ (by-more editLines editNumbers (edit b) refl (edit-by b)) λ r.
-    by-then editNumbers (fitting room r) _ (fitting-by room r) λ r. tt
+-- what refuses by 17 and 1, before an answer that refuses by others
+module _ {A : Type 0} (ns : List ℕ) (seventeen : among ns 17 ≡ true) (one : among ns 1 ≡ true) where
+  with-by : (h : Choices) (work : List (ℕ × ℕ)) (o : Answer A) → By ns o → By ns (withChoices h work o)
+  unfolding withChoices withWork chosen
+  with-by h work o k =
+      by-then ns (chosen h) _ (by-refuse ns 17 _ seventeen) λ u.
+      by-then ns (refuse 1 (tooShort work)) _ (by-refuse ns 1 _ one) λ u. k
 
--- So they are 1 to 13 and 16.
-pub edited-numbered : (work : List (ℕ × ℕ)) (b : List ℕ) (room k : ℕ) → edited work b room ≡ refused k → among editNumbers k ≡ true
-edited-numbered work b room k e = let by = edited-by work b room in rw e at by
+-- `edit` refuses by one of its numbers.
+pub edited-by : (h : Choices) (work : List (ℕ × ℕ)) (b : List ℕ) (room : ℕ) → By editNumbers (edited h work b room)
+unfolding edited among any
+edited-by h work b room =
+    with-by editNumbers refl refl h work _
+    (by-then editNumbers (edit h b) _ (by-more editLines editNumbers (edit h b) refl (edit-by h b)) λ r.
+    by-then editNumbers (fitting room r) _ (fitting-by room r) λ r. tt)
+
+-- So they are 1 to 13, 16 and 17.
+pub edited-numbered : (h : Choices) (work : List (ℕ × ℕ)) (b : List ℕ) (room k : ℕ) → edited h work b room ≡ refused k → among editNumbers k ≡ true
+edited-numbered h work b room k e = let by = edited-by h work b room in rw e at by
 
 said-by : (a : Accepted) (j : Judgement) → By editNumbers (said a j)
 unfolding said among any
@@ -300,67 +309,71 @@ said-by a (fated ps) =
     by-then editNumbers (fitting programRoom (result p.changes p.climbs w)) _ (fitting-by programRoom (result p.changes p.climbs w)) λ r. tt
 
 -- `account` refuses by one of the numbers of `edit`.
-pub accounted-by : (work : List (ℕ × ℕ)) (b : List ℕ) (room : ℕ) → By editNumbers (accounted work b room)
-unfolding accounted account inRoom withWork among any
-accounted-by work b room =
-    by-then editNumbers (refuse 1 (tooShort work)) _ (by-refuse editNumbers 1 _ refl) λ u.
-    by-then editNumbers (account b) _ (by-then editNumbers (accepted b) _ (by-more batchLines editNumbers (accepted b) refl (accepted-by b)) λ a. said-by a (judgeChanges a)) λ text.
-    by-then editNumbers (refuse 13 (ltb room (length text))) _ (by-refuse editNumbers 13 _ refl) λ u. tt
+pub accounted-by : (h : Choices) (work : List (ℕ × ℕ)) (b : List ℕ) (room : ℕ) → By editNumbers (accounted h work b room)
+unfolding accounted account inRoom among any
+accounted-by h work b room =
+    with-by editNumbers refl refl h work _
+    (by-then editNumbers (account h b) _ (by-then editNumbers (accepted b) _ (by-more batchLines editNumbers (accepted b) refl (accepted-by b)) λ a. said-by a (judgeChanges h a)) λ text.
+    by-then editNumbers (refuse 13 (ltb room (length text))) _ (by-refuse editNumbers 13 _ refl) λ u. tt)
 
 -- `find_element` refuses by one of its numbers.
-pub found-by : (work : List (ℕ × ℕ)) (b : List ℕ) (n : ℕ) → By findNumbers (findElement work b n)
-unfolding findElement withWork found among any
-found-by work b n =
-    by-then findNumbers (refuse 1 (tooShort work)) _ (by-refuse findNumbers 1 _ refl) λ u.
-    by-more editLines findNumbers (found b n) refl (stages-by b (λ a p w. findIn a.table w n))
+pub found-by : (h : Choices) (work : List (ℕ × ℕ)) (b : List ℕ) (n : ℕ) → By findNumbers (findElement h work b n)
+unfolding findElement found among any
+found-by h work b n = with-by findNumbers refl refl h work _ (by-more editLines findNumbers (found h b n) refl (stages-by h b (λ a p w. findIn a.table w n)))
 
--- So they are 1 to 12 and 16.
-pub found-numbered : (work : List (ℕ × ℕ)) (b : List ℕ) (n k : ℕ) → findElement work b n ≡ refused k → among findNumbers k ≡ true
-found-numbered work b n k e = let by = found-by work b n in rw e at by
+-- So they are 1 to 12, 16 and 17.
+pub found-numbered : (h : Choices) (work : List (ℕ × ℕ)) (b : List ℕ) (n k : ℕ) → findElement h work b n ≡ refused k → among findNumbers k ≡ true
+found-numbered h work b n k e = let by = found-by h work b n in rw e at by
 
--- why a call is refused: for a work slice, for the batch, or for the result slice
-pub data Why (b held : List ℕ) (work : List (List ℕ)) : ℕ → Type 0 where
-  workShort : tooShort (lengths needed work) ≡ true → Why b held work 1
-  wrong : {k : ℕ} → among editLines k ≡ true → edit b ≡ refused k → Why b held work k
-  resultShort : (R : Result) → edit b ≡ gives R → length held < length (encoded R) → Why b held work 13
+-- why a call is refused: for the edge rule, for a work slice, for the batch, or for the result slice
+pub data Why (h : Choices) (b held : List ℕ) (work : List (List ℕ)) : ℕ → Type 0 where
+  noSuchRule : 1 < h .edge → Why h b held work 17
+  workShort : tooShort (lengths needed work) ≡ true → Why h b held work 1
+  wrong : {k : ℕ} → among editLines k ≡ true → edit h b ≡ refused k → Why h b held work k
+  resultShort : (R : Result) → edit h b ≡ gives R → length held < length (encoded R) → Why h b held work 13
 
 -- A call that keeps its promise and refuses has one of these reasons.
-pub refused-why : (b held : List ℕ) (work : List (List ℕ)) (r : Answer ℕ) (holds : List ℕ) (left : List (List ℕ)) → Edits b held work r holds left → (k : ℕ) → r ≡ refused k → Why b held work k
-unfolding applied fitting refuse any _>>=_
-refused-why b held work r holds left p k e = go (tooShort (lengths needed work)) refl
+pub refused-why : (h : Choices) (b held : List ℕ) (work : List (List ℕ)) (r : Answer ℕ) (holds : List ℕ) (left : List (List ℕ)) → Edits h b held work r holds left → (k : ℕ) → r ≡ refused k → Why h b held work k
+unfolding edited withChoices chosen applied fitting refuse any _>>=_
+refused-why h b held work r holds left p k e = rule (ltb 1 h.edge) refl
   where
     -- the number, from the bytes that are wanted
-    number : (want : Answer (List ℕ)) → edited (lengths needed work) b (length held) ≡ want → (want >>= λ bytes. gives (length bytes)) ≡ refused k
+    number : (want : Answer (List ℕ)) → edited h (lengths needed work) b (length held) ≡ want → (want >>= λ bytes. gives (length bytes)) ≡ refused k
     number want q = ap (λ x. x >>= λ bytes. gives (length bytes)) (sym q) ∙ (sym (p .answer) ∙ e)
 
     fit : Result → Answer (List ℕ)
     fit R = fitting (length held) R >>= λ S. gives (encoded S)
 
-    room : (R : Result) → edit b ≡ gives R → edited (lengths needed work) b (length held) ≡ fit R → (t : Bool) → ltb (length held) (length (encoded R)) ≡ t → Why b held work k
+    room : (R : Result) → edit h b ≡ gives R → edited h (lengths needed work) b (length held) ≡ fit R → (t : Bool) → ltb (length held) (length (encoded R)) ≡ t → Why h b held work k
     room R x q true t = rw (← refused-inj (number (refused 13) (q ∙ rw t refl))) (resultShort R x (ltb-true (length held) (length (encoded R)) t))
     room R x q false t = refused-gives (sym (number (gives (encoded R)) (q ∙ rw t refl)))
 
-    answer : (o : Answer Result) → edit b ≡ o → edited (lengths needed work) b (length held) ≡ (o >>= fit) → Why b held work k
+    answer : (o : Answer Result) → edit h b ≡ o → edited h (lengths needed work) b (length held) ≡ (o >>= fit) → Why h b held work k
     answer (refused j) x q =
-        let z : edit b ≡ refused k = x ∙ ap {B = Answer Result} refused (refused-inj (number (refused j) q)) in
-        let by = edit-by b in
+        let z : edit h b ≡ refused k = x ∙ ap {B = Answer Result} refused (refused-inj (number (refused j) q)) in
+        let by = edit-by h b in
         wrong (rw z at by) z
     answer (gives R) x q = room R x q (ltb (length held) (length (encoded R))) refl
 
-    go : (t : Bool) → tooShort (lengths needed work) ≡ t → Why b held work k
-    go true t = rw (← refused-inj (number (refused 1) (short-edited work b (length held) t))) (workShort t)
-    go false t = answer (edit b) refl (long-edited work b (length held) t)
+    go : chosen h ≡ gives tt → (t : Bool) → tooShort (lengths needed work) ≡ t → Why h b held work k
+    go c true t = rw (← refused-inj (number (refused 1) (short-edited h c work b (length held) t))) (workShort t)
+    go c false t = answer (edit h b) refl (long-edited h c work b (length held) t)
+
+    rule : (t : Bool) → ltb 1 h.edge ≡ t → Why h b held work k
+    rule true t = rw (← refused-inj (number (refused 17) (rw t refl))) (noSuchRule (ltb-true 1 h.edge t))
+    rule false t = go (rw t refl) (tooShort (lengths needed work)) refl
 
 -- With room for the most bytes that a result has 13 never comes.
-pub never-13 : (b held : List ℕ) (work : List (List ℕ)) (r : Answer ℕ) (holds : List ℕ) (left : List (List ℕ)) → Edits b held work r holds left → mostBytes ≤ length held → r ≡ refused 13 → ⊥
+pub never-13 : (h : Choices) (b held : List ℕ) (work : List (List ℕ)) (r : Answer ℕ) (holds : List ℕ) (left : List (List ℕ)) → Edits h b held work r holds left → mostBytes ≤ length held → r ≡ refused 13 → ⊥
 unfolding among any
-never-13 b held work r holds left p h e = go 13 refl (refused-why b held work r holds left p 13 e)
+never-13 h b held work r holds left p m e = go 13 refl (refused-why h b held work r holds left p 13 e)
   where
-    go : (k : ℕ) → k ≡ 13 → Why b held work k → ⊥
+    go : (k : ℕ) → k ≡ 13 → Why h b held work k → ⊥
+    go k z (noSuchRule t) = omega arith
     go k z (workShort t) = omega arith
     go k z (wrong by x) = bool-absurd (rw z at by) refl
-    go k z (resultShort R x l) = omega (arith, encoded-within b R x)
+    go k z (resultShort R x l) = omega (arith, encoded-within h b R x)
 
--- So every call of `find_element` that keeps its promise, with no work slice too short, is refused just where the edit of the batch is.
-pub find-refused : (b : List ℕ) (n : ℕ) (work : List (List ℕ)) (r : Answer (Option ℕ)) (left : List (List ℕ)) → Finds b n work r left → tooShort (lengths needed work) ≡ false → Alike r (edit b)
-find-refused b n work r left p h = rw (p .element, long-found work b n h) (found-alike b n)
+-- So every call of `find_element` that keeps its promise, with an edge rule of 0 or 1 and no work slice too short, is refused just where the edit of the batch is.
+pub find-refused : (h : Choices) (b : List ℕ) (n : ℕ) (work : List (List ℕ)) (r : Answer (Option ℕ)) (left : List (List ℕ)) → Finds h b n work r left → chosen h ≡ gives tt → tooShort (lengths needed work) ≡ false → Alike r (edit h b)
+find-refused h b n work r left p c w = rw (p .element, long-found h c work b n w) (found-alike h b n)

@@ -14,6 +14,7 @@ use Rattle.orders.specs.Tree.{Tree, text}
 use Rattle.orders.specs.Splices
 use Rattle.orders.specs.Check
 use Rattle.definition.specs.Basics.{Answer, refused, gives, _>>=_}
+use Rattle.definition.specs.Choices.{byDefault}
 use Rattle.definition.specs.Refusals.{accepted}
 use Rattle.definition.specs.Running.{steps}
 use Rattle.definition.specs.Finishing.{Result, result, encoded}
@@ -33,24 +34,24 @@ use Rattle.promises_read.specs.Demand3.{Shown, demand-3-tested}
 abbrev pub Editor : Type 0
 Editor = List ℕ → Answer Result
 
--- on this batch no call that keeps its promise leaves what the editor answers
+-- on this batch no call by default that keeps its promise leaves what the editor answers
 abbrev pub Excluded : Told → Editor → Type 0
-Excluded b e = (held : List ℕ) (work : List (List ℕ)) (r : Answer ℕ) (holds : List ℕ) (left : List (List ℕ)) → Edits (inBytes b) held work r holds left → Lent (inBytes b) held work → answerIn r holds ≡ e (inBytes b) → ⊥
+Excluded b e = (held : List ℕ) (work : List (List ℕ)) (r : Answer ℕ) (holds : List ℕ) (left : List (List ℕ)) → Edits byDefault (inBytes b) held work r holds left → Lent byDefault (inBytes b) held work → answerIn r holds ≡ e (inBytes b) → ⊥
 
 -- ONE LAW: an editor is excluded where a number that is told of its answer is not that of the definition's.
-pub excluded : (number : Answer Result → ℕ) (b : Told) (e : Editor) → any (leb 256) (inBytes b) ≡ false → eqb (number (e (inBytes b))) (number (edit (inBytes b))) ≡ false → Excluded b e
+pub excluded : (number : Answer Result → ℕ) (b : Told) (e : Editor) → any (leb 256) (inBytes b) ≡ false → eqb (number (e (inBytes b))) (number (edit byDefault (inBytes b))) ≡ false → Excluded b e
 excluded number b e y d held work r holds left p l q =
-    let z = edit-answered (inBytes b) held work r holds left p (tested-bytes (inBytes b) y) l in
-    eqb-false (number (e (inBytes b))) (number (edit (inBytes b))) d (ap number (sym q ∙ z .read))
+    let z = edit-answered byDefault (inBytes b) held work r holds left p (tested-bytes (inBytes b) y) l in
+    eqb-false (number (e (inBytes b))) (number (edit byDefault (inBytes b))) d (ap number (sym q ∙ z .read))
 
 -- An editor of which one number is told on two batches is excluded on one of them, where the definition's numbers differ.
 pub either-excluded : (number : Answer Result → ℕ) (b c : Told) (e : Editor) → any (leb 256) (inBytes b) ≡ false → any (leb 256) (inBytes c) ≡ false → number (e (inBytes b)) ≡ number (e (inBytes c))
-    → eqb (number (edit (inBytes b))) (number (edit (inBytes c))) ≡ false → Excluded b e ⊎ Excluded c e
-either-excluded number b c e y z one d = go (eqb (number (e (inBytes b))) (number (edit (inBytes b)))) refl
+    → eqb (number (edit byDefault (inBytes b))) (number (edit byDefault (inBytes c))) ≡ false → Excluded b e ⊎ Excluded c e
+either-excluded number b c e y z one d = go (eqb (number (e (inBytes b))) (number (edit byDefault (inBytes b)))) refl
   where
-    go : (t : Bool) → eqb (number (e (inBytes b))) (number (edit (inBytes b))) ≡ t → Excluded b e ⊎ Excluded c e
+    go : (t : Bool) → eqb (number (e (inBytes b))) (number (edit byDefault (inBytes b))) ≡ t → Excluded b e ⊎ Excluded c e
     go false q = inl (excluded number b e y q)
-    go true q = inr (excluded number c e z (rw (← one, eqb-true (number (e (inBytes b))) (number (edit (inBytes b))) q) d))
+    go true q = inr (excluded number c e z (rw (← one, eqb-true (number (e (inBytes b))) (number (edit byDefault (inBytes b))) q) d))
 
 -- a refusal's number, 0 of a result
 unfoldable pub refusal : Answer Result → ℕ
@@ -76,7 +77,7 @@ oneDiscarded = onS (call 3 1 [] ∷ call 1 1 (5 ∷ []) ∷ [])
 unfoldable pub untouched : Editor
 untouched bytes = do
   a ← accepted bytes
-  p ← plan a
+  p ← plan byDefault a
   gives (result p.changes p.climbs (atFirst a p))
 
 pub untouched-excluded : Excluded twoAfterX untouched
@@ -90,14 +91,14 @@ textOfFirst (gives []) = 0
 textOfFirst (gives (t ∷ ts)) = length (text t)
 
 -- ".. and 3's one-go tree": by demand 3 alone, a result slice that shows tree 0 as it was is excluded.
-pub untouched-one-go-excluded : (held : List ℕ) (work : List (List ℕ)) (r : Answer ℕ) (holds : List ℕ) (left : List (List ℕ)) → Edits (inBytes twoAfterX) held work r holds left
+pub untouched-one-go-excluded : (held : List ℕ) (work : List (List ℕ)) (r : Answer ℕ) (holds : List ℕ) (left : List (List ℕ)) → Edits byDefault (inBytes twoAfterX) held work r holds left
     → (n : ℕ) → r ≡ gives n → (old : Tree ℕ) → take 1 (twoAfterX .trees) ≡ old ∷ [] → Shown old n holds → ⊥
 unfolding
     computed inLists inBytes textOfFirst replacesRoot apartIn? apartPlan? apartBatch? oneGoOf
     Check.each Check.pairs Check.enters? Check.run? Check.fits? Check.apart? Check.allApart?
     Splices.samePath Splices.leftOf Splices.under Splices.fromRoot Splices.fromChild Splices.atRoot Splices.below Splices.insertByLeft Splices.leftToRight Splices.newChildren Splices.oneGo Splices.oneGoAll
 untouched-one-go-excluded held work r holds left p n e old first h =
-    let (t, o, s) = demand-3-tested (inBytes twoAfterX) held work r holds left p (tested-bytes (inBytes twoAfterX) refl) n e refl in
+    let (t, o, s) = demand-3-tested byDefault (inBytes twoAfterX) held work r holds left p (tested-bytes (inBytes twoAfterX) refl) n e refl in
     let two : 2 ≡ length (text old) = ap (λ ts. textOfFirst (gives ts)) first in
     let four : 4 ≡ length (text t) = ap textOfFirst o in
     absurd (omega (arith, two, four, h .size, s .size))
@@ -106,7 +107,7 @@ untouched-one-go-excluded held work r holds left p n e old first h =
 unfoldable pub firstStepOnly : Editor
 firstStepOnly bytes = do
   a ← accepted bytes
-  p ← plan a
+  p ← plan byDefault a
   one ← steps a.table (atFirst a p) (atFirst a p) (take 1 (performed a p))
   all ← ran a p
   gives (result p.changes p.climbs (record { trees = one .trees; paths = one .paths; notes = one .notes; changed = all .changed }))
@@ -121,7 +122,7 @@ withCounts r discarded climbs = record { kinds = r .kinds; measures = r .measure
 
 -- "reports a made-up discard .. count": always n
 unfoldable pub discardsMadeUp : ℕ → Editor
-discardsMadeUp n bytes = edit bytes >>= λ r. gives (withCounts r n r.climbs)
+discardsMadeUp n bytes = edit byDefault bytes >>= λ r. gives (withCounts r n r.climbs)
 
 pub discards-excluded : (n : ℕ) → Excluded twoAfterX (discardsMadeUp n) ⊎ Excluded oneDiscarded (discardsMadeUp n)
 unfolding computed inLists inBytes discardsMadeUp ofResult
@@ -129,7 +130,7 @@ discards-excluded n = either-excluded (ofResult (λ r. r .discarded)) twoAfterX 
 
 -- ".. or climb count": always n
 unfoldable pub climbsMadeUp : ℕ → Editor
-climbsMadeUp n bytes = edit bytes >>= λ r. gives (withCounts r r.discarded n)
+climbsMadeUp n bytes = edit byDefault bytes >>= λ r. gives (withCounts r r.discarded n)
 
 pub climbs-excluded : (n : ℕ) → Excluded twoAfterX (climbsMadeUp n) ⊎ Excluded withNotes (climbsMadeUp n)
 unfolding computed inLists inBytes climbsMadeUp ofResult
@@ -139,7 +140,7 @@ climbs-excluded n = either-excluded (ofResult (λ r. r .climbs)) twoAfterX withN
 unfoldable pub beforeTheStep : ℕ → Editor
 beforeTheStep k bytes = do
   a ← accepted bytes
-  p ← plan a
+  p ← plan byDefault a
   refused k
 
 unfoldable pub alwaysOverlaps : Editor
@@ -163,12 +164,12 @@ one-tree-excluded a = either-excluded (ofResult (λ r. length r.text)) twoAfterX
 
 -- "writes nothing": the result slice is as it was, whatever is answered. The answer to `twoAfterX` begins with 6, its number of elements; so a slice that does
 -- not is never left as it was.
-pub nothing-written-excluded : (held : List ℕ) (work : List (List ℕ)) (r : Answer ℕ) (holds : List ℕ) (left : List (List ℕ)) → Edits (inBytes twoAfterX) held work r holds left → Lent (inBytes twoAfterX) held work
+pub nothing-written-excluded : (held : List ℕ) (work : List (List ℕ)) (r : Answer ℕ) (holds : List ℕ) (left : List (List ℕ)) → Edits byDefault (inBytes twoAfterX) held work r holds left → Lent byDefault (inBytes twoAfterX) held work
     → eqb (getD held 0 0) 6 ≡ false → holds ≡ held → ⊥
 unfolding computed inLists inBytes ofResult
 nothing-written-excluded held work r holds left p l d q =
-    let z = edit-answered (inBytes twoAfterX) held work r holds left p (tested-bytes (inBytes twoAfterX) refl) l in
-    eqb-false (getD held 0 0) 6 d (go (edit (inBytes twoAfterX)) refl (z .leaves))
+    let z = edit-answered byDefault (inBytes twoAfterX) held work r holds left p (tested-bytes (inBytes twoAfterX) refl) l in
+    eqb-false (getD held 0 0) 6 d (go (edit byDefault (inBytes twoAfterX)) refl (z .leaves))
   where
     begins : (bytes rest : List ℕ) → getD bytes 0 0 ≡ 6 → getD (bytes ++ rest) 0 0 ≡ 6
     begins [] rest e = absurd (omega (arith, e))

@@ -18,7 +18,8 @@ use Rattle.definition.specs.Words.{words}
 use Rattle.definition.specs.Batch.{Batch}
 use Rattle.definition.specs.Elements.{malformed, startsWithToken, unspelled, spelled, table, parent, child}
 use Rattle.definition_laws.specs.Rows.{table-length}
-use Rattle.definition_laws.specs.Intervals.{atOrBelow, after, interval}
+use Rattle.definition.specs.EdgeRule.{atOrBelow}
+use Rattle.definition_laws.specs.Intervals.{after, interval}
 use Rattle.read_element_table.specs.View.{view, field}
 use Rattle.rows_model.specs.Row.{nod, rowsOf, firstRows}
 use Rattle.words.specs.Bytes.{length-words}

@@ -8,7 +8,7 @@ use lib.Dec.{leb, ltb}
 use lib.ListN.{length, getD}
 use Rattle.orders.specs.Lists.{All}
 use Rattle.definition.specs.Elements.{parent, child}
-use Rattle.definition_laws.specs.Intervals.{atOrBelow}
+use Rattle.definition.specs.EdgeRule.{atOrBelow}
 use Rattle.read_element_table.specs.View.{rowAt, view}
 
 -- The table of n elements. Word 8 e + 1 is the parent's number + 1 (0 for a root), 8 e + 2 the child number, 8 e + 3 the depth, 8 e + 7 the tree.

@@ -15,6 +15,7 @@ use Rattle.orders.specs.Tree.{Tree, node, token, list, label, measure, text, pr
 use Rattle.definition.specs.Basics.{gives, refuse, orRefuse, any, rising}
 use Rattle.definition.specs.Words.{words}
 use Rattle.definition.specs.Batch.{Batch, sizes, beyond, whole, arrays, batch}
+use Rattle.definition.specs.Choices.{Choices}
 use Rattle.definition.specs.Elements.{Table, table, pieces, grow, unspelled, spelled, descend}
 use Rattle.definition.specs.Finishing.{newTree, newTable, numberAt, changedElements, noteElements, Result, result}
 use Rattle.definition.specs.Refusals.{Accepted, accepted, calls, listsTooMany, wrongCall, wrongMapping, wrongNote}
@@ -190,13 +191,13 @@ settled-kept T mapped i (n ∷ ns) notes h e =
     given (settled T mapped (suc i) ns) _ e λ rest x e.
     rw (← gives-inj e) (h .0, settled-kept T mapped (suc i) ns rest (h .1) x)
 
-plan-kept : (a : Accepted) (p : Plan) → All (λ n. Word (n .1)) a.notes → plan a ≡ gives p → All (λ n. Word (n .number)) p.notes
+plan-kept : (h : Choices) (a : Accepted) (p : Plan) → All (λ n. Word (n .1)) a.notes → plan h a ≡ gives p → All (λ n. Word (n .number)) p.notes
 unfolding plan rewriteChanges
-plan-kept a p h e =
-    given (disjoint (judgeChanges a)) _ e λ ps _ e.
+plan-kept h a p g e =
+    given (disjoint (judgeChanges h a)) _ e λ ps _ e.
     given (rewritten a.table (mapping a.mappings) ps) _ e λ _ _ e.
     given (settled a.table (mapping a.mappings) 0 a.notes) _ e λ notes x e.
-    rw (← gives-inj e) (settled-kept a.table (mapping a.mappings) 0 a.notes notes h x)
+    rw (← gives-inj e) (settled-kept a.table (mapping a.mappings) 0 a.notes notes g x)
 
 ran-kept : (a : Accepted) (p : Plan) (w : World) → All Labelled a.trees → All (λ n. Word (n .number)) p.notes → ran a p ≡ gives w → Kept w
 unfolding ran atFirst begin
@@ -294,12 +295,12 @@ table-long w s =
     )
 
 -- Every number of the answer of a batch of bytes is a word.
-pub edit-worded : (bytes : List ℕ) (r : Result) → Bytes bytes → edit bytes ≡ gives r → Worded r
+pub edit-worded : (h : Choices) (bytes : List ℕ) (r : Result) → Bytes bytes → edit h bytes ≡ gives r → Worded r
 unfolding edit
-edit-worded bytes r h e =
+edit-worded h bytes r g e =
     given (accepted bytes) _ e λ a x e.
-    given (plan a) _ e λ p y e.
+    given (plan h a) _ e λ p y e.
     given (ran a p) _ e λ w z e.
-    let (ts, ns) = accepted-kept bytes a h x in
-    let k = ran-known bytes a p w x y z in
-    rw (← gives-inj e) (result-worded p.changes p.climbs w (ran-kept a p w ts (plan-kept a p ns y) z) (k .small) (k .holds) (table-long w (k .small)))
+    let (ts, ns) = accepted-kept bytes a g x in
+    let k = ran-known h bytes a p w x y z in
+    rw (← gives-inj e) (result-worded p.changes p.climbs w (ran-kept a p w ts (plan-kept h a p ns y) z) (k .small) (k .holds) (table-long w (k .small)))
