@@ -15,7 +15,7 @@ use Rattle.definition.specs.Choices.{Choices}
 use Rattle.definition.specs.Elements.{Table}
 use Rattle.definition.specs.Refusals.{Call}
 use Rattle.definition.specs.Recording.{firstChild, after, Change, insert, replace, delete, replaceWithMany, replaceAll, call, recorded}
-use Rattle.definition.specs.Planning.{Fate, dependent, Planned, target, key, sorted, overlap, nodeByNode, fates, withFates}
+use Rattle.definition.specs.Planning.{Fate, dependent, Planned, target, key, sorted, overlap, nodeByNode, withFates}
 use Rattle.definition.specs.EdgeRule.{fates1, fatesBy, planned}
 use Rattle.definition_laws.specs.Basics.{map-All, getD-map}
 use Rattle.definition_laws.specs.Right.{Right, right-sits, judged, below-E}
