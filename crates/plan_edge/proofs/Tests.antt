@@ -138,13 +138,9 @@ module _ (w v : List ℕ) (j k g : ℕ) (r : g ≡ getD (drop (13 * j) v) 10 0) 
   pub no-region : g ≡ 0 → false ≡ takes w j (rowAt v j) k (rowAt v k)
   no-region z = rw (taking, eq-eqb g 0 z)
 
-  module _ (z : g ≡ 0 → ⊥) (a : Bool) (e : a ≡ ofRoot w (rowAt v k)) where
-    pub root-in-none : a ≡ true → false ≡ takes w j (rowAt v j) k (rowAt v k)
-    root-in-none q = rw (taking, ne-eqb g 0 z, ← e, q)
+  module _ (z : g ≡ 0 → ⊥) (e : ofRoot w (rowAt v k) ≡ false) (p : ℕ) (f : p ≡ targetParent w (rowAt v k)) (b : Bool) (h : b ≡ removes w (rowAt v j) p) where
+    pub removes-parent : b ≡ true → true ≡ takes w j (rowAt v j) k (rowAt v k)
+    removes-parent m = rw (taking, ne-eqb g 0 z, e, ← f, ← h, m)
 
-    module _ (q : a ≡ false) (p : ℕ) (f : p ≡ targetParent w (rowAt v k)) (b : Bool) (h : b ≡ removes w (rowAt v j) p) where
-      pub removes-parent : b ≡ true → true ≡ takes w j (rowAt v j) k (rowAt v k)
-      removes-parent m = rw (taking, ne-eqb g 0 z, ← e, q, ← f, ← h, m)
-
-      pub or-inside : b ≡ false → (d : Bool) → d ≡ inside w j (rowAt v j) k (rowAt v k) → d ≡ takes w j (rowAt v j) k (rowAt v k)
-      or-inside m d i = rw (taking, ne-eqb g 0 z, ← e, q, ← f, ← h, m) i
+    pub or-inside : b ≡ false → (d : Bool) → d ≡ inside w j (rowAt v j) k (rowAt v k) → d ≡ takes w j (rowAt v j) k (rowAt v k)
+    or-inside m d i = rw (taking, ne-eqb g 0 z, e, ← f, ← h, m) i
