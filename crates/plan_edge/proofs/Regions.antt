@@ -7,11 +7,11 @@ use Prim.Native.Nat.{ℕ, zero, suc, _+_, _-_, _*_, _≤_, _<_}
 use native.Mathlib.Nat.{sub-zero, sub-self}
 use native.Mathlib.Numerals.{add-one}
 use native.Mathlib.Omega.{arith}
-use lib.ListN.{length, getD, set, drop, length-set}
+use lib.ListN.{length, getD, set, drop, length-set, length-map}
 use lib.Seq.{drop-cons, set-at}
 use lib.Dec.{ltb, eqb}
 use borrow.Author.Tests.{eq-eqb, ne-eqb, lt-ltb, le-ltb, not-true, not-false}
-use Rattle.definition_laws.specs.Basics.{upFrom}
+use Rattle.definition_laws.specs.Basics.{upFrom, up-long}
 use Rattle.record_changes.specs.ChangeRow.{ChangeRow, rowOf}
 use Rattle.record_changes.specs.ChangeRowLaws.{rowAt}
 use Rattle.plan_edge.specs.Rule.{targetParent, ofRoot, takes, regionDepth, innermost, regionFrom, regionsOf}
@@ -99,11 +99,6 @@ module _ {A : Type 0} (f : ℕ → A) where
   up-more j zero = let z : j + 0 ≡ j = omega arith in rw z
   up-more j (suc k) = let z : j + suc k ≡ suc j + k = omega arith in rw z (ap {B = List A} (λ l. f j ∷ l) (up-more (suc j) k))
 
-  pub length-up : (j k : ℕ) → length (map f (upFrom j k)) ≡ k
-  unfolding upFrom
-  length-up j zero = refl
-  length-up j (suc k) = ap suc (length-up (suc j) k)
-
 -- the regions of k changes are found
 pub record Finding (w v R₀ : List ℕ) (n : ℕ) (R : List ℕ) (k : ℕ) : Type 0 where
   pub inside : k ≤ n
@@ -123,7 +118,7 @@ module _ (w v R₀ : List ℕ) (n : ℕ) where
       same =
           ap (λ (l : List ℕ). set l k r) (s .same)
           ∙ rw (drop-cons R₀ k 0 (omega arith), up-more f 0 k, append-assoc (map f (upFrom 0 k)) (f (0 + k) ∷ []) (drop (suc k) R₀))
-          (set-at (map f (upFrom 0 k)) (getD R₀ k 0) (drop (suc k) R₀) r k (length-up f 0 k) ∙ ap {B = List ℕ} (λ (x : ℕ). map f (upFrom 0 k) ++ (x ∷ drop (suc k) R₀)) (e ∙ ap f (omega arith)));
+          (set-at (map f (upFrom 0 k)) (getD R₀ k 0) (drop (suc k) R₀) r k (length-map (upFrom 0 k) f ∙ up-long 0 k) ∙ ap {B = List ℕ} (λ (x : ℕ). map f (upFrom 0 k) ++ (x ∷ drop (suc k) R₀)) (e ∙ ap f (omega arith)));
     })
       where
         f : ℕ → ℕ

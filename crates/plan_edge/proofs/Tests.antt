@@ -1,18 +1,17 @@
 -- What each test tells of elements, changes and regions.
 -- Assumes nothing.
-use mathlib.Core.Path.{_≡_, refl, sym, ap, _∙_}
+use mathlib.Core.Path.{_≡_, refl, sym}
 use mathlib.Core.Bool.{Bool, true, false, cond, not, _&&_, _||_}
 use mathlib.Core.List.{List}
 use mathlib.Core.Logic.{⊎-elim}
-use Prim.Native.Nat.{ℕ, zero, suc, _+_, _-_, _*_, _≤_, _<_}
-use native.Mathlib.Omega.{arith}
+use Prim.Native.Nat.{ℕ, _+_, _-_, _*_, _≤_, _<_}
 use lib.ListN.{getD, drop}
 use lib.Dec.{leb, ltb, eqb}
 use borrow.Author.Tests.{eq-eqb, ne-eqb, le-leb, lt-leb, lt-ltb, le-ltb, not-true, not-false}
 use Rattle.orders.specs.ListLaws.{lt-or-le}
 use Rattle.record_changes.specs.ChangeRow.{rowOf}
 use Rattle.record_changes.specs.ChangeRowLaws.{rowAt}
-use Rattle.plan_edge.specs.Rule.{word, parentOrRoot, targetParent, ofRoot, inRun, removes, onlyIn, isRunOf, inside, takes, regionDepth}
+use Rattle.plan_edge.specs.Rule.{parentOrRoot, targetParent, ofRoot, inRun, removes, onlyIn, isRunOf, inside, takes}
 
 not-leb : (k j : ℕ) → not (leb k j) ≡ ltb j k
 not-leb k j = ⊎-elim (λ h. rw (lt-leb k j h, lt-ltb j k h)) (λ h. rw (le-leb k j h, le-ltb j k h)) (lt-or-le j k)
