@@ -19,7 +19,7 @@ use Rattle.definition.specs.Choices.{Choices}
 use Rattle.definition.specs.Elements.{Table, table, row, tree}
 use Rattle.definition.specs.Refusals.{Accepted, accepted}
 use Rattle.definition.specs.Recording.{firstChild, after, Change, insert, replace, delete, replaceWithMany, replaceAll, change, recorded}
-use Rattle.definition.specs.Planning.{target, sorted, overlap, Fate, own, dependent, isDiscarded, nodeByNode, fates, Planned, Judgement, overlaps, fated}
+use Rattle.definition.specs.Planning.{target, overlap, Fate, own, dependent, isDiscarded, nodeByNode, fates, Planned, Judgement, overlaps, fated}
 use Rattle.definition.specs.EdgeRule.{regionDepth, fates1, fatesBy, planned, judge}
 use Rattle.definition.specs.Rewriting.{mapping, rewritten, settled}
 use Rattle.definition.specs.Running.{World}

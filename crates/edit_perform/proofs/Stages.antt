@@ -1,14 +1,21 @@
 -- The ways from stage to stage, and out.
 -- Assumes nothing.
 use mathlib.Core.Path.{_≡_, refl, sym, ap, subst, _∙_}
+use mathlib.Core.Bool.{Bool, true, false}
 use mathlib.Core.List.{List, _++_}
 use Prim.Native.Nat.{ℕ, _+_, _-_, _*_, _≤_, _<_}
 use native.Mathlib.Omega.{arith}
+use lib.Dec.{ltb}
 use lib.ListN.{length, take, drop, length-append}
 use lib.Seq.{length-take-le, take-append-le}
 use Rattle.orders.specs.Lists.{All}
-use Rattle.definition.specs.Basics.{refused}
+use Rattle.definition.specs.Basics.{Answer, refused, gives, _>>=_, refuse}
+use Rattle.definition.specs.Choices as definition
+use Rattle.definition.specs.Choices.{chosen}
+use Rattle.definition.specs.Answers.{tooShort, withWork, withChoices}
 use Rattle.definition.specs.Account.{account}
+use Rattle.choices.specs.Meant.{meant, refusalOf, well-chosen, wrongly-chosen}
+use Rattle.choices.specs.declared.Choices.{Choices}
 use Rattle.read_element_table.specs.View.{view}
 use Rattle.plan_mapping.specs.Mapped.{wordsAt}
 use Rattle.record_changes.specs.ChangeRowLaws.{rowAt}
@@ -42,8 +49,8 @@ use Rattle.edit_perform.specs.declared.Performed.the-variants.{Refused, 
 
 -- ── Refused ─────────────────────────────────────────────────────────────────────────────────────────────────
 
-performs-refused : {b t s changes rows notes changed marks : List ℕ} (k : ℕ) → (ending b ≡ refused k) × (account b ≡ refused k) → Performs b t s changes rows notes changed marks (Refused k)
-performs-refused {b} k e = record {
+performs-refused : {h : definition.Choices} {b t s changes rows notes changed marks : List ℕ} (k : ℕ) → (ending h b ≡ refused k) × (account h b ≡ refused k) → Performs h b t s changes rows notes changed marks (Refused k)
+performs-refused k e = record {
   refuses = λ j i. let same : k ≡ j = cc in (e .0 ∙ ap refused same, e .1 ∙ ap refused same);
   overlaps = λ j n i. absurd (let z : _≡_ {A = ℕ} 0 1 = cc in omega arith);
   ends = λ d i. absurd (let z : _≡_ {A = ℕ} 0 1 = cc in omega arith);
@@ -52,10 +59,10 @@ performs-refused {b} k e = record {
   recounts = λ d i. absurd (let z : _≡_ {A = ℕ} 0 1 = cc in omega arith);
 }
 
-performs-overlap : {b t s changes rows notes changed marks : List ℕ} (j k : ℕ) → Overlapped b j k → Performs b t s changes rows notes changed marks (Overlap j k)
-performs-overlap {b} j k o = record {
+performs-overlap : {h : definition.Choices} {b t s changes rows notes changed marks : List ℕ} (j k : ℕ) → Overlapped h b j k → Performs h b t s changes rows notes changed marks (Overlap j k)
+performs-overlap {h} {b} j k o = record {
   refuses = λ n i. absurd (let z : _≡_ {A = ℕ} 0 1 = cc in omega arith);
-  overlaps = λ m n i. let x : j ≡ m = cc in let y : k ≡ n = cc in subst (λ (q : ℕ). Overlapped b m q) y (subst (λ (q : ℕ). Overlapped b q k) x o);
+  overlaps = λ m n i. let x : j ≡ m = cc in let y : k ≡ n = cc in subst (λ (q : ℕ). Overlapped h b m q) y (subst (λ (q : ℕ). Overlapped h b q k) x o);
   ends = λ d i. absurd (let z : _≡_ {A = ℕ} 0 1 = cc in omega arith);
   tells = λ d i. absurd (let z : _≡_ {A = ℕ} 0 1 = cc in omega arith);
   marked = λ d i. absurd (let z : _≡_ {A = ℕ} 0 1 = cc in omega arith);
@@ -68,7 +75,7 @@ part-long n l h = length-take-le (n - 0) l (omega arith) ∙ omega arith
 
 -- ── The steps ───────────────────────────────────────────────────────────────────────────────────────────────
 
-module _ {b : List ℕ} {l : Layout} {t s changes running first : List ℕ} {c : Counts} (L : LaidOut b l t s) (P : PlanMade b l t s changes running first (Made c)) (n : ℕ) (q : n ≡ l .sizes .elements) where
+module _ {h : definition.Choices} {b : List ℕ} {l : Layout} {t s changes running first : List ℕ} {c : Counts} (L : LaidOut b l t s) (P : PlanMade h b l t s changes running first (Made c)) (n : ℕ) (q : n ≡ l .sizes .elements) where
   abbrev settled : List ℕ
   settled = take (3 * l .sizes .notes) first
 
@@ -113,11 +120,11 @@ module _ {b : List ℕ} {l : Layout} {t s changes running first : List ℕ} {c :
         subst (λ (listed : List ℕ). Ran (l .sizes .elements) t s settled listed changes (take (c .runs) running) rows marks notes changed x) told
         (subst (λ (k : ℕ). Ran k t s settled (wordsIn part) changes (take (c .runs) running) rows marks notes changed x) q R)
 
-    pub steps-refused : (k : ℕ) → x ≡ Stopped k → Performs b t s changes rows notes changed marks (Refused k)
+    pub steps-refused : (k : ℕ) → x ≡ Stopped k → Performs h b t s changes rows notes changed marks (Refused k)
     steps-refused k e = performs-refused k (run-refused (L .leaves) P (L .long) (L .longRows) ls lf same k e)
 
     pub steps-ended : (r : TreeState) → x ≡ Ran-through r → 3072 ≤ length notes
-        → Performs b t s changes rows notes changed marks
+        → Performs h b t s changes rows notes changed marks
         (Done (record { text = l .text; elements = l .sizes .elements; recorded = c .changes; root = r .root; rows = r .rows; notes = r .notes; changed = r .changed; discarded = c .discarded; climbs = c .climbs }))
     steps-ended r e ln =
         let d : Ended = record { text = l .text; elements = l .sizes .elements; recorded = c .changes; root = r .root; rows = r .rows; notes = r .notes; changed = r .changed; discarded = c .discarded; climbs = c .climbs } in
@@ -125,7 +132,7 @@ module _ {b : List ℕ} {l : Layout} {t s changes running first : List ℕ} {c :
         record {
           refuses = λ k i. absurd (let z : _≡_ {A = ℕ} 0 1 = cc in omega arith);
           overlaps = λ j k i. absurd (let z : _≡_ {A = ℕ} 0 1 = cc in omega arith);
-          ends = λ y i. let same-end : d ≡ y = cc in subst (AtEnd b rows notes changed) same-end (run-ended v P (L .long) (L .longRows) ls lf same r e ln);
+          ends = λ y i. let same-end : d ≡ y = cc in subst (AtEnd h b rows notes changed) same-end (run-ended v P (L .long) (L .longRows) ls lf same r e ln);
           tells = λ y i.
               let same-end : d ≡ y = cc in
               subst (λ (z : Ended). Told b t s (z .elements)) same-end (record { batch = v .what; accepts = v .accepted; table = v .told; formed = v .formed });
@@ -134,41 +141,77 @@ module _ {b : List ℕ} {l : Layout} {t s changes running first : List ℕ} {c :
         }
 
 -- what stands behind the marks of the batch's elements says nothing
-pub marks-behind : {b t s changes rows notes changed marks : List ℕ} {r : Performed} (behind : List ℕ) → Performs b t s changes rows notes changed marks r → Performs b t s changes rows notes changed (marks ++ behind) r
-marks-behind {marks = marks} behind h = record {
-  refuses = h .refuses;
-  overlaps = h .overlaps;
-  ends = h .ends;
-  tells = h .tells;
-  marked = λ d i. let m = h .marked d i in record { end = m .end; ends = m .ends; long = omega (arith, m .long, length-append marks behind); told = take-append-le (d .elements) marks behind (m .long) ∙ m .told };
-  recounts = h .recounts;
+pub marks-behind : {h : definition.Choices} {b t s changes rows notes changed marks : List ℕ} {r : Performed} (behind : List ℕ) → Performs h b t s changes rows notes changed marks r → Performs h b t s changes rows notes changed (marks ++ behind) r
+marks-behind {marks = marks} behind p = record {
+  refuses = p .refuses;
+  overlaps = p .overlaps;
+  ends = p .ends;
+  tells = p .tells;
+  marked = λ d i. let m = p .marked d i in record { end = m .end; ends = m .ends; long = omega (arith, m .long, length-append marks behind); told = take-append-le (d .elements) marks behind (m .long) ∙ m .told };
+  recounts = p .recounts;
 }
 
 -- ── Refused before them ─────────────────────────────────────────────────────────────────────────────────────
 
-module _ {b : List ℕ} {l : Layout} {t s changes running first : List ℕ} {r : Planned} (P : PlanMade b l t s changes running first r) where
-  pub plan-stops : {rows notes changed marks : List ℕ} → LaidOut b l t s → (k : ℕ) → r ≡ Unplanned k → Performs b t s changes rows notes changed marks (Refused k)
+module _ {h : definition.Choices} {b : List ℕ} {l : Layout} {t s changes running first : List ℕ} {r : Planned} (P : PlanMade h b l t s changes running first r) where
+  pub plan-stops : {rows notes changed marks : List ℕ} → LaidOut b l t s → (k : ℕ) → r ≡ Unplanned k → Performs h b t s changes rows notes changed marks (Refused k)
   plan-stops L k e =
-      let Q : PlanMade b l t s changes running first (Unplanned k) = subst (PlanMade b l t s changes running first) e P in
+      let Q : PlanMade h b l t s changes running first (Unplanned k) = subst (PlanMade h b l t s changes running first) e P in
       let a = L .leaves .what in
-      let h = L .leaves .accepted in
-      performs-refused k (not-planned b a h (Q .found .changes) (judged-accepted b a h (Q .found .judged)) k (plan-refused a h Q))
+      let x = L .leaves .accepted in
+      performs-refused k (not-planned h b a x (Q .found .changes) (judged-accepted h b a x (Q .found .judged)) k (plan-refused a x Q))
 
-  pub plan-overlaps : {rows notes changed marks : List ℕ} → LaidOut b l t s → (j k : ℕ) → r ≡ Overlapping j k → Performs b t s changes rows notes changed marks (Overlap j k)
+  pub plan-overlaps : {rows notes changed marks : List ℕ} → LaidOut b l t s → (j k : ℕ) → r ≡ Overlapping j k → Performs h b t s changes rows notes changed marks (Overlap j k)
   plan-overlaps L j k e =
-      let Q : PlanMade b l t s changes running first (Overlapping j k) = subst (PlanMade b l t s changes running first) e P in
+      let Q : PlanMade h b l t s changes running first (Overlapping j k) = subst (PlanMade h b l t s changes running first) e P in
       let a = L .leaves .what in
-      let h = L .leaves .accepted in
-      let o = overlapping b a h j k (judged-accepted b a h (Q .found)) in
+      let x = L .leaves .accepted in
+      let o = overlapping h b a x j k (judged-accepted h b a x (Q .found)) in
       performs-overlap j k (record { refused8 = o .0; text = o .1 })
 
-  pub plan-made : (c : Counts) → r ≡ Made c → PlanMade b l t s changes running first (Made c)
-  plan-made c e = subst (PlanMade b l t s changes running first) e P
+  pub plan-made : (c : Counts) → r ≡ Made c → PlanMade h b l t s changes running first (Made c)
+  plan-made c e = subst (PlanMade h b l t s changes running first) e P
 
-module _ {b t₀ s₀ t s : List ℕ} {r : Laid} (J : Judged b t₀ s₀ t s r) where
-  pub judged-stops : {changes rows notes changed marks : List ℕ} (k : ℕ) → r ≡ Unlaid k → Performs b t s changes rows notes changed marks (Refused k)
+module _ {h : definition.Choices} {b t₀ s₀ t s : List ℕ} {r : Laid} (J : Judged b t₀ s₀ t s r) where
+  pub judged-stops : {changes rows notes changed marks : List ℕ} (k : ℕ) → r ≡ Unlaid k → Performs h b t s changes rows notes changed marks (Refused k)
   unfolding laidOf
-  judged-stops k e = performs-refused k (not-accepted b k (judged-refuses b k (sym (J .answer) ∙ ap laidOf e)))
+  judged-stops k e = performs-refused k (not-accepted h b k (judged-refuses b k (sym (J .answer) ∙ ap laidOf e)))
 
   pub judged-laid : (l : Layout) → r ≡ At l → 16384 ≤ length t₀ → 6147 ≤ length s₀ → LaidOut b l t s
   judged-laid l e lt ls = record { before = t₀; beforeRows = s₀; leaves = J .left l e; long = lt; longRows = ls }
+
+-- ── Refused before anything is read ─────────────────────────────────────────────────────────────────────────
+
+-- 17, 1, or neither
+module _ (c : Choices) (work : List (ℕ × ℕ)) (k : ℕ) (e : k ≡ refusalOf (chosen (meant c))) where
+  pub refused-17 : ¬ (k ≡ 0) → k ≡ refusalOf (withChoices (meant c) work (gives tt))
+  unfolding refusalOf withChoices _>>=_
+  refused-17 n = rw (wrongly-chosen c k e n) refl
+
+  module _ (z : k ≡ 0) (t : Bool) (f : t ≡ tooShort work) where
+    pub refused-1 : t ≡ true → 1 ≡ refusalOf (withChoices (meant c) work (gives tt))
+    unfolding refusalOf withChoices withWork refuse _>>=_
+    refused-1 h = rw (well-chosen c k e z, sym f ∙ h) refl
+
+    pub refused-0 : t ≡ false → 0 ≡ refusalOf (withChoices (meant c) work (gives tt))
+    unfolding refusalOf withChoices withWork refuse _>>=_
+    refused-0 h = rw (well-chosen c k e z, sym f ∙ h) refl
+
+-- what its number tells
+module _ (h : definition.Choices) (work : List (ℕ × ℕ)) (k : ℕ) (e : k ≡ refusalOf (withChoices h work (gives tt))) where
+  pub stopped-early : ¬ (k ≡ 0) → withChoices h work (gives tt) ≡ refused k
+  unfolding refusalOf
+  stopped-early n = go (withChoices h work (gives tt)) e
+    where
+      go : (o : Answer (Unit {0})) → k ≡ refusalOf o → o ≡ refused k
+      go (refused j) e = ap refused (sym e)
+      go (gives u) e = absurd (n e)
+
+  pub nothing-wrong : k ≡ 0 → (chosen h ≡ gives tt) × (tooShort work ≡ false)
+  unfolding refusalOf withChoices withWork chosen refuse _>>=_
+  nothing-wrong z = go (ltb 1 (h .edge)) refl (tooShort work) refl
+    where
+      go : (c : Bool) → ltb 1 (h .edge) ≡ c → (t : Bool) → tooShort work ≡ t → (chosen h ≡ gives tt) × (tooShort work ≡ false)
+      go true c t f = absurd (let y : k ≡ 17 = e ∙ rw c refl in omega arith)
+      go false c true f = absurd (let y : k ≡ 1 = e ∙ rw (c, f) refl in omega arith)
+      go false c false f = (rw c refl, f)

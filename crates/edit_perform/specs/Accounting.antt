@@ -7,6 +7,7 @@ use native.Mathlib.Omega.{arith}
 use lib.ListN.{length}
 use borrow.Author.Tests.{le-ltb}
 use Rattle.definition.specs.Basics.{Answer, refused, gives, _>>=_, refuse}
+use Rattle.definition.specs.Choices.{Choices}
 use Rattle.definition.specs.Refusals.{Accepted, accepted}
 use Rattle.definition.specs.Planning.{Fate, Planned, overlaps, fated}
 use Rattle.definition.specs.Running.{World}
@@ -24,40 +25,40 @@ abbrev pub linesOf : List Planned → List ℕ
 linesOf ps = fateLines (map (λ q. q .fate) ps)
 
 -- a result fits into the edit program's buffer
-result-fits : (b : List ℕ) (r : Result) → edit b ≡ gives r → fitting programRoom r ≡ gives r
+result-fits : (h : Choices) (b : List ℕ) (r : Result) → edit h b ≡ gives r → fitting programRoom r ≡ gives r
 unfolding fitting refuse _>>=_
-result-fits b r e = rw (le-ltb programRoom (length (encoded r)) (omega (arith, encoded-within b r e)))
+result-fits h b r e = rw (le-ltb programRoom (length (encoded r)) (omega (arith, encoded-within h b r e)))
 
-pub not-accepted : (b : List ℕ) (k : ℕ) → accepted b ≡ refused k → (ending b ≡ refused k) × (account b ≡ refused k)
+pub not-accepted : (h : Choices) (b : List ℕ) (k : ℕ) → accepted b ≡ refused k → (ending h b ≡ refused k) × (account h b ≡ refused k)
 unfolding ending account _>>=_
-not-accepted b k e = (rw e, rw e)
+not-accepted h b k e = (rw e, rw e)
 
-module _ (b : List ℕ) (a : Accepted) (e : accepted b ≡ gives a) where
+module _ (h : Choices) (b : List ℕ) (a : Accepted) (e : accepted b ≡ gives a) where
   -- two changes overlap
-  pub overlapping : (j k : ℕ) → judgeChanges a ≡ overlaps j k → (ending b ≡ refused 8) × (account b ≡ gives (overlapLine j k))
+  pub overlapping : (j k : ℕ) → judgeChanges h a ≡ overlaps j k → (ending h b ≡ refused 8) × (account h b ≡ gives (overlapLine j k))
   unfolding ending account said _>>=_
-  overlapping j k z = (rw (e, plan-overlap a j k z), rw (e, z))
+  overlapping j k z = (rw (e, plan-overlap h a j k z), rw (e, z))
 
   -- none do
-  module _ (ps : List Planned) (z : judgeChanges a ≡ fated ps) where
-    rewriting : rewriteChanges a ps ≡ plan a
-    rewriting = sym (plan-fated a ps z)
+  module _ (ps : List Planned) (z : judgeChanges h a ≡ fated ps) where
+    rewriting : rewriteChanges a ps ≡ plan h a
+    rewriting = sym (plan-fated h a ps z)
 
-    pub not-planned : (k : ℕ) → plan a ≡ refused k → (ending b ≡ refused k) × (account b ≡ refused k)
+    pub not-planned : (k : ℕ) → plan h a ≡ refused k → (ending h b ≡ refused k) × (account h b ≡ refused k)
     unfolding ending account said _>>=_
-    not-planned k h = (rw (e, h), rw (e, z, rewriting, h))
+    not-planned k g = (rw (e, g), rw (e, z, rewriting, g))
 
-    module _ (p : Plan) (h : plan a ≡ gives p) where
+    module _ (p : Plan) (g : plan h a ≡ gives p) where
       -- with a plan, the run decides whether its fates are told
-      pub planned-account : account b ≡ (ran a p >>= λ w. gives (linesOf (p .changes)))
+      pub planned-account : account h b ≡ (ran a p >>= λ w. gives (linesOf (p .changes)))
       unfolding edit account said _>>=_
       planned-account = go (ran a p) refl
         where
-          go : (o : Answer World) → ran a p ≡ o → account b ≡ (o >>= λ w. gives (linesOf (p .changes)))
-          go (refused k) i = rw (e, z, rewriting, h, i)
+          go : (o : Answer World) → ran a p ≡ o → account h b ≡ (o >>= λ w. gives (linesOf (p .changes)))
+          go (refused k) i = rw (e, z, rewriting, g, i)
           go (gives w) i =
-              let edits : edit b ≡ gives (result (p .changes) (p .climbs) w) = edit-of w i in
-              rw (e, z, rewriting, h, i, result-fits b _ edits) (ap (λ (fs : List Fate). gives (fateLines fs)) (sym (rewrite-fates a ps p (rewriting ∙ h))))
+              let edits : edit h b ≡ gives (result (p .changes) (p .climbs) w) = edit-of w i in
+              rw (e, z, rewriting, g, i, result-fits h b _ edits) (ap (λ (fs : List Fate). gives (fateLines fs)) (sym (rewrite-fates a ps p (rewriting ∙ g))))
             where
-              edit-of : (w : World) → ran a p ≡ gives w → edit b ≡ gives (result (p .changes) (p .climbs) w)
-              edit-of w i = rw (e, h, i)
+              edit-of : (w : World) → ran a p ≡ gives w → edit h b ≡ gives (result (p .changes) (p .climbs) w)
+              edit-of w i = rw (e, g, i)

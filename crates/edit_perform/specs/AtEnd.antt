@@ -1,14 +1,15 @@
 -- What is held at the end of a run, as the words tell it.
 -- Assumes nothing.
 use mathlib.Core.Path.{_≡_}
-use mathlib.Core.Bool.{true, false}
+use mathlib.Core.Bool.{false}
 use mathlib.Core.List.{List, map}
 use Prim.Native.Nat.{ℕ, _*_, _^_, _≤_, _<_}
 use lib.ListN.{length, take, drop}
 use Rattle.definition.specs.Basics.{refused, gives, keep}
+use Rattle.definition.specs.Choices.{Choices, chosen}
 use Rattle.definition.specs.Planning.{isDiscarded}
 use Rattle.definition.specs.Refusals.{Accepted, accepted}
-use Rattle.definition.specs.Answers.{tooShort}
+use Rattle.definition.specs.Answers.{tooShort, withChoices}
 use Rattle.definition.specs.Account.{fateLines, overlapLine, account}
 use Rattle.definition_laws.specs.Held.{Holds}
 use Rattle.read_element_table.specs.View.{view}
@@ -27,9 +28,9 @@ use Rattle.edit_perform.specs.declared.Performed.{Performed}
 use Rattle.edit_perform.specs.declared.Performed.the-variants.{Refused, Overlap, Done}
 
 -- the run of the batch b has ended, and the slices hold what it left, with these counts
-pub record AtEnd (b rows notes changed : List ℕ) (d : Ended) : Type 0 where
+pub record AtEnd (h : Choices) (b rows notes changed : List ℕ) (d : Ended) : Type 0 where
   pub end : End
-  pub ends : ending b ≡ gives end
+  pub ends : ending h b ≡ gives end
   pub holds : Holds (end .world)
   -- the current trees, the notes and the changed elements, by their rows
   pub marks : List ℕ
@@ -58,32 +59,32 @@ pub record Told (b t s : List ℕ) (n : ℕ) : Type 0 where
   pub formed : Wellformed n t s
 
 -- the run of the batch b has ended, and the marks are the rows where its elements stand
-pub record Marked (b marks : List ℕ) (d : Ended) : Type 0 where
+pub record Marked (h : Choices) (b marks : List ℕ) (d : Ended) : Type 0 where
   pub end : End
-  pub ends : ending b ≡ gives end
+  pub ends : ending h b ≡ gives end
   pub long : d .elements ≤ length marks
   pub told : take (d .elements) marks ≡ map (markOf (end .world .trees)) (end .world .paths)
 
 -- the words hold what became of each recorded change of the batch b
-pub record Recounted (b changes : List ℕ) (d : Ended) : Type 0 where
+pub record Recounted (h : Choices) (b changes : List ℕ) (d : Ended) : Type 0 where
   pub few : d .recorded ≤ 256
-  pub text : account b ≡ gives (fateLines (map rowFate (rowsOf (d .recorded) changes)))
+  pub text : account h b ≡ gives (fateLines (map rowFate (rowsOf (d .recorded) changes)))
 
 -- the changes j and k of the batch b overlap
-pub record Overlapped (b : List ℕ) (j k : ℕ) : Type 0 where
-  pub refused8 : ending b ≡ refused 8
-  pub text : account b ≡ gives (overlapLine j k)
+pub record Overlapped (h : Choices) (b : List ℕ) (j k : ℕ) : Type 0 where
+  pub refused8 : ending h b ≡ refused 8
+  pub text : account h b ≡ gives (overlapLine j k)
 
 -- a run of the batch b: refused by the definition's number, or at the end of the run
-pub record Performs (b t s changes rows notes changed marks : List ℕ) (r : Performed) : Type 0 where
-  pub refuses : (k : ℕ) → r ≡ Refused k → (ending b ≡ refused k) × (account b ≡ refused k)
-  pub overlaps : (j k : ℕ) → r ≡ Overlap j k → Overlapped b j k
-  pub ends : (d : Ended) → r ≡ Done d → AtEnd b rows notes changed d
+pub record Performs (h : Choices) (b t s changes rows notes changed marks : List ℕ) (r : Performed) : Type 0 where
+  pub refuses : (k : ℕ) → r ≡ Refused k → (ending h b ≡ refused k) × (account h b ≡ refused k)
+  pub overlaps : (j k : ℕ) → r ≡ Overlap j k → Overlapped h b j k
+  pub ends : (d : Ended) → r ≡ Done d → AtEnd h b rows notes changed d
   pub tells : (d : Ended) → r ≡ Done d → Told b t s (d .elements)
-  pub marked : (d : Ended) → r ≡ Done d → Marked b marks d
-  pub recounts : (d : Ended) → r ≡ Done d → Recounted b changes d
+  pub marked : (d : Ended) → r ≡ Done d → Marked h b marks d
+  pub recounts : (d : Ended) → r ≡ Done d → Recounted h b changes d
 
--- THE PROMISE of performing with the work slices `work`: 1 where one of them is too short, or what a run answers
-pub data PerformsWith (work : List (List ℕ)) (b t s changes rows notes changed marks : List ℕ) (r : Performed) : Type 0 where
-  short : tooShort (lengths needed work) ≡ true → r ≡ Refused 1 → PerformsWith work b t s changes rows notes changed marks r
-  long : tooShort (lengths needed work) ≡ false → Performs b t s changes rows notes changed marks r → PerformsWith work b t s changes rows notes changed marks r
+-- THE PROMISE of performing by the choices h with the work slices `work`: 17 where there is no such edge rule, 1 where a slice is too short, or what a run answers
+pub data PerformsWith (h : Choices) (work : List (List ℕ)) (b t s changes rows notes changed marks : List ℕ) (r : Performed) : Type 0 where
+  early : (k : ℕ) → withChoices h (lengths needed work) (gives tt) ≡ refused k → r ≡ Refused k → PerformsWith h work b t s changes rows notes changed marks r
+  long : chosen h ≡ gives tt → tooShort (lengths needed work) ≡ false → Performs h b t s changes rows notes changed marks r → PerformsWith h work b t s changes rows notes changed marks r

@@ -8,6 +8,7 @@ use lib.ListN.{length, drop}
 use Rattle.orders.specs.Lists.{All}
 use Rattle.orders.specs.Tree.{node, forest}
 use Rattle.definition.specs.Basics.{gives}
+use Rattle.definition.specs.Choices.{Choices}
 use Rattle.definition.specs.Elements.{Table, row}
 use Rattle.definition.specs.Running.{begin}
 use Rattle.definition.specs.Answers.{Plan, plan, atFirst}
@@ -42,9 +43,9 @@ module _ {b : List ℕ} {l : Layout} {t₀ s₀ t s : List ℕ} (v : Leaves b l 
   unfolding arraysAt
   tells lt ls = filled-tells (arraysAt l b) b (l .kinds) (l .measures) (l .sizes .elements) refl refl (parts .trees) (v .filled) (v .within .limits .elements) lt ls
 
-  module _ (p : Plan) (e : plan (v .what) ≡ gives p) where
+  module _ (h : Choices) (p : Plan) (e : plan h (v .what) ≡ gives p) where
     pub planned : Planning (v .what) p
-    planned = plan-known (v .what) (checked b (v .what) known) p e
+    planned = plan-known (v .what) (checked b (v .what) known) h p e
 
     pub first-notes : (store (atFirst (v .what) p)) .notes ≡ map (heldNote (node 2147483648 (forest (v .what .trees)))) (p .notes)
     unfolding atFirst begin store

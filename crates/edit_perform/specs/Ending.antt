@@ -5,6 +5,7 @@ use mathlib.Core.List.{List}
 use mathlib.Core.Option.{Option}
 use Prim.Native.Nat.{ℕ}
 use Rattle.definition.specs.Basics.{Answer, refused, gives, _>>=_}
+use Rattle.definition.specs.Choices.{Choices}
 use Rattle.definition.specs.Refusals.{Accepted, accepted}
 use Rattle.definition.specs.Running.{World}
 use Rattle.definition.specs.Finishing.{Result, result}
@@ -19,10 +20,10 @@ pub record End : Type 0 where
   pub world : World
 
 -- what a batch comes to, or its refusal out of 2 to 12
-unfoldable pub ending : List ℕ → Answer End
-ending b = do
+unfoldable pub ending : Choices → List ℕ → Answer End
+ending h b = do
   a ← accepted b
-  p ← plan a
+  p ← plan h a
   w ← ran a p
   gives (record { batch = a; planned = p; world = w })
 
@@ -30,9 +31,9 @@ ending b = do
 unfoldable pub resultAt : End → Result
 resultAt e = result (e .planned .changes) (e .planned .climbs) (e .world)
 
-pub edit-ending : (b : List ℕ) → edit b ≡ (ending b >>= λ e. gives (resultAt e))
+pub edit-ending : (h : Choices) (b : List ℕ) → edit h b ≡ (ending h b >>= λ e. gives (resultAt e))
 unfolding edit ending resultAt _>>=_
-edit-ending b = go (accepted b)
+edit-ending h b = go (accepted b)
   where
     ended : Accepted → Plan → World → Answer Result
     ended a p w = gives (result p.changes p.climbs w)
@@ -47,17 +48,17 @@ edit-ending b = go (accepted b)
     mid a (gives p) = last a p (ran a p)
 
     go : (o : Answer Accepted)
-        → (o >>= λ a. plan a >>= λ p. ran a p >>= λ w. ended a p w) ≡ ((o >>= λ a. plan a >>= λ p. ran a p >>= λ w. gives (record { batch = a; planned = p; world = w })) >>= λ e. gives (resultAt e))
+        → (o >>= λ a. plan h a >>= λ p. ran a p >>= λ w. ended a p w) ≡ ((o >>= λ a. plan h a >>= λ p. ran a p >>= λ w. gives (record { batch = a; planned = p; world = w })) >>= λ e. gives (resultAt e))
     go (refused n) = refl
-    go (gives a) = mid a (plan a)
+    go (gives a) = mid a (plan h a)
 
 -- the element of it that is asked for
 unfoldable pub foundAt : ℕ → End → Option ℕ
 foundAt n e = findIn (e .batch .table) (e .world) n
 
-pub found-ending : (b : List ℕ) (n : ℕ) → found b n ≡ (ending b >>= λ e. gives (foundAt n e))
+pub found-ending : (h : Choices) (b : List ℕ) (n : ℕ) → found h b n ≡ (ending h b >>= λ e. gives (foundAt n e))
 unfolding found ending foundAt _>>=_
-found-ending b n = go (accepted b)
+found-ending h b n = go (accepted b)
   where
     ended : Accepted → World → Answer (Option ℕ)
     ended a w = gives (findIn a.table w n)
@@ -73,6 +74,6 @@ found-ending b n = go (accepted b)
     mid a (refused k) = refl
     mid a (gives p) = last a p (ran a p)
 
-    go : (o : Answer Accepted) → (o >>= λ a. plan a >>= λ p. ran a p >>= λ w. ended a w) ≡ ((o >>= λ a. plan a >>= λ p. ran a p >>= λ w. gives (record { batch = a; planned = p; world = w })) >>= at)
+    go : (o : Answer Accepted) → (o >>= λ a. plan h a >>= λ p. ran a p >>= λ w. ended a w) ≡ ((o >>= λ a. plan h a >>= λ p. ran a p >>= λ w. gives (record { batch = a; planned = p; world = w })) >>= at)
     go (refused k) = refl
-    go (gives a) = mid a (plan a)
+    go (gives a) = mid a (plan h a)

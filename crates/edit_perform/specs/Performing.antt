@@ -9,6 +9,7 @@ use lib.Seq.{length-take-le, take-all}
 use Rattle.orders.specs.Lists.{All}
 use Rattle.orders.specs.ListLaws.{All-map₂}
 use Rattle.definition.specs.Basics.{Answer, refused, gives, _>>=_}
+use Rattle.definition.specs.Choices.{Choices}
 use Rattle.definition.specs.Elements.{Table, table}
 use Rattle.definition.specs.Planning.{Fate, Planned}
 use Rattle.definition.specs.Running.{World, begin, news, records}
@@ -56,7 +57,7 @@ use Rattle.edit_perform.specs.Accounting.{linesOf, planned-account}
 use Rattle.edit_perform.specs.AtEnd.{AtEnd, Marked, Recounted}
 use Rattle.edit_perform.specs.declared.Ended.{Ended}
 
-module _ {b : List ℕ} {l : Layout} {t₀ s₀ t s : List ℕ} (v : Leaves b l t₀ s₀ t s) {changes running first : List ℕ} {c : Counts} (P : PlanMade b l t s changes running first (PlanIs c)) where
+module _ {h : Choices} {b : List ℕ} {l : Layout} {t₀ s₀ t s : List ℕ} (v : Leaves b l t₀ s₀ t s) {changes running first : List ℕ} {c : Counts} (P : PlanMade h b l t s changes running first (PlanIs c)) where
   abbrev a : Accepted
   a = v .what
 
@@ -72,13 +73,13 @@ module _ {b : List ℕ} {l : Layout} {t₀ s₀ t s : List ℕ} (v : Leaves b l 
   abbrev settled : List ℕ
   settled = take (3 * l .sizes .notes) first
 
-  plan-of : (p : Plan) × TellsPlan b l changes running first c a p
+  plan-of : (p : Plan) × TellsPlan h b l changes running first c a p
   plan-of = plan-told a (v .accepted) P
 
   p : Plan
   p = plan-of .0
 
-  m : TellsPlan b l changes running first c a p
+  m : TellsPlan h b l changes running first c a p
   unfolding p
   m = plan-of .1
 
@@ -93,23 +94,23 @@ module _ {b : List ℕ} {l : Layout} {t₀ s₀ t s : List ℕ} (v : Leaves b l 
   begins lt ls ls′ lf =
       let few = v .within .limits .notes in
       let long : 3 * l .sizes .notes ≤ length first = omega arith in
-      begun v p (m .plan) settled (notes-part (l .sizes .notes) first long ∙ m .notes) lt ls ls′ (omega (arith, length-take-le (3 * l .sizes .notes) first long))
+      begun v h p (m .plan) settled (notes-part (l .sizes .notes) first long ∙ m .notes) lt ls ls′ (omega (arith, length-take-le (3 * l .sizes .notes) first long))
 
   -- lines 6 and 16 would refuse none of them
   pub all-perform : All (λ k. Performs E (view E t s) listed (rowAt changes k)) ks
   unfolding wordsAt plansIn planOf
-  all-perform = All-map₂ (λ k h (r : Right (view E t s) (changeOf listed (rowAt changes k)) × (length (news (changeOf listed (rowAt changes k))) ≤ mostListed)). record { kept = rows-each (Kept E (view E t s) listed) (c .changes) changes (P .within .kept) k h; right = r .0; few = r .1 }) ks (P .within .low) (All-map₂ (λ k r f. (r, f)) ks rights fews)
+  all-perform = All-map₂ (λ k low (r : Right (view E t s) (changeOf listed (rowAt changes k)) × (length (news (changeOf listed (rowAt changes k))) ≤ mostListed)). record { kept = rows-each (Kept E (view E t s) listed) (c .changes) changes (P .within .kept) k low; right = r .0; few = r .1 }) ks (P .within .low) (All-map₂ (λ k r f. (r, f)) ks rights fews)
     where
       fews : All (λ k. length (news (changeOf listed (rowAt changes k))) ≤ mostListed) ks
       fews =
           map-All (λ q. length (news (q .change)) ≤ mostListed) (λ k. planOf listed (rowAt changes k)) ks
-          (subst (λ (ps : List Planned). All (λ q. length (news (q .change)) ≤ mostListed) ps) (sym runs-told) (performed-few a p (planned v p (m .plan))))
+          (subst (λ (ps : List Planned). All (λ q. length (news (q .change)) ≤ mostListed) ps) (sym runs-told) (performed-few a p (planned v h p (m .plan))))
 
       rights : All (λ k. Right (view E t s) (changeOf listed (rowAt changes k))) ks
       rights =
           map-All (λ q. Right (view E t s) (q .change)) (λ k. planOf listed (rowAt changes k)) ks
           (subst (λ (ps : List Planned). All (λ q. Right (view E t s) (q .change)) ps) (sym runs-told)
-          (subst (λ (T : Table). All (λ q. Right T (q .change)) (performed a p)) (sym (v .told)) (performed-right a p (planned v p (m .plan)))))
+          (subst (λ (T : Table). All (λ q. Right T (q .change)) (performed a p)) (sym (v .told)) (performed-right a p (planned v h p (m .plan)))))
 
   -- there is room for what they record
   pub room-recorded : listsAll (view E t s) listed changes ks ≤ 1024
@@ -118,7 +119,7 @@ module _ {b : List ℕ} {l : Layout} {t₀ s₀ t s : List ℕ} (v : Leaves b l 
     lists-total (view E t s) listed changes ks,
     ap (λ (T : Table). total (records T) (λ q. length (news (q .change))) (plansIn listed changes ks)) (v .told),
     ap (total (records (a .table)) (λ q. length (news (q .change)))) runs-told,
-    performed-records b a p (known v) (planned v p (m .plan)),
+    performed-records b a p (known v) (planned v h p (m .plan)),
   )
 
   pub all-elements : All (λ e. e < E) listed
@@ -143,22 +144,22 @@ module _ {b : List ℕ} {l : Layout} {t₀ s₀ t s : List ℕ} (v : Leaves b l 
         R .answer text
         ∙ (ap (λ (T : Table). storeSteps T (storedFirst text E s (notesIn settled) []) (storedFirst text E s (notesIn settled) []) (plansIn listed changes ks)) (v .told)
         ∙ (ap (λ (f : Store). storeSteps (a .table) f f (plansIn listed changes ks)) first-world
-        ∙ (ap (storeSteps (a .table) (store (atFirst a p)) (store (atFirst a p))) runs-told ∙ ran-store b a p (known v) (planned v p (m .plan)))))
+        ∙ (ap (storeSteps (a .table) (store (atFirst a p)) (store (atFirst a p))) runs-told ∙ ran-store b a p (known v) (planned v h p (m .plan)))))
 
-    ended-by : (o : Answer World) → ran a p ≡ o → ending b ≡ (o >>= λ w. gives (record { batch = a; planned = p; world = w }))
+    ended-by : (o : Answer World) → ran a p ≡ o → ending h b ≡ (o >>= λ w. gives (record { batch = a; planned = p; world = w }))
     unfolding ending _>>=_
     ended-by o e = rw (v .accepted, m .plan, e) refl
 
     -- and so is the account
-    accounted-by : account b ≡ (ran a p >>= λ w. gives (linesOf (p .changes)))
-    accounted-by = planned-account b a (v .accepted) (P .found .changes) (judged-accepted b a (v .accepted) (P .found .judged)) p (m .plan)
+    accounted-by : account h b ≡ (ran a p >>= λ w. gives (linesOf (p .changes)))
+    accounted-by = planned-account h b a (v .accepted) (P .found .changes) (judged-accepted h b a (v .accepted) (P .found .judged)) p (m .plan)
 
     -- refused at the same step
-    pub run-refused : (k : ℕ) → x ≡ Refused k → (ending b ≡ refused k) × (account b ≡ refused k)
+    pub run-refused : (k : ℕ) → x ≡ Refused k → (ending h b ≡ refused k) × (account h b ≡ refused k)
     unfolding executedIn _>>=_
     run-refused k e = go (ran a p) refl (sym (ap (executedIn text rows marks notes changed) e) ∙ ran-told)
       where
-        go : (o : Answer World) → ran a p ≡ o → refused k ≡ inRows o → (ending b ≡ refused k) × (account b ≡ refused k)
+        go : (o : Answer World) → ran a p ≡ o → refused k ≡ inRows o → (ending h b ≡ refused k) × (account h b ≡ refused k)
         go (refused n) i j =
             let same : n ≡ k = cc in
             (ended-by (refused n) i ∙ ap refused same, accounted-by ∙ (ap (λ (o : Answer World). o >>= λ w. gives (linesOf (p .changes))) i ∙ ap refused same))
@@ -166,7 +167,7 @@ module _ {b : List ℕ} {l : Layout} {t₀ s₀ t s : List ℕ} (v : Leaves b l 
 
     -- or what is held at the end is the definition's
     pub run-ended : (r : TreeState) → x ≡ Done r → 3072 ≤ length notes
-        → AtEnd b rows notes changed (record { text = l .text; elements = E; recorded = c .changes; root = r .root; rows = r .rows; notes = r .notes; changed = r .changed; discarded = c .discarded; climbs = c .climbs })
+        → AtEnd h b rows notes changed (record { text = l .text; elements = E; recorded = c .changes; root = r .root; rows = r .rows; notes = r .notes; changed = r .changed; discarded = c .discarded; climbs = c .climbs })
     unfolding executedIn _>>=_ text store stored
     run-ended r e ln = go (ran a p) refl (sym (ap (executedIn text rows marks notes changed) e) ∙ ran-told)
       where
@@ -174,10 +175,10 @@ module _ {b : List ℕ} {l : Layout} {t₀ s₀ t s : List ℕ} (v : Leaves b l 
         S = R .standing r e
 
         go : (o : Answer World) → ran a p ≡ o → gives (heldIn text r rows marks notes changed) ≡ inRows o
-            → AtEnd b rows notes changed (record { text = l .text; elements = E; recorded = c .changes; root = r .root; rows = r .rows; notes = r .notes; changed = r .changed; discarded = c .discarded; climbs = c .climbs })
+            → AtEnd h b rows notes changed (record { text = l .text; elements = E; recorded = c .changes; root = r .root; rows = r .rows; notes = r .notes; changed = r .changed; discarded = c .discarded; climbs = c .climbs })
         go (refused n) i j = refused-gives (sym j)
         go (gives w) i j =
-            let K = ran-known b a p w (v .accepted) (m .plan) i in
+            let K = ran-known h b a p w (v .accepted) (m .plan) i in
             let same : heldIn text r rows marks notes changed ≡ store w = gives-inj j in
             record {
               end = record { batch = a; planned = p; world = w };
@@ -203,14 +204,14 @@ module _ {b : List ℕ} {l : Layout} {t₀ s₀ t s : List ℕ} (v : Leaves b l 
           where
             changed-few : (w : World) → heldIn text r rows marks notes changed ≡ store w → ran a p ≡ gives w → r .changed ≤ 1024
             changed-few w same i =
-                omega (arith, length-take-le (r .changed) changed (S .held), ap (λ (y : Store). length (y .changed)) same, length-map (w .changed) (λ q. place q (w .trees)), ran-changed b a p w (known v) (planned v p (m .plan)) i)
+                omega (arith, length-take-le (r .changed) changed (S .held), ap (λ (y : Store). length (y .changed)) same, length-map (w .changed) (λ q. place q (w .trees)), ran-changed b a p w (known v) (planned v h p (m .plan)) i)
 
     -- and the marks are where the elements stand
-    pub run-marked : (r : TreeState) → x ≡ Done r → (d : Ended) → d .elements ≡ E → Marked b marks d
+    pub run-marked : (r : TreeState) → x ≡ Done r → (d : Ended) → d .elements ≡ E → Marked h b marks d
     unfolding executedIn _>>=_ text store stored
     run-marked r e d q = go (ran a p) refl (sym (ap (executedIn text rows marks notes changed) e) ∙ ran-told)
       where
-        go : (o : Answer World) → ran a p ≡ o → gives (heldIn text r rows marks notes changed) ≡ inRows o → Marked b marks d
+        go : (o : Answer World) → ran a p ≡ o → gives (heldIn text r rows marks notes changed) ≡ inRows o → Marked h b marks d
         go (refused n) i j = refused-gives (sym j)
         go (gives w) i j = record {
           end = record { batch = a; planned = p; world = w };
@@ -225,11 +226,11 @@ module _ {b : List ℕ} {l : Layout} {t₀ s₀ t s : List ℕ} (v : Leaves b l 
     fates-told = sym (ap (map (λ (q : Planned). q .fate)) (sym (m .changes)) ∙ map-map (λ (q : Planned). q .fate) (planOf (listedIn l b)) (rowsOf (c .changes) changes))
 
     -- so that the account is told by them
-    pub run-recounted : (r : TreeState) → x ≡ Done r → (d : Ended) → d .recorded ≡ c .changes → Recounted b changes d
+    pub run-recounted : (r : TreeState) → x ≡ Done r → (d : Ended) → d .recorded ≡ c .changes → Recounted h b changes d
     unfolding executedIn _>>=_
     run-recounted r e d q = go (ran a p) refl (sym (ap (executedIn text rows marks notes changed) e) ∙ ran-told)
       where
-        go : (o : Answer World) → ran a p ≡ o → gives (heldIn text r rows marks notes changed) ≡ inRows o → Recounted b changes d
+        go : (o : Answer World) → ran a p ≡ o → gives (heldIn text r rows marks notes changed) ≡ inRows o → Recounted h b changes d
         go (refused n) i j = refused-gives (sym j)
         go (gives w) i j = record {
           few = omega (arith, P .within .few);

@@ -1,4 +1,5 @@
-// From a batch to what its run leaves: lines 1 to 7, planning, and the steps.
+// From a batch to what its run leaves: refusal 17, lines 1 to 7, planning, and the steps.
+use choices::Choices;
 use plan_edit::Counts;
 use plan_edit::Planned;
 use plan_edit::plan;
@@ -12,6 +13,10 @@ ghost use mathlib.Core.Path.{_≡_};
 ghost use mathlib.Core.List.{_∷_, []};
 ghost use Prim.Native.Nat.{_≤_};
 ghost use lib.ListN.{length};
+ghost use Rattle.definition.specs.Basics.{gives};
+ghost use Rattle.definition.specs.Answers.{withChoices};
+ghost use Rattle.choices.specs.Meant.{meant, refusalOf};
+ghost use Rattle.promises.specs.Slices.{needed, lengths};
 ghost use Rattle.plan_edit.specs.Answers.{PlanMade};
 ghost use Rattle.plan_edit.specs.declared.Planned.the-variants.{Made};
 ghost use Rattle.edit_perform.specs.Beginning.{LaidOut};
@@ -39,6 +44,7 @@ pub enum Performed {
 
 // The steps of the plan, over marks for just the batch's elements.
 fn run_plan(
+    choices: Choices,
     b: &[u8],
     l: Layout,
     c: Counts,
@@ -55,10 +61,10 @@ fn run_plan(
     prepared: &mut [u32],
 ) -> Performed
     requires { ⌜ LaidOut (now b) l (now table) (now source) ⌝ }
-    requires { ⌜ PlanMade (now b) l (now table) (now source) (now changes) (now running) (now first) (Made c) ⌝ }
+    requires { ⌜ PlanMade (meant choices) (now b) l (now table) (now source) (now changes) (now running) (now first) (Made c) ⌝ }
     requires { ⌜ (6147 ≤ length (now source)) × (256 ≤ length (now running)) × (768 ≤ length (now first)) ⌝ }
     requires { ⌜ (length (now marks) ≡ l .sizes .elements) × (3072 ≤ length (now notes)) × (3072 ≤ length (now incoming)) × (1024 ≤ length (now changed)) × (12291 ≤ length (now rows)) × (12288 ≤ length (now prepared)) ⌝ }
-    ensures { λ r. ⌜ Performs (now (b .entry)) (now (table .entry)) (now (source .entry)) (now (changes .entry)) (now (rows .exit)) (now (notes .exit)) (now (changed .exit)) (now (marks .exit)) r ⌝ }
+    ensures { λ r. ⌜ Performs (meant choices) (now (b .entry)) (now (table .entry)) (now (source .entry)) (now (changes .entry)) (now (rows .exit)) (now (notes .exit)) (now (changed .exit)) (now (marks .exit)) r ⌝ }
 {
     // As many as a call may list.
     let mut sizes = [0u32; 41];
@@ -100,6 +106,7 @@ fn run_plan(
 
 // The plan of an accepted batch, and its steps. Before the first step the rows, the prepared rows, the changed rows and the marks serve planning.
 fn plan_and_run(
+    choices: Choices,
     b: &[u8],
     l: Layout,
     table: &[u32],
@@ -115,13 +122,14 @@ fn plan_and_run(
     requires { ⌜ LaidOut (now b) l (now table) (now source) ⌝ }
     requires { ⌜ (6147 ≤ length (now source)) × (3328 ≤ length (now changes)) ⌝ }
     requires { ⌜ (2048 ≤ length (now marks)) × (3072 ≤ length (now notes)) × (3072 ≤ length (now incoming)) × (1024 ≤ length (now changed)) × (12291 ≤ length (now rows)) × (12288 ≤ length (now prepared)) ⌝ }
-    ensures { λ r. ⌜ Performs (now (b .entry)) (now (table .entry)) (now (source .entry)) (now (changes .exit)) (now (rows .exit)) (now (notes .exit)) (now (changed .exit)) (now (marks .exit)) r ⌝ }
+    ensures { λ r. ⌜ Performs (meant choices) (now (b .entry)) (now (table .entry)) (now (source .entry)) (now (changes .exit)) (now (rows .exit)) (now (notes .exit)) (now (changed .exit)) (now (marks .exit)) r ⌝ }
 {
     let mut running = [0u32; 256];
     let mut first = [0u32; 768];
     let s = l.sizes;
     let elements = s.elements;
     let planned = plan(
+        choices,
         b,
         l,
         table,
@@ -138,6 +146,7 @@ fn plan_and_run(
         Planned::Refused(n) => Performed::Refused(n),
         Planned::Overlap(j, k) => Performed::Overlap(j, k),
         Planned::Made(c) => run_plan(
+            choices,
             b,
             l,
             c,
@@ -156,21 +165,25 @@ fn plan_and_run(
     }
 }
 
-// From a batch to what its run leaves, or the first refusal out of 1 to 12.
-pub fn perform(
-    b: &[u8],
-    table: &mut [u32],
-    source: &mut [u32],
-    changes: &mut [u32],
-    notes: &mut [u32],
-    incoming: &mut [u32],
-    changed: &mut [u32],
-    marks: &mut [u32],
-    rows: &mut [u32],
-    prepared: &mut [u32],
-) -> Performed
-    ensures { λ r. ⌜ PerformsWith (now (table .entry) ∷ now (source .entry) ∷ now (changes .entry) ∷ now (notes .entry) ∷ now (incoming .entry) ∷ now (changed .entry) ∷ now (marks .entry) ∷ now (rows .entry) ∷ now (prepared .entry) ∷ []) (now (b .entry)) (now (table .exit)) (now (source .exit)) (now (changes .exit)) (now (rows .exit)) (now (notes .exit)) (now (changed .exit)) (now (marks .exit)) r ⌝ }
+// 17 where there is no such edge rule, 1 where a work slice is too short, else 0.
+fn refused_first(
+    choices: Choices,
+    table: &[u32],
+    source: &[u32],
+    changes: &[u32],
+    notes: &[u32],
+    incoming: &[u32],
+    changed: &[u32],
+    marks: &[u32],
+    rows: &[u32],
+    prepared: &[u32],
+) -> usize
+    ensures { λ r. ⌜ r ≡ refusalOf (withChoices (meant choices) (lengths needed (now (table .entry) ∷ now (source .entry) ∷ now (changes .entry) ∷ now (notes .entry) ∷ now (incoming .entry) ∷ now (changed .entry) ∷ now (marks .entry) ∷ now (rows .entry) ∷ now (prepared .entry) ∷ [])) (gives tt)) ⌝ }
 {
+    let n = choices::refusal(choices);
+    if n != 0 {
+        return n;
+    }
     if promises::too_short(
         table,
         source,
@@ -182,12 +195,47 @@ pub fn perform(
         rows,
         prepared,
     ) {
-        return Performed::Refused(1);
+        return 1;
+    }
+    0
+}
+
+// From a batch to what its run leaves, or the first refusal out of 17 and 1 to 12.
+pub fn perform(
+    choices: Choices,
+    b: &[u8],
+    table: &mut [u32],
+    source: &mut [u32],
+    changes: &mut [u32],
+    notes: &mut [u32],
+    incoming: &mut [u32],
+    changed: &mut [u32],
+    marks: &mut [u32],
+    rows: &mut [u32],
+    prepared: &mut [u32],
+) -> Performed
+    ensures { λ r. ⌜ PerformsWith (meant choices) (now (table .entry) ∷ now (source .entry) ∷ now (changes .entry) ∷ now (notes .entry) ∷ now (incoming .entry) ∷ now (changed .entry) ∷ now (marks .entry) ∷ now (rows .entry) ∷ now (prepared .entry) ∷ []) (now (b .entry)) (now (table .exit)) (now (source .exit)) (now (changes .exit)) (now (rows .exit)) (now (notes .exit)) (now (changed .exit)) (now (marks .exit)) r ⌝ }
+{
+    let n = refused_first(
+        choices,
+        table,
+        source,
+        changes,
+        notes,
+        incoming,
+        changed,
+        marks,
+        rows,
+        prepared,
+    );
+    if n != 0 {
+        return Performed::Refused(n);
     }
     let laid = accept(b, table, source);
     match laid {
         Laid::Refused(n) => Performed::Refused(n),
         Laid::At(l) => plan_and_run(
+            choices,
             b,
             l,
             table,

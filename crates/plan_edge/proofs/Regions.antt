@@ -1,20 +1,20 @@
 -- The region of each change: what each test tells, and a turn of each loop.
 -- Assumes nothing.
 use mathlib.Core.Path.{_≡_, refl, sym, ap, _∙_}
-use mathlib.Core.Bool.{Bool, true, false, cond, not, _||_}
+use mathlib.Core.Bool.{Bool, true, false, cond, not, _&&_, _||_}
 use mathlib.Core.List.{List, [], _∷_, _++_, map, append-assoc}
 use Prim.Native.Nat.{ℕ, zero, suc, _+_, _-_, _*_, _≤_, _<_}
 use native.Mathlib.Nat.{sub-zero, sub-self}
 use native.Mathlib.Numerals.{add-one}
 use native.Mathlib.Omega.{arith}
-use lib.ListN.{length, getD, set, drop, length-set}
+use lib.ListN.{length, getD, set, drop, length-set, length-map}
 use lib.Seq.{drop-cons, set-at}
 use lib.Dec.{ltb, eqb}
 use borrow.Author.Tests.{eq-eqb, ne-eqb, lt-ltb, le-ltb, not-true, not-false}
-use Rattle.definition_laws.specs.Basics.{upFrom}
-use Rattle.record_changes.specs.ChangeRow.{rowOf}
+use Rattle.definition_laws.specs.Basics.{upFrom, up-long}
+use Rattle.record_changes.specs.ChangeRow.{ChangeRow, rowOf}
 use Rattle.record_changes.specs.ChangeRowLaws.{rowAt}
-use Rattle.plan_edge.specs.Rule.{ofRoot, takes, regionDepth, innermost, regionFrom, regionsOf}
+use Rattle.plan_edge.specs.Rule.{targetParent, ofRoot, takes, regionDepth, innermost, regionFrom, regionsOf}
 
 -- ── Depths ──────────────────────────────────────────────────────────────────────────────────────────────────
 
@@ -50,24 +50,43 @@ module _ (w v : List ℕ) (k j b : ℕ) (t : Bool) (e : t ≡ takes w j (rowAt v
       pub no-further : y ≤ x → b ≡ innermost w v k j b
       no-further h = rw (opens, not-false t q, ne-eqb b 0 z, ← f, ← g, le-ltb x y h)
 
--- b is the region among the places from j on
-pub record Seeking (w v : List ℕ) (k n j b : ℕ) : Type 0 where
+-- a root's replacement belongs to none
+root-untaken : (w : List ℕ) (j k : ℕ) (r c : ChangeRow) → ofRoot w c ≡ true → takes w j r k c ≡ false
+unfolding takes
+root-untaken w j k r c e = rw e (go (not (eqb (r .region) 0)))
+  where
+    go : (b : Bool) → (b && false) ≡ false
+    go true = refl
+    go false = refl
+
+pub root-nowhere : (w v : List ℕ) (k n : ℕ) (a : Bool) → a ≡ ofRoot w (rowAt v k) → a ≡ true → 0 ≡ regionFrom w v k 0 n
+unfolding regionFrom innermost
+root-nowhere w v k n a e q = go 0 n
+  where
+    go : (j m : ℕ) → 0 ≡ regionFrom w v k j m
+    go j zero = refl
+    go j (suc m) = rw (root-untaken w j k (rowAt v j) (rowAt v k) (sym e ∙ q)) (go (suc j) m)
+
+-- b is the region of the change at place k, with the target parent p, among the places from j on
+pub record Seeking (w v : List ℕ) (k n p j b : ℕ) : Type 0 where
+  pub noRoot : ofRoot w (rowAt v k) ≡ false
+  pub parent : p ≡ targetParent w (rowAt v k)
   pub inside : j ≤ n
   pub low : b ≤ 256
   pub same : b ≡ regionFrom w v k j (n - j)
 
-module _ (w v : List ℕ) (k n : ℕ) where
-  pub seeking-start : Seeking w v k n n 0
+module _ (w v : List ℕ) (k n p : ℕ) where
+  pub seeking-start : (a : Bool) → a ≡ ofRoot w (rowAt v k) → a ≡ false → p ≡ targetParent w (rowAt v k) → Seeking w v k n p n 0
   unfolding regionFrom
-  seeking-start = record { inside = omega arith; low = omega arith; same = rw (sub-self n) }
+  seeking-start a e q f = record { noRoot = sym e ∙ q; parent = f; inside = omega arith; low = omega arith; same = rw (sub-self n) }
 
-  module _ {j b : ℕ} (s : Seeking w v k n j b) where
-    pub seeking-next : 0 < j → (c : ℕ) → c ≡ innermost w v k (j - 1) b → c ≤ 256 → Seeking w v k n (j - 1) c
+  module _ {j b : ℕ} (s : Seeking w v k n p j b) where
+    pub seeking-next : 0 < j → (c : ℕ) → c ≡ innermost w v k (j - 1) b → c ≤ 256 → Seeking w v k n p (j - 1) c
     unfolding regionFrom
     seeking-next h c e l =
         let m : n - (j - 1) ≡ suc (n - j) = omega (arith, s .inside) in
         let i : suc (j - 1) ≡ j = omega arith in
-        record { inside = omega (arith, s .inside); low = l; same = rw (m, i, ← s .same) e }
+        record { noRoot = s .noRoot; parent = s .parent; inside = omega (arith, s .inside); low = l; same = rw (m, i, ← s .same) e }
 
     pub seeking-done : j ≤ 0 → b ≡ regionFrom w v k 0 n
     seeking-done h = let z : j ≡ 0 = omega arith in s .same ∙ rw (z, sub-zero n)
@@ -79,11 +98,6 @@ module _ {A : Type 0} (f : ℕ → A) where
   unfolding upFrom
   up-more j zero = let z : j + 0 ≡ j = omega arith in rw z
   up-more j (suc k) = let z : j + suc k ≡ suc j + k = omega arith in rw z (ap {B = List A} (λ l. f j ∷ l) (up-more (suc j) k))
-
-  pub length-up : (j k : ℕ) → length (map f (upFrom j k)) ≡ k
-  unfolding upFrom
-  length-up j zero = refl
-  length-up j (suc k) = ap suc (length-up (suc j) k)
 
 -- the regions of k changes are found
 pub record Finding (w v R₀ : List ℕ) (n : ℕ) (R : List ℕ) (k : ℕ) : Type 0 where
@@ -104,7 +118,7 @@ module _ (w v R₀ : List ℕ) (n : ℕ) where
       same =
           ap (λ (l : List ℕ). set l k r) (s .same)
           ∙ rw (drop-cons R₀ k 0 (omega arith), up-more f 0 k, append-assoc (map f (upFrom 0 k)) (f (0 + k) ∷ []) (drop (suc k) R₀))
-          (set-at (map f (upFrom 0 k)) (getD R₀ k 0) (drop (suc k) R₀) r k (length-up f 0 k) ∙ ap {B = List ℕ} (λ (x : ℕ). map f (upFrom 0 k) ++ (x ∷ drop (suc k) R₀)) (e ∙ ap f (omega arith)));
+          (set-at (map f (upFrom 0 k)) (getD R₀ k 0) (drop (suc k) R₀) r k (length-map (upFrom 0 k) f ∙ up-long 0 k) ∙ ap {B = List ℕ} (λ (x : ℕ). map f (upFrom 0 k) ++ (x ∷ drop (suc k) R₀)) (e ∙ ap f (omega arith)));
     })
       where
         f : ℕ → ℕ

@@ -13,9 +13,8 @@ use lib.Dec.{eqb}
 use borrow.Author.Tests.{eq-eqb, ne-eqb}
 use Rattle.definition.specs.Planning.{Fate, own, dependent, discarded}
 use Rattle.definition_laws.specs.Basics.{upFrom}
-use Rattle.record_changes.specs.ChangeRow.{ChangeRow, rowOf, rowsOf, fateOf, ownerOf}
+use Rattle.record_changes.specs.ChangeRow.{rowOf, rowsOf, fateOf, ownerOf}
 use Rattle.record_changes.specs.ChangeRowLaws.{rowAt, rowsWords, rows-to, rows-same, rows-written}
-use Rattle.plan_sort.specs.Rows.{withFate}
 use Rattle.plan_changed_region.specs.Stacks.{stated, stated-row, stated-before, stated-after}
 use Rattle.plan_edge.specs.Rule.{regionDepth, regionsOf, isDiscarded, fateWithin, fateAt, fatedAt, fatedRows, edgeRows}
 use Rattle.plan_edge.proofs.Regions.{up-more}

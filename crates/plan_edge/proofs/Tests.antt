@@ -1,18 +1,17 @@
 -- What each test tells of elements, changes and regions.
 -- Assumes nothing.
-use mathlib.Core.Path.{_≡_, refl, sym, ap, _∙_}
+use mathlib.Core.Path.{_≡_, refl, sym}
 use mathlib.Core.Bool.{Bool, true, false, cond, not, _&&_, _||_}
 use mathlib.Core.List.{List}
 use mathlib.Core.Logic.{⊎-elim}
-use Prim.Native.Nat.{ℕ, zero, suc, _+_, _-_, _*_, _≤_, _<_}
-use native.Mathlib.Omega.{arith}
+use Prim.Native.Nat.{ℕ, _+_, _-_, _*_, _≤_, _<_}
 use lib.ListN.{getD, drop}
 use lib.Dec.{leb, ltb, eqb}
 use borrow.Author.Tests.{eq-eqb, ne-eqb, le-leb, lt-leb, lt-ltb, le-ltb, not-true, not-false}
 use Rattle.orders.specs.ListLaws.{lt-or-le}
 use Rattle.record_changes.specs.ChangeRow.{rowOf}
 use Rattle.record_changes.specs.ChangeRowLaws.{rowAt}
-use Rattle.plan_edge.specs.Rule.{word, parentOrRoot, targetParent, ofRoot, inRun, removes, onlyIn, isRunOf, inside, takes, regionDepth}
+use Rattle.plan_edge.specs.Rule.{parentOrRoot, targetParent, ofRoot, inRun, removes, onlyIn, isRunOf, inside, takes}
 
 not-leb : (k j : ℕ) → not (leb k j) ≡ ltb j k
 not-leb k j = ⊎-elim (λ h. rw (lt-leb k j h, lt-ltb j k h)) (λ h. rw (le-leb k j h, le-ltb j k h)) (lt-or-le j k)
@@ -138,13 +137,9 @@ module _ (w v : List ℕ) (j k g : ℕ) (r : g ≡ getD (drop (13 * j) v) 10 0) 
   pub no-region : g ≡ 0 → false ≡ takes w j (rowAt v j) k (rowAt v k)
   no-region z = rw (taking, eq-eqb g 0 z)
 
-  module _ (z : g ≡ 0 → ⊥) (a : Bool) (e : a ≡ ofRoot w (rowAt v k)) where
-    pub root-in-none : a ≡ true → false ≡ takes w j (rowAt v j) k (rowAt v k)
-    root-in-none q = rw (taking, ne-eqb g 0 z, ← e, q)
+  module _ (z : g ≡ 0 → ⊥) (e : ofRoot w (rowAt v k) ≡ false) (p : ℕ) (f : p ≡ targetParent w (rowAt v k)) (b : Bool) (h : b ≡ removes w (rowAt v j) p) where
+    pub removes-parent : b ≡ true → true ≡ takes w j (rowAt v j) k (rowAt v k)
+    removes-parent m = rw (taking, ne-eqb g 0 z, e, ← f, ← h, m)
 
-    module _ (q : a ≡ false) (p : ℕ) (f : p ≡ targetParent w (rowAt v k)) (b : Bool) (h : b ≡ removes w (rowAt v j) p) where
-      pub removes-parent : b ≡ true → true ≡ takes w j (rowAt v j) k (rowAt v k)
-      removes-parent m = rw (taking, ne-eqb g 0 z, ← e, q, ← f, ← h, m)
-
-      pub or-inside : b ≡ false → (d : Bool) → d ≡ inside w j (rowAt v j) k (rowAt v k) → d ≡ takes w j (rowAt v j) k (rowAt v k)
-      or-inside m d i = rw (taking, ne-eqb g 0 z, ← e, q, ← f, ← h, m) i
+    pub or-inside : b ≡ false → (d : Bool) → d ≡ inside w j (rowAt v j) k (rowAt v k) → d ≡ takes w j (rowAt v j) k (rowAt v k)
+    or-inside m d i = rw (taking, ne-eqb g 0 z, e, ← f, ← h, m) i

@@ -4,7 +4,7 @@ use mathlib.Core.Path.{_≡_, refl, sym, ap, _∙_}
 use mathlib.Core.Bool.{Bool, true, false, cond, not, _&&_}
 use mathlib.Core.List.{List, [], _∷_, _++_, map, append-assoc}
 use mathlib.Core.Option.{Option, none, some}
-use Prim.Native.Nat.{ℕ, zero, suc, _+_, _<_}
+use Prim.Native.Nat.{ℕ, suc, _<_}
 use native.Mathlib.Omega.{arith}
 use lib.ListN.{length, getD, length-append}
 use lib.Seq.{getD-at}
@@ -14,7 +14,7 @@ use Rattle.orders.specs.ListLaws.{bool-absurd, both-true}
 use Rattle.definition.specs.Basics.{keep, numbered}
 use Rattle.definition.specs.Elements.{Table}
 use Rattle.definition.specs.Recording.{Change, delete}
-use Rattle.definition.specs.Planning.{Fate, own, dependent, discarded, isDiscarded, nodeByNode, inner}
+use Rattle.definition.specs.Planning.{Fate, dependent, discarded, isDiscarded, nodeByNode, inner}
 use Rattle.definition.specs.EdgeRule.{takes, regionDepth, innermost, regionOf, fateIn, fateWithin, fateAmong, fates1}
 use Rattle.definition.specs.Running.{owned}
 use Rattle.definition_laws.specs.Basics.{All-keep}

@@ -3,23 +3,22 @@
 use mathlib.Core.Path.{_≡_, refl, sym, ap, _∙_}
 use mathlib.Core.Bool.{Bool, true, false, cond, not, _&&_, _||_}
 use mathlib.Core.List.{List}
-use mathlib.Core.Option.{Option, none, some, Option·getD}
-use Prim.Native.Nat.{ℕ, zero, suc, _+_, _-_, _*_, _≤_, _<_}
+use mathlib.Core.Option.{Option·getD}
+use Prim.Native.Nat.{ℕ, zero, suc, _+_, _-_, _*_, _<_}
 use native.Mathlib.Omega.{arith}
 use lib.ListN.{length, getD}
 use lib.Dec.{leb, ltb, eqb, eqb·suc-suc, eqb·suc-zero, eqb·zero-suc}
-use borrow.Author.Tests.{not-true, not-false}
 use Rattle.orders.specs.ListLaws.{bool-absurd}
-use Rattle.definition.specs.Elements.{Table, root?, parent, child}
+use Rattle.definition.specs.Elements.{Table}
 use Rattle.definition.specs.Refusals.{sameParent}
 use Rattle.definition.specs.Recording.{firstChild, after, Change, insert, replace, delete, replaceWithMany, replaceAll}
-use Rattle.definition.specs.Planning.{target, addsRegion, nodeByNode, parentDepth}
+use Rattle.definition.specs.Planning.{target, addsRegion, nodeByNode}
 use Rattle.definition.specs.EdgeRule as edge
 use Rattle.definition_laws.specs.Right.{Sits}
 use Rattle.read_element_table.specs.View.{view}
 use Rattle.read_element_table.specs.Wellformed.{Wellformed}
-use Rattle.read_element_table.specs.Told.{elementOf, length-view, parent-told, root-told, child-told, parent-below}
-use Rattle.record_changes.specs.ChangeRow.{ChangeRow, operation, endOf, regionOf, changeRow}
+use Rattle.read_element_table.specs.Told.{elementOf, length-view, parent-told, root-told, child-told}
+use Rattle.record_changes.specs.ChangeRow.{ChangeRow, operation, endOf, changeRow}
 use Rattle.plan_sort.specs.Rows.{Tells, row-tells}
 use Rattle.plan_changed_region.specs.Fates.{region-none, region-owns}
 use Rattle.plan_edge.specs.Rule.{word, parentOrRoot, targetParent, ofRoot, inRun, removes, onlyIn, isRunOf, inside, takes, regionDepth}

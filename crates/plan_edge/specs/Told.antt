@@ -2,7 +2,7 @@
 -- Assumes nothing.
 use mathlib.Core.Path.{_≡_, refl, sym, ap, _∙_, subst}
 use mathlib.Core.Bool.{Bool, true, false, cond, not, _&&_, _||_}
-use mathlib.Core.List.{List, [], _∷_, map, zipWith, head-eq-of-cons-eq, tail-eq-of-cons-eq}
+use mathlib.Core.List.{List, [], _∷_, _++_, map, zipWith, head-eq-of-cons-eq, tail-eq-of-cons-eq}
 use mathlib.Core.Option.{Option, none, some}
 use Prim.Native.Nat.{ℕ, zero, suc, _+_, _-_, _*_, _≤_, _<_}
 use native.Mathlib.Nat.{zero-add}
@@ -17,23 +17,15 @@ use Rattle.definition.specs.Recording.{Change}
 use Rattle.definition.specs.Planning.{Fate, own, dependent, discarded, nodeByNode, inner}
 use Rattle.definition.specs.Planning as planning
 use Rattle.definition.specs.EdgeRule as edge
-use Rattle.definition_laws.specs.Basics.{upFrom, keep-yes, keep-no}
+use Rattle.definition_laws.specs.Basics.{upFrom, up-at, up-long, keep-yes, keep-no, getD-map}
 use Rattle.definition_laws.specs.Right.{Sits}
 use Rattle.read_element_table.specs.View.{view}
 use Rattle.read_element_table.specs.Wellformed.{Wellformed}
 use Rattle.record_changes.specs.ChangeRow.{ChangeRow, rowsOf}
-use Rattle.record_changes.specs.ChangeRowLaws.{rowAt, rows-from, length-rowsOf}
+use Rattle.record_changes.specs.ChangeRowLaws.{rowAt, rowsWords, rows-from, rows-read, length-rowsOf}
 use Rattle.plan_sort.specs.Rows.{withFate}
 use Rattle.plan_edge.specs.Rule.{takes, regionDepth, innermost, regionFrom, regionsOf, isDiscarded, fateWithin, fateAt, fatedAt, fatedRows, edgeRows}
 use Rattle.plan_edge.specs.Taking.{Placed, takes-placed, depth-placed, owns-placed}
-
--- ── Lists ───────────────────────────────────────────────────────────────────────────────────────────────────
-
-map-up : {A : Type 0} (f : ℕ → A) (k n e : ℕ) (d : A) → e < n → getD (map f (upFrom k n)) e d ≡ f (k + e)
-unfolding upFrom
-map-up f k zero e d h = absurd (omega arith)
-map-up f k (suc n) zero d h = ap f (omega arith)
-map-up f k (suc n) (suc e) d h = map-up f (suc k) n e d (omega arith) ∙ ap f (omega arith)
 
 module _ (t : ℕ) (w src v : List ℕ) (W : Wellformed t w src) (n : ℕ) where
   abbrev T : Table
@@ -96,8 +88,8 @@ module _ (t : ℕ) (w src v : List ℕ) (W : Wellformed t w src) (n : ℕ) where
     region-told : (c : ℕ × Change) → Stands c → Match (edge.regionOf T all c) (getD R (c .0) 0)
     unfolding edge.regionOf regionsOf
     region-told c C =
-        rw (map-up (λ k. regionFrom w v k 0 n) 0 n (c .0) 0 (C .within), zero-add (c .0))
-        (subst (λ (m : ℕ). Match (edge.regionOf T all c) (regionFrom w v (c .0) 0 m)) long (region-from c C 0 cs h))
+        let z : getD R (c .0) 0 ≡ regionFrom w v (c .0) 0 n = getD-map (λ k. regionFrom w v k 0 n) (upFrom 0 n) (c .0) 0 0 (rw (up-long 0 n) (C .within)) ∙ ap (λ (k : ℕ). regionFrom w v k 0 n) (up-at 0 n (c .0) (C .within) ∙ zero-add (c .0)) in
+        rw z (subst (λ (m : ℕ). Match (edge.regionOf T all c) (regionFrom w v (c .0) 0 m)) long (region-from c C 0 cs h))
 
     owns : (q : ℕ × Change) → Stands q → eqb ((rowAt v (q .0)) .region) 2 ≡ nodeByNode T (q .1)
     owns q Q = owns-placed t w src W (q .1) (rowAt v (q .0)) (Q .placed) (Q .sits)
@@ -179,3 +171,8 @@ module _ (t : ℕ) (w src : List ℕ) (W : Wellformed t w src) {X : Type 0} (row
         ap (λ (m : ℕ). map (fatedAt w v (regionsOf w v n)) (upFrom 0 m)) (sym long)
         ∙ fates-from (fateAt w v (regionsOf w v n)) (edge.fateAmong (view t w src) (numbered 0 (map change xs))) 0 xs z
         (All-map (λ q Q. fate-told t w src v W n (map change xs) l h q Q) (numbered 0 (map change xs)) h)
+
+-- what is written is read back
+pub edge-read : (w : List ℕ) (n : ℕ) (v l : List ℕ) → rowsOf n (rowsWords (edgeRows w n v) ++ l) ≡ edgeRows w n v
+unfolding edgeRows fatedRows
+edge-read w n v l = rows-read (edgeRows w n v) l n (length-map (upFrom 0 n) (fatedAt w v (regionsOf w v n)) ∙ up-long 0 n)

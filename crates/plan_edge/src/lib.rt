@@ -1,6 +1,6 @@
 // What becomes of each change by edge rule 1: own, dependent or discarded, by where it stands in the tree. The Rust goes by offsets: plan_changed_region.
 ghost use mathlib.Core.Path.{_≡_};
-ghost use mathlib.Core.Bool.{cond};
+ghost use mathlib.Core.Bool.{false};
 ghost use mathlib.Core.List.{_++_};
 ghost use Prim.Native.Nat.{suc, _+_, _-_, _*_, _^_, _≤_, _<_};
 ghost use lib.ListN.{length, getD, drop};
@@ -148,18 +148,16 @@ fn is_inside(rows: &[u32], table: &[u32], j: usize, k: usize) -> bool
     j < k
 }
 
-// Whether the change at place `k` belongs to the region of the one at place `j`.
-fn takes_change(rows: &[u32], table: &[u32], j: usize, k: usize) -> bool
+// Whether the change at place `k`, no root's replacement and with the target parent `p`, belongs to the region of the one at place `j`.
+fn takes_change(rows: &[u32], table: &[u32], k: usize, p: usize, j: usize) -> bool
     requires { ⌜ (j < 2 ^ 32) × (k < 2 ^ 32) ⌝ }
+    requires { ⌜ (ofRoot (now table) (rowAt (now rows) k) ≡ false) × (p ≡ targetParent (now table) (rowAt (now rows) k)) ⌝ }
     ensures { λ r. ⌜ r ≡ takes (now (table .entry)) j (rowAt (now (rows .entry)) j) k (rowAt (now (rows .entry)) k) ⌝ }
 {
     if field(rows, j, record_changes::REGION) == 0 {
         return false;
     }
-    if of_root(rows, table, k) {
-        return false;
-    }
-    if removes_element(rows, table, j, target_parent(rows, table, k)) {
+    if removes_element(rows, table, j, p) {
         return true;
     }
     is_inside(rows, table, j, k)
@@ -178,12 +176,13 @@ fn region_depth(rows: &[u32], table: &[u32], k: usize) -> usize
     field(rows, k, record_changes::DEPTH)
 }
 
-// The innermost region that takes the change at place `k`, of those from place `j` on, if it is `b` of those behind: by place, index + 1; 0 = none.
-fn innermost_of(rows: &[u32], table: &[u32], k: usize, j: usize, b: usize) -> usize
+// The innermost region that takes that change, of those from place `j` on, if it is `b` of those behind: by place, index + 1; 0 = none.
+fn innermost_of(rows: &[u32], table: &[u32], k: usize, p: usize, j: usize, b: usize) -> usize
     requires { ⌜ (k < 2 ^ 32) × (j < 256) × (b ≤ 256) ⌝ }
+    requires { ⌜ (ofRoot (now table) (rowAt (now rows) k) ≡ false) × (p ≡ targetParent (now table) (rowAt (now rows) k)) ⌝ }
     ensures { λ r. ⌜ (r ≡ innermost (now (table .entry)) (now (rows .entry)) k j b) × (r ≤ 256) ⌝ }
 {
-    if !takes_change(rows, table, j, k) {
+    if !takes_change(rows, table, k, p, j) {
         return b;
     }
     if b == 0 {
@@ -202,10 +201,14 @@ fn region_of(rows: &[u32], n: usize, table: &[u32], k: usize) -> usize
     requires { ⌜ (n ≤ 256) × (k < 2 ^ 32) ⌝ }
     ensures { λ r. ⌜ (r ≡ regionFrom (now (table .entry)) (now (rows .entry)) k 0 n) × (r ≤ 256) ⌝ }
 {
+    if of_root(rows, table, k) {
+        return 0;
+    }
+    let p = target_parent(rows, table, k);
     let mut b = 0;
     let mut j = n;
     while 0 < j {
-        b = innermost_of(rows, table, k, j - 1, b);
+        b = innermost_of(rows, table, k, p, j - 1, b);
         j -= 1;
     }
     b

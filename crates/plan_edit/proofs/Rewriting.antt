@@ -5,6 +5,7 @@ use mathlib.Core.Path.{_≡_, sym, ap, _∙_}
 use Prim.Native.Nat.{ℕ, _≤_}
 use native.Mathlib.Omega.{arith}
 use lib.ListN.{length}
+use Rattle.definition.specs.Choices.{Choices}
 use Rattle.definition.specs.Elements.{Table}
 use Rattle.definition.specs.Basics.{gives}
 use Rattle.definition.specs.Planning.{fated}
@@ -16,7 +17,7 @@ use Rattle.plan_rewrite.specs.Answers.{rewrittenBy, stepsOf, RowsRewritten}
 use Rattle.plan_rewrite.specs.declared.Rewritten.{Rewritten}
 use Rattle.plan_rewrite.specs.declared.Rewritten.the-variants.{Steps, Refused as NotRewritten}
 use Rattle.read_layout.specs.declared.Layout.{Layout}
-use Rattle.plan_model.specs.Fated.{rewritable}
+use Rattle.plan_model.specs.Fated.{RowsFated, rewritable}
 use Rattle.plan_model.specs.Ready.{listedIn, mappingsIn, tableIn, Ready, Facts, ready-facts}
 use Rattle.plan_model.specs.Outcome.{judging, out-dependents}
 use Rattle.plan_edit.specs.Stages.{judgedBy, ChangesJudged, Rewriting, Rewrote}
@@ -56,31 +57,31 @@ module _ {b : List ℕ} {l : Layout} {t s : List ℕ} (r : Ready b l t s) where
     unfolding wordsAt
     map-told = rw e (mapped-words k n mappingsAt (bounded k low))
 
-    module _ {c : ℕ} {w : List ℕ} (F : ChangesJudged b l t s w (Fated c)) where
+    module _ {c : ℕ} {w : List ℕ} (F : RowsFated n T (listedIn l b) c w) where
       pub rows-rewritable : 3328 ≤ length w → Rewritable n (wordsAt b (l .list) (l .sizes .listed)) w c
       unfolding wordsAt
-      rows-rewritable long = rewritable n T (listedIn l b) c w (F .within) (omega (arith, F .within .few)) (facts .elements)
+      rows-rewritable long = rewritable n T (listedIn l b) c w F (omega (arith, F .few)) (facts .elements)
 
       pub rows-rewriting : {out : List ℕ} {q : Rewritten} → RowsRewritten n t s m (wordsAt b (l .list) (l .sizes .listed)) w c out q → Rewriting b l t s m (rowsOf c w) c out q
       unfolding wordsAt
-      rows-rewriting R = record { mapped = map-mapped; mappings = map-told; rows = R .rows ∙ rw map-told; climbs = omega (arith, R .few, F .within .few) }
+      rows-rewriting R = record { mapped = map-mapped; mappings = map-told; rows = R .rows ∙ rw map-told; climbs = omega (arith, R .few, F .few) }
 
-module _ {b : List ℕ} {l : Layout} {t s : List ℕ} {c : ℕ} {w : List ℕ} (F : ChangesJudged b l t s w (Fated c)) {m out : List ℕ} {q : Rewritten} (R : Rewriting b l t s m (rowsOf c w) c out q) where
-  were : judging b ≡ gives (fated (map (planOf (listedIn l b)) (rowsOf c w)))
+module _ {h : Choices} {b : List ℕ} {l : Layout} {t s : List ℕ} {c : ℕ} {w : List ℕ} (F : ChangesJudged h b l t s w (Fated c)) {m out : List ℕ} {q : Rewritten} (R : Rewriting b l t s m (rowsOf c w) c out q) where
+  were : judging h b ≡ gives (fated (map (planOf (listedIn l b)) (rowsOf c w)))
   unfolding judgedBy
   were = sym (F .answer)
 
   -- 9 or 10 of a dependent
-  pub dependents-refused : Ready b l t s → (k : ℕ) → q ≡ NotRewritten k → (changes running first : List ℕ) → PlanMade b l t s changes running first (Refused k)
+  pub dependents-refused : Ready b l t s → (k : ℕ) → q ≡ NotRewritten k → (changes running first : List ℕ) → PlanMade h b l t s changes running first (Refused k)
   unfolding plannedBy rewrittenBy
   dependents-refused r k z changes running first =
       record {
-        answer = sym (out-dependents (ready-facts r) (rowsOf c w) were (F .within .kept) k (sym (R .rows) ∙ ap (λ (p : Rewritten). rewrittenBy p (rowsOf c out)) z));
+        answer = sym (out-dependents h (ready-facts r) (rowsOf c w) were (F .within .kept) k (sym (R .rows) ∙ ap (λ (p : Rewritten). rewrittenBy p (rowsOf c out)) z));
         within = tt;
         found = record { changes = _; judged = were };
       }
 
-  pub dependents-rewritten : (k : ℕ) → q ≡ Steps k → Rewrote b l t s m c k out
+  pub dependents-rewritten : (k : ℕ) → q ≡ Steps k → Rewrote h b l t s m c k out
   unfolding rewrittenBy stepsOf
   dependents-rewritten k z =
       record {

@@ -10,6 +10,7 @@ use lib.Seq.{paste, take-at}
 use Rattle.orders.specs.Lists.{All}
 use Rattle.orders.specs.ListLaws.{All-map}
 use Rattle.definition.specs.Basics.{Answer, refused, gives, _>>=_}
+use Rattle.definition.specs.Choices.{Choices}
 use Rattle.definition.specs.Elements.{Table}
 use Rattle.definition.specs.Planning.{Planned}
 use Rattle.definition.specs.Rewriting.{mapping}
@@ -49,7 +50,7 @@ is-refused (gives x) f k h e = refused-gives (e ∙ h x .1)
 within-given : (n : ℕ) (a : Answer (List (ℕ × ℕ × ℕ))) (l : List (ℕ × ℕ × ℕ)) → NotesWithin n a → a ≡ gives l → All (λ m. m .0 < n) l
 within-given n a l h e = rw e at h
 
-module _ {b : List ℕ} {l : Layout} {t s : List ℕ} (r : Ready b l t s) {m : List ℕ} {c steps : ℕ} {w : List ℕ} (R : Rewrote b l t s m c steps w) where
+module _ {h : Choices} {b : List ℕ} {l : Layout} {t s : List ℕ} (r : Ready b l t s) {m : List ℕ} {c steps : ℕ} {w : List ℕ} (R : Rewrote h b l t s m c steps w) where
   abbrev n : ℕ
   n = l .sizes .elements
 
@@ -70,12 +71,12 @@ module _ {b : List ℕ} {l : Layout} {t s : List ℕ} (r : Ready b l t s) {m : L
 
   module _ {before after : List ℕ} {q : Notes} (N : NotesSettled n t s m (notesIn l b) (l .sizes .notes) before after q) where
     -- 9 or 10 of a note
-    pub notes-refused : (k : ℕ) → q ≡ NotSettled k → (running first : List ℕ) → PlanMade b l t s w running first (Refused k)
+    pub notes-refused : (k : ℕ) → q ≡ NotSettled k → (running first : List ℕ) → PlanMade h b l t s w running first (Refused k)
     unfolding plannedBy notesBy
     notes-refused k e running first =
         let a : settles ≡ refused k =
         is-refused settles (λ ns. gives (paste before 0 (noteWords ns) (3 * l .sizes .notes))) k (λ ns. (_, refl)) (sym (ap (λ (p : Notes). notesBy p after) e) ∙ (N .words ∙ rw same-settles)) in
-        record { answer = sym (out-notes facts (R .before) (R .judged) (R .kept) (rowsOf c w) steps (R .rewrote) k a); within = tt; found = record { changes = _; judged = R .judged } }
+        record { answer = sym (out-notes h facts (R .before) (R .judged) (R .kept) (rowsOf c w) steps (R .rewrote) k a); within = tt; found = record { changes = _; judged = R .judged } }
 
     rows-kept : All (Kept n T listed) (rowsOf c w)
     rows-kept = rewritten-kept n T (mapping (mappingsIn l b)) listed (length-view n t s) (R .before) (R .before) (rowsOf c w, steps) (R .kept) (R .rewrote)
@@ -99,7 +100,7 @@ module _ {b : List ℕ} {l : Layout} {t s : List ℕ} (r : Ready b l t s) {m : L
       rows-long = length-map (rowsOf c w) (planOf listed) ∙ length-rowsOf c w
 
       -- nothing is refused
-      pub plan-made : PlanMade b l t s w running after (Made counts)
+      pub plan-made : PlanMade h b l t s w running after (Made counts)
       unfolding plannedBy
       plan-made =
           let (ns, a, x) = settled-notes in
@@ -113,7 +114,7 @@ module _ {b : List ℕ} {l : Layout} {t s : List ℕ} (r : Ready b l t s) {m : L
           let none-lost = ed .0 ∙ sym (discarded-told listed (rowsOf c w)) in
           let same : outcomeIn l b w running after counts ≡ rowsOutcome T listed (rowsOf c w) steps (map noteHeld ns) = λ i. record { changes = ps; running = runs-told i; notes = notes i; discarded = none-lost i; climbs = steps } in
           record {
-            answer = ap gives same ∙ sym (out-made facts (R .before) (R .judged) (R .kept) (rowsOf c w) steps (R .rewrote) ns a low);
+            answer = ap gives same ∙ sym (out-made h facts (R .before) (R .judged) (R .kept) (rowsOf c w) steps (R .rewrote) ns a low);
             within = record {
               few = R .few;
               most = omega (arith, running-most w c);

@@ -6,6 +6,7 @@ use Prim.Native.Nat.{ℕ, _≤_, _<_}
 use lib.ListN.{take}
 use Rattle.orders.specs.Lists.{All}
 use Rattle.definition.specs.Basics.{Answer, refused, gives}
+use Rattle.definition.specs.Choices.{Choices}
 use Rattle.definition.specs.Planning as rules
 use Rattle.definition.specs.Planning.{overlaps, fated}
 use Rattle.record_changes.specs.ChangeRow.{rowsOf}
@@ -50,18 +51,18 @@ PlanWithin b l t s changes running (Overlap j k) = Unit {0}
 PlanWithin b l t s changes running (Made c) = RowsPlanned b l t s changes running c
 
 -- none of the changes of the batch b overlap, and each has its fate
-pub record AllFated (b : List ℕ) : Type 0 where
+pub record AllFated (h : Choices) (b : List ℕ) : Type 0 where
   pub changes : List rules.Planned
-  pub judged : judging b ≡ gives (fated changes)
+  pub judged : judging h b ≡ gives (fated changes)
 
 -- what the first stage found, where this is the answer
-abbrev pub FoundFirst : List ℕ → Planned → Type 0
-FoundFirst b (Refused k) = AllFated b
-FoundFirst b (Overlap j k) = judging b ≡ gives (overlaps j k)
-FoundFirst b (Made c) = AllFated b
+abbrev pub FoundFirst : Choices → List ℕ → Planned → Type 0
+FoundFirst h b (Refused k) = AllFated h b
+FoundFirst h b (Overlap j k) = judging h b ≡ gives (overlaps j k)
+FoundFirst h b (Made c) = AllFated h b
 
--- THE PROMISE of planning, of the batch b with the layout l, the words t and s telling of its elements
-pub record PlanMade (b : List ℕ) (l : Layout) (t s changes running first : List ℕ) (r : Planned) : Type 0 where
-  pub answer : plannedBy l b changes running first r ≡ planning b
+-- THE PROMISE of planning, by the choices h, of the batch b with the layout l, the words t and s telling of its elements
+pub record PlanMade (h : Choices) (b : List ℕ) (l : Layout) (t s changes running first : List ℕ) (r : Planned) : Type 0 where
+  pub answer : plannedBy l b changes running first r ≡ planning h b
   pub within : PlanWithin b l t s changes running r
-  pub found : FoundFirst b r
+  pub found : FoundFirst h b r

@@ -5,6 +5,7 @@ use mathlib.Core.Path.{_≡_, sym, ap, _∙_}
 use Prim.Native.Nat.{ℕ}
 use lib.ListN.{length, take}
 use Rattle.definition.specs.Basics.{Answer, refused, gives, _>>=_, keep}
+use Rattle.definition.specs.Choices.{Choices}
 use Rattle.definition.specs.Planning as rules
 use Rattle.definition.specs.Planning.{Fate, isDiscarded, Judgement, overlaps, fated}
 use Rattle.definition.specs.Rewriting.{mapping, rewritten, settled}
@@ -25,32 +26,32 @@ use Rattle.plan_edit.specs.declared.Counts.{Counts}
 use Rattle.plan_edit.specs.declared.Planned.the-variants.{Refused, Made}
 
 -- the words rows, places and notes tell the plan p of the accepted batch a
-pub record TellsPlan (b : List ℕ) (l : Layout) (rows places words : List ℕ) (c : Counts) (a : Accepted) (p : Plan) : Type 0 where
-  pub plan : plan a ≡ gives p
+pub record TellsPlan (h : Choices) (b : List ℕ) (l : Layout) (rows places words : List ℕ) (c : Counts) (a : Accepted) (p : Plan) : Type 0 where
+  pub plan : plan h a ≡ gives p
   pub changes : map (planOf (listedIn l b)) (rowsOf (c .changes) rows) ≡ p .changes
   pub performed : map (λ k. planOf (listedIn l b) (rowAt rows k)) (take (c .runs) places) ≡ performed a p
   pub notes : notesOf (l .sizes .notes) words ≡ (store (atFirst a p)) .notes
   pub discarded : c .discarded ≡ length (keep (λ q. isDiscarded q.fate) (p .changes))
   pub climbs : c .climbs ≡ p .climbs
 
-planning-accepted : (b : List ℕ) (a : Accepted) → accepted b ≡ gives a → planning b ≡ (plan a >>= λ p. gives (outcome a p))
+planning-accepted : (h : Choices) (b : List ℕ) (a : Accepted) → accepted b ≡ gives a → planning h b ≡ (plan h a >>= λ p. gives (outcome a p))
 unfolding planning _>>=_
-planning-accepted b a e = rw e
+planning-accepted h b a e = rw e
 
 -- what is refused, the definition refuses
-pub plan-refused : {b : List ℕ} {l : Layout} {t s changes running first : List ℕ} {k : ℕ} (a : Accepted) → accepted b ≡ gives a → PlanMade b l t s changes running first (Refused k) → plan a ≡ refused k
+pub plan-refused : {h : Choices} {b : List ℕ} {l : Layout} {t s changes running first : List ℕ} {k : ℕ} (a : Accepted) → accepted b ≡ gives a → PlanMade h b l t s changes running first (Refused k) → plan h a ≡ refused k
 unfolding plannedBy _>>=_
-plan-refused {b} {k = k} a e m = go (plan a) (m .answer ∙ planning-accepted b a e)
+plan-refused {h} {b} {k = k} a e m = go (plan h a) (m .answer ∙ planning-accepted h b a e)
   where
     go : (o : Answer Plan) → refused k ≡ (o >>= λ p. gives (outcome a p)) → o ≡ refused k
     go (refused n) z = let y : k ≡ n = cc in ap refused (sym y)
     go (gives p) z = refused-gives z
 
 -- what is made is the definition's plan
-pub plan-told : {b : List ℕ} {l : Layout} {t s changes running first : List ℕ} {c : Counts} (a : Accepted) → accepted b ≡ gives a → PlanMade b l t s changes running first (Made c) → (p : Plan) × TellsPlan b l changes running first c a p
+pub plan-told : {h : Choices} {b : List ℕ} {l : Layout} {t s changes running first : List ℕ} {c : Counts} (a : Accepted) → accepted b ≡ gives a → PlanMade h b l t s changes running first (Made c) → (p : Plan) × TellsPlan h b l changes running first c a p
 unfolding plannedBy outcome
-plan-told {b} {l} {t} {s} {changes} {running} {first} {c} a e m =
-    let (p, g, z) = both-given (plan a) (λ p. gives (outcome a p)) (sym (m .answer ∙ planning-accepted b a e)) in
+plan-told {h} {b} {l} {t} {s} {changes} {running} {first} {c} a e m =
+    let (p, g, z) = both-given (plan h a) (λ p. gives (outcome a p)) (sym (m .answer ∙ planning-accepted h b a e)) in
     let o : outcomeIn l b changes running first c ≡ outcome a p = sym (gives-inj z) in (
       p,
       record {
@@ -66,9 +67,9 @@ plan-told {b} {l} {t} {s} {changes} {running} {first} {c} a e m =
 -- ── What the first stage found ──────────────────────────────────────────────────────────────────────────────
 
 -- of an accepted batch
-pub judged-accepted : (b : List ℕ) {j : Judgement} (a : Accepted) → accepted b ≡ gives a → judging b ≡ gives j → judgeChanges a ≡ j
+pub judged-accepted : (h : Choices) (b : List ℕ) {j : Judgement} (a : Accepted) → accepted b ≡ gives a → judging h b ≡ gives j → judgeChanges h a ≡ j
 unfolding judging _>>=_
-judged-accepted b {j} a e z = gives-inj (let y : judging b ≡ gives (judgeChanges a) = rw e in sym y ∙ z)
+judged-accepted h b {j} a e z = gives-inj (let y : judging h b ≡ gives (judgeChanges h a) = rw e in sym y ∙ z)
 
 -- rewriting keeps the fates
 pub rewrite-fates : (a : Accepted) (ps : List rules.Planned) (p : Plan) → rewriteChanges a ps ≡ gives p → map (λ q. q .fate) (p .changes) ≡ map (λ q. q .fate) ps

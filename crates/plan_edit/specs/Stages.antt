@@ -1,13 +1,18 @@
 -- What each stage of planning leaves for the next, of the batch b with the layout l, the words t and s telling of its elements.
 -- Assumes nothing.
+use mathlib.Core.Bool.{cond}
 use mathlib.Core.List.{List, map}
 use mathlib.Core.Path.{_≡_}
 use Prim.Native.Nat.{ℕ, _≤_}
+use lib.Dec.{eqb}
 use Rattle.orders.specs.Lists.{All}
 use Rattle.definition.specs.Basics.{Answer, gives}
+use Rattle.definition.specs.Choices.{Choices}
 use Rattle.definition.specs.Planning.{Judgement as Judged, overlaps, fated}
 use Rattle.definition.specs.Rewriting.{mapping}
 use Rattle.record_changes.specs.ChangeRow.{ChangeRow, rowsOf}
+use Rattle.plan_changed_region.specs.Fates.{plannedRows}
+use Rattle.plan_edge.specs.Rule.{edgeRows}
 use Rattle.plan_mapping.specs.Mapped.{mappedBy, Mapped}
 use Rattle.record_rewritten.specs.Stated.{planOf}
 use Rattle.plan_rewrite.specs.Kept.{Kept}
@@ -26,6 +31,10 @@ pub record Sorted (b : List ℕ) (l : Layout) (t s : List ℕ) (c : ℕ) (w : Li
   pub few : c ≤ 256
   pub rows : rowsOf c w ≡ sortedRows (tableIn l t s) (callsIn l b)
 
+-- c rows of the words v with their fates, by the choice and the words w of the element table
+unfoldable pub ruleRows : Choices → List ℕ → ℕ → List ℕ → List ChangeRow
+ruleRows h w c v = cond (eqb h.edge 0) (plannedRows (rowsOf c v)) (edgeRows w c v)
+
 -- what the answer of the first stage means, where the words w hold the rows with their fates
 unfoldable pub judgedBy : List ℕ → List ℕ → Judgement → Judged
 judgedBy listed w (Overlap j k) = overlaps j k
@@ -37,8 +46,8 @@ JudgedWithin b l t s w (Overlap j k) = Unit {0}
 JudgedWithin b l t s w (Fated c) = RowsFated (l .sizes .elements) (tableIn l t s) (listedIn l b) c w
 
 -- THE PROMISE of the first stage
-pub record ChangesJudged (b : List ℕ) (l : Layout) (t s w : List ℕ) (r : Judgement) : Type 0 where
-  pub answer : gives (judgedBy (listedIn l b) w r) ≡ judging b
+pub record ChangesJudged (h : Choices) (b : List ℕ) (l : Layout) (t s w : List ℕ) (r : Judgement) : Type 0 where
+  pub answer : gives (judgedBy (listedIn l b) w r) ≡ judging h b
   pub within : JudgedWithin b l t s w r
 
 -- what becomes of rows, of which all that the second stage needs is known, by the mappings of the batch
@@ -53,11 +62,11 @@ pub record Rewriting (b : List ℕ) (l : Layout) (t s m : List ℕ) (before : Li
   pub climbs : stepsOf r ≤ 1048576
 
 -- none is refused, after so many climb steps
-pub record Rewrote (b : List ℕ) (l : Layout) (t s m : List ℕ) (c steps : ℕ) (w : List ℕ) : Type 0 where
+pub record Rewrote (h : Choices) (b : List ℕ) (l : Layout) (t s m : List ℕ) (c steps : ℕ) (w : List ℕ) : Type 0 where
   pub few : c ≤ 256
   -- the rows as they were judged
   pub before : List ChangeRow
-  pub judged : judging b ≡ gives (fated (map (planOf (listedIn l b)) before))
+  pub judged : judging h b ≡ gives (fated (map (planOf (listedIn l b)) before))
   pub kept : All (Kept (l .sizes .elements) (tableIn l t s) (listedIn l b)) before
   pub mapped : Mapped (l .sizes .elements) m
   pub mappings : mappedBy m ≡ mapping (mappingsIn l b)

@@ -1,18 +1,23 @@
 // Planning: from an accepted batch to the changes that run, in order, and the notes where they settle; refusals 8, 9 and 10. In two stages: what becomes of
 // each change (`judge_changes`), then where dependents and notes go. Nothing is edited meanwhile: the run need not think of overlaps, owners or order again.
+use choices::Choices;
 use plan_notes::Notes;
 use plan_overlap::Replacements;
 use plan_rewrite::Rewritten;
 use read_layout::Layout;
 ghost use mathlib.Core.Path.{_≡_};
-ghost use Prim.Native.Nat.{_≤_};
-ghost use lib.ListN.{length};
+ghost use mathlib.Core.List.{_++_};
+ghost use Prim.Native.Nat.{_*_, _≤_};
+ghost use lib.ListN.{length, drop};
+ghost use Rattle.choices.specs.Meant.{meant};
 ghost use Rattle.record_changes.specs.ChangeRow.{rowsOf};
+ghost use Rattle.record_changes.specs.ChangeRowLaws.{rowsWords};
 ghost use Rattle.plan_mapping.specs.Mapped.{Mapped};
 ghost use Rattle.plan_notes.specs.Answers.{NotesSettled};
-ghost use Rattle.plan_model.specs.Ready.{notesIn, Ready};
+ghost use Rattle.plan_model.specs.Ready.{listedIn, notesIn, tableIn, Ready};
+ghost use Rattle.plan_model.specs.Fated.{RowsFated};
 ghost use Rattle.plan_edit.specs.Counted.{discardedOf};
-ghost use Rattle.plan_edit.specs.Stages.{Sorted, ChangesJudged, Rewriting, Rewrote};
+ghost use Rattle.plan_edit.specs.Stages.{Sorted, ruleRows, ChangesJudged, Rewriting, Rewrote};
 ghost use Rattle.plan_edit.specs.Answers.{PlanMade};
 ghost use Rattle.plan_edit.specs.declared.Judgement.the-variants.{Fated};
 
@@ -86,9 +91,22 @@ fn record_and_sort(
     c
 }
 
+// What becomes of each of `c` sorted changes, by the edge rule: the words FATE and OWNER of its row.
+fn state_fates(choices: Choices, sorted: &mut [u32], c: usize, table: &[u32])
+    requires { ⌜ (13 * c ≤ length (now sorted)) × (c ≤ 256) ⌝ }
+    ensures { λ _. ⌜ now (sorted .exit) ≡ rowsWords (ruleRows (meant choices) (now (table .entry)) c (now (sorted .entry))) ++ drop (13 * c) (now (sorted .entry)) ⌝ }
+{
+    if choices.edge == 0 {
+        plan_changed_region::plan_fates(sorted, c);
+        return;
+    }
+    plan_edge::plan_edge_fates(sorted, c, table);
+}
+
 // Rust: EditPlan::build, up to the fates. The first stage: the recorded changes in sorted order are judged, and unless two overlap, `sorted` holds their
 // rows with what becomes of each.
 pub fn judge_changes(
+    choices: Choices,
     b: &[u8],
     l: Layout,
     table: &[u32],
@@ -99,13 +117,13 @@ pub fn judge_changes(
 ) -> Judgement
     requires { ⌜ Ready (now b) l (now table) (now source) ⌝ }
     requires { ⌜ (3328 ≤ length (now recorded)) × (256 ≤ length (now order)) × (3328 ≤ length (now sorted)) ⌝ }
-    ensures { λ r. ⌜ ChangesJudged (now (b .entry)) l (now (table .entry)) (now (source .entry)) (now (sorted .exit)) r ⌝ }
+    ensures { λ r. ⌜ ChangesJudged (meant choices) (now (b .entry)) l (now (table .entry)) (now (source .entry)) (now (sorted .exit)) r ⌝ }
 {
     let c = record_and_sort(b, l, table, source, recorded, order, sorted);
     match plan_overlap::replacements_are_disjoint(sorted, c) {
         Replacements::Overlap(j, k) => Judgement::Overlap(j, k),
         Replacements::Disjoint => {
-            plan_changed_region::plan_fates(sorted, c);
+            state_fates(choices, sorted, c, table);
             Judgement::Fated(c)
         }
     }
@@ -140,6 +158,7 @@ fn settle(
 
 // The notes settle, and the rewritten changes are put in running order: the plan, or 9 or 10 of a note.
 fn settle_and_order(
+    choices: Choices,
     b: &[u8],
     l: Layout,
     table: &[u32],
@@ -153,9 +172,9 @@ fn settle_and_order(
     first: &mut [u32],
 ) -> Planned
     requires { ⌜ Ready (now b) l (now table) (now source) ⌝ }
-    requires { ⌜ Rewrote (now b) l (now table) (now source) (now map) c steps (now changes) ⌝ }
+    requires { ⌜ Rewrote (meant choices) (now b) l (now table) (now source) (now map) c steps (now changes) ⌝ }
     requires { ⌜ (256 ≤ length (now order)) × (256 ≤ length (now running)) × (768 ≤ length (now first)) ⌝ }
-    ensures { λ r. ⌜ PlanMade (now (b .entry)) l (now (table .entry)) (now (source .entry)) (now (changes .entry)) (now (running .exit)) (now (first .exit)) r ⌝ }
+    ensures { λ r. ⌜ PlanMade (meant choices) (now (b .entry)) l (now (table .entry)) (now (source .entry)) (now (changes .entry)) (now (running .exit)) (now (first .exit)) r ⌝ }
 {
     match settle(b, l, table, source, map, first) {
         Notes::Refused(number) => Planned::Refused(number),
@@ -184,7 +203,7 @@ fn rewrite(
     changes: &mut [u32],
 ) -> Rewritten
     requires { ⌜ Ready (now b) l (now table) (now source) ⌝ }
-    requires { ⌜ ChangesJudged (now b) l (now table) (now source) (now sorted) (Fated c) ⌝ }
+    requires { ⌜ RowsFated (l .sizes .elements) (tableIn l (now table) (now source)) (listedIn l (now b)) c (now sorted) ⌝ }
     requires { ⌜ (3328 ≤ length (now sorted)) × (2048 ≤ length (now map)) × (3328 ≤ length (now changes)) ⌝ }
     ensures { λ r. ⌜ Rewriting (now (b .entry)) l (now (table .entry)) (now (source .entry)) (now (map .exit)) (rowsOf c (now (sorted .entry))) c (now (changes .exit)) r ⌝ }
 {
@@ -206,6 +225,7 @@ fn rewrite(
 
 // The second stage: dependents are rewritten, then the notes settle: the plan, or 9 or 10.
 fn rewrite_and_settle(
+    choices: Choices,
     b: &[u8],
     l: Layout,
     table: &[u32],
@@ -219,14 +239,15 @@ fn rewrite_and_settle(
     first: &mut [u32],
 ) -> Planned
     requires { ⌜ Ready (now b) l (now table) (now source) ⌝ }
-    requires { ⌜ ChangesJudged (now b) l (now table) (now source) (now sorted) (Fated c) ⌝ }
+    requires { ⌜ ChangesJudged (meant choices) (now b) l (now table) (now source) (now sorted) (Fated c) ⌝ }
     requires { ⌜ (3328 ≤ length (now sorted)) × (3328 ≤ length (now rewritten)) × (256 ≤ length (now order)) × (256 ≤ length (now running)) × (2048 ≤ length (now map)) × (768 ≤ length (now first)) ⌝ }
-    ensures { λ r. ⌜ PlanMade (now (b .entry)) l (now (table .entry)) (now (source .entry)) (now (rewritten .exit)) (now (running .exit)) (now (first .exit)) r ⌝ }
+    ensures { λ r. ⌜ PlanMade (meant choices) (now (b .entry)) l (now (table .entry)) (now (source .entry)) (now (rewritten .exit)) (now (running .exit)) (now (first .exit)) r ⌝ }
 {
     match rewrite(b, l, table, source, sorted, c, map, rewritten) {
         Rewritten::Refused(number) => Planned::Refused(number),
         Rewritten::Steps(k) => {
             settle_and_order(
+                choices,
                 b,
                 l,
                 table,
@@ -246,6 +267,7 @@ fn rewrite_and_settle(
 // Rust: EditPlan::build, with TreeStore::with_annotations. Planning of an accepted batch: the change rows as they run, the places in running order and the
 // notes where they settle, or the first refusal out of 8, 9 and 10.
 pub fn plan(
+    choices: Choices,
     b: &[u8],
     l: Layout,
     table: &[u32],
@@ -260,12 +282,13 @@ pub fn plan(
 ) -> Planned
     requires { ⌜ Ready (now b) l (now table) (now source) ⌝ }
     requires { ⌜ (3328 ≤ length (now recorded)) × (3328 ≤ length (now sorted)) × (3328 ≤ length (now changes)) × (256 ≤ length (now order)) × (256 ≤ length (now running)) × (2048 ≤ length (now map)) × (768 ≤ length (now first)) ⌝ }
-    ensures { λ r. ⌜ PlanMade (now (b .entry)) l (now (table .entry)) (now (source .entry)) (now (changes .exit)) (now (running .exit)) (now (first .exit)) r ⌝ }
+    ensures { λ r. ⌜ PlanMade (meant choices) (now (b .entry)) l (now (table .entry)) (now (source .entry)) (now (changes .exit)) (now (running .exit)) (now (first .exit)) r ⌝ }
 {
-    match judge_changes(b, l, table, source, recorded, order, sorted) {
+    match judge_changes(choices, b, l, table, source, recorded, order, sorted) {
         Judgement::Overlap(j, k) => Planned::Overlap(j, k),
         Judgement::Fated(c) => {
             rewrite_and_settle(
+                choices,
                 b,
                 l,
                 table,

@@ -7,17 +7,23 @@ use Prim.Native.Nat.{ℕ, zero, suc, _+_, _*_, _≤_, _<_}
 use native.Mathlib.Omega.{arith}
 use lib.ListN.{length, getD, drop, length-map}
 use lib.Seq.{drop-drop}
+use borrow.Author.Tests.{ne-eqb}
 use Rattle.orders.specs.Lists.{All}
-use Rattle.orders.specs.ListLaws.{bool-absurd}
+use Rattle.orders.specs.ListLaws.{bool-absurd, All-map}
 use Rattle.definition.specs.Basics.{rising, lower}
+use Rattle.definition.specs.Choices.{Choices}
 use Rattle.definition.specs.Elements.{Table}
 use Rattle.definition.specs.Refusals.{Call}
 use Rattle.definition.specs.Recording.{firstChild, after, Change, insert, replace, delete, replaceWithMany, replaceAll, call, recorded}
-use Rattle.definition.specs.Planning.{Fate, dependent, Planned, target, key, sorted, overlap, nodeByNode, fates, withFates, planned}
+use Rattle.definition.specs.Planning.{Fate, dependent, Planned, target, key, sorted, overlap, nodeByNode, withFates}
+use Rattle.definition.specs.EdgeRule.{fates1, fatesBy, planned}
 use Rattle.definition_laws.specs.Basics.{map-All, getD-map}
-use Rattle.definition_laws.specs.Right.{Right, judged, below-E}
+use Rattle.definition_laws.specs.Right.{Right, right-sits, judged, below-E}
 use Rattle.definition_laws.specs.Sorting.{sort-all}
-use Rattle.definition_laws.specs.Stages.{planned-changes, planned-fates}
+use Rattle.definition_laws.specs.Stages.{planned-changes, planned-fates, fatesBy-0}
+use Rattle.read_element_table.specs.View.{view}
+use Rattle.read_element_table.specs.Wellformed.{Wellformed}
+use Rattle.read_element_table.specs.Told.{length-view}
 use Rattle.record_changes.specs.ChangeRow.{ChangeRow, rowsOf, operation, endOf, changeRow}
 use Rattle.record_changes.specs.ChangeRowLaws.{rowAt, length-rowsOf, row-among}
 use Rattle.record_queue.specs.Recorded.{recordedAt, snd, recorded-changes}
@@ -26,12 +32,15 @@ use Rattle.plan_sort.specs.Rows.{rowKey, rowFate, withFate, fate-stated, row-te
 use Rattle.plan_sort.specs.Sorting.{sorted-rows, sorted-changes}
 use Rattle.plan_overlap.specs.Overlap.{rowsOverlap, overlap-told}
 use Rattle.plan_changed_region.specs.Fates.{plannedRows, fates-told}
+use Rattle.plan_edge.specs.Rule.{edgeRows}
+use Rattle.plan_edge.specs.Taking.{row-placed}
+use Rattle.plan_edge.specs.Told.{RowTells, edge-fates-told}
 use Rattle.record_rewritten.specs.Stated.{changeBy, newOf, changeOf, planOf, Rewritable, fate-dependent}
 use Rattle.record_rewritten.specs.Exact.{recorded-states, recorded-exact, exact-stated}
 use Rattle.plan_rewrite.specs.Rewritten.{noChange}
 use Rattle.plan_rewrite.specs.Kept.{Kept}
 use Rattle.plan_model.specs.Recorded.{Known}
-use Rattle.plan_model.specs.Owners.{Owned, fates-owned}
+use Rattle.plan_model.specs.Owners.{Owned, by-owned}
 
 -- ── Sorted ──────────────────────────────────────────────────────────────────────────────────────────────────
 
@@ -44,9 +53,9 @@ module _ (T : Table) (cs : List Call) where
   unfoldable pub sortedRows : List ChangeRow
   sortedRows = rising rowKey (changeRows T cs)
 
-  -- and with their fates
-  unfoldable pub fatedRows : List ChangeRow
-  fatedRows = plannedRows sortedRows
+  -- and with their fates, by a choice
+  unfoldable pub fatedRows : Choices → List ChangeRow
+  fatedRows h = zipWith withFate sortedRows (fatesBy h T (sorted T (recorded cs)))
 
   rows-sorted : sortedRows ≡ map (rowFor T) sortedAt
   unfolding sortedRows sortedAt changeRows
@@ -90,6 +99,13 @@ owner-replaces T (suc (suc zero)) x y z new e = refl
 owner-replaces T (suc (suc (suc zero))) x y z new e = bool-absurd e refl
 owner-replaces T (suc (suc (suc (suc zero)))) x y z new e = bool-absurd e refl
 owner-replaces T (suc (suc (suc (suc (suc op))))) x y z new e = bool-absurd e refl
+
+-- rows of things, with their fates
+zip-map : {A : Type 0} (row : A → ChangeRow) (xs : List A) (fs : List Fate) → zipWith withFate (map row xs) fs ≡ zipWith (λ x f. withFate (row x) f) xs fs
+unfolding zipWith
+zip-map row [] fs = refl
+zip-map row (x ∷ xs) [] = refl
+zip-map row (x ∷ xs) (f ∷ fs) = ap {B = List ChangeRow} (λ l. withFate (row x) f ∷ l) (zip-map row xs fs)
 
 -- what holds of all rows holds of each
 pub rows-each : (P : ChangeRow → Type 0) (c : ℕ) (w : List ℕ) → All P (rowsOf c w) → (i : ℕ) → i < c → P (rowAt w i)
@@ -138,29 +154,33 @@ module _ (n : ℕ) (T : Table) (listed : List ℕ) (long : length T ≡ n) where
   zip-planned (y ∷ ys) (f ∷ fs) k =
       rw (recorded-states T listed (y .0) f (y .1) (k .0 .stands), fate-stated (rowFor T y) f) (ap {B = List Planned} (λ l. record { change = y .1; fate = f } ∷ l) (zip-planned ys fs (k .1)))
 
-  module _ (cs : List Call) (known : All (Known T listed) (recordedAt cs)) where
+  module _ (h : Choices) (cs : List Call) (known : All (Known T listed) (recordedAt cs)) where
     known-sorted : All (Known T listed) (sortedAt T cs)
     unfolding sortedAt rising
     known-sorted = sort-all (λ (x y : ℕ × Change). lower (key T (x .1)) (key T (y .1))) (Known T listed) (recordedAt cs) known
 
     -- what becomes of the sorted changes
     abbrev fs : List Fate
-    fs = fates T (map snd (sortedAt T cs))
+    fs = fatesBy h T (map snd (sortedAt T cs))
 
-    rows-fated : fatedRows T cs ≡ zipWith fatedRow (sortedAt T cs) fs
+    rows-fated : fatedRows T cs h ≡ zipWith fatedRow (sortedAt T cs) fs
     unfolding fatedRows
-    rows-fated = rw (rows-sorted T cs) (fates-told T (rowFor T) snd (λ x. row-tells T (x .0) (x .1)) (sortedAt T cs))
+    rows-fated = rw (rows-sorted T cs, changes-sorted T cs) (zip-map (rowFor T) (sortedAt T cs) fs)
+
+    -- by rule 0 the stacks of regions give them
+    pub rule-0 : h .edge ≡ 0 → plannedRows (sortedRows T cs) ≡ fatedRows T cs h
+    rule-0 e = rw (rows-sorted T cs, rows-fated, fatesBy-0 h T e (map snd (sortedAt T cs))) (fates-told T (rowFor T) snd (λ x. row-tells T (x .0) (x .1)) (sortedAt T cs))
 
     -- every row is exact and states a change of elements
-    pub fated-kept : All (Kept n T listed) (fatedRows T cs)
+    pub fated-kept : All (Kept n T listed) (fatedRows T cs h)
     fated-kept = rw rows-fated (zip-kept (sortedAt T cs) fs known-sorted)
 
     -- the rows tell the definition's planned changes
-    pub fated-planned : map (planOf listed) (fatedRows T cs) ≡ planned T (sorted T (recorded cs))
+    pub fated-planned : map (planOf listed) (fatedRows T cs h) ≡ planned h T (sorted T (recorded cs))
     unfolding planned
     fated-planned = rw (rows-fated, changes-sorted T cs) (zip-planned (sortedAt T cs) fs known-sorted)
 
-    module _ (w : List ℕ) (c : ℕ) (rows : rowsOf c w ≡ fatedRows T cs) where
+    module _ (w : List ℕ) (c : ℕ) (rows : rowsOf c w ≡ fatedRows T cs h) where
       abbrev S : List Change
       S = sorted T (recorded cs)
 
@@ -168,7 +188,7 @@ module _ (n : ℕ) (T : Table) (listed : List ℕ) (long : length T ≡ n) where
       unfolding planOf
       stated-changes =
           sym (map-map (λ (p : Planned). p .change) (planOf listed) (rowsOf c w))
-          ∙ (ap (map (λ (p : Planned). p .change)) (ap (map (planOf listed)) rows ∙ fated-planned) ∙ planned-changes T S)
+          ∙ (ap (map (λ (p : Planned). p .change)) (ap (map (planOf listed)) rows ∙ fated-planned) ∙ planned-changes h T S)
 
       counted : length S ≡ c
       counted = ap length (sym stated-changes) ∙ (length-map (rowsOf c w) (changeOf listed) ∙ length-rowsOf c w)
@@ -178,21 +198,40 @@ module _ (n : ℕ) (T : Table) (listed : List ℕ) (long : length T ≡ n) where
       owned-each =
           rows-each (λ r. Owned T S (rowFate r)) c w
           (map-All (λ (p : Planned). Owned T S (p .fate)) (planOf listed) (rowsOf c w)
-          (rw (rows, fated-planned) (map-All (Owned T S) (λ (p : Planned). p .fate) (planned T S) (rw (planned-fates T S) (fates-owned T S)))))
+          (rw (rows, fated-planned) (map-All (Owned T S) (λ (p : Planned). p .fate) (planned h T S) (rw (planned-fates h T S) (by-owned T S h)))))
 
       owner-at : (o : ℕ) → o < c → getD S o (delete 0) ≡ changeOf listed (rowAt w o)
-      owner-at o h =
-          rw (← stated-changes, getD-map (changeOf listed) (rowsOf c w) o (delete 0) noChange (rw (length-rowsOf c w) h), row-among w c o noChange h)
+      owner-at o b =
+          rw (← stated-changes, getD-map (changeOf listed) (rowsOf c w) o (delete 0) noChange (rw (length-rowsOf c w) b), row-among w c o noChange b)
 
       owner-is : (i : ℕ) → i < c → (rowAt w i) .fate ≡ 1 → ((rowAt w i) .owner < c) × ((rowAt w ((rowAt w i) .owner)) .operation ≡ 2)
       unfolding changeOf
-      owner-is i h f =
+      owner-is i g f =
           let o : ℕ = (rowAt w i) .owner in
-          let g : Owned T S (dependent o) = subst (Owned T S) (fate-dependent (rowAt w i) f) (owned-each i h) in
-          let b : o < c = omega (arith, g .0, counted) in
+          let d : Owned T S (dependent o) = subst (Owned T S) (fate-dependent (rowAt w i) f) (owned-each i g) in
+          let b : o < c = omega (arith, d .0, counted) in
           let r : ChangeRow = rowAt w o in
-          (b, owner-replaces T (r .operation) (r .target) (r .end) (getD listed (r .list) 0) (newOf listed r) (rw (owner-at o b) at (g .1)))
+          (b, owner-replaces T (r .operation) (r .target) (r .end) (getD listed (r .list) 0) (newOf listed r) (rw (owner-at o b) at (d .1)))
 
       -- so the second stage may go on with the rows
       pub fated-rows : c ≤ 256 → RowsFated n T listed c w
       fated-rows few = record { few = few; kept = rw rows fated-kept; owned = owner-is }
+
+-- ── By rule 1 ───────────────────────────────────────────────────────────────────────────────────────────────
+
+-- any other number than 0 gives rule 1 (17 lets only 1 pass)
+rule-else : (h : Choices) (T : Table) → ¬ (h .edge ≡ 0) → (cs : List Change) → fatesBy h T cs ≡ fates1 T cs
+unfolding fatesBy
+rule-else h T e cs = rw (ne-eqb (h .edge) 0 e) refl
+
+-- by rule 1 the words of the table give them
+module _ (n : ℕ) (t s : List ℕ) (W : Wellformed n t s) (listed : List ℕ) (h : Choices) (cs : List Call) (known : All (Known (view n t s) listed) (recordedAt cs)) where
+  row-known : (y : ℕ × Change) → Known (view n t s) listed y → RowTells n t s W (rowFor (view n t s)) snd y
+  row-known y k = record { placed = row-placed (view n t s) (y .0) (y .1); sits = right-sits (view n t s) (y .1) (k .right) }
+
+  pub rule-1 : ¬ (h .edge ≡ 0) → (c : ℕ) (v : List ℕ) → rowsOf c v ≡ sortedRows (view n t s) cs → edgeRows t c v ≡ fatedRows (view n t s) cs h
+  rule-1 e c v rows =
+      let T : Table = view n t s in
+      let ys : List (ℕ × Change) = sortedAt T cs in
+      rw (rows-fated n T listed (length-view n t s) h cs known, rule-else h T e (map snd ys))
+      (edge-fates-told n t s W (rowFor T) snd c v ys (rows ∙ rows-sorted T cs) (All-map row-known ys (known-sorted n T listed (length-view n t s) h cs known)))

@@ -9,6 +9,7 @@ use Rattle.orders.specs.Lists.{All}
 use Rattle.orders.specs.ListLaws.{All-map}
 use Rattle.orders.specs.Tree.{node, forest}
 use Rattle.definition.specs.Basics.{Answer, refused, gives, _>>=_, keep}
+use Rattle.definition.specs.Choices.{Choices}
 use Rattle.definition.specs.Elements.{Table, table}
 use Rattle.definition.specs.Refusals.{Accepted, accepted}
 use Rattle.definition.specs.Recording.{recorded}
@@ -53,16 +54,16 @@ outcome a p = record {
 }
 
 -- what the first stage finds of a batch, or its refusal out of 2 to 7
-unfoldable pub judging : List ℕ → Answer Judgement
-judging b = do
+unfoldable pub judging : Choices → List ℕ → Answer Judgement
+judging h b = do
   a ← accepted b
-  gives (judgeChanges a)
+  gives (judgeChanges h a)
 
 -- THE PLAN of a batch, or its refusal out of 2 to 10
-unfoldable pub planning : List ℕ → Answer Outcome
-planning b = do
+unfoldable pub planning : Choices → List ℕ → Answer Outcome
+planning h b = do
   a ← accepted b
-  p ← plan a
+  p ← plan h a
   gives (outcome a p)
 
 -- ── On rows ─────────────────────────────────────────────────────────────────────────────────────────────────
@@ -93,7 +94,7 @@ rows-alike T listed (refused k) N = refl
 rows-alike T listed (gives q) (refused k) = refl
 rows-alike T listed (gives q) (gives ns) = refl
 
-module _ {b : List ℕ} {l : Layout} {t s : List ℕ} (f : Facts b l t s) where
+module _ (h : Choices) {b : List ℕ} {l : Layout} {t s : List ℕ} (f : Facts b l t s) where
   abbrev T : Table
   T = tableIn l t s
 
@@ -108,48 +109,48 @@ module _ {b : List ℕ} {l : Layout} {t s : List ℕ} (f : Facts b l t s) where
 
   -- ── The first stage ──
 
-  judging-is : judging b ≡ gives (judgeChanges a)
+  judging-is : judging h b ≡ gives (judgeChanges h a)
   unfolding judging _>>=_
   judging-is = rw (f .accepted)
 
-  pub judged-overlap : (j k : ℕ) → rowsOverlap (sortedRows T (callsIn l b)) ≡ some (j, k) → judging b ≡ gives (overlaps j k)
+  pub judged-overlap : (j k : ℕ) → rowsOverlap (sortedRows T (callsIn l b)) ≡ some (j, k) → judging h b ≡ gives (overlaps j k)
   unfolding judgeChanges
-  judged-overlap j k e = judging-is ∙ ap gives (judge-overlap T (sorted T (recorded (callsIn l b))) j k (sym (overlap-sorted T (callsIn l b)) ∙ e))
+  judged-overlap j k e = judging-is ∙ ap gives (judge-overlap h T (sorted T (recorded (callsIn l b))) j k (sym (overlap-sorted T (callsIn l b)) ∙ e))
 
-  pub judged-fated : rowsOverlap (sortedRows T (callsIn l b)) ≡ none → judging b ≡ gives (fated (map (planOf listed) (fatedRows T (callsIn l b))))
+  pub judged-fated : rowsOverlap (sortedRows T (callsIn l b)) ≡ none → judging h b ≡ gives (fated (map (planOf listed) (fatedRows T (callsIn l b) h)))
   unfolding judgeChanges
   judged-fated e =
       let n : ℕ = l .sizes .elements in
-      let told = fated-planned n T listed (length-view n t s) (callsIn l b) (f .recorded) in
-      judging-is ∙ ap gives (judge-disjoint T (sorted T (recorded (callsIn l b))) (sym (overlap-sorted T (callsIn l b)) ∙ e) ∙ ap fated (sym told))
+      let told = fated-planned n T listed (length-view n t s) h (callsIn l b) (f .recorded) in
+      judging-is ∙ ap gives (judge-disjoint h T (sorted T (recorded (callsIn l b))) (sym (overlap-sorted T (callsIn l b)) ∙ e) ∙ ap fated (sym told))
 
   -- ── The second stage ──
 
   -- 8
-  pub out-overlap : (j k : ℕ) → judging b ≡ gives (overlaps j k) → planning b ≡ refused 8
+  pub out-overlap : (j k : ℕ) → judging h b ≡ gives (overlaps j k) → planning h b ≡ refused 8
   unfolding planning _>>=_
-  out-overlap j k e = rw (f .accepted, plan-overlap a j k (gives-inj (sym judging-is ∙ e)))
+  out-overlap j k e = rw (f .accepted, plan-overlap h a j k (gives-inj (sym judging-is ∙ e)))
 
   -- whatever rows are fated, if they state changes of elements
-  module _ (rows : List ChangeRow) (judged : judging b ≡ gives (fated (map (planOf listed) rows))) (kept : All (Kept (l .sizes .elements) T listed) rows) where
+  module _ (rows : List ChangeRow) (judged : judging h b ≡ gives (fated (map (planOf listed) rows))) (kept : All (Kept (l .sizes .elements) T listed) rows) where
     rewriting-told : rewritten T mapped (map (planOf listed) rows) ≡ toldRows listed (rewriteRows T mapped listed rows rows)
     unfolding rewritten planOf
     rewriting-told = rw (map-map (λ (p : Planned). p .change) (planOf listed) rows) (rewrite-told T mapped listed (l .sizes .elements) rows rows (All-map (λ r k. k .stated) rows kept))
 
-    plan-rows : plan a ≡ rewriteFated T listed mapped rows (notesIn l b)
+    plan-rows : plan h a ≡ rewriteFated T listed mapped rows (notesIn l b)
     unfolding rewriteChanges rewriteFated
     plan-rows =
-        rw (plan-fated a (map (planOf listed) rows) (gives-inj (sym judging-is ∙ judged)), rewriting-told, settled-told T mapped 0 (notesIn l b))
+        rw (plan-fated h a (map (planOf listed) rows) (gives-inj (sym judging-is ∙ judged)), rewriting-told, settled-told T mapped 0 (notesIn l b))
         (rows-alike T listed (rewriteRows T mapped listed rows rows) (settledAt T mapped 0 (notesIn l b)))
 
     -- 9 or 10 of a dependent
-    pub out-dependents : (k : ℕ) → rewriteRows T mapped listed rows rows ≡ refused k → planning b ≡ refused k
+    pub out-dependents : (k : ℕ) → rewriteRows T mapped listed rows rows ≡ refused k → planning h b ≡ refused k
     unfolding planning rewriteFated _>>=_
     out-dependents k g = rw (f .accepted, plan-rows, g)
 
     module _ (rs : List ChangeRow) (steps : ℕ) (rewrote : rewriteRows T mapped listed rows rows ≡ gives (rs, steps)) where
       -- 9 or 10 of a note
-      pub out-notes : (k : ℕ) → settledAt T mapped 0 (notesIn l b) ≡ refused k → planning b ≡ refused k
+      pub out-notes : (k : ℕ) → settledAt T mapped 0 (notesIn l b) ≡ refused k → planning h b ≡ refused k
       unfolding planning rewriteFated _>>=_
       out-notes k g = rw (f .accepted, plan-rows, rewrote, g)
 
@@ -160,6 +161,6 @@ module _ {b : List ℕ} {l : Layout} {t s : List ℕ} (f : Facts b l t s) where
 
       -- nothing is refused
       pub out-made : (ns : List (ℕ × ℕ × ℕ)) → settledAt T mapped 0 (notesIn l b) ≡ gives ns → All (λ m. m .0 < l .sizes .elements) ns
-          → planning b ≡ gives (rowsOutcome T listed rs steps (map noteHeld ns))
+          → planning h b ≡ gives (rowsOutcome T listed rs steps (map noteHeld ns))
       unfolding planning rewriteFated outcome performed atFirst begin store _>>=_
       out-made ns g low = rw (f .accepted, plan-rows, rewrote, g, held ns low)

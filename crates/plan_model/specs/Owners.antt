@@ -1,16 +1,20 @@
--- A dependent's owner is a call 2 of a node by a node, and stands among the changes.
+-- A dependent's owner is a call 2 of a node by a node, and stands among the changes: before its dependent by rule 0, before or after it by rule 1.
 -- Assumes nothing.
 use mathlib.Core.Bool.{Bool, true, false, cond, not, _&&_}
 use mathlib.Core.List.{List, [], _∷_}
 use mathlib.Core.Path.{_≡_, refl, ap}
 use Prim.Native.Nat.{ℕ, zero, suc, _<_}
 use native.Mathlib.Omega.{arith}
+use lib.Dec.{eqb}
 use lib.ListN.{length, getD, set, drop, replicate}
 use Rattle.orders.specs.Lists.{All}
-use Rattle.orders.specs.ListLaws.{both-true, All-getD, All-set}
+use Rattle.orders.specs.ListLaws.{both-true, All-map, All-getD, All-set}
+use Rattle.definition.specs.Choices.{Choices}
 use Rattle.definition.specs.Elements.{Table, tree}
 use Rattle.definition.specs.Recording.{Change, delete}
 use Rattle.definition.specs.Planning.{Fate, own, dependent, discarded, isDiscarded, Region, contains, around, fate, target, from, to, addsRegion, nodeByNode, inner, pushed, fatesFrom, fates}
+use Rattle.definition.specs.EdgeRule.{fates1, fatesBy}
+use Rattle.plan_edge.specs.Owners.{Owns, edge-owned}
 
 -- ── Lists ───────────────────────────────────────────────────────────────────────────────────────────────────
 
@@ -76,7 +80,22 @@ module _ (T : Table) (cs : List Change) where
       let f = front k cs c (delete 0) ds e in
       (fate-owned rs g, from-owned (suc k) (set stacks t (pushed T k c rs)) ds (f .2) (All-set OwnedAll stacks t (pushed T k c rs) (pushed-owned k c rs (f .0) (f .1) g) h))
 
-  -- each dependent has such an owner
-  pub fates-owned : All Owned (fates T cs)
+  -- by rule 0 each dependent has such an owner
+  fates-owned : All Owned (fates T cs)
   unfolding fates
   fates-owned = from-owned 0 (replicate 16 []) cs refl (replicate-all OwnedAll 16 [] tt)
+
+  -- by rule 1 too
+  one-owned : (f : Fate) → Owns T cs f → Owned f
+  one-owned own h = tt
+  one-owned (dependent k) h = h k refl
+  one-owned (discarded k) h = tt
+
+  -- so by whatever choice
+  pub by-owned : (h : Choices) → All Owned (fatesBy h T cs)
+  unfolding fatesBy
+  by-owned h = go (eqb h.edge 0)
+    where
+      go : (b : Bool) → All Owned (cond b (fates T cs) (fates1 T cs))
+      go true = fates-owned
+      go false = All-map one-owned (fates1 T cs) (edge-owned T cs)

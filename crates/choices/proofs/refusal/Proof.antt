@@ -1,7 +1,6 @@
 -- `refusal` meets its contract.
 -- Assumes nothing.
 use native.Mathlib.Omega.{arith}
-use borrow.Author.Needs.{needs}
 use Rattle.choices.specs.Meant.{no-such-rule, either-rule}
 use Rattle.choices.proofs.refusal.Statement.{statement}
 use Rattle.choices.proofs.refusal.Tie as tie

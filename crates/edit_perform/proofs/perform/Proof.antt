@@ -1,16 +1,16 @@
 -- `perform` meets its contract: 1, 2 to 7, or the plan and its run.
 -- Assumes nothing.
-use mathlib.Core.Path.{refl, sym, _∙_}
+use mathlib.Core.Path.{refl}
 use native.Mathlib.Omega.{arith}
 use borrow.Author.Needs.{needs}
 use Rattle.promises.specs.Slices.{long-enough}
-use Rattle.edit_perform.specs.AtEnd.{short, long}
-use Rattle.edit_perform.proofs.Stages.{judged-stops, judged-laid}
+use Rattle.edit_perform.specs.AtEnd.{early, long}
+use Rattle.edit_perform.proofs.Stages.{judged-stops, judged-laid, stopped-early, nothing-wrong}
 use Rattle.edit_perform.proofs.perform.Statement.{statement}
 use Rattle.edit_perform.proofs.perform.Tie as tie
 
-too-short-requires : tie.Need-too-short-requires
-too-short-requires c κs = search needs
+refused-first-requires : tie.Need-refused-first-requires
+refused-first-requires c κs = search needs
 
 same-length : tie.Need-same-length
 same-length c = refl
@@ -40,10 +40,10 @@ same-length-9 : tie.Need-same-length-9
 same-length-9 c = refl
 
 returns : tie.Need-returns
-returns c = short (sym (c .before .too-short .ensures) ∙ c .if1 .taken) refl
+returns c = early _ (stopped-early _ _ _ (c .before .refused-first .ensures) (c .if1 .taken)) refl
 
 accept-requires : tie.Need-accept-requires
-accept-requires c κs = let v = long-enough _ _ _ _ _ _ _ _ _ (sym (c .before .before .before .too-short .ensures) ∙ c .before .before .if1 .left) in (v .0 .0, v .0 .1)
+accept-requires c κs = let v = long-enough _ _ _ _ _ _ _ _ _ ((nothing-wrong _ _ _ (c .before .before .before .refused-first .ensures) (c .before .before .if1 .left)) .1) in (v .0 .0, v .0 .1)
 
 enum-known-laid : tie.Need-enum-known-laid
 enum-known-laid c = search needs
@@ -52,7 +52,7 @@ enum-known-laid-2 : tie.Need-enum-known-laid-2
 enum-known-laid-2 c = search needs
 
 plan-and-run-requires : tie.Need-plan-and-run-requires
-plan-and-run-requires c κs = let v = long-enough _ _ _ _ _ _ _ _ _ (sym (c .before .before .before .before .before .before .before .before .before .before .before .before .before .before .before .before .before .before .before .before .too-short .ensures) ∙ c .before .before .before .before .before .before .before .before .before .before .before .before .before .before .before .before .before .before .before .if1 .left) in let r = v .0 in (judged-laid (c .before .before .before .before .before .before .before .before .before .before .before .before .before .before .before .before .accept .ensures) _ (c .before .before .before .before .before .before .before .before .before .before .laid2 .given .1) (r .0) (r .1), ((omega (arith, c .before .before .before .before .before .before .before .before .before .before .before .before .before .source .given, r .1), r .2), v .1))
+plan-and-run-requires c κs = let v = long-enough _ _ _ _ _ _ _ _ _ ((nothing-wrong _ _ _ (c .before .before .before .before .before .before .before .before .before .before .before .before .before .before .before .before .before .before .before .before .refused-first .ensures) (c .before .before .before .before .before .before .before .before .before .before .before .before .before .before .before .before .before .before .before .if1 .left)) .1) in let r = v .0 in (judged-laid (c .before .before .before .before .before .before .before .before .before .before .before .before .before .before .before .before .accept .ensures) _ (c .before .before .before .before .before .before .before .before .before .before .laid2 .given .1) (r .0) (r .1), ((omega (arith, c .before .before .before .before .before .before .before .before .before .before .before .before .before .source .given, r .1), r .2), v .1))
 
 same-length-10 : tie.Need-same-length-10
 same-length-10 c = c .before .before .before .before .before .before .table .given
@@ -82,7 +82,7 @@ same-length-18 : tie.Need-same-length-18
 same-length-18 c = refl
 
 returns-2 : tie.Need-returns-2
-returns-2 c = long (sym (c .before .before .before .before .before .before .before .before .before .before .before .too-short .ensures) ∙ c .before .before .before .before .before .before .before .before .before .before .if1 .left) (judged-stops (c .before .before .before .before .before .before .before .accept .ensures) _ (c .before .laid .given .1))
+returns-2 c = let w = nothing-wrong _ _ _ (c .before .before .before .before .before .before .before .before .before .before .before .refused-first .ensures) (c .before .before .before .before .before .before .before .before .before .before .if1 .left) in long (w .0) (w .1) (judged-stops (c .before .before .before .before .before .before .before .accept .ensures) _ (c .before .laid .given .1))
 
 same-length-19 : tie.Need-same-length-19
 same-length-19 c = c .before .before .before .before .before .before .before .before .before .before .before .before .before .before .before .before .before .before .before .before .before .before .before .before .before .before .before .before .before .before .table .given
@@ -112,13 +112,13 @@ same-length-27 : tie.Need-same-length-27
 same-length-27 c = c .before .prepared .given
 
 returns-3 : tie.Need-returns-3
-returns-3 c = long (sym (c .before .before .before .before .before .before .before .before .before .before .before .before .before .before .before .before .before .before .before .before .before .before .before .before .before .before .before .before .before .before .before .before .before .before .before .too-short .ensures) ∙ c .before .before .before .before .before .before .before .before .before .before .before .before .before .before .before .before .before .before .before .before .before .before .before .before .before .before .before .before .before .before .before .before .before .before .if1 .left) (c .before .before .before .before .before .before .before .before .before .before .before .before .before .before .plan-and-run .ensures)
+returns-3 c = let w = nothing-wrong _ _ _ (c .before .before .before .before .before .before .before .before .before .before .before .before .before .before .before .before .before .before .before .before .before .before .before .before .before .before .before .before .before .before .before .before .before .before .before .refused-first .ensures) (c .before .before .before .before .before .before .before .before .before .before .before .before .before .before .before .before .before .before .before .before .before .before .before .before .before .before .before .before .before .before .before .before .before .before .if1 .left) in long (w .0) (w .1) (c .before .before .before .before .before .before .before .before .before .before .before .before .before .before .plan-and-run .ensures)
 
 pub perform-spec : {M : Type 1} → statement M
 perform-spec =
     tie.close
     (tie.spec
-    too-short-requires
+    refused-first-requires
     same-length
     same-length-2
     same-length-3

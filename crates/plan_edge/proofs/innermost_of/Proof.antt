@@ -30,12 +30,10 @@ add-result-2 : tie.Need-add-result-2
 add-result-2 c = search needs
 
 returns-3 : tie.Need-returns-3
-returns-3 c =
-    (further-in _ _ _ _ _ _ (c .before .before .before .before .before .takes-change .ensures) (c .before .before .before .before .if1 .left) (c .before .before .before .if2 .left) _ _ (c .before .before .region-depth .ensures .0) (c .before .region-depth2 .ensures .0) (c .if3 .taken), search needs)
+returns-3 c = (further-in _ _ _ _ _ _ (c .before .before .before .before .before .takes-change .ensures) (c .before .before .before .before .if1 .left) (c .before .before .before .if2 .left) _ _ (c .before .before .region-depth .ensures .0) (c .before .region-depth2 .ensures .0) (c .if3 .taken), search needs)
 
 returns-4 : tie.Need-returns-4
-returns-4 c =
-    (no-further _ _ _ _ _ _ (c .before .before .before .before .before .takes-change .ensures) (c .before .before .before .before .if1 .left) (c .before .before .before .if2 .left) _ _ (c .before .before .region-depth .ensures .0) (c .before .region-depth2 .ensures .0) (c .if3 .left), search needs)
+returns-4 c = (no-further _ _ _ _ _ _ (c .before .before .before .before .before .takes-change .ensures) (c .before .before .before .before .if1 .left) (c .before .before .before .if2 .left) _ _ (c .before .before .region-depth .ensures .0) (c .before .region-depth2 .ensures .0) (c .if3 .left), search needs)
 
 pub innermost-of-spec : {M : Type 1} → statement M
 innermost-of-spec =

@@ -1,6 +1,6 @@
--- `takes_change` meets its contract. The four parts of the rule in order.
+-- `takes_change` meets its contract. The parts of the rule in order.
 -- Assumes nothing.
-use Rattle.plan_edge.proofs.Tests.{no-region, root-in-none, removes-parent, or-inside}
+use Rattle.plan_edge.proofs.Tests.{no-region, removes-parent, or-inside}
 use borrow.Author.Needs.{needs}
 use Rattle.plan_edge.proofs.takes_change.Statement.{statement}
 use Rattle.plan_edge.proofs.takes_change.Tie as tie
@@ -11,26 +11,17 @@ field-requires c κs = search needs
 returns : tie.Need-returns
 returns c = search (no-region, needs)
 
-of-root-requires : tie.Need-of-root-requires
-of-root-requires c κs = search needs
-
-returns-2 : tie.Need-returns-2
-returns-2 c = search (root-in-none, needs)
-
-target-parent-requires : tie.Need-target-parent-requires
-target-parent-requires c κs = search needs
-
 removes-element-requires : tie.Need-removes-element-requires
 removes-element-requires c κs = search needs
 
-returns-3 : tie.Need-returns-3
-returns-3 c = search (removes-parent, needs)
+returns-2 : tie.Need-returns-2
+returns-2 c = search (removes-parent, needs)
 
 is-inside-requires : tie.Need-is-inside-requires
 is-inside-requires c κs = search needs
 
-returns-4 : tie.Need-returns-4
-returns-4 c = search (or-inside, needs)
+returns-3 : tie.Need-returns-3
+returns-3 c = search (or-inside, needs)
 
 pub takes-change-spec : {M : Type 1} → statement M
 takes-change-spec =
@@ -38,10 +29,7 @@ takes-change-spec =
     (tie.spec
     field-requires
     returns
-    of-root-requires
-    returns-2
-    target-parent-requires
     removes-element-requires
-    returns-3
+    returns-2
     is-inside-requires
-    returns-4)
+    returns-3)

@@ -17,8 +17,8 @@ enum-known-j c = search needs
 enum-told : tie.Need-enum-told
 enum-told c = search needs
 
-plan-fates-requires : tie.Need-plan-fates-requires
-plan-fates-requires c κs = search needs
+state-fates-requires : tie.Need-state-fates-requires
+state-fates-requires c κs = search needs
 
 same-length : tie.Need-same-length
 same-length c = search needs
@@ -42,7 +42,7 @@ same-length-6 : tie.Need-same-length-6
 same-length-6 c = search needs
 
 returns-2 : tie.Need-returns-2
-returns-2 c = changes-fated (c .before .before .before .before .before .before .before .before .before .before .before .before .before .before .before .before .before .before .before .before .before .before .before .before .pre .0) (c .before .before .before .before .before .before .before .before .before .before .before .before .before .before .record-and-sort .ensures) (c .before .before .before .before .before .before .replacements-are-disjoint .ensures) (c .before .before .before .before .enum-told .given .1) (c .before .before .plan-fates .ensures)
+returns-2 c = changes-fated (c .before .before .before .before .before .before .before .before .before .before .before .before .before .before .before .before .before .before .before .before .before .before .before .before .pre .0) (c .before .before .before .before .before .before .before .before .before .before .before .before .before .before .record-and-sort .ensures) (c .before .before .before .before .before .before .replacements-are-disjoint .ensures) (c .before .before .before .before .enum-told .given .1) (c .before .before .state-fates .ensures)
 
 pub judge-changes-spec : {M : Type 1} → statement M
 judge-changes-spec =
@@ -52,7 +52,7 @@ judge-changes-spec =
     replacements-are-disjoint-requires
     enum-known-j
     enum-told
-    plan-fates-requires
+    state-fates-requires
     same-length
     same-length-2
     same-length-3

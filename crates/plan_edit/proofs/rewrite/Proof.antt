@@ -15,7 +15,7 @@ rewrite-dependents-requires : tie.Need-rewrite-dependents-requires
 rewrite-dependents-requires c κs =
     let p = c .before .before .before .before .before .before .before .before .before .before .before .before .before .pre in
     let e = c .before .before .before .before .fill-mapping .ensures in
-    (p .0 .formed, (map-mapped (p .0) e (p .1 .1 .1), ((p .0 .within .list, omega (arith, p .1 .0 .within .few, p .1 .1 .2)), rows-rewritable (p .0) e (p .1 .1 .1) (p .1 .0) (p .1 .1 .0))))
+    (p .0 .formed, (map-mapped (p .0) e (p .1 .1 .1), ((p .0 .within .list, omega (arith, p .1 .0 .few, p .1 .1 .2)), rows-rewritable (p .0) e (p .1 .1 .1) (p .1 .0) (p .1 .1 .0))))
 
 same-length : tie.Need-same-length
 same-length c = search needs
