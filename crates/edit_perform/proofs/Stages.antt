@@ -177,8 +177,8 @@ module _ {h : definition.Choices} {b t₀ s₀ t s : List ℕ} {r : Laid} (J : J
   unfolding laidOf
   judged-stops k e = performs-refused k (not-accepted h b k (judged-refuses b k (sym (J .answer) ∙ ap laidOf e)))
 
-  pub judged-laid : (l : Layout) → r ≡ At l → 16384 ≤ length t₀ → 6147 ≤ length s₀ → LaidOut b l t s
-  judged-laid l e lt ls = record { before = t₀; beforeRows = s₀; leaves = J .left l e; long = lt; longRows = ls }
+pub judged-laid : {b t₀ s₀ t s : List ℕ} {r : Laid} → Judged b t₀ s₀ t s r → (l : Layout) → r ≡ At l → 16384 ≤ length t₀ → 6147 ≤ length s₀ → LaidOut b l t s
+judged-laid {t₀ = t₀} {s₀ = s₀} J l e lt ls = record { before = t₀; beforeRows = s₀; leaves = J .left l e; long = lt; longRows = ls }
 
 -- ── Refused before anything is read ─────────────────────────────────────────────────────────────────────────
 
@@ -199,7 +199,7 @@ module _ (c : Choices) (work : List (ℕ × ℕ)) (k : ℕ) (e : k ≡ refusalOf
 
 -- what its number tells
 module _ (h : definition.Choices) (work : List (ℕ × ℕ)) (k : ℕ) (e : k ≡ refusalOf (withChoices h work (gives tt))) where
-  pub stopped-early : ¬ (k ≡ 0) → withChoices h work (gives tt) ≡ refused k
+  pub stopped-early : ¬ (k ≡ 0) → _≡_ {A = Answer (Unit {0})} (withChoices h work (gives tt)) (refused k)
   unfolding refusalOf
   stopped-early n = go (withChoices h work (gives tt)) e
     where

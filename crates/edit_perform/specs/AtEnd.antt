@@ -5,7 +5,7 @@ use mathlib.Core.Bool.{false}
 use mathlib.Core.List.{List, map}
 use Prim.Native.Nat.{ℕ, _*_, _^_, _≤_, _<_}
 use lib.ListN.{length, take, drop}
-use Rattle.definition.specs.Basics.{refused, gives, keep}
+use Rattle.definition.specs.Basics.{Answer, refused, gives, keep}
 use Rattle.definition.specs.Choices.{Choices, chosen}
 use Rattle.definition.specs.Planning.{isDiscarded}
 use Rattle.definition.specs.Refusals.{Accepted, accepted}
@@ -86,5 +86,5 @@ pub record Performs (h : Choices) (b t s changes rows notes changed marks : List
 
 -- THE PROMISE of performing by the choices h with the work slices `work`: 17 where there is no such edge rule, 1 where a slice is too short, or what a run answers
 pub data PerformsWith (h : Choices) (work : List (List ℕ)) (b t s changes rows notes changed marks : List ℕ) (r : Performed) : Type 0 where
-  early : (k : ℕ) → withChoices h (lengths needed work) (gives tt) ≡ refused k → r ≡ Refused k → PerformsWith h work b t s changes rows notes changed marks r
+  early : (k : ℕ) → _≡_ {A = Answer (Unit {0})} (withChoices h (lengths needed work) (gives tt)) (refused k) → r ≡ Refused k → PerformsWith h work b t s changes rows notes changed marks r
   long : chosen h ≡ gives tt → tooShort (lengths needed work) ≡ false → Performs h b t s changes rows notes changed marks r → PerformsWith h work b t s changes rows notes changed marks r
