@@ -76,7 +76,7 @@ fn recorded_batches_written_again() {
         let (batch, refusal, _) = (cases.bytes(), cases.word(), cases.bytes());
         match refusal {
             2..=4 => {}
-            5..=7 => assert_eq!(rewritten(batch), Err(14), "case {case}"),
+            5..=7 | 16 => assert_eq!(rewritten(batch), Err(14), "case {case}"),
             _ => assert!(rewritten(batch).as_deref() == Ok(batch), "case {case}"),
         }
         for _ in 0..cases.word() {
