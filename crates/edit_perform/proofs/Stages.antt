@@ -1,6 +1,6 @@
 -- The ways from stage to stage, and out.
 -- Assumes nothing.
-use mathlib.Core.Path.{_≡_, refl, sym, ap, subst, _∙_}
+use mathlib.Core.Path.{_≡_, sym, ap, subst, _∙_}
 use mathlib.Core.List.{List, _++_}
 use Prim.Native.Nat.{ℕ, _+_, _-_, _*_, _≤_, _<_}
 use native.Mathlib.Omega.{arith}
@@ -33,7 +33,7 @@ use Rattle.run_execute.specs.Stepping.{Performs as RowPerforms}
 use Rattle.run_execute.specs.Running.{listsAll, Ran}
 use Rattle.edit_perform.specs.Ending.{ending}
 use Rattle.edit_perform.specs.Beginning.{LaidOut}
-use Rattle.edit_perform.specs.AtEnd.{AtEnd, Told, Marked, Overlapped, Performs}
+use Rattle.edit_perform.specs.AtEnd.{AtEnd, Told, Overlapped, Performs}
 use Rattle.edit_perform.specs.Performing.{begins, all-perform, room-recorded, all-elements, run-refused, run-ended, run-marked, run-recounted}
 use Rattle.edit_perform.specs.Accounting.{not-accepted, overlapping, not-planned}
 use Rattle.edit_perform.specs.declared.Ended.{Ended}
