@@ -74,11 +74,11 @@ module _ {s : TreeState} {rows marks notes changed : List ℕ} {g : Gap} {record
       let z = (u .parts [] [] []) .came m c e in
       (z .fewRows, sizes-small count rest (subst (ElementsPrepared rows (s .rows) source marks first notes (s .notes) (words count rest) (g .from) prepared sizes incoming) e u), z .fewNotes)
 
-  pub asks-apply : {m c : ℕ} → made ≡ Parts m c → 12288 ≤ length prepared → 1024 ≤ length sizes → 3072 ≤ length incoming → count ≤ 1024
+  pub asks-apply : {m c : ℕ} → made ≡ Parts m c → 12288 ≤ length prepared → mostListed ≤ length sizes → 3072 ≤ length incoming → count ≤ mostListed
       → Open s rows marks notes changed g recorded (length (take count sizes)) × Coming (take (3 * m) prepared) (take count sizes) incoming c
   asks-apply {m} {c} e lp ls li few =
       let z = made-small e in
-      let w : (m ≤ 4096) × (3 * m ≤ length prepared) × (count ≤ 1024) × (count ≤ length sizes) × All (λ x. x < 2 ^ 16) (take count sizes) × (c ≤ 1024) × (3 * c ≤ length incoming) =
+      let w : (m ≤ 4096) × (3 * m ≤ length prepared) × (count ≤ mostListed) × (count ≤ length sizes) × All (λ x. x < 2 ^ 16) (take count sizes) × (c ≤ 1024) × (3 * c ≤ length incoming) =
       (z .0, omega (arith, z .0), few, omega arith, z .1, z .2, omega (arith, z .2)) in
       (part-open v prepared sizes incoming w, part-coming v prepared sizes incoming w)
 
