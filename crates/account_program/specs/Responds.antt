@@ -95,6 +95,3 @@ module _ (b : List ℕ) (read : ℕ) {r : Answer} {out : List ℕ} (h : 65536 �
   told-responds {n} e =
       let s : Says (take read b) (Edited n) out = rw e at (t .says) in
       record { judged = c; fits = (s .0, sym (length-take-le n out (s .0))); says = rw (whole, s .1) refl }
-
-  pub number-room : 11 ≤ length out
-  number-room = omega (arith, t .long)

@@ -40,7 +40,7 @@ use Rattle.run_execute.specs.Stepping.{Performs as RowPerforms}
 use Rattle.run_execute.specs.Running.{listsAll, Ran}
 use Rattle.edit_perform.specs.Ending.{ending}
 use Rattle.edit_perform.specs.Beginning.{LaidOut}
-use Rattle.edit_perform.specs.AtEnd.{AtEnd, Told, Marked, Overlapped, Performs}
+use Rattle.edit_perform.specs.AtEnd.{AtEnd, Told, Overlapped, Performs}
 use Rattle.edit_perform.specs.Performing.{begins, all-perform, room-recorded, all-elements, run-refused, run-ended, run-marked, run-recounted}
 use Rattle.edit_perform.specs.Accounting.{not-accepted, overlapping, not-planned}
 use Rattle.edit_perform.specs.declared.Ended.{Ended}
