@@ -11,6 +11,7 @@ use lib.Dec.{leb}
 use lib.ListN.{length, take, drop, length-map}
 use Rattle.orders.specs.ListLaws.{some-inj, none-some, map-some}
 use Rattle.definition.specs.Basics.{refused, gives, _>>=_, refuse}
+use Rattle.definition.specs.Choices.{Choices}
 use Rattle.definition.specs.Refusals.{Call, callOf, countOf, calls, Accepted, accepted}
 use Rattle.definition.specs.Planning.{Fate, Judgement, overlaps, fated}
 use Rattle.definition.specs.Finishing.{result, fitting}
@@ -57,18 +58,18 @@ unfolding overlapLine line lineOf ascii spaced
 overlap-length j k = omega (arith, lineOf-length (111 ∷ 118 ∷ 101 ∷ 114 ∷ 108 ∷ 97 ∷ 112 ∷ []) (j ∷ k ∷ []))
 
 -- An account has at most 8,192 bytes.
-pub account-short : (b text : List ℕ) → account b ≡ gives text → length text ≤ mostText
+pub account-short : (h : Choices) (b text : List ℕ) → account h b ≡ gives text → length text ≤ mostText
 unfolding account said
-account-short b text e = given (accepted b) _ e λ a x e. go a (accepts b a x) (judgeChanges a) refl e
+account-short h b text e = given (accepted b) _ e λ a x e. go a (accepts b a x) (judgeChanges h a) refl e
   where
-    go : (a : Accepted) → Known b a → (j : Judgement) → judgeChanges a ≡ j → said a j ≡ gives text → length text ≤ mostText
+    go : (a : Accepted) → Known b a → (j : Judgement) → judgeChanges h a ≡ j → said a j ≡ gives text → length text ≤ mostText
     go a k (overlaps i j) z e = rw (← gives-inj e) (overlap-length i j)
     go a k (fated ps) z e =
         given (rewriteChanges a ps) _ e λ p y e.
         given (ran a p) _ e λ w y e.
         given (fitting programRoom (result (p .changes) (p .climbs) w)) _ e λ r y e.
         let fs : List Fate = map (λ q. q .fate) ps in
-        rw (← gives-inj e) (omega (arith, lines-length fs, length-map ps (λ q. q .fate), (judged-known a (checked b a k) ps z) .count, few-calls b a k))
+        rw (← gives-inj e) (omega (arith, lines-length fs, length-map ps (λ q. q .fate), (judged-known a (checked b a k) h ps z) .count, few-calls b a k))
 
 -- With that much room 13 never comes of it.
 pub room-enough : (room : ℕ) (text : List ℕ) → mostText ≤ room → length text ≤ mostText → inRoom room text ≡ gives text

@@ -12,11 +12,12 @@ use Rattle.orders.specs.Lists.{All}
 use Rattle.orders.specs.ListLaws.{some-inj, none-some}
 use Rattle.orders.specs.Tree.{Tree, Trees, node, token, nil, cons, Path, list, children, elements, elementsOf, text}
 use Rattle.definition.specs.Basics.{gives, first, _>>=_}
+use Rattle.definition.specs.Choices.{Choices}
 use Rattle.definition.specs.Elements.{Table, Row, row, node?, tree, rows, rowsBelow, table}
 use Rattle.definition.specs.Refusals.{accepted}
 use Rattle.definition.specs.Running.{World}
 use Rattle.definition.specs.Finishing.{newTree, newTable, fitting}
-use Rattle.definition.specs.Answers.{plan, ran, edit, withWork, edited}
+use Rattle.definition.specs.Answers.{plan, ran, edit, withWork, withChoices, edited}
 use Rattle.definition.specs.FindElement.{alike, findIn, findElement}
 use Rattle.definition.specs.Account.{account, inRoom, accounted}
 use Rattle.definition_laws.specs.Answers.{given, gives-inj}
@@ -31,22 +32,24 @@ unfolding fitting
 fitting-same room e = given _ _ e λ u x e. gives-inj e
 
 -- An answer has at most as many bytes as the longest result.
-pub edited-short : (work : List (ℕ × ℕ)) (b bytes : List ℕ) (room : ℕ) → edited work b room ≡ gives bytes → length bytes ≤ mostBytes
-unfolding edited withWork
-edited-short work b bytes room e =
+pub edited-short : (h : Choices) (work : List (ℕ × ℕ)) (b bytes : List ℕ) (room : ℕ) → edited h work b room ≡ gives bytes → length bytes ≤ mostBytes
+unfolding edited withChoices withWork
+edited-short h work b bytes room e =
+    given _ _ e λ c i e.
     given _ _ e λ u x e.
-    given (edit b) _ e λ r y e.
+    given (edit h b) _ e λ r y e.
     given (fitting room r) _ e λ q z e.
-    rw (← gives-inj e, ← fitting-same room z) (encoded-within b r y)
+    rw (← gives-inj e, ← fitting-same room z) (encoded-within h b r y)
 
 -- An account too.
-pub accounted-short : (work : List (ℕ × ℕ)) (b text : List ℕ) (room : ℕ) → accounted work b room ≡ gives text → length text ≤ mostText
-unfolding accounted inRoom withWork
-accounted-short work b text room e =
+pub accounted-short : (h : Choices) (work : List (ℕ × ℕ)) (b text : List ℕ) (room : ℕ) → accounted h work b room ≡ gives text → length text ≤ mostText
+unfolding accounted inRoom withChoices withWork
+accounted-short h work b text room e =
+    given _ _ e λ c i e.
     given _ _ e λ u x e.
-    given (account b) _ e λ t y e.
+    given (account h b) _ e λ t y e.
     given _ _ e λ u z e.
-    rw (← gives-inj e) (account-short b t y)
+    rw (← gives-inj e) (account-short h b t y)
 
 -- ── The element ─────────────────────────────────────────────────────────────────────────────────────────────
 
@@ -93,11 +96,12 @@ found-low T w n e q = outer (node? T n && eqb (tree T n) 0) q
     outer false q = none-some q
 
 -- An element that is found is one of at most 4,096.
-pub found-short : (work : List (ℕ × ℕ)) (b : List ℕ) (n e : ℕ) → findElement work b n ≡ gives (some e) → e < 4096
-unfolding findElement withWork
-found-short work b n e q =
+pub found-short : (h : Choices) (work : List (ℕ × ℕ)) (b : List ℕ) (n e : ℕ) → findElement h work b n ≡ gives (some e) → e < 4096
+unfolding findElement withChoices withWork
+found-short h work b n e q =
+    given _ _ q λ c i q.
     given _ _ q λ u x q.
     given (accepted b) _ q λ a x q.
-    given (plan a) _ q λ p y q.
+    given (plan h a) _ q λ p y q.
     given (ran a p) _ q λ w z q.
-    omega (arith, found-low a.table w n e (gives-inj q), (ran-known b a p w x y z) .small .elements)
+    omega (arith, found-low a.table w n e (gives-inj q), (ran-known h b a p w x y z) .small .elements)

@@ -10,6 +10,7 @@ use lib.ListN.{length}
 use mir.Syntax.{w64}
 use mir.Val.{toZ, ofZ}
 use Rattle.definition.specs.Basics.{Answer, refused, gives, _>>=_, any}
+use Rattle.definition.specs.Choices.{Choices}
 use Rattle.definition.specs.Answers.{edited}
 use Rattle.definition.specs.FindElement.{findElement}
 use Rattle.definition.specs.Performed.{InsertsFew}
@@ -36,26 +37,26 @@ returnedElement (refused n) = negℤ (pos n)
 returnedElement (gives none) = negℤ (pos 1000)
 returnedElement (gives (some e)) = pos e
 
--- THE PROMISE of `syntax_edit`, from the batch b, the result slice and the work slices as they were lent
-pub record Returns (b held : List ℕ) (work : List (List ℕ)) (r : ℤ) (holds : List ℕ) (left : List (List ℕ)) : Type 0 where
-  pub answer : r ≡ returned (edited (lengths needed work) b (length held))
+-- THE PROMISE of `syntax_edit`, from the choices h, the batch b, the result slice and the work slices as they were lent
+pub record Returns (h : Choices) (b held : List ℕ) (work : List (List ℕ)) (r : ℤ) (holds : List ℕ) (left : List (List ℕ)) : Type 0 where
+  pub answer : r ≡ returned (edited h (lengths needed work) b (length held))
   -- "The result slice holds the finished answer and beyond it what it held, or on refusal all that it held."
-  pub result : holds ≡ leftIn held (edited (lengths needed work) b (length held))
+  pub result : holds ≡ leftIn held (edited h (lengths needed work) b (length held))
   -- "Work slices end as zeros."
   pub zeros : left ≡ zeroed work
   -- "no splice inserts more than 41 subtrees"
-  pub inserts : InsertsFew b
+  pub inserts : InsertsFew h b
 
--- THE PROMISE of `syntax_find_element`, from the batch b, the number n and the work slices as they were lent
-pub record ReturnsElement (b : List ℕ) (n : ℕ) (work : List (List ℕ)) (r : ℤ) (left : List (List ℕ)) : Type 0 where
-  pub element : r ≡ returnedElement (findElement (lengths needed work) b n)
+-- THE PROMISE of `syntax_find_element`, from the choices h, the batch b, the number n and the work slices as they were lent
+pub record ReturnsElement (h : Choices) (b : List ℕ) (n : ℕ) (work : List (List ℕ)) (r : ℤ) (left : List (List ℕ)) : Type 0 where
+  pub element : r ≡ returnedElement (findElement h (lengths needed work) b n)
   pub zeros : left ≡ zeroed work
-  pub inserts : InsertsFew b
+  pub inserts : InsertsFew h b
 
--- THE PROMISE of `syntax_account`, from the batch b, the result slice and the work slices as they were lent
-pub record ReturnsAccount (b held : List ℕ) (work : List (List ℕ)) (r : ℤ) (holds : List ℕ) (left : List (List ℕ)) : Type 0 where
-  pub answer : r ≡ returned (accounted (lengths needed work) b (length held))
-  pub result : holds ≡ leftIn held (accounted (lengths needed work) b (length held))
+-- THE PROMISE of `syntax_account`, from the choices h, the batch b, the result slice and the work slices as they were lent
+pub record ReturnsAccount (h : Choices) (b held : List ℕ) (work : List (List ℕ)) (r : ℤ) (holds : List ℕ) (left : List (List ℕ)) : Type 0 where
+  pub answer : r ≡ returned (accounted h (lengths needed work) b (length held))
+  pub result : holds ≡ leftIn held (accounted h (lengths needed work) b (length held))
   pub zeros : left ≡ zeroed work
 
 -- ── From what is served ─────────────────────────────────────────────────────────────────────────────────────
@@ -63,7 +64,7 @@ pub record ReturnsAccount (b held : List ℕ) (work : List (List ℕ)) (r : ℤ)
 -- what tells the length of a text is small, if the text is and its refusal is
 bytes-small : (o : Answer (List ℕ)) → By editNumbers o → ((bytes : List ℕ) → o ≡ gives bytes → length bytes ≤ 65536) → Small (ofLength (o >>= λ bytes. gives (length bytes)))
 unfolding Small ofLength _>>=_ any
-bytes-small (refused n) h k = omega (arith, (by-number editNumbers 1 16 n (refused n) refl h refl) .1)
+bytes-small (refused n) h k = omega (arith, (by-number editNumbers 1 17 n (refused n) refl h refl) .1)
 bytes-small (gives bytes) h k = k bytes refl
 
 -- and its number is what is returned
@@ -72,62 +73,62 @@ unfolding numberOf ofLength returned _>>=_
 bytes-returned (refused n) = refl
 bytes-returned (gives bytes) = refl
 
-module _ {b held holds : List ℕ} {work left : List (List ℕ)} {r : Outcome} (s : Serves Edit b held work r holds left) where
+module _ {h : Choices} {b held holds : List ℕ} {work left : List (List ℕ)} {r : Outcome} (s : Serves h Edit b held work r holds left) where
   abbrev x : Answer (List ℕ)
-  x = edited (lengths needed work) b (length held)
+  x = edited h (lengths needed work) b (length held)
 
   length-told : r ≡ ofLength (x >>= λ bytes. gives (length bytes))
-  length-told = let (a, e, k) = serves-edits s in e ∙ ap ofLength (k .answer)
+  length-told = let (a, e, k) = serves-edits h s in e ∙ ap ofLength (k .answer)
 
   -- what an edit tells is small
   pub edit-small : Small r
-  edit-small = rw length-told (bytes-small x (edited-by (lengths needed work) b (length held)) (λ bytes e. omega (arith, edited-short (lengths needed work) b bytes (length held) e)))
+  edit-small = rw length-told (bytes-small x (edited-by h (lengths needed work) b (length held)) (λ bytes e. omega (arith, edited-short h (lengths needed work) b bytes (length held) e)))
 
   -- and its number is what is promised
-  pub edit-returned : (z : ℤ) → z ≡ numberOf r → Returns b held work (toZ w64 (ofZ w64 z)) holds left
+  pub edit-returned : (z : ℤ) → z ≡ numberOf r → Returns h b held work (toZ w64 (ofZ w64 z)) holds left
   edit-returned z q =
-      let (a, e, k) = serves-edits s in
+      let (a, e, k) = serves-edits h s in
       record { answer = ap (λ (y : ℤ). toZ w64 (ofZ w64 y)) q ∙ (number-read r edit-small ∙ (ap numberOf length-told ∙ bytes-returned x)); result = k .result; zeros = k .zeros; inserts = k .inserts }
 
-module _ {b held holds : List ℕ} {work left : List (List ℕ)} {r : Outcome} (s : Serves Account b held work r holds left) where
+module _ {h : Choices} {b held holds : List ℕ} {work left : List (List ℕ)} {r : Outcome} (s : Serves h Account b held work r holds left) where
   abbrev text : Answer (List ℕ)
-  text = accounted (lengths needed work) b (length held)
+  text = accounted h (lengths needed work) b (length held)
 
   text-told : r ≡ ofLength (text >>= λ bytes. gives (length bytes))
-  text-told = let (a, e, k) = serves-accounts s in e ∙ ap ofLength (k .answer)
+  text-told = let (a, e, k) = serves-accounts h s in e ∙ ap ofLength (k .answer)
 
   -- what an account tells is small
   pub account-small : Small r
-  account-small = rw text-told (bytes-small text (accounted-by (lengths needed work) b (length held)) (λ bytes e. omega (arith, accounted-short (lengths needed work) b bytes (length held) e)))
+  account-small = rw text-told (bytes-small text (accounted-by h (lengths needed work) b (length held)) (λ bytes e. omega (arith, accounted-short h (lengths needed work) b bytes (length held) e)))
 
   -- and its number is what is promised
-  pub account-returned : (z : ℤ) → z ≡ numberOf r → ReturnsAccount b held work (toZ w64 (ofZ w64 z)) holds left
+  pub account-returned : (z : ℤ) → z ≡ numberOf r → ReturnsAccount h b held work (toZ w64 (ofZ w64 z)) holds left
   account-returned z q =
-      let (a, e, k) = serves-accounts s in
+      let (a, e, k) = serves-accounts h s in
       record { answer = ap (λ (y : ℤ). toZ w64 (ofZ w64 y)) q ∙ (number-read r account-small ∙ (ap numberOf text-told ∙ bytes-returned text)); result = k .result; zeros = k .zeros }
 
-module _ {b held holds : List ℕ} {n : ℕ} {work left : List (List ℕ)} {r : Outcome} (s : Serves (Find n) b held work r holds left) where
+module _ {h : Choices} {b held holds : List ℕ} {n : ℕ} {work left : List (List ℕ)} {r : Outcome} (s : Serves h (Find n) b held work r holds left) where
   abbrev y : Answer (Option ℕ)
-  y = findElement (lengths needed work) b n
+  y = findElement h (lengths needed work) b n
 
   place-told : r ≡ ofPlace y
-  place-told = let (a, e, k) = serves-finds s in e ∙ ap ofPlace (k .element)
+  place-told = let (a, e, k) = serves-finds h s in e ∙ ap ofPlace (k .element)
 
   -- what is told of an element is small
   pub find-small : Small r
   unfolding Small ofPlace place any
-  find-small = rw place-told (go y (λ m. by-number findNumbers 1 16 m y refl (found-by (lengths needed work) b n)) (found-short (lengths needed work) b n))
+  find-small = rw place-told (go y (λ m. by-number findNumbers 1 17 m y refl (found-by h (lengths needed work) b n)) (found-short h (lengths needed work) b n))
     where
-      go : (o : Answer (Option ℕ)) → ((m : ℕ) → o ≡ refused m → (1 ≤ m) × (m ≤ 16)) → ((e : ℕ) → o ≡ gives (some e) → e < 4096) → Small (ofPlace o)
-      go (refused m) h k = omega (arith, (h m refl) .1)
+      go : (o : Answer (Option ℕ)) → ((m : ℕ) → o ≡ refused m → (1 ≤ m) × (m ≤ 17)) → ((e : ℕ) → o ≡ gives (some e) → e < 4096) → Small (ofPlace o)
+      go (refused m) i k = omega (arith, (i m refl) .1)
       go (gives none) h k = tt
       go (gives (some e)) h k = omega (arith, k e refl)
 
   -- and its number is what is promised
-  pub find-returned : (z : ℤ) → z ≡ numberOf r → ReturnsElement b n work (toZ w64 (ofZ w64 z)) left
+  pub find-returned : (z : ℤ) → z ≡ numberOf r → ReturnsElement h b n work (toZ w64 (ofZ w64 z)) left
   unfolding numberOf ofPlace place returnedElement
   find-returned z q =
-      let (a, e, k) = serves-finds s in
+      let (a, e, k) = serves-finds h s in
       record { element = ap (λ (y : ℤ). toZ w64 (ofZ w64 y)) q ∙ (number-read r find-small ∙ (ap numberOf place-told ∙ go y)); zeros = k .zeros; inserts = k .inserts }
     where
       go : (o : Answer (Option ℕ)) → numberOf (ofPlace o) ≡ returnedElement o
