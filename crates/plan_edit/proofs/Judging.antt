@@ -7,12 +7,11 @@ use mathlib.Core.Path.{_≡_, refl, sym, ap, _∙_, subst}
 use Prim.Native.Nat.{ℕ, suc, _*_}
 use native.Mathlib.Omega.{arith}
 use lib.Dec.{eqb}
-use lib.ListN.{length, drop, getD, set, replicate, length-map}
+use lib.ListN.{length, drop, getD, set, replicate}
 use borrow.Author.Tests.{eqb-true, eqb-false, eq-eqb, ne-eqb}
 use Rattle.definition.specs.Basics.{gives}
 use Rattle.definition.specs.Choices.{Choices}
 use Rattle.definition.specs.Planning.{Region, around, fated}
-use Rattle.definition_laws.specs.Basics.{upFrom, up-long}
 use Rattle.read_element_table.specs.Told.{length-view}
 use Rattle.record_changes.specs.ChangeRow.{ChangeRow, rowsOf}
 use Rattle.record_changes.specs.ChangeRowLaws.{rowsWords, rows-read, length-rowsOf}
@@ -21,7 +20,7 @@ use Rattle.plan_overlap.specs.declared.Replacements.{Replacements}
 use Rattle.plan_overlap.specs.declared.Replacements.the-variants.{Disjoint, Overlap as Disagree}
 use Rattle.plan_changed_region.specs.Fates.{rowPushed, rowsFates, plannedRows}
 use Rattle.plan_edge.specs.Rule.{edgeRows}
-use Rattle.plan_edge.specs.Rule as edge
+use Rattle.plan_edge.specs.Told.{edge-read}
 use Rattle.record_rewritten.specs.Stated.{planOf}
 use Rattle.read_layout.specs.declared.Layout.{Layout}
 use Rattle.plan_model.specs.Fated.{fatedRows, fated-rows, rule-0, rule-1}
@@ -56,10 +55,6 @@ length-planned : (rs : List ChangeRow) → length (plannedRows rs) ≡ length rs
 unfolding plannedRows
 length-planned rs = length-fates 0 (replicate 16 []) rs
 
-length-edge : (t : List ℕ) (c : ℕ) (w : List ℕ) → length (edgeRows t c w) ≡ c
-unfolding edgeRows edge.fatedRows
-length-edge t c w = length-map (upFrom 0 c) _ ∙ up-long 0 c
-
 -- ── By the rule that is chosen ──────────────────────────────────────────────────────────────────────────────
 
 module _ (h : Choices) (t : List ℕ) (c : ℕ) (w : List ℕ) where
@@ -78,13 +73,14 @@ module _ (h : Choices) (t : List ℕ) (c : ℕ) (w : List ℕ) where
   pub left-by-1 : {w′ : List ℕ} → ¬ (h .edge ≡ 0) → w′ ≡ rowsWords (edgeRows t c w) ++ drop (13 * c) w → w′ ≡ rowsWords (ruleRows h t c w) ++ drop (13 * c) w
   left-by-1 e f = f ∙ ap (λ (rs : List ChangeRow). rowsWords rs ++ drop (13 * c) w) (ruled-1 e)
 
-  ruled-long : length (ruleRows h t c w) ≡ c
+  -- and what is written is read back
+  ruled-read : (l : List ℕ) → rowsOf c (rowsWords (ruleRows h t c w) ++ l) ≡ ruleRows h t c w
   unfolding ruleRows
-  ruled-long = go (eqb h.edge 0)
+  ruled-read l = go (eqb h.edge 0)
     where
-      go : (b : Bool) → length (cond b (plannedRows (rowsOf c w)) (edgeRows t c w)) ≡ c
-      go true = length-planned (rowsOf c w) ∙ length-rowsOf c w
-      go false = length-edge t c w
+      go : (b : Bool) → rowsOf c (rowsWords (cond b (plannedRows (rowsOf c w)) (edgeRows t c w)) ++ l) ≡ cond b (plannedRows (rowsOf c w)) (edgeRows t c w)
+      go true = rows-read (plannedRows (rowsOf c w)) l c (length-planned (rowsOf c w) ∙ length-rowsOf c w)
+      go false = edge-read t c w l
 
 -- the rows get the definition's fates
 ruled : (h : Choices) {b : List ℕ} {l : Layout} {t s : List ℕ} (r : Ready b l t s) {c : ℕ} {w : List ℕ} → Sorted b l t s c w → ruleRows h t c w ≡ fatedRows (tableIn l t s) (callsIn l b) h
@@ -114,7 +110,7 @@ module _ {h : Choices} {b : List ℕ} {l : Layout} {t s : List ℕ} (r : Ready b
       let n : ℕ = l .sizes .elements in
       let facts = ready-facts r in
       let rows : rowsOf c w′ ≡ fatedRows T (callsIn l b) h =
-      ap (rowsOf c) f ∙ (rows-read (ruleRows h t c w) (drop (13 * c) w) c (ruled-long h t c w) ∙ ruled h r S) in
+      ap (rowsOf c) f ∙ (ruled-read h t c w (drop (13 * c) w) ∙ ruled h r S) in
       let disjoint = ap rowsOverlap (sym (S .rows)) ∙ disjoints (rowsOverlap (rowsOf c w)) (sym e ∙ z) in
       record {
         answer = ap (λ (rs : List ChangeRow). gives (fated (map (planOf (listedIn l b)) rs))) rows ∙ sym (judged-fated h facts disjoint);

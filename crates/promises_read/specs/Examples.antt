@@ -142,10 +142,20 @@ shows t = (map label (preorder t), map measure (preorder t), text t)
 abbrev afterBlock : List (Tree ℕ) → Tree ℕ
 afterBlock new = nodeOf 1 (nodeOf 2 (nodeOf 3 (tokenOf 4 "s" ∷ []) ∷ []) ∷ (new ++ (tokenOf 4 "u" ∷ [])))
 
--- THE CLOSING CALL (`definition/specs/EdgeExamples`): by rule 0 it is discarded with the block's last statement, by rule 1 it stands after the block.
-pub closing-call-run : RunsAs (edge 0) (inBytes closingCall) (gives (shows (afterBlock []), [], 1)) × RunsAs (edge 1) (inBytes closingCall) (gives (shows (afterBlock (tokenOf 6 "c" ∷ [])), 4 ∷ [], 0))
+-- every call by this edge rule on this batch that keeps its promise leaves what is told
+abbrev pub RunsBy : Told → ℕ × Short → Type 0
+RunsBy b m = RunsAs (edge (m .0)) (inBytes b) (m .1)
+
+-- what the definition answers by each rule
+pub rules-run : (b : Told) (ms : List (ℕ × Short)) → any (leb 256) (inBytes b) ≡ false → map (λ m. short (edit (edge (m .0)) (inBytes b))) ms ≡ map (λ m. m .1) ms → All (RunsBy b) ms
+rules-run b [] y e = tt
+rules-run b (m ∷ ms) y e = (told-run (edge (m .0)) (inBytes b) (m .1) (tested-bytes (inBytes b) y) (head-eq-of-cons-eq e), rules-run b ms y (tail-eq-of-cons-eq e))
+
+-- by rule 0 the call is discarded with the block's last statement, by rule 1 it stands after the block
+abbrev pub closings : List (ℕ × Short)
+closings = (0, gives (shows (afterBlock []), [], 1)) ∷ (1, gives (shows (afterBlock (tokenOf 6 "c" ∷ [])), 4 ∷ [], 0)) ∷ []
+
+-- THE CLOSING CALL (`definition/specs/EdgeExamples`), by either edge rule
+pub closing-call-run : All (RunsBy closingCall) closings
 unfolding computed inLists inBytes short
-closing-call-run = (
-  told-run (edge 0) (inBytes closingCall) (gives (shows (afterBlock []), [], 1)) (tested-bytes (inBytes closingCall) refl) refl,
-  told-run (edge 1) (inBytes closingCall) (gives (shows (afterBlock (tokenOf 6 "c" ∷ [])), 4 ∷ [], 0)) (tested-bytes (inBytes closingCall) refl) refl,
-)
+closing-call-run = rules-run closingCall closings refl refl
