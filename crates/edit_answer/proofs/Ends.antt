@@ -13,7 +13,7 @@ use lib.Dec.{eqb}
 use borrow.Author.Tests.{not-true, not-false}
 use Rattle.definition.specs.Basics as basics
 use Rattle.definition.specs.Basics.{gives, _>>=_}
-use Rattle.definition.specs.Elements.{isNode}
+use Rattle.definition.specs.Elements.{isNode, row, tree}
 use Rattle.read_element_table.specs.View.{view}
 use Rattle.read_element_table.specs.Wellformed.{Wellformed}
 use Rattle.rows_model.specs.Row.{firstRows}
@@ -36,7 +36,7 @@ use Rattle.promises.specs.Serving.{reached, place, ofLength, ofPlace, outcome, 
 use Rattle.promises.specs.declared.Job.the-variants.{Edit, Find}
 use Rattle.promises.specs.declared.Outcome.{Outcome}
 use Rattle.promises.specs.declared.Outcome.the-variants.{Refused, Bytes as Written, Nothing as NoElement, At as Stands}
-use Rattle.edit_answer.specs.AtEnd.{RowsAtEnd, answered-edit, oldNode, none-there, no-node, node-there, no-old-node, old-node, unless, unless-refused, unless-done}
+use Rattle.edit_answer.specs.AtEnd.{RowsAtEnd, answered-edit, oldNode, none-there, no-node, node-there, old-tree, no-old-node, old-node, unless, unless-refused, unless-done}
 
 -- what is behind a place, as a part is told
 pub whole-rest : (k : ℕ) (b : List ℕ) → take (length b - k) (drop k b) ≡ drop k b
@@ -93,7 +93,10 @@ module _ {b rows t s : List ℕ} {d : Ended} (v : RowsAtEnd b rows d) (w : Told 
   unfolding ofPlace place
   none-asked q = ap ofPlace (no-old-node v w k (sym p ∙ not-true o q))
 
-  module _ (q : not o ≡ false) (low : k < d .elements) (kind start : ℕ) (e : kind ≡ getD s (3 * suc k + 0) 0) (f : start ≡ getD t (8 * k + 4) 0) (r : Found)
+  pub asked-old : not o ≡ false → tree (view (d .elements) t s) k ≡ 0
+  asked-old q = old-tree (view (d .elements) t s) k (sym p ∙ not-false o q)
+
+  module _ (q : not o ≡ false) (low : k < d .elements) (kind start : ℕ) (e : kind ≡ getD s (3 * suc k + 0) 0) (f : start ≡ (row (view (d .elements) t s) k) .start) (r : Found)
       (g : (text : List ℕ) → r ≡ foundBy (findRow (firstTree (firstRows text (d .rows) rows)) kind start)) where
     meant : (o : Option ℕ) → r ≡ foundBy o → gives o ≡ found b k → (r ≡ Nothing → NoElement ≡ ofPlace (found b k)) × ((x : ℕ) → r ≡ At x → Stands x ≡ ofPlace (found b k))
     unfolding foundBy ofPlace place

@@ -84,7 +84,7 @@ fn find_from(
         return Outcome::Nothing;
     }
     let kind = read_element_table::row_word(source, k, read_element_table::KIND);
-    let start = read_element_table::entry(table, k, read_element_table::TEXT_START);
+    let start = finish_find::old_start(table, source, n, k);
     match finish_find::find_in_tree(rows, d.rows, d.root, kind, start) {
         Found::Nothing => Outcome::Nothing,
         Found::At(e) => Outcome::At(e),

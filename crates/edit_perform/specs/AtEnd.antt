@@ -3,8 +3,9 @@
 use mathlib.Core.Path.{_≡_}
 use mathlib.Core.Bool.{true, false}
 use mathlib.Core.List.{List, map}
-use Prim.Native.Nat.{ℕ, _*_, _^_, _≤_, _<_}
+use Prim.Native.Nat.{ℕ, _+_, _*_, _^_, _≤_, _<_}
 use lib.ListN.{length, take, drop}
+use Rattle.orders.specs.Tree.{node, forest}
 use Rattle.definition.specs.Basics.{refused, gives, keep}
 use Rattle.definition.specs.Planning.{isDiscarded}
 use Rattle.definition.specs.Refusals.{Accepted, accepted}
@@ -12,7 +13,7 @@ use Rattle.definition.specs.Answers.{tooShort}
 use Rattle.definition_laws.specs.Held.{Holds}
 use Rattle.read_element_table.specs.View.{view}
 use Rattle.read_element_table.specs.Wellformed.{Wellformed}
-use Rattle.rows_model.specs.Row.{firstRows, bytes}
+use Rattle.rows_model.specs.Row.{firstRows, rowsOf, bytes}
 use Rattle.rows_model.specs.Place.{markOf}
 use Rattle.run_annotations.specs.Notes.{notesOf}
 use Rattle.run_model.specs.Store.{store}
@@ -52,6 +53,9 @@ pub record Told (b t s : List ℕ) (n : ℕ) : Type 0 where
   pub batch : Accepted
   pub accepts : accepted b ≡ gives batch
   pub table : view n t s ≡ batch .table
+  -- the rows are those of its trees, under the node above them all
+  pub text : List ℕ
+  pub rows : firstRows text (n + 1) s ≡ rowsOf (node 2147483648 (forest (batch .trees)))
   pub formed : Wellformed n t s
 
 -- the run of the batch b has ended, and the marks are the rows where its elements stand

@@ -14,9 +14,9 @@ use Rattle.rows_model.specs.Row.{Row, textLength, triples, rowsOf, bytes}
 use Rattle.rows_model.specs.Place.{place}
 use Rattle.rows_model.specs.PlaceLaws.{place-lt}
 use Rattle.rows_model.specs.Words.{length-triples}
+use Rattle.rows_path.specs.Offset.{offset, path-start}
 use Rattle.finish_model.specs.Finished.{starts}
 use Rattle.finish_model.specs.Numbers.{starts-at}
-use Rattle.finish_model.specs.Offset.{offset, path-start}
 
 -- l is d with the text start of each row of a tree at its front
 pub record Starts (tree d l : List ℕ) : Type 0 where

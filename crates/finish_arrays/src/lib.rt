@@ -17,8 +17,9 @@ pub fn fill_starts(tree: &[u32], out: &mut [u32])
     let mut sum = 0;
     let mut i = 0;
     while 3 * i + 2 < tree.len() {
+        let next = sum + rows_syntax_node::text_length(tree, i);
         out[i] = sum as u32;
-        sum += rows_syntax_node::text_length(tree, i);
+        sum = next;
         i += 1;
     }
 }

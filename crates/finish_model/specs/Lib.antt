@@ -3,9 +3,7 @@
 --     Numbers    the number of an element of the new tree, and where its text starts, by its row
 --     Result     the result: the definition's
 --     Alike      the first node with a kind and a text start, by the rows
---     Offset     where the text of an element starts in its tree, by its path (Note 7)
 pub mod Finished
 pub mod Numbers
 pub mod Result
 pub mod Alike
-pub mod Offset

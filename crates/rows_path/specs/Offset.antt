@@ -2,8 +2,8 @@
 -- Assumes nothing.
 use mathlib.Core.Path.{_≡_, refl, sym, ap, _∙_}
 use mathlib.Core.List.{List, [], _∷_, _++_}
-use mathlib.Core.Option.{Option, none, some, bind}
-use Prim.Native.Nat.{ℕ, suc, _+_, _≤_}
+use mathlib.Core.Option.{Option, none, some, Option·map, bind}
+use Prim.Native.Nat.{ℕ, suc, _+_, _≤_, _<_}
 use native.Mathlib.Nat.{zero-add}
 use native.Mathlib.Omega.{arith}
 use lib.ListN.{length, take, drop, getElem?}
@@ -11,7 +11,9 @@ use lib.Seq.{take-append-add, take-append-le}
 use Rattle.orders.specs.ListLaws.{some-inj, none-some, bind-some, map-some}
 use Rattle.orders.specs.Tree.{Tree, node, token, list, forest, children, Path, resolve, textOf, elementsOf}
 use Rattle.orders.specs.TreeLaws.{resolve-child}
-use Rattle.definition_laws.specs.Rows.{Element, before, childOf, elementAt}
+use Rattle.definition.specs.Elements.{table, row, Row as Known}
+use Rattle.definition_laws.specs.Rows.{Element, rowOf, before, childOf, elementAt, rootOf, element}
+use Rattle.definition_laws.specs.Kin.{elementAt-tree, stands}
 use Rattle.rows_model.specs.Row.{Row, rowsOf, rowsIn, rowsAll, bytes}
 use Rattle.rows_model.specs.Place.{place, sizeAll, orZero}
 use Rattle.rows_model.specs.RowLaws.{rowsIn-list, rows-get, bytes-append, bytes-all}
@@ -80,3 +82,29 @@ element-start (i ∷ p) e x h =
     let o = offset-step i p (e .tree) t g in
     let f : offset p t ≡ offset p (c .tree) = ap (offset p) d in
     omega arith
+
+-- the row of the element at a path in tree t: its start is the path's
+pub record StartTold (ts : List (Tree ℕ)) (k t : ℕ) (p : Path) : Type 0 where
+  pub root : Tree ℕ
+  pub there : getElem? ts t ≡ some root
+  pub found : Tree ℕ
+  pub leads : resolve p root ≡ some found
+  pub start : (row (table 0 0 ts) k) .start ≡ offset p root
+
+pub table-start : (ts : List (Tree ℕ)) (k t : ℕ) (p : Path) → k < length (table 0 0 ts) → (row (table 0 0 ts) k) .path ≡ t ∷ p → StartTold ts k t p
+unfolding element rootOf rowOf
+table-start ts k t p h e =
+    let s = stands ts k h in
+    let x : Element = s .here in
+    let q : x .path ≡ t ∷ p = ap (λ (r : Known). r .path) (sym (s .told)) ∙ e in
+    let (r, a, b) = bind-some (rootOf ts t) (λ r. elementAt r p) (ap (element ts) (sym q) ∙ s .at) in
+    let (c, g, z) = map-some (λ c. record { tree = c; number = elementsOf (forest (take t ts)); above = []; path = t ∷ []; start = 0 }) (getElem? ts t) a in
+    let d : r .tree ≡ c = ap (λ (y : Element). y .tree) (sym z) in
+    let o : r .start ≡ 0 = ap (λ (y : Element). y .start) (sym z) in
+    record {
+      root = c;
+      there = g;
+      found = x .tree;
+      leads = ap (resolve p) (sym d) ∙ (sym (elementAt-tree r p) ∙ ap (Option·map (λ (y : Element). y .tree)) b);
+      start = ap (λ (r : Known). r .start) (s .told) ∙ (element-start p r x b ∙ omega (arith, ap (offset p) d));
+    }
