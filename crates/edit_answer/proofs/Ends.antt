@@ -19,11 +19,11 @@ use Rattle.read_element_table.specs.Wellformed.{Wellformed}
 use Rattle.rows_model.specs.Row.{firstRows}
 use Rattle.run_annotations.specs.Notes.{notesOf}
 use Rattle.run_tree_store.specs.Stored.{stored}
-use Rattle.rows_syntax_node.specs.Promises.{found as foundBy}
-use Rattle.rows_syntax_node.specs.declared.Found.{Found}
-use Rattle.rows_syntax_node.specs.declared.Found.the-variants.{At, Nothing}
 use Rattle.finish_model.specs.Finished.{resultOf, firstTree}
 use Rattle.finish_model.specs.Alike.{findRow}
+use Rattle.finish_find.specs.Found.{found as foundBy}
+use Rattle.finish_find.specs.declared.Found.{Found}
+use Rattle.finish_find.specs.declared.Found.the-variants.{At, Nothing}
 use Rattle.finish_result.specs.Answered.{lengthOf, Answered}
 use Rattle.finish_result.specs.declared.Finished.{Finished}
 use Rattle.finish_result.specs.declared.Finished.the-variants.{Short, Bytes}

@@ -1,10 +1,10 @@
 // From what a run leaves to what each job answers.
 use edit_perform::Ended;
 use edit_perform::Performed;
+use finish_find::Found;
 use finish_result::Finished;
 use promises::Job;
 use promises::Outcome;
-use rows_syntax_node::Found;
 ghost use mathlib.Core.Path.{_≡_};
 ghost use Prim.Native.Nat.{_≤_, _<_};
 ghost use lib.ListN.{length};

@@ -13,7 +13,7 @@ use Rattle.definition.specs.Answers.{tooShort}
 use Rattle.definition_laws.specs.Held.{Holds}
 use Rattle.read_element_table.specs.View.{view}
 use Rattle.read_element_table.specs.Wellformed.{Wellformed}
-use Rattle.rows_model.specs.Row.{firstRows, rowsOf, bytes}
+use Rattle.rows_model.specs.Row.{firstRows, rowsOf as treeRows, bytes}
 use Rattle.rows_model.specs.Place.{markOf}
 use Rattle.run_annotations.specs.Notes.{notesOf}
 use Rattle.run_model.specs.Store.{store}
@@ -55,7 +55,7 @@ pub record Told (b t s : List ℕ) (n : ℕ) : Type 0 where
   pub table : view n t s ≡ batch .table
   -- the rows are those of its trees, under the node above them all
   pub text : List ℕ
-  pub rows : firstRows text (n + 1) s ≡ rowsOf (node 2147483648 (forest (batch .trees)))
+  pub rows : firstRows text (n + 1) s ≡ treeRows (node 2147483648 (forest (batch .trees)))
   pub formed : Wellformed n t s
 
 -- the run of the batch b has ended, and the marks are the rows where its elements stand

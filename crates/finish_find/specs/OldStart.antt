@@ -1,13 +1,13 @@
 -- Where the text of an old node starts: what resolving its path gives, in the rows of the batch's own trees.
 -- Assumes nothing.
-use mathlib.Core.Path.{_≡_, refl, sym, ap, _∙_}
+use mathlib.Core.Path.{_≡_, sym, ap, _∙_}
 use mathlib.Core.List.{List, [], _∷_, append-nil}
 use mathlib.Core.Option.{some}
-use Prim.Native.Nat.{ℕ, suc, _+_, _≤_, _<_}
+use Prim.Native.Nat.{ℕ, _+_, _≤_, _<_}
 use native.Mathlib.Omega.{arith}
 use lib.ListN.{length, getElem?, take, drop}
 use Rattle.orders.specs.ListLaws.{some-inj, none-some}
-use Rattle.orders.specs.Tree.{Tree, node, list, forest, children, Path}
+use Rattle.orders.specs.Tree.{Tree, node, forest, children}
 use Rattle.orders.specs.TreeLaws.{list-forest}
 use Rattle.definition.specs.Elements.{Table, table, row, tree}
 use Rattle.read_element_table.specs.View.{view}
@@ -16,7 +16,7 @@ use Rattle.read_element_table.specs.Told.{length-view}
 use Rattle.rows_model.specs.Row.{rowsOf, rowsAll, triples, firstRows}
 use Rattle.rows_model.specs.Place.{place}
 use Rattle.rows_syntax_node.specs.Promises.{Part}
-use Rattle.rows_path.specs.Offset.{StartTold, table-start}
+use Rattle.rows_path.specs.Offset.{table-start}
 use Rattle.rows_path.specs.Promises.{Resolves, resolves-there}
 use Rattle.rows_path.specs.declared.Resolved.{Resolved}
 use Rattle.rows_path.specs.declared.Resolved.the-variants.{At}

@@ -7,16 +7,15 @@ ghost use Rattle.definition.specs.Elements.{row, tree as treeOf};
 ghost use Rattle.read_element_table.specs.View.{view};
 ghost use Rattle.read_element_table.specs.Wellformed.{Lines};
 ghost use Rattle.rows_model.specs.Row.{triples, firstRows};
-ghost use Rattle.rows_syntax_node.specs.Promises.{found};
 ghost use Rattle.finish_model.specs.Finished.{firstTree};
 ghost use Rattle.finish_model.specs.Alike.{alikeWords, findRow};
+ghost use Rattle.finish_find.specs.Found.{found};
 ghost use Rattle.finish_find.specs.OldStart.{TreesTold, PathFrom};
 use read_element_table::CHILD;
 use read_element_table::PARENT;
 use read_element_table::entry;
 use rows_path::Resolved;
 use rows_path::resolve;
-use rows_syntax_node::Found;
 use rows_syntax_node::subtree;
 use rows_syntax_node::text_length;
 use words::word;
@@ -58,6 +57,11 @@ pub fn old_start(table: &[u32], source: &[u32], n: usize, k: usize) -> usize
 }
 
 // ── In the new tree ──
+
+pub enum Found {
+    At(usize),
+    Nothing,
+}
 
 // Whether a kind word is a node's, and it and a text start are those looked for.
 fn is_alike(kind: usize, start: usize, other: usize, sum: usize) -> bool

@@ -1,8 +1,6 @@
 -- `resolve` meets its contract. The steps passed lead to the row at hand.
 -- Assumes nothing.
-use mathlib.Core.Path.{refl}
 use Prim.Native.Nat.{_-_}
-use native.Mathlib.Omega.{arith}
 use lib.ListN.{length}
 use borrow.Author.Needs.{needs}
 use Rattle.rows_path.proofs.Turns.{Following, following-start, following-out, following-none, following-next, following-done}
