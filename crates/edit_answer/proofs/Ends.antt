@@ -14,7 +14,7 @@ use borrow.Author.Tests.{not-true, not-false}
 use Rattle.definition.specs.Basics as basics
 use Rattle.definition.specs.Basics.{gives, _>>=_}
 use Rattle.definition.specs.Choices.{Choices}
-use Rattle.definition.specs.Elements.{isNode}
+use Rattle.definition.specs.Elements.{isNode, row, tree}
 use Rattle.definition.specs.Account.{fateLines, overlapLine}
 use Rattle.record_changes.specs.ChangeRow.{rowsOf as changeRows}
 use Rattle.plan_sort.specs.Rows.{rowFate}
@@ -24,11 +24,11 @@ use Rattle.read_element_table.specs.Wellformed.{Wellformed}
 use Rattle.rows_model.specs.Row.{firstRows}
 use Rattle.run_annotations.specs.Notes.{notesOf}
 use Rattle.run_tree_store.specs.Stored.{stored}
-use Rattle.rows_syntax_node.specs.Promises.{found as foundBy}
-use Rattle.rows_syntax_node.specs.declared.Found.{Found}
-use Rattle.rows_syntax_node.specs.declared.Found.the-variants.{At, Nothing}
 use Rattle.finish_model.specs.Finished.{resultOf, firstTree}
 use Rattle.finish_model.specs.Alike.{findRow}
+use Rattle.finish_find.specs.Found.{found as foundBy}
+use Rattle.finish_find.specs.declared.Found.{Found}
+use Rattle.finish_find.specs.declared.Found.the-variants.{At, Nothing}
 use Rattle.finish_result.specs.Answered.{lengthOf, Answered}
 use Rattle.finish_result.specs.declared.Finished.{Finished}
 use Rattle.finish_result.specs.declared.Finished.the-variants.{Short, Bytes}
@@ -42,7 +42,7 @@ use Rattle.promises.specs.declared.Job.{Job}
 use Rattle.promises.specs.declared.Job.the-variants.{Edit, Find, Account}
 use Rattle.promises.specs.declared.Outcome.{Outcome}
 use Rattle.promises.specs.declared.Outcome.the-variants.{Refused, Bytes as Written, Nothing as NoElement, At as Stands}
-use Rattle.edit_answer.specs.AtEnd.{RowsAtEnd, answered-edit, oldNode, none-there, no-node, node-there, no-old-node, old-node, unless, unless-refused, unless-done, unless-overlap, overlapTold, overlap-answers, fates-answer, ToAnswer}
+use Rattle.edit_answer.specs.AtEnd.{RowsAtEnd, answered-edit, oldNode, none-there, no-node, node-there, old-tree, no-old-node, old-node, unless, unless-refused, unless-done, unless-overlap, overlapTold, overlap-answers, fates-answer, ToAnswer}
 
 -- what is behind a place, as a part is told
 pub whole-rest : (k : ℕ) (b : List ℕ) → take (length b - k) (drop k b) ≡ drop k b
@@ -131,7 +131,10 @@ module _ {h : Choices} {b rows t s : List ℕ} {d : Ended} (v : RowsAtEnd h b ro
   unfolding ofPlace place
   none-asked q = ap ofPlace (no-old-node v w k (sym p ∙ not-true o q))
 
-  module _ (q : not o ≡ false) (low : k < d .elements) (kind start : ℕ) (e : kind ≡ getD s (3 * suc k + 0) 0) (f : start ≡ getD t (8 * k + 4) 0) (r : Found)
+  pub asked-old : not o ≡ false → tree (view (d .elements) t s) k ≡ 0
+  asked-old q = old-tree (view (d .elements) t s) k (sym p ∙ not-false o q)
+
+  module _ (q : not o ≡ false) (low : k < d .elements) (kind start : ℕ) (e : kind ≡ getD s (3 * suc k + 0) 0) (f : start ≡ (row (view (d .elements) t s) k) .start) (r : Found)
       (g : (text : List ℕ) → r ≡ foundBy (findRow (firstTree (firstRows text (d .rows) rows)) kind start)) where
     meant : (o : Option ℕ) → r ≡ foundBy o → gives o ≡ found h b k → (r ≡ Nothing → NoElement ≡ ofPlace (found h b k)) × ((x : ℕ) → r ≡ At x → Stands x ≡ ofPlace (found h b k))
     unfolding foundBy ofPlace place

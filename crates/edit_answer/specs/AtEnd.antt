@@ -10,19 +10,22 @@ use native.Mathlib.Omega.{arith}
 use lib.ListN.{length, drop, take, getD}
 use lib.Dec.{eqb}
 use lib.Seq.{take-all}
+use borrow.Author.Tests.{eqb-true}
+use Rattle.orders.specs.ListLaws.{bool-absurd}
 use Rattle.definition.specs.Basics.{Answer, refused, gives, _>>=_}
 use Rattle.definition.specs.Choices.{Choices}
 use Rattle.definition.specs.Elements.{Table, isNode, node?, tree, row, noRow}
 use Rattle.definition.specs.Refusals.{Accepted, accepted}
 use Rattle.definition.specs.Answers.{plan, ran}
 use Rattle.definition.specs.Account.{fateLines, overlapLine}
+use Rattle.definition_laws.specs.Accepted.{accepts}
 use Rattle.definition_laws.specs.Answers.{gives-inj, given}
 use Rattle.record_changes.specs.ChangeRow.{rowsOf as changeRows}
 use Rattle.plan_sort.specs.Rows.{rowFate}
 use Rattle.account_lines.specs.Lines.{tellIn}
 use Rattle.read_element_table.specs.View.{view, rowAt, kindWord}
 use Rattle.read_element_table.specs.Wellformed.{Lines}
-use Rattle.read_element_table.specs.Told.{length-view, row-view, node-told, tree-told, start-told}
+use Rattle.read_element_table.specs.Told.{length-view, row-view, node-told, tree-told}
 use Rattle.rows_model.specs.Row.{firstRows, rowsOf}
 use Rattle.run_model.specs.Store as model
 use Rattle.run_model.specs.Store.{store}
@@ -30,6 +33,7 @@ use Rattle.run_annotations.specs.Notes.{notesOf}
 use Rattle.run_tree_store.specs.Stored.{stored}
 use Rattle.finish_model.specs.Finished.{resultOf, firstTree}
 use Rattle.finish_model.specs.Alike.{findRow, find-in}
+use Rattle.finish_find.specs.OldStart.{TreesTold}
 use Rattle.finish_result.specs.Answered.{lengthOf, fitted, overFront, Answered, answered-result}
 use Rattle.finish_result.specs.declared.Finished.{Finished}
 use Rattle.edit_perform.specs.Ending.{End, ending, resultAt, edit-ending, foundAt, found-ending}
@@ -111,6 +115,26 @@ kind-told : (n : ℕ) (t s : List ℕ) (k : ℕ) → k < n → (row (view n t s)
 unfolding rowAt kindWord
 kind-told n t s k h = rw (row-view n t s k h) refl
 
+-- it is of tree 0
+pub old-tree : (T : Table) (k : ℕ) → oldNode T k ≡ true → tree T k ≡ 0
+unfolding oldNode
+old-tree T k h = go (node? T k) (eqb (tree T k) 0) refl h
+  where
+    go : (a b : Bool) → eqb (tree T k) 0 ≡ b → (a && b) ≡ true → tree T k ≡ 0
+    go true true e h = eqb-true (tree T k) 0 e
+    go true false e h = bool-absurd h refl
+    go false b e h = bool-absurd h refl
+
+-- and the words tell of the batch's own trees
+pub trees-told : {b t s : List ℕ} {n : ℕ} → Told b t s n → TreesTold n t s
+trees-told {b} w = record {
+  trees = w .batch .trees;
+  table = w .table ∙ (accepts b (w .batch) (w .accepts)) .table;
+  text = w .text;
+  rows = w .rows;
+  formed = w .formed;
+}
+
 -- where it is found, by the rows of the new tree
 module _ {h : Choices} {b rows t s : List ℕ} {d : Ended} (v : RowsAtEnd h b rows d) (w : Told b t s (d .elements)) (k : ℕ) where
   old-table : v .end .batch .table ≡ view (d .elements) t s
@@ -125,9 +149,9 @@ module _ {h : Choices} {b rows t s : List ℕ} {d : Ended} (v : RowsAtEnd h b ro
   pub no-old-node : oldNode (view (d .elements) t s) k ≡ false → gives none ≡ found h b k
   no-old-node q = sym (found-by ∙ rw q refl)
 
-  pub old-node : oldNode (view (d .elements) t s) k ≡ true → k < d .elements → (kind start : ℕ) → kind ≡ getD s (3 * suc k) 0 → start ≡ getD t (8 * k + 4) 0
+  pub old-node : oldNode (view (d .elements) t s) k ≡ true → k < d .elements → (kind start : ℕ) → kind ≡ getD s (3 * suc k) 0 → start ≡ (row (view (d .elements) t s) k) .start
       → gives (findRow (firstTree (firstRows (drop (d .text) b) (d .rows) rows)) kind start) ≡ found h b k
-  old-node q low kind start e f = sym (found-by ∙ rw (q, kind-told (d .elements) t s k low, start-told (d .elements) t s k low, ← e, ← f) refl)
+  old-node q low kind start e f = sym (found-by ∙ rw (q, kind-told (d .elements) t s k low, ← e, ← f) refl)
 
 -- ── Refused, or at the end of the run ───────────────────────────────────────────────────────────────────────
 

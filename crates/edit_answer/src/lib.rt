@@ -2,10 +2,10 @@
 use choices::Choices;
 use edit_perform::Ended;
 use edit_perform::Performed;
+use finish_find::Found;
 use finish_result::Finished;
 use promises::Job;
 use promises::Outcome;
-use rows_syntax_node::Found;
 ghost use mathlib.Core.Path.{_≡_};
 ghost use Prim.Native.Nat.{_≤_, _<_};
 ghost use lib.ListN.{length};
@@ -88,7 +88,7 @@ fn find_from(
         return Outcome::Nothing;
     }
     let kind = read_element_table::row_word(source, k, rows_syntax_node::KIND);
-    let start = read_element_table::entry(table, k, read_element_table::TEXT_START);
+    let start = finish_find::old_start(table, source, n, k);
     match finish_find::find_in_tree(rows, d.rows, d.root, kind, start) {
         Found::Nothing => Outcome::Nothing,
         Found::At(e) => Outcome::At(e),

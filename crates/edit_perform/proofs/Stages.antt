@@ -19,7 +19,7 @@ use Rattle.choices.specs.declared.Choices.{Choices}
 use Rattle.read_element_table.specs.View.{view}
 use Rattle.plan_mapping.specs.Mapped.{wordsAt}
 use Rattle.record_changes.specs.ChangeRowLaws.{rowAt}
-use Rattle.read_layout.specs.Layout.{laidOf}
+use Rattle.read_layout.specs.Layout.{laidOf, arraysAt}
 use Rattle.read_layout.specs.declared.Layout.{Layout}
 use Rattle.read_layout.specs.declared.Laid.{Laid}
 use Rattle.read_layout.specs.declared.Laid.the-variants.{Refused as Unlaid, At}
@@ -39,7 +39,7 @@ use Rattle.run_execute.specs.Standing.{Begun}
 use Rattle.run_execute.specs.Stepping.{Performs as RowPerforms}
 use Rattle.run_execute.specs.Running.{listsAll, Ran}
 use Rattle.edit_perform.specs.Ending.{ending}
-use Rattle.edit_perform.specs.Beginning.{LaidOut}
+use Rattle.edit_perform.specs.Beginning.{LaidOut, tells}
 use Rattle.edit_perform.specs.AtEnd.{AtEnd, Told, Overlapped, Performs}
 use Rattle.edit_perform.specs.Performing.{begins, all-perform, room-recorded, all-elements, run-refused, run-ended, run-marked, run-recounted}
 use Rattle.edit_perform.specs.Accounting.{not-accepted, overlapping, not-planned}
@@ -72,6 +72,14 @@ performs-overlap {h} {b} j k o = record {
 -- a part of n words from the front
 pub part-long : (n : ℕ) (l : List ℕ) → n ≤ length l → length (take (n - 0) l) ≡ n
 part-long n l h = length-take-le (n - 0) l (omega arith) ∙ omega arith
+
+-- the words that an accepted batch leaves tell of its elements
+told-of : {b : List ℕ} {l : Layout} {t s : List ℕ} → LaidOut b l t s → Told b t s (l .sizes .elements)
+told-of {b} {l} L =
+    let v = L .leaves in
+    let few = v .within .limits .elements in
+    let w = tells v (omega (arith, L .long)) (omega (arith, L .longRows)) in
+    record { batch = v .what; accepts = v .accepted; table = v .told; text = (arraysAt l b) .text; rows = w .rows-told; formed = v .formed }
 
 -- ── The steps ───────────────────────────────────────────────────────────────────────────────────────────────
 
@@ -135,7 +143,7 @@ module _ {h : definition.Choices} {b : List ℕ} {l : Layout} {t s changes runni
           ends = λ y i. let same-end : d ≡ y = cc in subst (AtEnd h b rows notes changed) same-end (run-ended v P (L .long) (L .longRows) ls lf same r e ln);
           tells = λ y i.
               let same-end : d ≡ y = cc in
-              subst (λ (z : Ended). Told b t s (z .elements)) same-end (record { batch = v .what; accepts = v .accepted; table = v .told; formed = v .formed });
+              subst (λ (z : Ended). Told b t s (z .elements)) same-end (told-of L);
           marked = λ y i. let same-end : d ≡ y = cc in run-marked v P (L .long) (L .longRows) ls lf same r e y (ap (λ (z : Ended). z .elements) (sym same-end));
           recounts = λ y i. let same-end : d ≡ y = cc in run-recounted v P (L .long) (L .longRows) ls lf same r e y (ap (λ (z : Ended). z .recorded) (sym same-end));
         }

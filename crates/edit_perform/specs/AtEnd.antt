@@ -3,8 +3,9 @@
 use mathlib.Core.Path.{_≡_}
 use mathlib.Core.Bool.{false}
 use mathlib.Core.List.{List, map}
-use Prim.Native.Nat.{ℕ, _*_, _^_, _≤_, _<_}
+use Prim.Native.Nat.{ℕ, _+_, _*_, _^_, _≤_, _<_}
 use lib.ListN.{length, take, drop}
+use Rattle.orders.specs.Tree.{node, forest}
 use Rattle.definition.specs.Basics.{Answer, refused, gives, keep}
 use Rattle.definition.specs.Choices.{Choices, chosen}
 use Rattle.definition.specs.Planning.{isDiscarded}
@@ -16,7 +17,7 @@ use Rattle.read_element_table.specs.View.{view}
 use Rattle.read_element_table.specs.Wellformed.{Wellformed}
 use Rattle.record_changes.specs.ChangeRow.{rowsOf}
 use Rattle.plan_sort.specs.Rows.{rowFate}
-use Rattle.rows_model.specs.Row.{firstRows, bytes}
+use Rattle.rows_model.specs.Row.{firstRows, rowsOf as treeRows, bytes}
 use Rattle.rows_model.specs.Place.{markOf}
 use Rattle.run_annotations.specs.Notes.{notesOf}
 use Rattle.run_model.specs.Store.{store}
@@ -56,6 +57,9 @@ pub record Told (b t s : List ℕ) (n : ℕ) : Type 0 where
   pub batch : Accepted
   pub accepts : accepted b ≡ gives batch
   pub table : view n t s ≡ batch .table
+  -- the rows are those of its trees, under the node above them all
+  pub text : List ℕ
+  pub rows : firstRows text (n + 1) s ≡ treeRows (node 2147483648 (forest (batch .trees)))
   pub formed : Wellformed n t s
 
 -- the run of the batch b has ended, and the marks are the rows where its elements stand

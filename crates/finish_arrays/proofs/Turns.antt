@@ -1,7 +1,7 @@
 -- The loops: for each its invariant, that it holds at the start, after a turn, and what it says at the end.
 -- Assumes nothing.
 use mathlib.Core.Path.{_≡_, refl, sym, ap, _∙_}
-use mathlib.Core.List.{List, [], _∷_, _++_, map, flatMap}
+use mathlib.Core.List.{List, [], _++_, map, flatMap}
 use Prim.Native.Nat.{ℕ, suc, _+_, _-_, _*_, _/_, _^_, _≤_, _<_}
 use native.Mathlib.Omega.{arith}
 use native.Mathlib.Nat.{zero-add, add-zero, sub-self}
@@ -12,7 +12,7 @@ use borrow.Author.Tests.{lt-ltb, le-leb, lt-leb}
 use Rattle.definition.specs.Words.{bytes as bytesOf, written}
 use Rattle.definition_laws.specs.Basics.{getD-map}
 use Rattle.words.proofs.Turns.{Writing, writing-next}
-use Rattle.rows_model.specs.Row.{Row, nod, kind, measure, own, textLength, rowIn, triples, bytes}
+use Rattle.rows_model.specs.Row.{Row, nod, kind, measure, own, rowIn, triples, bytes}
 use Rattle.words.specs.Bytes.{length-written}
 use Rattle.words.specs.Parts.{paste-on, paste-swap}
 use Rattle.rows_model.specs.RowLaws.{bytes-append}
@@ -21,15 +21,11 @@ use Rattle.rows_syntax_node.specs.Promises.{Measured}
 use Rattle.rows_syntax_node.proofs.Turns.{Summing, summing-start, summing-next}
 use Rattle.finish_model.specs.Finished.{starts}
 use Rattle.finish_model.specs.Numbers.{starts-at}
+use Rattle.finish_arrays.specs.Starts.{Starts, length-starts, starts-listed}
 use Rattle.finish_arrays.specs.Sweep.{elementsOver, Swept, row-each}
 use Rattle.finish_arrays.specs.TextSizes.{bytes-any, own-few}
 
 -- ── Text starts ─────────────────────────────────────────────────────────────────────────────────────────────
-
-pub length-starts : (s : ℕ) (rs : List Row) → length (starts s rs) ≡ length rs
-unfolding starts
-length-starts s [] = refl
-length-starts s (r ∷ rs) = ap suc (length-starts (s + textLength r) rs)
 
 -- l is d with the starts of the first i rows at its front; their text is `sum` long
 pub record Starting (tree d l : List ℕ) (sum i : ℕ) : Type 0 where
@@ -62,8 +58,8 @@ module _ {tree d l : List ℕ} {sum i : ℕ} (v : Starting tree d l sum i) where
           let e : sum ≡ getD (starts 0 rs) i 0 = sym (starts-at rs 0 i (omega arith) ∙ omega (arith, v .summing .rest text)) in
           rw (v .filled text, e) (ap (λ n. set (paste d 0 (starts 0 rs) i) n (getD (starts 0 rs) i 0)) (sym (zero-add i)) ∙ paste-suc d 0 (starts 0 rs) i 0 (omega arith) (omega (arith, length-starts 0 rs)))
 
-  pub starting-done : length tree ≤ 3 * i + 2 → (text : List ℕ) → l ≡ paste d 0 (starts 0 (triples text tree)) (length tree / 3)
-  starting-done h text = let e : length tree / 3 ≡ i = omega (arith, v .inside) in rw e (v .filled text)
+  pub starting-done : length tree ≤ 3 * i + 2 → length tree ≤ 3 * length d → Starts tree d l
+  starting-done h k = let e : length tree / 3 ≡ i = omega (arith, v .inside) in starts-listed tree d (omega arith) (λ text. rw e (v .filled text))
 
 -- ── Kinds and measures ──────────────────────────────────────────────────────────────────────────────────────
 

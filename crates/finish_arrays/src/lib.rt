@@ -1,24 +1,25 @@
 // Finishing: text starts, and the result's sizes and arrays written as bytes.
 ghost use mathlib.Core.Path.{_≡_};
-ghost use mathlib.Core.List.{List, flatMap, _∷_, []};
-ghost use Prim.Native.Nat.{ℕ, _+_, _*_, _/_, _^_, _≤_, _<_};
+ghost use mathlib.Core.List.{flatMap, _∷_, []};
+ghost use Prim.Native.Nat.{_+_, _*_, _/_, _^_, _≤_, _<_};
 ghost use lib.ListN.{length, getD};
 ghost use lib.Seq.{paste};
 ghost use Rattle.definition.specs.Words.{bytes as bytesOf, written};
 ghost use Rattle.rows_model.specs.Row.{own, bytes, rowIn, triples};
-ghost use Rattle.finish_model.specs.Finished.{starts};
+ghost use Rattle.finish_arrays.specs.Starts.{Starts};
 ghost use Rattle.finish_arrays.specs.Sweep.{Swept};
 
-// Where the text of each row of a tree starts.
+// Where the text of each row of a tree starts: what resolving its path would give, of all rows in one pass.
 pub fn fill_starts(tree: &[u32], out: &mut [u32])
     requires { ⌜ (length (now tree) ≤ 3 * length (now out)) × (length (now tree) < 3 * 2 ^ 16) × (bytes (triples [] (now tree)) < 2 ^ 32) ⌝ }
-    ensures { λ _. ⌜ ((text : List ℕ) → now (out .exit) ≡ paste (now (out .entry)) 0 (starts 0 (triples text (now (tree .entry)))) (length (now (tree .entry)) / 3)) ⌝ }
+    ensures { λ _. ⌜ Starts (now (tree .entry)) (now (out .entry)) (now (out .exit)) ⌝ }
 {
     let mut sum = 0;
     let mut i = 0;
     while 3 * i + 2 < tree.len() {
+        let next = sum + rows_syntax_node::text_length(tree, i);
         out[i] = sum as u32;
-        sum += rows_syntax_node::text_length(tree, i);
+        sum = next;
         i += 1;
     }
 }

@@ -1,2 +1,3 @@
--- The loop's invariant, and each way out.
+-- The loops' invariants, and each way out.
 pub mod Turns
+pub mod OldPath

@@ -12,11 +12,12 @@ use borrow.Author.Tests.{le-leb, lt-leb, eq-eqb, ne-eqb}
 use Rattle.definition.specs.Elements.{isNode}
 use Rattle.rows_model.specs.Row.{kind, rowIn, triples, firstRows}
 use Rattle.rows_model.specs.Words.{kind-word, triples-at, triples-end}
-use Rattle.rows_syntax_node.specs.Promises.{Measured, Part, found}
-use Rattle.rows_syntax_node.specs.declared.Found.{Found}
-use Rattle.rows_syntax_node.specs.declared.Found.the-variants.{At, Nothing}
+use Rattle.rows_syntax_node.specs.Promises.{Measured, Part}
 use Rattle.finish_model.specs.Finished.{firstTree}
 use Rattle.finish_model.specs.Alike.{alikeWords, alikeFrom, findRow}
+use Rattle.finish_find.specs.Found.{found}
+use Rattle.finish_find.specs.declared.Found.{Found}
+use Rattle.finish_find.specs.declared.Found.the-variants.{At, Nothing}
 
 -- ── The test ────────────────────────────────────────────────────────────────────────────────────────────────
 

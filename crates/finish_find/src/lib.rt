@@ -1,18 +1,69 @@
-// `find_element` in the new tree: the first node in preorder with the old node's kind word and text start.
+// `find_element`: where the old node's text starts, and in the new tree the first node in preorder with its kind word and that start.
 ghost use mathlib.Core.Path.{_≡_};
 ghost use mathlib.Core.List.{List};
 ghost use Prim.Native.Nat.{ℕ, _*_, _^_, _≤_, _<_};
 ghost use lib.ListN.{length};
+ghost use Rattle.definition.specs.Elements.{row, tree as treeOf};
+ghost use Rattle.read_element_table.specs.View.{view};
+ghost use Rattle.read_element_table.specs.Wellformed.{Lines};
 ghost use Rattle.rows_model.specs.Row.{triples, firstRows};
-ghost use Rattle.rows_syntax_node.specs.Promises.{found};
 ghost use Rattle.finish_model.specs.Finished.{firstTree};
 ghost use Rattle.finish_model.specs.Alike.{alikeWords, findRow};
-use rows_syntax_node::Found;
+ghost use Rattle.finish_find.specs.Found.{found};
+ghost use Rattle.finish_find.specs.OldStart.{TreesTold, PathFrom};
+use read_element_table::CHILD;
+use read_element_table::PARENT;
+use read_element_table::entry;
+use rows_path::Resolved;
+use rows_path::resolve;
 use rows_syntax_node::ROW_WORDS;
 use rows_syntax_node::TEXT;
 use rows_syntax_node::subtree;
 use rows_syntax_node::text_length;
 use words::word;
+
+// ── The old node ──
+
+// The path of element `k` in its tree: the child numbers from the root down to it. They are written upward from the end of `path`, and so stand there
+// in order. Where they begin.
+fn path_in_tree(table: &[u32], n: usize, k: usize, path: &mut [u32; 64]) -> usize
+    requires { ⌜ Lines n (now table) × (k < n) × (length (now path) ≡ 64) ⌝ }
+    ensures { λ r. ⌜ PathFrom n (now (table .entry)) k (now (path .exit)) r ⌝ }
+{
+    let mut at = k;
+    let mut from: usize = 64;
+    let mut parent = entry(table, k, PARENT);
+    while parent != 0 {
+        from -= 1;
+        path[from] = table[8 * at + CHILD];
+        at = parent - 1;
+        parent = entry(table, at, PARENT);
+    }
+    from
+}
+
+// Where the text of element `k` of tree 0 starts there: what resolving its path gives, in the batch's own rows.
+pub fn old_start(table: &[u32], source: &[u32], n: usize, k: usize) -> usize
+    requires { ⌜ TreesTold n (now table) (now source) ⌝ }
+    requires { ⌜ (k < n) × (treeOf (view n (now table) (now source)) k ≡ 0) ⌝ }
+    ensures { λ r. ⌜ r ≡ (row (view n (now (table .entry)) (now (source .entry))) k) .start ⌝ }
+{
+    let mut path = [0u32; 64];
+    let from = path_in_tree(table, n, k, &mut path);
+    let tree = subtree(source, n + 1, 1);
+    match resolve(tree, &path[from..]) {
+        Resolved::At(_, start) => start,
+        // Its own path leads to it.
+        Resolved::Nothing => 0,
+    }
+}
+
+// ── In the new tree ──
+
+pub enum Found {
+    At(usize),
+    Nothing,
+}
 
 // Whether a kind word is a node's, and it and a text start are those looked for.
 fn is_alike(kind: usize, start: usize, other: usize, sum: usize) -> bool

@@ -15,7 +15,7 @@ use Rattle.rows_syntax_node.specs.Promises.{Part}
 use Rattle.run_annotations.specs.Notes.{notesOf, notes-same}
 use Rattle.run_tree_store.specs.Stored.{stored}
 use Rattle.finish_model.specs.Finished.{firstTree, starts, resultOf}
-use Rattle.finish_arrays.proofs.Turns.{length-starts}
+use Rattle.finish_arrays.specs.Starts.{Starts, length-starts}
 use Rattle.finish_sort.specs.Sorted.{ChangedSorted, NotesSorted}
 use Rattle.finish_result.specs.declared.Finished.{Finished}
 use Rattle.finish_result.specs.InTree.{resultIn, changedBy, notesBy, result-in}
@@ -53,13 +53,13 @@ module _ {rows : List ℕ} {n : ℕ} {tree : List ℕ} (p : Part rows n 1 tree) 
       ap (take (length tree / 3)) e ∙ (ap (λ i. take i (paste d 0 S (length tree / 3))) (sym (zero-add (length tree / 3))) ∙ (take-paste d 0 S (length tree / 3) (omega arith) (omega arith) ∙ take-all (length tree / 3) S (omega arith)))
 
   module _ (d text starts₀ notes changed : List ℕ) (k c discarded climbs : ℕ) where
-    pub finish-answered : {starts′ out : List ℕ} {a : Finished} → length tree ≤ 3 * length starts₀ → ((t : List ℕ) → starts′ ≡ paste starts₀ 0 (starts 0 (triples t tree)) (length tree / 3))
+    pub finish-answered : {starts′ out : List ℕ} {a : Finished} → length tree ≤ 3 * length starts₀ → Starts tree starts₀ starts′
         → Answered d (resultIn discarded climbs (triples text tree) (changedBy (take (length tree / 3) starts′) (length tree / 3) (take c changed)) (notesBy (take (length tree / 3) starts′) (length tree / 3) (notesOf k notes))) out a
         → (marks : List ℕ) → Answered d (resultOf discarded climbs (stored text n rows marks (notesOf k notes) (take c changed))) out a
     unfolding stored firstTree
     finish-answered {starts′} {out} {a} h f w marks =
         let T : List Row = triples text tree in
-        let e : take (length tree / 3) starts′ ≡ starts 0 T = starts-listed text starts₀ starts′ h (f text) in
+        let e : take (length tree / 3) starts′ ≡ starts 0 T = starts-listed text starts₀ starts′ h (f .listed text) in
         let m : length tree / 3 ≡ length T = sym (length-triples text tree) in
         let t : T ≡ subtree (firstRows text n rows) 1 = p .told text in
         let g : resultOf discarded climbs (stored text n rows marks (notesOf k notes) (take c changed)) ≡ resultIn discarded climbs T (changedBy (starts 0 T) (length T) (take c changed)) (notesBy (starts 0 T) (length T) (notesOf k notes)) =

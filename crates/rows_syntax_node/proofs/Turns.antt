@@ -1,30 +1,25 @@
 -- The loops: for each its invariant, that it holds at the start, after a turn, and what it says at the end.
 -- Assumes nothing.
 use mathlib.Core.Path.{_≡_, refl, sym, ap, _∙_}
-use mathlib.Core.Bool.{cond}
 use mathlib.Core.List.{List, [], _∷_, _++_, map, append-nil}
-use mathlib.Core.Option.{none, bind}
 use Prim.Native.Nat.{ℕ, zero, suc, _+_, _-_, _*_, _/_, _%_, _^_, _≤_, _<_, max}
 use native.Mathlib.Omega.{arith}
 use native.Mathlib.Nat.{zero-add}
 use native.Mathlib.Numerals.{add-one}
-use lib.Dec.{ltb}
-use lib.ListN.{length, getElem?, getD, set, take, drop, length-set, length-map, length-drop, drop-of-length-le}
-use borrow.Author.Tests.{lt-ltb, le-ltb}
-use lib.Seq.{getD-set-same, getD-set-other, drop-cons, paste, paste-suc, take-paste, drop-paste, take-all, length-take-le, getD-take, take-set-lt, drop-set-lt, drop-at}
+use lib.ListN.{length, getD, set, take, drop, length-set, length-map, length-drop, drop-of-length-le}
+use lib.Seq.{getD-set-same, getD-set-other, paste, paste-suc, take-paste, drop-paste, take-all, length-take-le, getD-take, take-set-lt, drop-set-lt, drop-at}
 use Rattle.orders.specs.Lists.{All}
 use Rattle.orders.specs.Tree.{modify}
-use Rattle.orders.specs.ListLaws.{get-none, All-at, take-modify, drop-modify-before, modify-left}
+use Rattle.orders.specs.ListLaws.{All-at, take-modify, drop-modify-before, modify-left}
 use Rattle.orders.specs.TreeLaws.{shift-before, shift-inside, shift-after}
 use Rattle.definition_laws.specs.Basics.{upFrom, up-at, up-long, getD-map}
 use Rattle.words.specs.Parts.{spliced, getD-above, length-spliced, take-spliced}
 use Rattle.rows_model.specs.Row.{Row, owes, textLength, rowIn, firstRows, triples, skip, treesFrom, treesIn, bytes, opened, heightIn, height}
-use Rattle.rows_model.specs.Place.{rowsAfter, childRow, between, subtree, follow, remeasure, spliceRows, movedMark}
+use Rattle.rows_model.specs.Place.{rowsAfter, childRow, between, subtree, remeasure, spliceRows, movedMark}
 use Rattle.rows_model.specs.RowLaws.{skip-none, height-closed}
 use Rattle.rows_model.specs.Marks.{marks-below}
-use Rattle.rows_model.specs.Words.{node-row, token-owes, token-length, first-at, first-end, first-get, length-triples, triples-at, triples-end, triples-append, triples-take, triples-drop, triples-set, length-first, words-between}
-use Rattle.rows_syntax_node.specs.Promises.{Counted, Measured, After, ChildAt, TreesIn, TreesBetween, Bytes, Height, Part, Appended, Spliced, Moved, Shifted, found}
-use Rattle.rows_syntax_node.specs.declared.Found.the-variants.{At, Nothing}
+use Rattle.rows_model.specs.Words.{node-row, token-owes, token-length, first-at, first-end, length-triples, triples-at, triples-end, triples-append, triples-take, triples-drop, triples-set, length-first, words-between}
+use Rattle.rows_syntax_node.specs.Promises.{Counted, Measured, After, ChildAt, TreesIn, TreesBetween, Bytes, Height, Part, Appended, Spliced, Moved, Shifted}
 
 -- ── One row ─────────────────────────────────────────────────────────────────────────────────────────────────
 
@@ -297,47 +292,6 @@ module _ (rows rows′ run : List ℕ) (n parent p q removed gain m : ℕ)
         beyond = rw (w, f, drop-at (spliced (3 * p) (3 * q) run X) (drop (3 * p + length run + (3 * n - 3 * q)) written) (3 * p + length run + (3 * n - 3 * q)) (length-spliced written run (3 * n) (3 * p) (3 * q) (omega arith) (omega arith) y))
             (drop-set-lt (3 * p + length run + (3 * n - 3 * q)) rows (3 * parent + 1) (m + gain - removed) (omega arith));
       }
-
--- ── A path followed ─────────────────────────────────────────────────────────────────────────────────────────
-
--- the first j steps of the path lead to row `at`
-pub record Following (rows : List ℕ) (n : ℕ) (path : List ℕ) (at j : ℕ) : Type 0 where
-  pub inside : j ≤ length path
-  pub bound : at ≤ n
-  pub rest : (text : List ℕ) → follow (firstRows text n rows) 0 path ≡ follow (firstRows text n rows) at (drop j path)
-
-pub following-start : (rows : List ℕ) (n : ℕ) (path : List ℕ) → Following rows n path 0 0
-following-start rows n path = record { inside = omega arith; bound = omega arith; rest = λ text. refl }
-
-module _ {rows : List ℕ} {n : ℕ} {path : List ℕ} {at j : ℕ} (v : Following rows n path at j) (h : (3 * n ≤ length rows) × (n < 2 ^ 16)) where
-  -- beyond the rows
-  pub following-out : n ≤ at → (text : List ℕ) → Nothing ≡ found (follow (firstRows text n rows) 0 path)
-  unfolding found follow bind
-  following-out k text = rw (v .rest text, go (drop j path))
-    where
-      none-there : getElem? (firstRows text n rows) at ≡ none
-      none-there = get-none (firstRows text n rows) at (omega (arith, length-first text n rows (h .0)))
-
-      go : (p : List ℕ) → follow (firstRows text n rows) at p ≡ none
-      go [] = rw none-there
-      go (i ∷ p) = rw none-there
-
-  module _ {i m : ℕ} (k : at < n) (l : j < length path) (e : (i ≡ getD path j 0) × (i < 2 ^ 32)) (c : Counted rows at m) where
-    -- one step
-    step : (text : List ℕ) → follow (firstRows text n rows) at (drop j path) ≡ cond (ltb i m) (follow (firstRows text n rows) (childRow (firstRows text n rows) at i) (drop (suc j) path)) none
-    unfolding follow bind
-    step text = rw (drop-cons path j 0 l, ← e .0, first-get text n rows (h .0) at k, ← c .count text)
-
-    pub following-none : m ≤ i → (text : List ℕ) → Nothing ≡ found (follow (firstRows text n rows) 0 path)
-    unfolding found
-    following-none g text = rw (v .rest text, step text, le-ltb i m g)
-
-    pub following-next : {r : ℕ} → i < m → ChildAt rows n at i r → Following rows n path r (j + 1)
-    following-next g d = record { inside = omega arith; bound = d .high; rest = λ text. rw (add-one j) (v .rest text ∙ (step text ∙ rw (lt-ltb i m g, ← d .row text))) }
-
-  pub following-done : length path ≤ j → at < n → (text : List ℕ) → At at ≡ found (follow (firstRows text n rows) 0 path)
-  unfolding found follow
-  following-done k l text = rw (v .rest text, drop-of-length-le path {i = j} k, first-get text n rows (h .0) at l)
 
 -- ── The greatest depth ──────────────────────────────────────────────────────────────────────────────────────
 

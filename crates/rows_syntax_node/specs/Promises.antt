@@ -2,14 +2,11 @@
 -- Assumes nothing.
 use mathlib.Core.Path.{_≡_}
 use mathlib.Core.List.{List, _++_, map}
-use mathlib.Core.Option.{Option, none, some}
 use Prim.Native.Nat.{ℕ, _+_, _-_, _*_, _/_, _^_, _≤_, _<_, min}
 use lib.ListN.{length, drop}
 use Rattle.orders.specs.Lists.{All}
 use Rattle.rows_model.specs.Row.{rowIn, firstRows, triples, owes, textLength, treesIn, bytes, height}
 use Rattle.rows_model.specs.Place.{rowsAfter, childRow, between, subtree, spliceRows, movedMark}
-use Rattle.rows_syntax_node.specs.declared.Found.{Found}
-use Rattle.rows_syntax_node.specs.declared.Found.the-variants.{At, Nothing}
 
 -- the number of children of the element at row i
 pub record Counted (rows : List ℕ) (i r : ℕ) : Type 0 where
@@ -78,8 +75,3 @@ pub record Moved (p q m x r : ℕ) : Type 0 where
 pub record Shifted (marks : List ℕ) (p q m : ℕ) (out : List ℕ) : Type 0 where
   pub moved : out ≡ map (movedMark p q m) marks
   pub below : (n : ℕ) → 0 < p → q ≤ n → All (λ x. x < n) marks → All (λ x. x < n - (q - p) + m) out
-
--- a row or none, as `resolve` answers it
-unfoldable pub found : Option ℕ → Found
-found none = Nothing
-found (some i) = At i

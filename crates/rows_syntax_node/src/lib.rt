@@ -1,13 +1,10 @@
 // Rows of three words in preorder: the kind word, the measure, and where a token's text starts in the text of all.
 ghost use mathlib.Core.Path.{_≡_};
-ghost use mathlib.Core.List.{List};
-ghost use Prim.Native.Nat.{ℕ, _+_, _-_, _*_, _%_, _^_, _≤_, _<_, max};
+ghost use Prim.Native.Nat.{_+_, _-_, _*_, _%_, _^_, _≤_, _<_, max};
 ghost use lib.ListN.{length, getD};
 ghost use Rattle.orders.specs.Lists.{All};
 ghost use Rattle.definition_laws.specs.Basics.{upFrom};
-ghost use Rattle.rows_model.specs.Row.{firstRows};
-ghost use Rattle.rows_model.specs.Place.{follow};
-ghost use Rattle.rows_syntax_node.specs.Promises.{Counted, Measured, After, ChildAt, TreesIn, TreesBetween, Bytes, Height, Part, Appended, Spliced, Moved, Shifted, found};
+ghost use Rattle.rows_syntax_node.specs.Promises.{Counted, Measured, After, ChildAt, TreesIn, TreesBetween, Bytes, Height, Part, Appended, Spliced, Moved, Shifted};
 use words::copy_in;
 use words::splice_words;
 use words::word;
@@ -84,35 +81,6 @@ pub fn subtree(rows: &[u32], n: usize, at: usize) -> &[u32]
     let from = ROW_WORDS * at;
     let to = ROW_WORDS * end;
     &rows[from..to]
-}
-
-pub enum Found {
-    At(usize),
-    Nothing,
-}
-
-// The row to which a path leads from row 0.
-pub fn resolve(rows: &[u32], n: usize, path: &[u32]) -> Found
-    requires { ⌜ (3 * n ≤ length (now rows)) × (n < 2 ^ 16) ⌝ }
-    ensures { λ r. ⌜ ((text : List ℕ) → r ≡ found (follow (firstRows text n (now (rows .entry))) 0 (now (path .entry)))) ⌝ }
-{
-    let mut at = 0;
-    let mut j = 0;
-    while j < path.len() {
-        if n <= at {
-            return Found::Nothing;
-        }
-        let i = word(path, j);
-        if child_count(rows, at) <= i {
-            return Found::Nothing;
-        }
-        at = child_row(rows, n, at, i);
-        j += 1;
-    }
-    if n <= at {
-        return Found::Nothing;
-    }
-    Found::At(at)
 }
 
 // ── A run of rows, as a slice of its own ──

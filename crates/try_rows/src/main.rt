@@ -1,5 +1,6 @@
 // Runs the functions on rows: S is root(X(a), b) with one-letter tokens, as the only tree under the root of all.
-use rows_syntax_node::Found;
+use rows_path::Resolved;
+use rows_path::resolve;
 
 const S: [u32; 15] = [
     0x8000_0000,
@@ -59,24 +60,30 @@ fn print_words(words: &[u32]) {
     end_line();
 }
 
-fn print_found(f: Found) {
-    match f {
-        Found::At(row) => print(row),
-        Found::Nothing => {
+// An element's row, and where its text starts.
+fn print_resolved(r: Resolved) {
+    match r {
+        Resolved::At(row, start) => {
+            print(row);
+            print(start);
+        }
+        Resolved::Nothing => {
             io::write_all(1, b"none ");
         }
     }
 }
 
-// The end of X, the second child of the root, the rows of X, where paths lead.
+// The end of X, the second child of the root, the rows of X; in the tree's own rows, where paths lead.
 fn places() {
     let rows = S;
     print(rows_syntax_node::rows_after(&rows, 5, 2, 1));
     print(rows_syntax_node::child_row(&rows, 5, 1, 1));
     print_words(rows_syntax_node::subtree(&rows, 5, 2));
-    print_found(rows_syntax_node::resolve(&rows, 5, &[0, 0, 0]));
-    print_found(rows_syntax_node::resolve(&rows, 5, &[0, 2]));
-    print_found(rows_syntax_node::resolve(&rows, 5, &[0, 1, 0]));
+    let tree = &rows[3..15];
+    print_resolved(resolve(tree, &[0, 0]));
+    print_resolved(resolve(tree, &[1]));
+    print_resolved(resolve(tree, &[2]));
+    print_resolved(resolve(tree, &[1, 0]));
     end_line();
 }
 

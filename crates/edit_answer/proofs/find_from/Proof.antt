@@ -2,7 +2,8 @@
 -- Assumes nothing.
 use native.Mathlib.Omega.{arith}
 use borrow.Author.Needs.{needs}
-use Rattle.edit_answer.proofs.Ends.{none-numbered, none-asked, found-none, found-there}
+use Rattle.edit_answer.specs.AtEnd.{trees-told}
+use Rattle.edit_answer.proofs.Ends.{none-numbered, none-asked, asked-old, found-none, found-there}
 use Rattle.edit_answer.proofs.find_from.Statement.{statement}
 use Rattle.edit_answer.proofs.find_from.Tie as tie
 
@@ -18,8 +19,8 @@ returns-2 c = search (none-asked, needs)
 row-word-requires : tie.Need-row-word-requires
 row-word-requires c κs = search needs
 
-entry-requires : tie.Need-entry-requires
-entry-requires c κs = search needs
+old-start-requires : tie.Need-old-start-requires
+old-start-requires c κs = search (trees-told, asked-old, needs)
 
 find-in-tree-requires : tie.Need-find-in-tree-requires
 find-in-tree-requires c κs = search needs
@@ -31,10 +32,10 @@ enum-known-e : tie.Need-enum-known-e
 enum-known-e c = search needs
 
 returns-3 : tie.Need-returns-3
-returns-3 c = found-none (c .before .before .before .before .before .before .before .before .before .before .before .before .pre .0) (c .before .before .before .before .before .before .before .before .before .before .before .before .pre .1) _ _ (c .before .before .before .before .before .before .is-old-node .ensures) (c .before .before .before .before .before .if2 .left) (omega (arith, c .before .before .before .before .before .before .before .if1 .left)) _ _ (c .before .before .before .before .row-word .ensures .0) (c .before .before .before .entry .ensures .0) _ (c .before .before .find-in-tree .ensures) (c .enum-told .given .1)
+returns-3 c = found-none (c .before .before .before .before .before .before .before .before .before .before .before .before .pre .0) (c .before .before .before .before .before .before .before .before .before .before .before .before .pre .1) _ _ (c .before .before .before .before .before .before .is-old-node .ensures) (c .before .before .before .before .before .if2 .left) (omega (arith, c .before .before .before .before .before .before .before .if1 .left)) _ _ (c .before .before .before .before .row-word .ensures .0) (c .before .before .before .old-start .ensures) _ (c .before .before .find-in-tree .ensures) (c .enum-told .given .1)
 
 returns-4 : tie.Need-returns-4
-returns-4 c = found-there (c .before .before .before .before .before .before .before .before .before .before .before .before .before .pre .0) (c .before .before .before .before .before .before .before .before .before .before .before .before .before .pre .1) _ _ (c .before .before .before .before .before .before .before .is-old-node .ensures) (c .before .before .before .before .before .before .if2 .left) (omega (arith, c .before .before .before .before .before .before .before .before .if1 .left)) _ _ (c .before .before .before .before .before .row-word .ensures .0) (c .before .before .before .before .entry .ensures .0) _ (c .before .before .before .find-in-tree .ensures) _ (c .before .e .given .1)
+returns-4 c = found-there (c .before .before .before .before .before .before .before .before .before .before .before .before .before .pre .0) (c .before .before .before .before .before .before .before .before .before .before .before .before .before .pre .1) _ _ (c .before .before .before .before .before .before .before .is-old-node .ensures) (c .before .before .before .before .before .before .if2 .left) (omega (arith, c .before .before .before .before .before .before .before .before .if1 .left)) _ _ (c .before .before .before .before .before .row-word .ensures .0) (c .before .before .before .before .old-start .ensures) _ (c .before .before .before .find-in-tree .ensures) _ (c .before .e .given .1)
 
 pub find-from-spec : {M : Type 1} → statement M
 find-from-spec =
@@ -44,7 +45,7 @@ find-from-spec =
     is-old-node-requires
     returns-2
     row-word-requires
-    entry-requires
+    old-start-requires
     find-in-tree-requires
     enum-told
     enum-known-e

@@ -22,6 +22,12 @@ mul-loop c = search needs
 add-loop : tie.Need-add-loop Inv-loop μ-loop
 add-loop c = search needs
 
+text-length-requires : tie.Need-text-length-requires Inv-loop μ-loop
+text-length-requires c κs = search needs
+
+add-next : tie.Need-add-next Inv-loop μ-loop
+add-next c = search needs
+
 cast-out : tie.Need-cast-out Inv-loop μ-loop
 cast-out c = search needs
 
@@ -30,12 +36,6 @@ mul-out c = search needs
 
 slice-write-out : tie.Need-slice-write-out Inv-loop μ-loop
 slice-write-out c = search needs
-
-text-length-requires : tie.Need-text-length-requires Inv-loop μ-loop
-text-length-requires c κs = search needs
-
-add-sum : tie.Need-add-sum Inv-loop μ-loop
-add-sum c = search needs
 
 add-i : tie.Need-add-i Inv-loop μ-loop
 add-i c = search needs
@@ -61,11 +61,11 @@ fill-starts-spec =
     loop-holds
     mul-loop
     add-loop
+    text-length-requires
+    add-next
     cast-out
     mul-out
     slice-write-out
-    text-length-requires
-    add-sum
     add-i
     loop-less
     loop-again

@@ -2,16 +2,16 @@
 -- Assumes nothing.
 use Prim.Native.Nat.{_-_}
 use lib.ListN.{length}
-use Rattle.rows_syntax_node.proofs.Turns.{Following, following-start, following-out, following-none, following-next, following-done}
 use borrow.Author.Needs.{needs}
-use Rattle.rows_syntax_node.proofs.resolve.Statement.{statement}
-use Rattle.rows_syntax_node.proofs.resolve.Tie as tie
+use Rattle.rows_path.proofs.Turns.{Following, following-start, following-out, following-none, following-next, following-done}
+use Rattle.rows_path.proofs.resolve.Statement.{statement}
+use Rattle.rows_path.proofs.resolve.Tie as tie
 
 abbrev Inv-loop : tie.InvT-loop
-Inv-loop rows n path at₀ j₀ at j = Following rows n path at j
+Inv-loop tree path n at₀ j₀ at j = Following tree n path at j
 
 abbrev μ-loop : tie.MeasureT-loop
-μ-loop rows n path at₀ j₀ at j = length path - j
+μ-loop tree path n at₀ j₀ at j = length path - j
 
 loop-holds : tie.Need-loop-holds Inv-loop μ-loop
 loop-holds c = search (following-start, needs)
@@ -43,6 +43,21 @@ loop-again c = search (following-next, needs)
 returns-3 : tie.Need-returns-3 Inv-loop μ-loop
 returns-3 c = search (following-out, needs)
 
+mul-to : tie.Need-mul-to Inv-loop μ-loop
+mul-to c = search needs
+
+sub-text-bytes : tie.Need-sub-text-bytes Inv-loop μ-loop
+sub-text-bytes c = search needs
+
+part-text-bytes-start : tie.Need-part-text-bytes-start Inv-loop μ-loop
+part-text-bytes-start c = search needs
+
+part-text-bytes-end : tie.Need-part-text-bytes-end Inv-loop μ-loop
+part-text-bytes-end c = search needs
+
+text-bytes-requires : tie.Need-text-bytes-requires Inv-loop μ-loop
+text-bytes-requires c κs = search needs
+
 returns-4 : tie.Need-returns-4 Inv-loop μ-loop
 returns-4 c = search (following-done, needs)
 
@@ -62,4 +77,9 @@ resolve-spec =
     loop-less
     loop-again
     returns-3
+    mul-to
+    sub-text-bytes
+    part-text-bytes-start
+    part-text-bytes-end
+    text-bytes-requires
     returns-4)

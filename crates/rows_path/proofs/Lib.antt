@@ -1,0 +1,2 @@
+-- The invariant of the loop, and a turn of it.
+mod Turns
