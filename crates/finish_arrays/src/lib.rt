@@ -8,6 +8,9 @@ ghost use Rattle.definition.specs.Words.{bytes as bytesOf, written};
 ghost use Rattle.rows_model.specs.Row.{own, bytes, rowIn, triples};
 ghost use Rattle.finish_arrays.specs.Starts.{Starts};
 ghost use Rattle.finish_arrays.specs.Sweep.{Swept};
+use rows_syntax_node::MEASURE;
+use rows_syntax_node::ROW_WORDS;
+use rows_syntax_node::TEXT;
 
 // Where the text of each row of a tree starts: what resolving its path would give, of all rows in one pass.
 pub fn fill_starts(tree: &[u32], out: &mut [u32])
@@ -16,7 +19,7 @@ pub fn fill_starts(tree: &[u32], out: &mut [u32])
 {
     let mut sum = 0;
     let mut i = 0;
-    while 3 * i + 2 < tree.len() {
+    while ROW_WORDS * i + TEXT < tree.len() {
         let next = sum + rows_syntax_node::text_length(tree, i);
         out[i] = sum as u32;
         sum = next;
@@ -29,8 +32,8 @@ fn write_element(b: &mut [u8], kinds: usize, measures: usize, tree: &[u32], row:
     requires { ⌜ (kinds + 4 ≤ length (now b)) × (measures + 4 ≤ length (now b)) × (3 * row + 2 < length (now tree)) ⌝ }
     ensures { λ _. ⌜ now (b .exit) ≡ paste (paste (now (b .entry)) kinds (bytesOf (getD (now (tree .entry)) (3 * row) 0)) 4) measures (bytesOf (getD (now (tree .entry)) (3 * row + 1) 0)) 4 ⌝ }
 {
-    let kind = words::word(tree, 3 * row);
-    let measure = words::word(tree, 3 * row + 1);
+    let kind = words::word(tree, ROW_WORDS * row);
+    let measure = words::word(tree, ROW_WORDS * row + MEASURE);
     words::write_word(b, kinds, kind);
     words::write_word(b, measures, measure);
 }
@@ -40,10 +43,10 @@ pub fn write_elements(b: &mut [u8], at: usize, tree: &[u32]) -> usize
     requires { ⌜ (at + 8 * (length (now tree) / 3) ≤ length (now b)) × (length (now tree) < 3 * 2 ^ 16) ⌝ }
     ensures { λ r. ⌜ Swept (now (tree .entry)) at (now (b .entry)) (now (b .exit)) r ⌝ }
 {
-    let measures = at + 4 * (tree.len() / 3);
+    let measures = at + 4 * (tree.len() / ROW_WORDS);
     let mut reads = 0;
     let mut row = 0;
-    while 3 * row + 2 < tree.len() {
+    while ROW_WORDS * row + TEXT < tree.len() {
         write_element(b, at + 4 * row, measures + 4 * row, tree, row);
         reads += 1;
         row += 1;
@@ -80,10 +83,10 @@ fn own_text<'a>(tree: &[u32], i: usize, text: &'a [u8]) -> &'a [u8]
     requires { ⌜ 3 * i + 2 < length (now tree) ⌝ }
     ensures { λ r. ⌜ now r ≡ own (rowIn (now (text .entry)) (now (tree .entry)) i) ⌝ }
 {
-    let kind = words::word(tree, 3 * i);
+    let kind = words::word(tree, ROW_WORDS * i);
     if kind < 0x8000_0000 {
-        let from = words::word(tree, 3 * i + 2);
-        let to = from + words::word(tree, 3 * i + 1);
+        let from = words::word(tree, ROW_WORDS * i + TEXT);
+        let to = from + words::word(tree, ROW_WORDS * i + MEASURE);
         if to <= text.len() {
             return &text[from..to];
         }
@@ -99,7 +102,7 @@ pub fn text_size(tree: &[u32], text: &[u8]) -> usize
 {
     let mut sum = 0;
     let mut i = 0;
-    while 3 * i + 2 < tree.len() {
+    while ROW_WORDS * i + TEXT < tree.len() {
         let part = own_text(tree, i, text);
         sum += part.len();
         i += 1;
@@ -114,7 +117,7 @@ pub fn write_text(b: &mut [u8], at: usize, tree: &[u32], text: &[u8])
 {
     let mut to = at;
     let mut i = 0;
-    while 3 * i + 2 < tree.len() {
+    while ROW_WORDS * i + TEXT < tree.len() {
         let part = own_text(tree, i, text);
         words::copy_bytes(b, to, part);
         to += part.len();

@@ -19,6 +19,9 @@ use finish_arrays::write_sizes;
 use finish_arrays::write_text;
 use finish_sort::sort_changed;
 use finish_sort::sort_notes;
+use rows_syntax_node::ROW_WORDS;
+use run_annotations::NOTE_WORDS;
+use run_annotations::NUMBER;
 use rows_syntax_node::subtree;
 use words::word;
 use words::write_word;
@@ -37,10 +40,10 @@ fn write_column(b: &mut [u8], at: usize, notes: &[u32], j: usize)
     requires { ⌜ (at + 4 * (length (now notes) / 3) ≤ length (now b)) × (j < 3) ⌝ }
     ensures { λ _. ⌜ now (b .exit) ≡ paste (now (b .entry)) at (written (noteColumn j (now (notes .entry)))) (4 * (length (now (notes .entry)) / 3)) ⌝ }
 {
-    let m = notes.len() / 3;
+    let m = notes.len() / NOTE_WORDS;
     let mut i = 0;
     while i < m {
-        let w = word(notes, 3 * i + j);
+        let w = word(notes, NOTE_WORDS * i + j);
         write_word(b, at + 4 * i, w);
         i += 1;
     }
@@ -70,10 +73,10 @@ fn write_rest(b: &mut [u8], at: usize, tree: &[u32], text: &[u8], changed: &[u32
     requires { ⌜ (at + 4 * length (now changed) + 8 * (length (now notes) / 3) + length (flatMap own (triples (now text) (now tree))) ≤ length (now b)) × (length (now tree) < 3 * 2 ^ 16) ⌝ }
     ensures { λ _. ⌜ now (b .exit) ≡ restOver at (now (changed .entry)) (noteColumn 1 (now (notes .entry))) (noteColumn 0 (now (notes .entry))) (length (now (notes .entry)) / 3) (flatMap own (triples (now (text .entry)) (now (tree .entry)))) (now (b .entry)) ⌝ }
 {
-    let m = notes.len() / 3;
+    let m = notes.len() / NOTE_WORDS;
     let numbers = at + 4 * changed.len();
     write_words(b, at, changed);
-    write_column(b, numbers, notes, 1);
+    write_column(b, numbers, notes, NUMBER);
     write_column(b, numbers + 4 * m, notes, 0);
     write_text(b, numbers + 8 * m, tree, text);
 }
@@ -92,8 +95,8 @@ pub fn write_result(
     ensures { λ r. ⌜ Answered (now (result .entry)) (toldResult discarded climbs (now (tree .entry)) (now (text .entry)) (now (changed .entry)) (now (notes .entry))) (now (result .exit)) r ⌝ }
 {
     let size = text_size(tree, text);
-    let n = tree.len() / 3;
-    let m = notes.len() / 3;
+    let n = tree.len() / ROW_WORDS;
+    let m = notes.len() / NOTE_WORDS;
     let total = 24 + 8 * n + 4 * changed.len() + 8 * m + size;
     if result.len() < total {
         return Finished::Short;
@@ -121,10 +124,10 @@ fn finish_tree(
     requires { ⌜ (length (now tree) < 3 * 2 ^ 16) × (bytes (triples [] (now tree)) < 2 ^ 32) × (3 * k ≤ length (now notes)) × (k < 2 ^ 16) × (c ≤ length (now changed)) × (c < 2 ^ 16) × (discarded < 2 ^ 32) × (climbs < 2 ^ 32) ⌝ }
     ensures { λ r. ⌜ Answered (now (result .entry)) (resultIn discarded climbs (triples (now (text .entry)) (now (tree .entry))) (changedBy (now (starts .entry)) (length (now (tree .entry)) / 3) (take c (now (changed .entry)))) (notesBy (now (starts .entry)) (length (now (tree .entry)) / 3) (notesOf k (now (notes .entry))))) (now (result .exit)) r ⌝ }
 {
-    let end = tree.len() / 3 + 1;
+    let end = tree.len() / ROW_WORDS + 1;
     let from = sort_changed(changed, c, end, starts);
-    let first = 3 * sort_notes(notes, k, end, starts);
-    let last = 3 * k;
+    let first = NOTE_WORDS * sort_notes(notes, k, end, starts);
+    let last = NOTE_WORDS * k;
     write_result(
         tree,
         text,
@@ -158,7 +161,7 @@ pub fn finish(
 {
     let tree = subtree(rows, n, root);
     fill_starts(tree, starts);
-    let m = tree.len() / 3;
+    let m = tree.len() / ROW_WORDS;
     finish_tree(
         tree,
         &starts[..m],
