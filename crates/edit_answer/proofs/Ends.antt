@@ -13,6 +13,7 @@ use lib.Dec.{eqb}
 use borrow.Author.Tests.{not-true, not-false}
 use Rattle.definition.specs.Basics as basics
 use Rattle.definition.specs.Basics.{gives, _>>=_}
+use Rattle.definition.specs.Choices.{Choices}
 use Rattle.definition.specs.Elements.{isNode}
 use Rattle.definition.specs.Account.{fateLines, overlapLine}
 use Rattle.record_changes.specs.ChangeRow.{rowsOf as changeRows}
@@ -49,18 +50,18 @@ whole-rest k b = take-all (length b - k) (drop k b) (omega (arith, length-drop k
 
 -- ── The result's bytes ──────────────────────────────────────────────────────────────────────────────────────
 
-module _ {b rows notes changed : List ℕ} {d : Ended} (v : AtEnd b rows notes changed d) (held out : List ℕ) (a : Finished) (text : List ℕ) (t : text ≡ drop (d .text) b)
+module _ {h : Choices} {b rows notes changed : List ℕ} {d : Ended} (v : AtEnd h b rows notes changed d) (held out : List ℕ) (a : Finished) (text : List ℕ) (t : text ≡ drop (d .text) b)
     (f : (marks : List ℕ) → Answered held (resultOf (d .discarded) (d .climbs) (stored text (d .rows) rows marks (notesOf (d .notes) notes) (take (d .changed) changed))) out a) where
-  answered : Tells (reached Edit b (length held)) held (ofLength (lengthOf a)) out
+  answered : Tells (reached h Edit b (length held)) held (ofLength (lengthOf a)) out
   answered = answered-edit v a (λ marks. rw (← t) (f marks))
 
-  pub answered-13 : a ≡ Short → Tells (reached Edit b (length held)) held (Refused 13) out
+  pub answered-13 : a ≡ Short → Tells (reached h Edit b (length held)) held (Refused 13) out
   unfolding ofLength lengthOf
-  answered-13 e = subst (λ (x : Finished). Tells (reached Edit b (length held)) held (ofLength (lengthOf x)) out) e answered
+  answered-13 e = subst (λ (x : Finished). Tells (reached h Edit b (length held)) held (ofLength (lengthOf x)) out) e answered
 
-  pub answered-bytes : (n : ℕ) → a ≡ Bytes n → Tells (reached Edit b (length held)) held (Written n) out
+  pub answered-bytes : (n : ℕ) → a ≡ Bytes n → Tells (reached h Edit b (length held)) held (Written n) out
   unfolding ofLength lengthOf
-  answered-bytes n e = subst (λ (x : Finished). Tells (reached Edit b (length held)) held (ofLength (lengthOf x)) out) e answered
+  answered-bytes n e = subst (λ (x : Finished). Tells (reached h Edit b (length held)) held (ofLength (lengthOf x)) out) e answered
 
 -- ── Job by job ──────────────────────────────────────────────────────────────────────────────────────────────
 
@@ -74,23 +75,23 @@ pub tells-done : {p : Performed} {d : Ended} {held out : List ℕ} {r : Outcome}
 tells-done e want h = rw (unless-done e want) h
 
 -- who finds leaves the result slice as it was
-pub tells-found : (b held : List ℕ) (room n : ℕ) {r : Outcome} → r ≡ ofPlace (found b n) → Tells (reached (Find n) b room) held r held
+pub tells-found : (h : Choices) (b held : List ℕ) (room n : ℕ) {r : Outcome} → r ≡ ofPlace (found h b n) → Tells (reached h (Find n) b room) held r held
 unfolding reached
-tells-found b held room n e = record { answer = e ∙ sym (find-outcome (found b n)); result = find-written held (found b n) }
+tells-found h b held room n e = record { answer = e ∙ sym (find-outcome (found h b n)); result = find-written held (found h b n) }
 
 -- two changes overlap
-pub tells-overlap : {b t s changes rows notes changed starts : List ℕ} {p : Performed} {j k : ℕ} {held out : List ℕ} {r : Outcome} (job : Job) → ToAnswer b t s changes rows notes changed starts p → p ≡ Overlap j k
-    → Tells (overlapTold job j k (length held)) held r out → Tells (unless p (reached job b (length held))) held r out
-tells-overlap {b} {j = j} {k = k} {held = held} {out = out} {r = r} job v e h =
-    rw (unless-overlap e (reached job b (length held))) (subst (λ (w : basics.Answer (Outcome × List ℕ)). Tells w held r out) (overlap-answers job b j k (length held) (v .overlaps j k e)) h)
+pub tells-overlap : {h : Choices} {b t s changes rows notes changed starts : List ℕ} {p : Performed} {j k : ℕ} {held out : List ℕ} {r : Outcome} (job : Job) → ToAnswer h b t s changes rows notes changed starts p → p ≡ Overlap j k
+    → Tells (overlapTold job j k (length held)) held r out → Tells (unless p (reached h job b (length held))) held r out
+tells-overlap {h} {b} {j = j} {k = k} {held = held} {out = out} {r = r} job v e q =
+    rw (unless-overlap e (reached h job b (length held))) (subst (λ (w : basics.Answer (Outcome × List ℕ)). Tells w held r out) (overlap-answers h job b j k (length held) (v .overlaps j k e)) q)
 
 -- the account tells the fates
-pub tells-account : {b t s changes rows notes changed starts : List ℕ} {p : Performed} {d : Ended} {held out : List ℕ} {r : Outcome} → ToAnswer b t s changes rows notes changed starts p → p ≡ Done d
-    → Tells (tellIn (length held) (fateLines (map rowFate (changeRows (d .recorded) changes)))) held r out → Tells (reached Account b (length held)) held r out
-tells-account {d = d} {held = held} {out = out} {r = r} v e h = subst (λ (w : basics.Answer (Outcome × List ℕ)). Tells w held r out) (fates-answer (length held) (v .recounts d e)) h
+pub tells-account : {h : Choices} {b t s changes rows notes changed starts : List ℕ} {p : Performed} {d : Ended} {held out : List ℕ} {r : Outcome} → ToAnswer h b t s changes rows notes changed starts p → p ≡ Done d
+    → Tells (tellIn (length held) (fateLines (map rowFate (changeRows (d .recorded) changes)))) held r out → Tells (reached h Account b (length held)) held r out
+tells-account {d = d} {held = held} {out = out} {r = r} v e q = subst (λ (w : basics.Answer (Outcome × List ℕ)). Tells w held r out) (fates-answer (length held) (v .recounts d e)) q
 
 -- of at most 256 changes
-pub few-recorded : {b t s changes rows notes changed starts : List ℕ} {p : Performed} {d : Ended} → ToAnswer b t s changes rows notes changed starts p → p ≡ Done d → d .recorded ≤ 256
+pub few-recorded : {h : Choices} {b t s changes rows notes changed starts : List ℕ} {p : Performed} {d : Ended} → ToAnswer h b t s changes rows notes changed starts p → p ≡ Done d → d .recorded ≤ 256
 few-recorded {d = d} v e = (v .recounts d e) .few
 
 -- a job that is refused by 8 leaves the result slice as it was
@@ -121,27 +122,27 @@ module _ (n : ℕ) (t s : List ℕ) (k : ℕ) (h : k < n) (b : Bool) (e : b ≡ 
 
 -- ── Where it stands ─────────────────────────────────────────────────────────────────────────────────────────
 
-pub none-numbered : {b rows t s : List ℕ} {d : Ended} → RowsAtEnd b rows d → Told b t s (d .elements) → (k : ℕ) → d .elements ≤ k → NoElement ≡ ofPlace (found b k)
+pub none-numbered : {h : Choices} {b rows t s : List ℕ} {d : Ended} → RowsAtEnd h b rows d → Told b t s (d .elements) → (k : ℕ) → d .elements ≤ k → NoElement ≡ ofPlace (found h b k)
 unfolding ofPlace place
-none-numbered {b} {rows} {t} {s} {d} v w k h = ap ofPlace (no-old-node v w k (sym (none-there (d .elements) t s k h)))
+none-numbered {h} {b} {rows} {t} {s} {d} v w k q = ap ofPlace (no-old-node v w k (sym (none-there (d .elements) t s k q)))
 
-module _ {b rows t s : List ℕ} {d : Ended} (v : RowsAtEnd b rows d) (w : Told b t s (d .elements)) (k : ℕ) (o : Bool) (p : o ≡ oldNode (view (d .elements) t s) k) where
-  pub none-asked : not o ≡ true → NoElement ≡ ofPlace (found b k)
+module _ {h : Choices} {b rows t s : List ℕ} {d : Ended} (v : RowsAtEnd h b rows d) (w : Told b t s (d .elements)) (k : ℕ) (o : Bool) (p : o ≡ oldNode (view (d .elements) t s) k) where
+  pub none-asked : not o ≡ true → NoElement ≡ ofPlace (found h b k)
   unfolding ofPlace place
   none-asked q = ap ofPlace (no-old-node v w k (sym p ∙ not-true o q))
 
   module _ (q : not o ≡ false) (low : k < d .elements) (kind start : ℕ) (e : kind ≡ getD s (3 * suc k + 0) 0) (f : start ≡ getD t (8 * k + 4) 0) (r : Found)
       (g : (text : List ℕ) → r ≡ foundBy (findRow (firstTree (firstRows text (d .rows) rows)) kind start)) where
-    meant : (o : Option ℕ) → r ≡ foundBy o → gives o ≡ found b k → (r ≡ Nothing → NoElement ≡ ofPlace (found b k)) × ((x : ℕ) → r ≡ At x → Stands x ≡ ofPlace (found b k))
+    meant : (o : Option ℕ) → r ≡ foundBy o → gives o ≡ found h b k → (r ≡ Nothing → NoElement ≡ ofPlace (found h b k)) × ((x : ℕ) → r ≡ At x → Stands x ≡ ofPlace (found h b k))
     unfolding foundBy ofPlace place
     meant none i j = ((λ z. ap ofPlace j), λ x z. absurd (let y : _≡_ {A = ℕ} 0 1 = cc in omega arith))
     meant (some y) i j = ((λ z. absurd (let y : _≡_ {A = ℕ} 0 1 = cc in omega arith)), λ x z. let m : x ≡ y = cc in rw m (ap ofPlace j))
 
-    told : (r ≡ Nothing → NoElement ≡ ofPlace (found b k)) × ((x : ℕ) → r ≡ At x → Stands x ≡ ofPlace (found b k))
+    told : (r ≡ Nothing → NoElement ≡ ofPlace (found h b k)) × ((x : ℕ) → r ≡ At x → Stands x ≡ ofPlace (found h b k))
     told = meant (findRow (firstTree (firstRows (drop (d .text) b) (d .rows) rows)) kind start) (g (drop (d .text) b)) (old-node v w k (sym p ∙ not-false o q) low kind start (e ∙ ap (λ (i : ℕ). getD s i 0) (add-zero (3 * suc k))) f)
 
-    pub found-none : r ≡ Nothing → NoElement ≡ ofPlace (found b k)
+    pub found-none : r ≡ Nothing → NoElement ≡ ofPlace (found h b k)
     found-none = told .0
 
-    pub found-there : (x : ℕ) → r ≡ At x → Stands x ≡ ofPlace (found b k)
+    pub found-there : (x : ℕ) → r ≡ At x → Stands x ≡ ofPlace (found h b k)
     found-there = told .1

@@ -11,6 +11,7 @@ use lib.ListN.{length, drop, take, getD}
 use lib.Dec.{eqb}
 use lib.Seq.{take-all}
 use Rattle.definition.specs.Basics.{Answer, refused, gives, _>>=_}
+use Rattle.definition.specs.Choices.{Choices}
 use Rattle.definition.specs.Elements.{Table, isNode, node?, tree, row, noRow}
 use Rattle.definition.specs.Refusals.{Accepted, accepted}
 use Rattle.definition.specs.Answers.{plan, ran}
@@ -44,41 +45,41 @@ use Rattle.promises.specs.declared.Outcome.{Outcome}
 
 -- ── The edit ────────────────────────────────────────────────────────────────────────────────────────────────
 
-applied-fitted : (b : List ℕ) (room : ℕ) (e : End) → ending b ≡ gives e → applied b room ≡ fitted room (resultAt e)
+applied-fitted : (h : Choices) (b : List ℕ) (room : ℕ) (e : End) → ending h b ≡ gives e → applied h b room ≡ fitted room (resultAt e)
 unfolding applied fitted _>>=_
-applied-fitted b room e h = rw (edit-ending b, h) refl
+applied-fitted h b room e q = rw (edit-ending h b, q) refl
 
 left-over : (held : List ℕ) (a : Answer (List ℕ)) → overFront held a ≡ leftIn held a
 unfolding overFront leftIn
 left-over held (refused n) = refl
 left-over held (gives bytes) = rw (take-all (length bytes) bytes (omega arith), zero-add (length bytes)) refl
 
-module _ {b rows notes changed held out : List ℕ} {d : Ended} (v : AtEnd b rows notes changed d) (a : Finished) where
+module _ {h : Choices} {b rows notes changed held out : List ℕ} {d : Ended} (v : AtEnd h b rows notes changed d) (a : Finished) where
   -- what is answered from what the run leaves is the edit's answer
   pub answered-edit : ((marks : List ℕ) → Answered held (resultOf (d .discarded) (d .climbs) (stored (drop (d .text) b) (d .rows) rows marks (notesOf (d .notes) notes) (take (d .changed) changed))) out a)
-      → Tells (reached Edit b (length held)) held (ofLength (lengthOf a)) out
+      → Tells (reached h Edit b (length held)) held (ofLength (lengthOf a)) out
   unfolding resultAt reached
   answered-edit f =
       let e = v .end in
       let g = f (v .marks) in
-      let h : Answered held (resultOf _ (e .planned .climbs) _) out a = rw (v .discarded, v .climbs) at g in
-      let r = answered-result (e .planned .changes) (e .planned .climbs) (e .world) (v .holds) (v .held) h in
+      let q : Answered held (resultOf _ (e .planned .climbs) _) out a = rw (v .discarded, v .climbs) at g in
+      let r = answered-result (e .planned .changes) (e .planned .climbs) (e .world) (v .holds) (v .held) q in
       let x = fitted (length held) (resultAt e) in
-      rw (applied-fitted b (length held) e (v .ends)) (record { answer = ap ofLength (r .answer) ∙ sym (edit-outcome x); result = r .result ∙ (left-over held x ∙ ap (leftIn held) (sym (edit-written x))) })
+      rw (applied-fitted h b (length held) e (v .ends)) (record { answer = ap ofLength (r .answer) ∙ sym (edit-outcome x); result = r .result ∙ (left-over held x ∙ ap (leftIn held) (sym (edit-written x))) })
 
 -- ── find_element ────────────────────────────────────────────────────────────────────────────────────────────
 
 -- the run of the batch b has ended, and the rows are those of its trees
-pub record RowsAtEnd (b rows : List ℕ) (d : Ended) : Type 0 where
+pub record RowsAtEnd (h : Choices) (b rows : List ℕ) (d : Ended) : Type 0 where
   pub end : End
-  pub ends : ending b ≡ gives end
+  pub ends : ending h b ≡ gives end
   pub held : rowsOf (end .world .trees) ≡ firstRows (drop (d .text) b) (d .rows) rows
   pub place : d .root ≡ 1
   pub within : 3 * d .rows ≤ length rows
   pub some : 1 ≤ d .rows
   pub few : d .rows ≤ 4097
 
-pub rows-at-end : {b rows notes changed : List ℕ} {d : Ended} → AtEnd b rows notes changed d → RowsAtEnd b rows d
+pub rows-at-end : {h : Choices} {b rows notes changed : List ℕ} {d : Ended} → AtEnd h b rows notes changed d → RowsAtEnd h b rows d
 unfolding store stored
 rows-at-end v = record { end = v .end; ends = v .ends; held = ap (λ (s : model.Store). s .rows) (v .held); place = v .place; within = v .rowsWithin; some = v .someRows; few = v .fewRows }
 
@@ -111,22 +112,22 @@ unfolding rowAt kindWord
 kind-told n t s k h = rw (row-view n t s k h) refl
 
 -- where it is found, by the rows of the new tree
-module _ {b rows t s : List ℕ} {d : Ended} (v : RowsAtEnd b rows d) (w : Told b t s (d .elements)) (k : ℕ) where
+module _ {h : Choices} {b rows t s : List ℕ} {d : Ended} (v : RowsAtEnd h b rows d) (w : Told b t s (d .elements)) (k : ℕ) where
   old-table : v .end .batch .table ≡ view (d .elements) t s
   unfolding ending
-  old-table = given (accepted b) _ (v .ends) λ a x e. given (plan a) _ e λ p y e. given (ran a p) _ e λ u z e.
+  old-table = given (accepted b) _ (v .ends) λ a x e. given (plan h a) _ e λ p y e. given (ran a p) _ e λ u z e.
       ap (λ (q : End). q .batch .table) (sym (gives-inj e)) ∙ (ap (λ (q : Accepted). q .table) (gives-inj (sym x ∙ w .accepts)) ∙ sym (w .table))
 
-  found-by : found b k ≡ gives (cond (oldNode (view (d .elements) t s) k) (findRow (firstTree (firstRows (drop (d .text) b) (d .rows) rows)) ((row (view (d .elements) t s) k) .kind) ((row (view (d .elements) t s) k) .start)) none)
+  found-by : found h b k ≡ gives (cond (oldNode (view (d .elements) t s) k) (findRow (firstTree (firstRows (drop (d .text) b) (d .rows) rows)) ((row (view (d .elements) t s) k) .kind) ((row (view (d .elements) t s) k) .start)) none)
   unfolding foundAt oldNode _>>=_
-  found-by = found-ending b k ∙ rw (v .ends, find-in (v .end .batch .table) (v .end .world) k, old-table, v .held) refl
+  found-by = found-ending h b k ∙ rw (v .ends, find-in (v .end .batch .table) (v .end .world) k, old-table, v .held) refl
 
-  pub no-old-node : oldNode (view (d .elements) t s) k ≡ false → gives none ≡ found b k
-  no-old-node h = sym (found-by ∙ rw h refl)
+  pub no-old-node : oldNode (view (d .elements) t s) k ≡ false → gives none ≡ found h b k
+  no-old-node q = sym (found-by ∙ rw q refl)
 
   pub old-node : oldNode (view (d .elements) t s) k ≡ true → k < d .elements → (kind start : ℕ) → kind ≡ getD s (3 * suc k) 0 → start ≡ getD t (8 * k + 4) 0
-      → gives (findRow (firstTree (firstRows (drop (d .text) b) (d .rows) rows)) kind start) ≡ found b k
-  old-node h low kind start e f = sym (found-by ∙ rw (h, kind-told (d .elements) t s k low, start-told (d .elements) t s k low, ← e, ← f) refl)
+      → gives (findRow (firstTree (firstRows (drop (d .text) b) (d .rows) rows)) kind start) ≡ found h b k
+  old-node q low kind start e f = sym (found-by ∙ rw (q, kind-told (d .elements) t s k low, start-told (d .elements) t s k low, ← e, ← f) refl)
 
 -- ── Refused, or at the end of the run ───────────────────────────────────────────────────────────────────────
 
@@ -158,21 +159,21 @@ overlapTold (Find n) j k room = refused 8
 overlapTold Account j k room = tellIn room (overlapLine j k)
 
 -- is the answer of every job
-pub overlap-answers : (job : Job) (b : List ℕ) (j k room : ℕ) → Overlapped b j k → overlapTold job j k room ≡ reached job b room
+pub overlap-answers : (h : Choices) (job : Job) (b : List ℕ) (j k room : ℕ) → Overlapped h b j k → overlapTold job j k room ≡ reached h job b room
 unfolding overlapTold reached applied recounted _>>=_
-overlap-answers Edit b j k room o = sym (rw (edit-ending b, o .refused8) refl)
-overlap-answers (Find n) b j k room o = sym (rw (found-ending b n, o .refused8) refl)
-overlap-answers Account b j k room o = sym (rw (o .text) refl)
+overlap-answers h Edit b j k room o = sym (rw (edit-ending h b, o .refused8) refl)
+overlap-answers h (Find n) b j k room o = sym (rw (found-ending h b n, o .refused8) refl)
+overlap-answers h Account b j k room o = sym (rw (o .text) refl)
 
 -- the fates in the rows are the account
-pub fates-answer : {b changes : List ℕ} {d : Ended} (room : ℕ) → Recounted b changes d → tellIn room (fateLines (map rowFate (changeRows (d .recorded) changes))) ≡ reached Account b room
+pub fates-answer : {h : Choices} {b changes : List ℕ} {d : Ended} (room : ℕ) → Recounted h b changes d → tellIn room (fateLines (map rowFate (changeRows (d .recorded) changes))) ≡ reached h Account b room
 unfolding reached recounted _>>=_
 fates-answer room v = sym (rw (v .text) refl)
 
 -- where the run has ended, every job can be answered
-pub record ToAnswer (b t s changes rows notes changed starts : List ℕ) (p : Performed) : Type 0 where
-  pub overlaps : (j k : ℕ) → p ≡ Overlap j k → Overlapped b j k
-  pub recounts : (d : Ended) → p ≡ Done d → Recounted b changes d
-  pub ends : (d : Ended) → p ≡ Done d → AtEnd b rows notes changed d
+pub record ToAnswer (h : Choices) (b t s changes rows notes changed starts : List ℕ) (p : Performed) : Type 0 where
+  pub overlaps : (j k : ℕ) → p ≡ Overlap j k → Overlapped h b j k
+  pub recounts : (d : Ended) → p ≡ Done d → Recounted h b changes d
+  pub ends : (d : Ended) → p ≡ Done d → AtEnd h b rows notes changed d
   pub tells : (d : Ended) → p ≡ Done d → Told b t s (d .elements)
   pub room : (d : Ended) → p ≡ Done d → 4096 ≤ length starts

@@ -1,4 +1,5 @@
 // From what a run leaves to what each job answers.
+use choices::Choices;
 use edit_perform::Ended;
 use edit_perform::Performed;
 use finish_result::Finished;
@@ -8,6 +9,7 @@ use rows_syntax_node::Found;
 ghost use mathlib.Core.Path.{_≡_};
 ghost use Prim.Native.Nat.{_≤_, _<_};
 ghost use lib.ListN.{length};
+ghost use Rattle.choices.specs.Meant.{meant};
 ghost use Rattle.read_element_table.specs.View.{view};
 ghost use Rattle.read_element_table.specs.Wellformed.{Wellformed};
 ghost use Rattle.edit_perform.specs.AtEnd.{AtEnd, Told};
@@ -18,6 +20,7 @@ ghost use Rattle.edit_answer.specs.AtEnd.{RowsAtEnd, oldNode, overlapTol
 
 // The result's bytes from what the run of the batch leaves, or 13. `starts` is for where each element's text starts.
 fn write_answer(
+    choices: Choices,
     batch: &[u8],
     d: Ended,
     rows: &[u32],
@@ -26,9 +29,9 @@ fn write_answer(
     starts: &mut [u32],
     result: &mut [u8],
 ) -> Outcome
-    requires { ⌜ AtEnd (now batch) (now rows) (now notes) (now changed) d ⌝ }
+    requires { ⌜ AtEnd (meant choices) (now batch) (now rows) (now notes) (now changed) d ⌝ }
     requires { ⌜ 4096 ≤ length (now starts) ⌝ }
-    ensures { λ r. ⌜ Tells (reached asked.Edit (now (batch .entry)) (length (now (result .entry)))) (now (result .entry)) r (now (result .exit)) ⌝ }
+    ensures { λ r. ⌜ Tells (reached (meant choices) asked.Edit (now (batch .entry)) (length (now (result .entry)))) (now (result .entry)) r (now (result .exit)) ⌝ }
 {
     let from = d.text;
     let text = &batch[from..];
@@ -65,6 +68,7 @@ fn is_old_node(table: &[u32], source: &[u32], n: usize, k: usize) -> bool
 
 // Where element `k` stands in the new tree, from the rows that the run of the batch leaves.
 fn find_from(
+    choices: Choices,
     batch: &[u8],
     d: Ended,
     table: &[u32],
@@ -72,9 +76,9 @@ fn find_from(
     rows: &[u32],
     k: usize,
 ) -> Outcome
-    requires { ⌜ RowsAtEnd (now batch) (now rows) d ⌝ }
+    requires { ⌜ RowsAtEnd (meant choices) (now batch) (now rows) d ⌝ }
     requires { ⌜ Told (now batch) (now table) (now source) (d .elements) ⌝ }
-    ensures { λ r. ⌜ r ≡ ofPlace (found (now (batch .entry)) k) ⌝ }
+    ensures { λ r. ⌜ r ≡ ofPlace (found (meant choices) (now (batch .entry)) k) ⌝ }
 {
     let n = d.elements;
     if n <= k {
@@ -104,6 +108,7 @@ fn overlapping(job: Job, j: usize, k: usize, result: &mut [u8]) -> Outcome
 
 // What the job answers from what is performed: its refusal, or what follows from the end of the run.
 pub fn answer(
+    choices: Choices,
     job: Job,
     batch: &[u8],
     done: Performed,
@@ -116,15 +121,15 @@ pub fn answer(
     starts: &mut [u32],
     result: &mut [u8],
 ) -> Outcome
-    requires { ⌜ ToAnswer (now batch) (now table) (now source) (now changes) (now rows) (now notes) (now changed) (now starts) done ⌝ }
-    ensures { λ r. ⌜ Tells (unless done (reached job (now (batch .entry)) (length (now (result .entry))))) (now (result .entry)) r (now (result .exit)) ⌝ }
+    requires { ⌜ ToAnswer (meant choices) (now batch) (now table) (now source) (now changes) (now rows) (now notes) (now changed) (now starts) done ⌝ }
+    ensures { λ r. ⌜ Tells (unless done (reached (meant choices) job (now (batch .entry)) (length (now (result .entry))))) (now (result .entry)) r (now (result .exit)) ⌝ }
 {
     match done {
         Performed::Refused(n) => Outcome::Refused(n),
         Performed::Overlap(j, k) => overlapping(job, j, k, result),
         Performed::Done(d) => match job {
-            Job::Edit => write_answer(batch, d, rows, notes, changed, starts, result),
-            Job::Find(k) => find_from(batch, d, table, source, rows, k),
+            Job::Edit => write_answer(choices, batch, d, rows, notes, changed, starts, result),
+            Job::Find(k) => find_from(choices, batch, d, table, source, rows, k),
             Job::Account => account_lines::tell_fates(changes, d.recorded, result),
         },
     }

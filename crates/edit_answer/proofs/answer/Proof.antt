@@ -61,7 +61,7 @@ returns-3 : tie.Need-returns-3
 returns-3 c = rw (c .before .before .before .before .before .before .before .before .before .before .before .before .before .enum-told .given .1) (tells-done (c .before .before .before .before .before .before .before .before .before .before .before .before .before .before .before .before .done3 .given .1) _ (c .before .before .before .before .before .before .before .before .write-answer .ensures))
 
 returns-4 : tie.Need-returns-4
-returns-4 c = rw (c .before .before .job .given .1) (tells-done (c .before .before .before .before .before .done3 .given .1) _ (tells-found _ _ _ _ (c .find-from .ensures)))
+returns-4 c = rw (c .before .before .job .given .1) (tells-done (c .before .before .before .before .before .done3 .given .1) _ (tells-found _ _ _ _ _ (c .find-from .ensures)))
 
 same-length-6 : tie.Need-same-length-6
 same-length-6 c = c .before .result3 .given
