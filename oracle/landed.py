@@ -8,7 +8,7 @@ from pathlib import Path
 from types import ModuleType
 
 # Notes 1 to LEVEL of document 02 have landed.
-LEVEL = 3
+LEVEL = 7
 TOOLS = Path(__file__).resolve().parent.parent.parent / "shared" / "tools"
 
 
@@ -30,14 +30,14 @@ def built(texts):
 notes = built(texts())
 
 
-def edit_program(batch, model=notes):
+def edit_program(batch, model=notes, arguments=()):
     """What the edit program prints."""
-    return model.edit_program(batch, level=LEVEL)
+    return model.edit_program(batch, arguments, level=LEVEL)
 
 
-def account_program(batch, model=notes):
+def account_program(batch, model=notes, arguments=()):
     """What the account program prints (document 02, Note 5)."""
-    return model.account_program(batch, level=LEVEL)
+    return model.account_program(batch, arguments, level=LEVEL)
 
 
 def result(batch):
@@ -45,6 +45,6 @@ def result(batch):
     return notes.result(batch, level=LEVEL)
 
 
-def find_element(batch, number):
+def find_element(batch, number, edge=0):
     """The element of the new tree, None, or a refusal."""
-    return notes.find_element(batch, number, level=LEVEL)
+    return notes.find_element(batch, number, notes.arguments([str(edge)], LEVEL), level=LEVEL)

@@ -1,17 +1,17 @@
-//! Plays batches through the static library:   stream < batch   or   stream --stream   or   stream --accounts
+//! Plays batches through the static library:   stream [--stream | --accounts] [EDGE]
 //!
 //! Without a word it reads one batch and prints the printed form. With `--stream` it reads batches, each with its length in front (a 32-bit
 //! little-endian word), and answers each with two parts, each with its length in front: the printed form, and what `find_element` gives, as
 //! `find 0:3 1: 2:` (the number asked for, a colon, the element found or nothing) if the batch was accepted. Of a batch of up to 64 elements every
 //! number is asked for, and one beyond the last; of a larger one as many, spread over it. With `--accounts` the first part is what the account program
-//! prints, told from the fates that the library gives as values, and the second is empty.
+//! prints, told from the fates that the library gives as values, and the second is empty. EDGE is the edge rule, 0 without one.
 
 use std::{
     fmt::Write as _,
     io::{self, Read, Write},
 };
 
-use syntax_edit::{Editor, Fate, Unaccounted};
+use syntax_edit::{Choices, Editor, Fate, Unaccounted};
 
 const MOST_BYTES: usize = 65_536;
 
@@ -64,7 +64,8 @@ fn write_part(output: &mut impl Write, part: &str) -> io::Result<()> {
 }
 
 fn main() -> io::Result<()> {
-    let mut editor = Editor::new();
+    let edge = std::env::args().last().and_then(|it| it.parse().ok()).unwrap_or(0);
+    let mut editor = Editor::by(Choices { edge });
     let (mut input, mut output) = (io::stdin().lock(), io::BufWriter::new(io::stdout().lock()));
     let word = std::env::args().nth(1);
     if !matches!(word.as_deref(), Some("--stream" | "--accounts")) {

@@ -20,7 +20,7 @@ use Rattle.promises.specs.Promises.{leftIn}
 use Rattle.promises.specs.Serving.{place, ofLength, ofPlace, Serves, serves-edits, serves-finds, serves-accounts}
 use Rattle.promises.specs.declared.Job.the-variants.{Edit, Find, Account}
 use Rattle.promises.specs.declared.Outcome.{Outcome}
-use Rattle.promises_read.specs.Refused.{By, editNumbers, findNumbers, by-number, edited-by, found-by, accounted-by}
+use Rattle.promises_read.specs.Refused.{By, editNumbers, findNumbers, accountNumbers, by-number, by-more, edited-by, found-by, accounted-by}
 use Rattle.edit_numbers.specs.Bounded.{edited-short, found-short, accounted-short}
 use Rattle.edit_numbers.specs.Told.{numberOf, Small, number-read}
 
@@ -99,7 +99,7 @@ module _ {h : Choices} {b held holds : List ℕ} {work left : List (List ℕ)} {
 
   -- what an account tells is small
   pub account-small : Small r
-  account-small = rw text-told (bytes-small text (accounted-by h (lengths needed work) b (length held)) (λ bytes e. omega (arith, accounted-short h (lengths needed work) b bytes (length held) e)))
+  account-small = rw text-told (bytes-small text (by-more accountNumbers editNumbers text refl (accounted-by h (lengths needed work) b (length held))) (λ bytes e. omega (arith, accounted-short h (lengths needed work) b bytes (length held) e)))
 
   -- and its number is what is promised
   pub account-returned : (z : ℤ) → z ≡ numberOf r → ReturnsAccount h b held work (toZ w64 (ofZ w64 z)) holds left

@@ -41,8 +41,11 @@ By ns (gives a) = Unit
 abbrev pub batchLines : List ℕ
 batchLines = 2 ∷ 3 ∷ 4 ∷ 5 ∷ 6 ∷ 16 ∷ 7 ∷ []
 
+abbrev pub rewriteLines : List ℕ
+rewriteLines = 9 ∷ 10 ∷ []
+
 abbrev pub planLines : List ℕ
-planLines = 8 ∷ 9 ∷ 10 ∷ []
+planLines = 8 ∷ rewriteLines
 
 abbrev pub stepLines : List ℕ
 stepLines = 11 ∷ 12 ∷ []
@@ -54,6 +57,10 @@ editLines = batchLines ++ planLines ++ stepLines
 -- THE NUMBERS that each public call can give: 17 for the edge rule, 1 for a work slice, 13 for the result slice
 abbrev pub editNumbers : List ℕ
 editNumbers = 17 ∷ 1 ∷ 13 ∷ editLines
+
+-- of `account`: 8 is none of them
+abbrev pub accountNumbers : List ℕ
+accountNumbers = 17 ∷ 1 ∷ 13 ∷ batchLines ++ rewriteLines ++ stepLines
 
 abbrev pub findNumbers : List ℕ
 findNumbers = 17 ∷ 1 ∷ editLines
@@ -78,7 +85,7 @@ by-number ns lo hi k o w h e =
     (ltb-false k lo (r .0), ltb-false hi k (r .1))
 
 -- a longer list
-by-more : {A : Type 0} (few more : List ℕ) (o : Answer A) → any (λ k. not (among more k)) few ≡ false → By few o → By more o
+pub by-more : {A : Type 0} (few more : List ℕ) (o : Answer A) → any (λ k. not (among more k)) few ≡ false → By few o → By more o
 by-more few more (refused k) w h = not-false (among more k) (one-of (λ k. not (among more k)) few k w h)
 by-more few more (gives x) w h = tt
 
@@ -117,111 +124,111 @@ accepted-by b =
 
 -- ── Lines 8 to 10 ───────────────────────────────────────────────────────────────────────────────────────────
 
-either : {A : Type 0} (b : Bool) (a later : Answer A) → By planLines a → By planLines later → By {A = A} planLines (elim b as (λ b. Answer A) [ true ↦ a | false ↦ later ])
+either : {A : Type 0} (b : Bool) (a later : Answer A) → By rewriteLines a → By rewriteLines later → By {A = A} rewriteLines (elim b as (λ b. Answer A) [ true ↦ a | false ↦ later ])
 either true a later h k = h
 either false a later h k = k
 
 module _ (T : Table) (mapped : ℕ → Option ℕ) where
-  climb-by : (n r x : ℕ) (p : Path) → By planLines (climb T mapped n r x p)
+  climb-by : (n r x : ℕ) (p : Path) → By rewriteLines (climb T mapped n r x p)
   unfolding climb among any
   climb-by zero r x p = go (parent T x)
     where
-      go : (o : Option ℕ) → By {A = Path} planLines (elim o as (λ o. Answer Path) [ none ↦ refused 9 | some q ↦ refused 10 ])
+      go : (o : Option ℕ) → By {A = Path} rewriteLines (elim o as (λ o. Answer Path) [ none ↦ refused 9 | some q ↦ refused 10 ])
       go none = refl
       go (some q) = refl
   climb-by (suc n) r x p = go (parent T x) (λ y. climb-by n r y (child T y ∷ p))
     where
-      go : (o : Option ℕ) → ((y : ℕ) → By planLines (climb T mapped n r y (child T y ∷ p))) →
-          By {A = Path} planLines (elim o as (λ o. Answer Path) [
+      go : (o : Option ℕ) → ((y : ℕ) → By rewriteLines (climb T mapped n r y (child T y ∷ p))) →
+          By {A = Path} rewriteLines (elim o as (λ o. Answer Path) [
             | none ↦ refused 9
             | some q ↦ elim (eqb q r) as (λ b. Answer Path) [ true ↦ gives p | false ↦ climb T mapped n r (mappedOr T mapped q) (child T (mappedOr T mapped q) ∷ p) ]
           ])
       go none h = refl
       go (some q) h = either (eqb q r) (gives p) (climb T mapped n r (mappedOr T mapped q) (child T (mappedOr T mapped q) ∷ p)) tt (h (mappedOr T mapped q))
 
-  trail-by : (x r : ℕ) → By planLines (trail T mapped x r)
+  trail-by : (x r : ℕ) → By rewriteLines (trail T mapped x r)
   unfolding trail
   trail-by x r =
       let y = mappedOr T mapped x in
       either (eqb x r) (gives []) (climb T mapped (length T) r y (child T y ∷ [])) tt (climb-by (length T) r y (child T y ∷ []))
 
-  land-by : (e r : ℕ) (p : Path) → By planLines (land T mapped e r p)
+  land-by : (e r : ℕ) (p : Path) → By rewriteLines (land T mapped e r p)
   unfolding land among any
   land-by e r p =
-      by-then planLines (orRefuse 9 (descend T r p)) _ (by-or planLines 9 _ refl) λ to.
-      by-then planLines (refuse 9 (node? T e && not (node? T to))) _ (by-refuse planLines 9 _ refl) λ u. tt
+      by-then rewriteLines (orRefuse 9 (descend T r p)) _ (by-or rewriteLines 9 _ refl) λ to.
+      by-then rewriteLines (refuse 9 (node? T e && not (node? T to))) _ (by-refuse rewriteLines 9 _ refl) λ u. tt
 
-  moved-by : (x r e : ℕ) → By planLines (moved T mapped x r e)
+  moved-by : (x r e : ℕ) → By rewriteLines (moved T mapped x r e)
   unfolding moved among any
   moved-by x r e =
-      by-then planLines (orRefuse 9 (placeBelow T x e)) _ (by-or planLines 9 _ refl) λ p.
-      by-then planLines (trail T mapped x r) _ (trail-by x r) λ q.
-      by-then planLines (land T mapped e r (q ++ p)) _ (land-by e r (q ++ p)) λ to. tt
+      by-then rewriteLines (orRefuse 9 (placeBelow T x e)) _ (by-or rewriteLines 9 _ refl) λ p.
+      by-then rewriteLines (trail T mapped x r) _ (trail-by x r) λ q.
+      by-then rewriteLines (land T mapped e r (q ++ p)) _ (land-by e r (q ++ p)) λ to. tt
 
-  retarget-by : (f : ℕ → Answer (ℕ × ℕ)) → ((e : ℕ) → By planLines (f e)) → (c : Change) → By planLines (retarget T mapped f c)
+  retarget-by : (f : ℕ → Answer (ℕ × ℕ)) → ((e : ℕ) → By rewriteLines (f e)) → (c : Change) → By rewriteLines (retarget T mapped f c)
   unfolding retarget
-  retarget-by f h (insert p x l) = by-then planLines (f x) _ (h x) λ m. tt
-  retarget-by f h (replace x y) = by-then planLines (f x) _ (h x) λ m. tt
-  retarget-by f h (delete x) = by-then planLines (f x) _ (h x) λ m. tt
-  retarget-by f h (replaceWithMany x l) = by-then planLines (f x) _ (h x) λ m. tt
-  retarget-by f h (replaceAll x y l) = by-then planLines (f x) _ (h x) λ m. by-then planLines (f y) _ (h y) λ k. tt
+  retarget-by f h (insert p x l) = by-then rewriteLines (f x) _ (h x) λ m. tt
+  retarget-by f h (replace x y) = by-then rewriteLines (f x) _ (h x) λ m. tt
+  retarget-by f h (delete x) = by-then rewriteLines (f x) _ (h x) λ m. tt
+  retarget-by f h (replaceWithMany x l) = by-then rewriteLines (f x) _ (h x) λ m. tt
+  retarget-by f h (replaceAll x y l) = by-then rewriteLines (f x) _ (h x) λ m. by-then rewriteLines (f y) _ (h y) λ k. tt
 
-  rewriteOne-by : (cs : List Change) (f : Fate) (c : Change) → By planLines (rewriteOne T mapped cs f c)
+  rewriteOne-by : (cs : List Change) (f : Fate) (c : Change) → By rewriteLines (rewriteOne T mapped cs f c)
   unfolding rewriteOne rewriteInto among any
   rewriteOne-by cs own c = tt
   rewriteOne-by cs (dependent k) c =
       let owner = getD cs k (delete 0) in
       let f = moved T mapped (target owner) (replacement owner) in
-      by-then planLines (retarget T mapped f c) _ (retarget-by f (λ e. moved-by (target owner) (replacement owner) e) c) λ m.
-      by-then planLines (refuse 9 (wrongCall T (call (m .0)))) _ (by-refuse planLines 9 _ refl) λ u. tt
+      by-then rewriteLines (retarget T mapped f c) _ (retarget-by f (λ e. moved-by (target owner) (replacement owner) e) c) λ m.
+      by-then rewriteLines (refuse 9 (wrongCall T (call (m .0)))) _ (by-refuse rewriteLines 9 _ refl) λ u. tt
   rewriteOne-by cs (discarded k) c = tt
 
-  rewriting-by : (cs : List Change) (ps : List Planned) → By planLines (rewriting T mapped cs ps)
+  rewriting-by : (cs : List Change) (ps : List Planned) → By rewriteLines (rewriting T mapped cs ps)
   unfolding rewriting
   rewriting-by cs [] = tt
-  rewriting-by cs (p ∷ ps) = by-then planLines (rewriting T mapped cs ps) _ (rewriting-by cs ps) λ later. by-then planLines (rewriteOne T mapped cs p.fate p.change) _ (rewriteOne-by cs p.fate p.change) λ m. tt
+  rewriting-by cs (p ∷ ps) = by-then rewriteLines (rewriting T mapped cs ps) _ (rewriting-by cs ps) λ later. by-then rewriteLines (rewriteOne T mapped cs p.fate p.change) _ (rewriteOne-by cs p.fate p.change) λ m. tt
 
-  noteFrom-by : (a e : ℕ) → By planLines (noteFrom T mapped a e)
+  noteFrom-by : (a e : ℕ) → By rewriteLines (noteFrom T mapped a e)
   unfolding noteFrom among any
   noteFrom-by a e =
-      by-then planLines (refuse 10 (isParent T mapped a (mappedOr T mapped a))) _ (by-refuse planLines 10 _ refl) λ u.
-      by-then planLines (orRefuse 9 (placeBelow T a e)) _ (by-or planLines 9 _ refl) λ p. land-by e (mappedOr T mapped a) p
+      by-then rewriteLines (refuse 10 (isParent T mapped a (mappedOr T mapped a))) _ (by-refuse rewriteLines 10 _ refl) λ u.
+      by-then rewriteLines (orRefuse 9 (placeBelow T a e)) _ (by-or rewriteLines 9 _ refl) λ p. land-by e (mappedOr T mapped a) p
 
-  settle-by : (n e : ℕ) → By planLines (settle T mapped n e)
+  settle-by : (n e : ℕ) → By rewriteLines (settle T mapped n e)
   unfolding settle among any
   settle-by zero e = go (nearest T mapped e)
     where
-      go : (o : Option ℕ) → By {A = ℕ} planLines (elim o as (λ o. Answer ℕ) [ none ↦ gives e | some a ↦ refused 10 ])
+      go : (o : Option ℕ) → By {A = ℕ} rewriteLines (elim o as (λ o. Answer ℕ) [ none ↦ gives e | some a ↦ refused 10 ])
       go none = tt
       go (some a) = refl
   settle-by (suc n) e = go (nearest T mapped e) (λ to. settle-by n to)
     where
-      go : (o : Option ℕ) → ((to : ℕ) → By planLines (settle T mapped n to)) → By {A = ℕ} planLines (elim o as (λ o. Answer ℕ) [ none ↦ gives e | some a ↦ noteFrom T mapped a e >>= λ to. settle T mapped n to ])
+      go : (o : Option ℕ) → ((to : ℕ) → By rewriteLines (settle T mapped n to)) → By {A = ℕ} rewriteLines (elim o as (λ o. Answer ℕ) [ none ↦ gives e | some a ↦ noteFrom T mapped a e >>= λ to. settle T mapped n to ])
       go none h = tt
-      go (some a) h = by-then planLines (noteFrom T mapped a e) _ (noteFrom-by a e) h
+      go (some a) h = by-then rewriteLines (noteFrom T mapped a e) _ (noteFrom-by a e) h
 
-  settled-by : (i : ℕ) (ns : List (ℕ × ℕ)) → By planLines (settled T mapped i ns)
+  settled-by : (i : ℕ) (ns : List (ℕ × ℕ)) → By rewriteLines (settled T mapped i ns)
   unfolding settled
   settled-by i [] = tt
-  settled-by i (n ∷ ns) = by-then planLines (settle T mapped (length T) (n .0)) _ (settle-by (length T) (n .0)) λ e. by-then planLines (settled T mapped (suc i) ns) _ (settled-by (suc i) ns) λ rest. tt
+  settled-by i (n ∷ ns) = by-then rewriteLines (settle T mapped (length T) (n .0)) _ (settle-by (length T) (n .0)) λ e. by-then rewriteLines (settled T mapped (suc i) ns) _ (settled-by (suc i) ns) λ rest. tt
 
 disjoint-by : (j : Judgement) → By planLines (disjoint j)
 unfolding disjoint among any
 disjoint-by (overlaps i k) = refl
 disjoint-by (fated ps) = tt
 
-rewrite-by : (a : Accepted) (ps : List Planned) → By planLines (rewriteChanges a ps)
+rewrite-by : (a : Accepted) (ps : List Planned) → By rewriteLines (rewriteChanges a ps)
 unfolding rewriteChanges rewritten
 rewrite-by a ps =
     let T = a .table in
     let mapped = mapping a.mappings in
-    by-then planLines (rewritten T mapped ps) _ (rewriting-by T mapped (map (λ p. p .change) ps) ps) λ rs.
-    by-then planLines (settled T mapped 0 a.notes) _ (settled-by T mapped 0 a.notes) λ notes. tt
+    by-then rewriteLines (rewritten T mapped ps) _ (rewriting-by T mapped (map (λ p. p .change) ps) ps) λ rs.
+    by-then rewriteLines (settled T mapped 0 a.notes) _ (settled-by T mapped 0 a.notes) λ notes. tt
 
 -- Planning refuses by 8 to 10.
 pub plan-by : (h : Choices) (a : Accepted) → By planLines (plan h a)
-unfolding plan
-plan-by h a = by-then planLines (disjoint (judgeChanges h a)) _ (disjoint-by (judgeChanges h a)) λ ps. rewrite-by a ps
+unfolding plan among any
+plan-by h a = by-then planLines (disjoint (judgeChanges h a)) _ (disjoint-by (judgeChanges h a)) λ ps. by-more rewriteLines planLines (rewriteChanges a ps) refl (rewrite-by a ps)
 
 -- ── Lines 11 and 12 ─────────────────────────────────────────────────────────────────────────────────────────
 
@@ -276,9 +283,9 @@ found-alike h b n = alike-then (accepted b) _ _ λ a. alike-then (plan h a) _ _ 
 -- ── The public calls ────────────────────────────────────────────────────────────────────────────────────────
 
 -- a buffer that is too short refuses by 13
-fitting-by : (room : ℕ) (r : Result) → By editNumbers (fitting room r)
+fitting-by : (ns : List ℕ) → among ns 13 ≡ true → (room : ℕ) (r : Result) → By ns (fitting room r)
 unfolding fitting among any
-fitting-by room r = by-then editNumbers (refuse 13 (ltb room (length (encoded r)))) _ (by-refuse editNumbers 13 _ refl) λ u. tt
+fitting-by ns h room r = by-then ns (refuse 13 (ltb room (length (encoded r)))) _ (by-refuse ns 13 _ h) λ u. tt
 
 -- what refuses by 17 and 1, before an answer that refuses by others
 module _ {A : Type 0} (ns : List ℕ) (seventeen : among ns 17 ≡ true) (one : among ns 1 ≡ true) where
@@ -294,27 +301,27 @@ unfolding edited among any
 edited-by h work b room =
     with-by editNumbers refl refl h work _
     (by-then editNumbers (edit h b) _ (by-more editLines editNumbers (edit h b) refl (edit-by h b)) λ r.
-    by-then editNumbers (fitting room r) _ (fitting-by room r) λ r. tt)
+    by-then editNumbers (fitting room r) _ (fitting-by editNumbers refl room r) λ r. tt)
 
 -- So they are 1 to 13, 16 and 17.
 pub edited-numbered : (h : Choices) (work : List (ℕ × ℕ)) (b : List ℕ) (room k : ℕ) → edited h work b room ≡ refused k → among editNumbers k ≡ true
 edited-numbered h work b room k e = let by = edited-by h work b room in rw e at by
 
-said-by : (a : Accepted) (j : Judgement) → By editNumbers (said a j)
+said-by : (a : Accepted) (j : Judgement) → By accountNumbers (said a j)
 unfolding said among any
 said-by a (overlaps i k) = tt
 said-by a (fated ps) =
-    by-then editNumbers (rewriteChanges a ps) _ (by-more planLines editNumbers (rewriteChanges a ps) refl (rewrite-by a ps)) λ p.
-    by-then editNumbers (ran a p) _ (by-more stepLines editNumbers (ran a p) refl (ran-by a p)) λ w.
-    by-then editNumbers (fitting programRoom (result p.changes p.climbs w)) _ (fitting-by programRoom (result p.changes p.climbs w)) λ r. tt
+    by-then accountNumbers (rewriteChanges a ps) _ (by-more rewriteLines accountNumbers (rewriteChanges a ps) refl (rewrite-by a ps)) λ p.
+    by-then accountNumbers (ran a p) _ (by-more stepLines accountNumbers (ran a p) refl (ran-by a p)) λ w.
+    by-then accountNumbers (fitting programRoom (result p.changes p.climbs w)) _ (fitting-by accountNumbers refl programRoom (result p.changes p.climbs w)) λ r. tt
 
--- `account` refuses by one of the numbers of `edit`.
-pub accounted-by : (h : Choices) (work : List (ℕ × ℕ)) (b : List ℕ) (room : ℕ) → By editNumbers (accounted h work b room)
+-- `account` refuses by one of its numbers: never by 8, which it tells as text.
+pub accounted-by : (h : Choices) (work : List (ℕ × ℕ)) (b : List ℕ) (room : ℕ) → By accountNumbers (accounted h work b room)
 unfolding accounted account inRoom among any
 accounted-by h work b room =
-    with-by editNumbers refl refl h work _
-    (by-then editNumbers (account h b) _ (by-then editNumbers (accepted b) _ (by-more batchLines editNumbers (accepted b) refl (accepted-by b)) λ a. said-by a (judgeChanges h a)) λ text.
-    by-then editNumbers (refuse 13 (ltb room (length text))) _ (by-refuse editNumbers 13 _ refl) λ u. tt)
+    with-by accountNumbers refl refl h work _
+    (by-then accountNumbers (account h b) _ (by-then accountNumbers (accepted b) _ (by-more batchLines accountNumbers (accepted b) refl (accepted-by b)) λ a. said-by a (judgeChanges h a)) λ text.
+    by-then accountNumbers (refuse 13 (ltb room (length text))) _ (by-refuse accountNumbers 13 _ refl) λ u. tt)
 
 -- `find_element` refuses by one of its numbers.
 pub found-by : (h : Choices) (work : List (ℕ × ℕ)) (b : List ℕ) (n : ℕ) → By findNumbers (findElement h work b n)
