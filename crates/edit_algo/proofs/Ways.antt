@@ -1,7 +1,7 @@
 -- The ways out of the public calls.
 -- Assumes nothing.
 use mathlib.Core.Path.{_≡_, refl, sym, ap, subst, _∙_}
-use mathlib.Core.Bool.{false}
+use mathlib.Core.Bool.{Bool, true, false}
 use mathlib.Core.List.{List, [], _∷_}
 use mathlib.Core.Option.{Option, none, some}
 use Prim.Native.Nat.{ℕ, _≤_}
@@ -9,16 +9,18 @@ use native.Mathlib.Omega.{arith}
 use lib.ListN.{length}
 use Rattle.definition.specs.Basics as basics
 use Rattle.definition.specs.Basics.{refused, gives, _>>=_, refuse}
-use Rattle.definition.specs.Answers.{tooShort, withWork}
+use Rattle.definition.specs.Choices.{Choices, chosen}
+use Rattle.definition.specs.Answers.{tooShort, withWork, withChoices}
 use Rattle.definition.specs.Account.{account}
+use Rattle.definition_laws.specs.Answers.{refused-gives}
 use Rattle.promises.specs.Slices.{needed, lengths, zeros, zeroed}
-use Rattle.promises.specs.Promises.{Edits, Finds, Accounts, applied, recounted}
+use Rattle.promises.specs.Promises.{Edits, Finds, Accounts, applied, recounted, with-long}
 use Rattle.promises.specs.Serving.{reached, served, place, ofLength, ofPlace, Tells, Serves, serves-edits, serves-finds, serves-accounts}
 use Rattle.promises.specs.declared.Job.{Job}
 use Rattle.promises.specs.declared.Job.the-variants.{Edit, Find, Account}
 use Rattle.promises.specs.declared.Outcome.{Outcome}
 use Rattle.promises.specs.declared.Outcome.the-variants.{Refused as NotServed, Bytes, Nothing as NotThere, At as Stands}
-use Rattle.edit_perform.specs.AtEnd.{Overlapped, Performs, PerformsWith, short, long}
+use Rattle.edit_perform.specs.AtEnd.{Overlapped, Performs, PerformsWith, early, long}
 use Rattle.edit_perform.specs.Ending.{ending, edit-ending, found-ending}
 use Rattle.edit_perform.specs.declared.Performed.{Performed}
 use Rattle.edit_perform.specs.declared.Performed.the-variants.{Refused as Stopped, Overlap, Done}
@@ -39,31 +41,49 @@ unless-same (Overlap j k) a f = unless-overlap refl a
 unless-same (Done d) a f = unless-done refl a
 
 -- a job is refused where the run is
-job-refused : (j : Job) (b : List ℕ) (room k : ℕ) → (ending b ≡ refused k) × (account b ≡ refused k) → reached j b room ≡ refused k
+job-refused : (h : Choices) (j : Job) (b : List ℕ) (room k : ℕ) → (ending h b ≡ refused k) × (account h b ≡ refused k) → reached h j b room ≡ refused k
 unfolding reached applied recounted _>>=_
-job-refused Edit b room k e = rw (edit-ending b, e .0) refl
-job-refused (Find n) b room k e = rw (found-ending b n, e .0) refl
-job-refused Account b room k e = rw (e .1) refl
+job-refused h Edit b room k e = rw (edit-ending h b, e .0) refl
+job-refused h (Find n) b room k e = rw (found-ending h b n, e .0) refl
+job-refused h Account b room k e = rw (e .1) refl
 
-module _ {work : List (List ℕ)} {b t s changes rows notes changed marks : List ℕ} {p : Performed} where
+-- where 17 or 1 refuses, it refuses every answer
+early-refused : {A : Type 0} (h : Choices) (work : List (ℕ × ℕ)) (x : basics.Answer A) (k : ℕ) → _≡_ {A = basics.Answer (Unit {0})} (withChoices h work (gives tt)) (refused k) → withChoices h work x ≡ refused k
+unfolding withChoices withWork refuse _>>=_
+early-refused h work x k e = go (chosen h) refl (tooShort work) refl e
+  where
+    go : (o : basics.Answer (Unit {0})) → chosen h ≡ o → (t : Bool) → tooShort work ≡ t → _≡_ {A = basics.Answer (Unit {0})} (withChoices h work (gives tt)) (refused k) → withChoices h work x ≡ refused k
+    go (refused n) c t q e =
+        let z : _≡_ {A = basics.Answer (Unit {0})} (refused n) (refused k) = rw c at e in
+        let y : n ≡ k = cc in
+        rw c (ap refused y)
+    go (gives u) c true q e =
+        let z : _≡_ {A = basics.Answer (Unit {0})} (refused 1) (refused k) = rw (c, q) at e in
+        let y : 1 ≡ k = cc in
+        rw (c, q) (ap refused y)
+    go (gives u) c false q e =
+        let z : _≡_ {A = basics.Answer (Unit {0})} (gives tt) (refused k) = rw (c, q) at e in
+        refused-gives (sym z)
+
+module _ {h : Choices} {work : List (List ℕ)} {b t s changes rows notes changed marks : List ℕ} {p : Performed} where
   -- what is performed and then answered is the job's answer with these work slices
-  pub job-performed : PerformsWith work b t s changes rows notes changed marks p → (j : Job) (room : ℕ) → unless p (reached j b room) ≡ served j (lengths needed work) b room
-  unfolding served withWork refuse _>>=_
-  job-performed (short h q) j room = unless-refused q _ ∙ rw h refl
-  job-performed (long h P) j room = unless-same p (reached j b room) (λ k e. job-refused j b room k (P .refuses k e)) ∙ rw h refl
+  pub job-performed : PerformsWith h work b t s changes rows notes changed marks p → (j : Job) (room : ℕ) → unless p (reached h j b room) ≡ served h j (lengths needed work) b room
+  unfolding served
+  job-performed (early k e q) j room = unless-refused q _ ∙ sym (early-refused h (lengths needed work) (reached h j b room) k e)
+  job-performed (long c e P) j room = unless-same p (reached h j b room) (λ k i. job-refused h j b room k (P .refuses k i)) ∙ sym (with-long h (lengths needed work) (reached h j b room) c e)
 
   -- at the end of the run no work slice is too short
-  done-long : PerformsWith work b t s changes rows notes changed marks p → (d : Ended) → p ≡ Done d → (tooShort (lengths needed work) ≡ false) × Performs b t s changes rows notes changed marks p
-  done-long (short h q) d e = absurd (let z : _≡_ {A = ℕ} 0 1 = cc in omega arith)
-  done-long (long h P) d e = (h, P)
+  done-long : PerformsWith h work b t s changes rows notes changed marks p → (d : Ended) → p ≡ Done d → (tooShort (lengths needed work) ≡ false) × Performs h b t s changes rows notes changed marks p
+  done-long (early k i q) d e = absurd (let z : _≡_ {A = ℕ} 0 1 = cc in omega arith)
+  done-long (long c i P) d e = (i, P)
 
-  overlap-known : PerformsWith work b t s changes rows notes changed marks p → (j k : ℕ) → p ≡ Overlap j k → Overlapped b j k
-  overlap-known (short h q) j k e = absurd (let z : _≡_ {A = ℕ} 0 1 = cc in omega arith)
-  overlap-known (long h P) j k e = P .overlaps j k e
+  overlap-known : PerformsWith h work b t s changes rows notes changed marks p → (j k : ℕ) → p ≡ Overlap j k → Overlapped h b j k
+  overlap-known (early n i q) j k e = absurd (let z : _≡_ {A = ℕ} 0 1 = cc in omega arith)
+  overlap-known (long c i P) j k e = P .overlaps j k e
 
   -- so that what the run left is there
-  pub to-answer : PerformsWith work b t s changes rows notes changed marks p → (starts : List ℕ) → (tooShort (lengths needed work) ≡ false → 4096 ≤ length starts) → ToAnswer b t s changes rows notes changed starts p
-  to-answer P starts h = record { overlaps = λ j k e. overlap-known P j k e; recounts = λ d e. (done-long P d e) .1 .recounts d e; ends = λ d e. (done-long P d e) .1 .ends d e; tells = λ d e. (done-long P d e) .1 .tells d e; room = λ d e. h ((done-long P d e) .0) }
+  pub to-answer : PerformsWith h work b t s changes rows notes changed marks p → (starts : List ℕ) → (tooShort (lengths needed work) ≡ false → 4096 ≤ length starts) → ToAnswer h b t s changes rows notes changed starts p
+  to-answer P starts q = record { overlaps = λ j k e. overlap-known P j k e; recounts = λ d e. (done-long P d e) .1 .recounts d e; ends = λ d e. (done-long P d e) .1 .ends d e; tells = λ d e. (done-long P d e) .1 .tells d e; room = λ d e. q ((done-long P d e) .0) }
 
 -- ── Cleared ─────────────────────────────────────────────────────────────────────────────────────────────────
 
@@ -78,9 +98,9 @@ module _ (a b c d e f g h i a′ b′ c′ d′ e′ f′ g′ h′ i′ : List 
   zeroed-same p₁ p₂ p₃ p₄ p₅ p₆ p₇ p₈ p₉ = rw (p₁, p₂, p₃, p₄, p₅, p₆, p₇, p₈, p₉) refl
 
 -- what is told, and then cleared, is what is promised
-pub serves-cleared : (j : Job) (batch held holds : List ℕ) (work mid left : List (List ℕ)) (r : Outcome) {want : basics.Answer (Outcome × List ℕ)} → want ≡ served j (lengths needed work) batch (length held) → Tells want held r holds
-    → left ≡ zeroed mid → zeroed mid ≡ zeroed work → Serves j batch held work r holds left
-serves-cleared j batch held holds work mid left r e a z s = record { told = rw e at a; zeros = z ∙ s }
+pub serves-cleared : (h : Choices) (j : Job) (batch held holds : List ℕ) (work mid left : List (List ℕ)) (r : Outcome) {want : basics.Answer (Outcome × List ℕ)} → want ≡ served h j (lengths needed work) batch (length held) → Tells want held r holds
+    → left ≡ zeroed mid → zeroed mid ≡ zeroed work → Serves h j batch held work r holds left
+serves-cleared h j batch held holds work mid left r e a z s = record { told = rw e at a; zeros = z ∙ s }
 
 -- ── What is told of a job ───────────────────────────────────────────────────────────────────────────────────
 
@@ -132,13 +152,13 @@ module _ {told : Outcome} where
   place-told {n} e (gives (some k)) h = let same : n ≡ k = cc in ap (λ (x : ℕ). gives (some x)) same
 
 -- what is told of an edit keeps the promise of `edit`
-pub edits-told : (b held holds : List ℕ) (work left : List (List ℕ)) (told : Outcome) (r : Answer) → Serves Edit b held work told holds left → TellsLength told r → Edits b held work (answerOf r) holds left
-edits-told b held holds work left told r s f = let (a, e, k) = serves-edits s in subst (λ (x : basics.Answer ℕ). Edits b held work x holds left) (sym (f a e)) k
+pub edits-told : (h : Choices) (b held holds : List ℕ) (work left : List (List ℕ)) (told : Outcome) (r : Answer) → Serves h Edit b held work told holds left → TellsLength told r → Edits h b held work (answerOf r) holds left
+edits-told h b held holds work left told r s f = let (a, e, k) = serves-edits h s in subst (λ (x : basics.Answer ℕ). Edits h b held work x holds left) (sym (f a e)) k
 
 -- and of an element that of `find_element`
-pub finds-told : (b held holds : List ℕ) (n : ℕ) (work left : List (List ℕ)) (told : Outcome) (r : Element) → Serves (Find n) b held work told holds left → TellsPlace told r → Finds b n work (elementOf r) left
-finds-told b held holds n work left told r s f = let (a, e, k) = serves-finds s in subst (λ (x : basics.Answer (Option ℕ)). Finds b n work x left) (sym (f a e)) k
+pub finds-told : (h : Choices) (b held holds : List ℕ) (n : ℕ) (work left : List (List ℕ)) (told : Outcome) (r : Element) → Serves h (Find n) b held work told holds left → TellsPlace told r → Finds h b n work (elementOf r) left
+finds-told h b held holds n work left told r s f = let (a, e, k) = serves-finds h s in subst (λ (x : basics.Answer (Option ℕ)). Finds h b n work x left) (sym (f a e)) k
 
 -- what is told of an account keeps the promise of `account`
-pub accounts-told : (b held holds : List ℕ) (work left : List (List ℕ)) (told : Outcome) (r : Answer) → Serves Account b held work told holds left → TellsLength told r → Accounts b held work (answerOf r) holds left
-accounts-told b held holds work left told r s f = let (a, e, k) = serves-accounts s in subst (λ (x : basics.Answer ℕ). Accounts b held work x holds left) (sym (f a e)) k
+pub accounts-told : (h : Choices) (b held holds : List ℕ) (work left : List (List ℕ)) (told : Outcome) (r : Answer) → Serves h Account b held work told holds left → TellsLength told r → Accounts h b held work (answerOf r) holds left
+accounts-told h b held holds work left told r s f = let (a, e, k) = serves-accounts h s in subst (λ (x : basics.Answer ℕ). Accounts h b held work x holds left) (sym (f a e)) k

@@ -1,8 +1,10 @@
 // The public calls: one for every job, and the edit, the found element and the account, each thin over it.
+use choices::Choices;
 use edit_perform::perform;
 use promises::Job;
 use promises::Outcome;
 ghost use mathlib.Core.List.{_∷_, []};
+ghost use Rattle.choices.specs.Meant.{meant};
 ghost use Rattle.promises.specs.Promises.{Edits, Finds, Accounts};
 ghost use Rattle.promises.specs.Serving.{Serves};
 ghost use Rattle.edit_algo.specs.Numbers.{answerOf, elementOf, TellsLength, TellsPlace};
@@ -22,9 +24,10 @@ pub enum Element {
 
 // ── One call for all ──
 
-// THE CALL for every job: refusal 1, the run of the batch, what the job answers from what the run leaves, and every work slice cleared. What the
+// THE CALL for every job: refusals 17 and 1, the run of the batch, what the job answers from what the run leaves, and every work slice cleared. What the
 // job writes stands at the front of `result`; the nine others are work slices, which end as zeros.
 pub fn serve(
+    choices: Choices,
     job: Job,
     batch: &[u8],
     result: &mut [u8],
@@ -38,9 +41,10 @@ pub fn serve(
     rows: &mut [u32],
     prepared: &mut [u32],
 ) -> Outcome
-    ensures { λ r. ⌜ Serves job (now (batch .entry)) (now (result .entry)) (now (table .entry) ∷ now (source .entry) ∷ now (changes .entry) ∷ now (notes .entry) ∷ now (incoming .entry) ∷ now (changed .entry) ∷ now (marks .entry) ∷ now (rows .entry) ∷ now (prepared .entry) ∷ []) r (now (result .exit)) (now (table .exit) ∷ now (source .exit) ∷ now (changes .exit) ∷ now (notes .exit) ∷ now (incoming .exit) ∷ now (changed .exit) ∷ now (marks .exit) ∷ now (rows .exit) ∷ now (prepared .exit) ∷ []) ⌝ }
+    ensures { λ r. ⌜ Serves (meant choices) job (now (batch .entry)) (now (result .entry)) (now (table .entry) ∷ now (source .entry) ∷ now (changes .entry) ∷ now (notes .entry) ∷ now (incoming .entry) ∷ now (changed .entry) ∷ now (marks .entry) ∷ now (rows .entry) ∷ now (prepared .entry) ∷ []) r (now (result .exit)) (now (table .exit) ∷ now (source .exit) ∷ now (changes .exit) ∷ now (notes .exit) ∷ now (incoming .exit) ∷ now (changed .exit) ∷ now (marks .exit) ∷ now (rows .exit) ∷ now (prepared .exit) ∷ []) ⌝ }
 {
     let done = perform(
+        choices,
         batch,
         table,
         source,
@@ -53,6 +57,7 @@ pub fn serve(
         prepared,
     );
     let told = edit_answer::answer(
+        choices,
         job,
         batch,
         done,
@@ -107,6 +112,7 @@ fn element_in(told: Outcome) -> Element
 
 // THE EDIT of a batch. The result's bytes are written to the front of `result`; the nine others are work slices, which end as zeros.
 pub fn edit(
+    choices: Choices,
     batch: &[u8],
     result: &mut [u8],
     table: &mut [u32],
@@ -119,9 +125,10 @@ pub fn edit(
     rows: &mut [u32],
     prepared: &mut [u32],
 ) -> Answer
-    ensures { λ r. ⌜ Edits (now (batch .entry)) (now (result .entry)) (now (table .entry) ∷ now (source .entry) ∷ now (changes .entry) ∷ now (notes .entry) ∷ now (incoming .entry) ∷ now (changed .entry) ∷ now (marks .entry) ∷ now (rows .entry) ∷ now (prepared .entry) ∷ []) (answerOf r) (now (result .exit)) (now (table .exit) ∷ now (source .exit) ∷ now (changes .exit) ∷ now (notes .exit) ∷ now (incoming .exit) ∷ now (changed .exit) ∷ now (marks .exit) ∷ now (rows .exit) ∷ now (prepared .exit) ∷ []) ⌝ }
+    ensures { λ r. ⌜ Edits (meant choices) (now (batch .entry)) (now (result .entry)) (now (table .entry) ∷ now (source .entry) ∷ now (changes .entry) ∷ now (notes .entry) ∷ now (incoming .entry) ∷ now (changed .entry) ∷ now (marks .entry) ∷ now (rows .entry) ∷ now (prepared .entry) ∷ []) (answerOf r) (now (result .exit)) (now (table .exit) ∷ now (source .exit) ∷ now (changes .exit) ∷ now (notes .exit) ∷ now (incoming .exit) ∷ now (changed .exit) ∷ now (marks .exit) ∷ now (rows .exit) ∷ now (prepared .exit) ∷ []) ⌝ }
 {
     answer_in(serve(
+        choices,
         Job::Edit,
         batch,
         result,
@@ -139,6 +146,7 @@ pub fn edit(
 
 // The first node of the new tree with the kind and the text start of the old tree's node `number`. The nine others are work slices, which end as zeros.
 pub fn find_element(
+    choices: Choices,
     batch: &[u8],
     number: usize,
     table: &mut [u32],
@@ -151,10 +159,11 @@ pub fn find_element(
     rows: &mut [u32],
     prepared: &mut [u32],
 ) -> Element
-    ensures { λ r. ⌜ Finds (now (batch .entry)) number (now (table .entry) ∷ now (source .entry) ∷ now (changes .entry) ∷ now (notes .entry) ∷ now (incoming .entry) ∷ now (changed .entry) ∷ now (marks .entry) ∷ now (rows .entry) ∷ now (prepared .entry) ∷ []) (elementOf r) (now (table .exit) ∷ now (source .exit) ∷ now (changes .exit) ∷ now (notes .exit) ∷ now (incoming .exit) ∷ now (changed .exit) ∷ now (marks .exit) ∷ now (rows .exit) ∷ now (prepared .exit) ∷ []) ⌝ }
+    ensures { λ r. ⌜ Finds (meant choices) (now (batch .entry)) number (now (table .entry) ∷ now (source .entry) ∷ now (changes .entry) ∷ now (notes .entry) ∷ now (incoming .entry) ∷ now (changed .entry) ∷ now (marks .entry) ∷ now (rows .entry) ∷ now (prepared .entry) ∷ []) (elementOf r) (now (table .exit) ∷ now (source .exit) ∷ now (changes .exit) ∷ now (notes .exit) ∷ now (incoming .exit) ∷ now (changed .exit) ∷ now (marks .exit) ∷ now (rows .exit) ∷ now (prepared .exit) ∷ []) ⌝ }
 {
     let mut none = [0u8; 0];
     element_in(serve(
+        choices,
         Job::Find(number),
         batch,
         &mut none,
@@ -173,6 +182,7 @@ pub fn find_element(
 // THE ACCOUNT of a batch: what becomes of each change, a line each, in sorted order; or which two overlap. The text is written to the front of `result`; the
 // nine others are work slices, which end as zeros.
 pub fn account(
+    choices: Choices,
     batch: &[u8],
     result: &mut [u8],
     table: &mut [u32],
@@ -185,9 +195,10 @@ pub fn account(
     rows: &mut [u32],
     prepared: &mut [u32],
 ) -> Answer
-    ensures { λ r. ⌜ Accounts (now (batch .entry)) (now (result .entry)) (now (table .entry) ∷ now (source .entry) ∷ now (changes .entry) ∷ now (notes .entry) ∷ now (incoming .entry) ∷ now (changed .entry) ∷ now (marks .entry) ∷ now (rows .entry) ∷ now (prepared .entry) ∷ []) (answerOf r) (now (result .exit)) (now (table .exit) ∷ now (source .exit) ∷ now (changes .exit) ∷ now (notes .exit) ∷ now (incoming .exit) ∷ now (changed .exit) ∷ now (marks .exit) ∷ now (rows .exit) ∷ now (prepared .exit) ∷ []) ⌝ }
+    ensures { λ r. ⌜ Accounts (meant choices) (now (batch .entry)) (now (result .entry)) (now (table .entry) ∷ now (source .entry) ∷ now (changes .entry) ∷ now (notes .entry) ∷ now (incoming .entry) ∷ now (changed .entry) ∷ now (marks .entry) ∷ now (rows .entry) ∷ now (prepared .entry) ∷ []) (answerOf r) (now (result .exit)) (now (table .exit) ∷ now (source .exit) ∷ now (changes .exit) ∷ now (notes .exit) ∷ now (incoming .exit) ∷ now (changed .exit) ∷ now (marks .exit) ∷ now (rows .exit) ∷ now (prepared .exit) ∷ []) ⌝ }
 {
     answer_in(serve(
+        choices,
         Job::Account,
         batch,
         result,

@@ -42,7 +42,7 @@ same-length-10 : tie.Need-same-length-10
 same-length-10 c = c .before .before .prepared .given
 
 returns : tie.Need-returns
-returns c = edits-told _ _ _ _ _ _ _ (c .before .before .before .before .before .before .before .before .before .before .before .before .before .before .before .before .before .before .before .before .before .serve .ensures) (c .answer-in .ensures)
+returns c = edits-told _ _ _ _ _ _ _ _ (c .before .before .before .before .before .before .before .before .before .before .before .before .before .before .before .before .before .before .before .before .before .serve .ensures) (c .answer-in .ensures)
 
 pub edit-spec : {M : Type 1} → statement M
 edit-spec =

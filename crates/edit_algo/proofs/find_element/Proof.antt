@@ -42,7 +42,7 @@ same-length-9 : tie.Need-same-length-9
 same-length-9 c = c .before .before .prepared .given
 
 returns : tie.Need-returns
-returns c = finds-told _ _ _ _ _ _ _ _ (c .before .before .before .before .before .before .before .before .before .before .before .before .before .before .before .before .before .before .before .before .serve .ensures) (c .element-in .ensures)
+returns c = finds-told _ _ _ _ _ _ _ _ _ (c .before .before .before .before .before .before .before .before .before .before .before .before .before .before .before .before .before .before .before .before .serve .ensures) (c .element-in .ensures)
 
 pub find-element-spec : {M : Type 1} → statement M
 find-element-spec =
