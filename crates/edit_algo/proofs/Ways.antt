@@ -48,11 +48,11 @@ job-refused h (Find n) b room k e = rw (found-ending h b n, e .0) refl
 job-refused h Account b room k e = rw (e .1) refl
 
 -- where 17 or 1 refuses, it refuses every answer
-early-refused : {A : Type 0} (h : Choices) (work : List (ℕ × ℕ)) (x : basics.Answer A) (k : ℕ) → withChoices h work (gives tt) ≡ refused k → withChoices h work x ≡ refused k
+early-refused : {A : Type 0} (h : Choices) (work : List (ℕ × ℕ)) (x : basics.Answer A) (k : ℕ) → _≡_ {A = basics.Answer (Unit {0})} (withChoices h work (gives tt)) (refused k) → withChoices h work x ≡ refused k
 unfolding withChoices withWork refuse _>>=_
 early-refused h work x k e = go (chosen h) refl (tooShort work) refl e
   where
-    go : (o : basics.Answer (Unit {0})) → chosen h ≡ o → (t : Bool) → tooShort work ≡ t → withChoices h work (gives tt) ≡ refused k → withChoices h work x ≡ refused k
+    go : (o : basics.Answer (Unit {0})) → chosen h ≡ o → (t : Bool) → tooShort work ≡ t → _≡_ {A = basics.Answer (Unit {0})} (withChoices h work (gives tt)) (refused k) → withChoices h work x ≡ refused k
     go (refused n) c t q e =
         let z : _≡_ {A = basics.Answer (Unit {0})} (refused n) (refused k) = rw c at e in
         let y : n ≡ k = cc in
