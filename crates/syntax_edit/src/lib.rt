@@ -1,4 +1,5 @@
 // The public calls for C and Rust: a slice is a pointer and a length, an outcome is one number.
+use choices::Choices;
 use edit_algo::serve;
 use promises::Job;
 ghost use mathlib.Core.List.{_∷_, []};
@@ -10,6 +11,7 @@ ghost use Rattle.edit_numbers.specs.ReturnedBatch.{ReturnsBatch};
 // The nine others are work slices, which end as zeros.
 #[no_mangle]
 pub extern "C" fn syntax_edit(
+    edge: usize,
     batch: &[u8],
     result: &mut [u8],
     table: &mut [u32],
@@ -22,9 +24,10 @@ pub extern "C" fn syntax_edit(
     rows: &mut [u32],
     prepared: &mut [u32],
 ) -> i64
-    ensures { λ r. ⌜ Returns (now (batch .entry)) (now (result .entry)) (now (table .entry) ∷ now (source .entry) ∷ now (changes .entry) ∷ now (notes .entry) ∷ now (incoming .entry) ∷ now (changed .entry) ∷ now (marks .entry) ∷ now (rows .entry) ∷ now (prepared .entry) ∷ []) r (now (result .exit)) (now (table .exit) ∷ now (source .exit) ∷ now (changes .exit) ∷ now (notes .exit) ∷ now (incoming .exit) ∷ now (changed .exit) ∷ now (marks .exit) ∷ now (rows .exit) ∷ now (prepared .exit) ∷ []) ⌝ }
+    ensures { λ r. ⌜ Returns (record { edge = edge }) (now (batch .entry)) (now (result .entry)) (now (table .entry) ∷ now (source .entry) ∷ now (changes .entry) ∷ now (notes .entry) ∷ now (incoming .entry) ∷ now (changed .entry) ∷ now (marks .entry) ∷ now (rows .entry) ∷ now (prepared .entry) ∷ []) r (now (result .exit)) (now (table .exit) ∷ now (source .exit) ∷ now (changes .exit) ∷ now (notes .exit) ∷ now (incoming .exit) ∷ now (changed .exit) ∷ now (marks .exit) ∷ now (rows .exit) ∷ now (prepared .exit) ∷ []) ⌝ }
 {
     let told = serve(
+        Choices { edge },
         Job::Edit,
         batch,
         result,
@@ -45,6 +48,7 @@ pub extern "C" fn syntax_edit(
 // refusal's number with a minus. The nine others are work slices, which end as zeros.
 #[no_mangle]
 pub extern "C" fn syntax_find_element(
+    edge: usize,
     batch: &[u8],
     number: usize,
     table: &mut [u32],
@@ -57,10 +61,11 @@ pub extern "C" fn syntax_find_element(
     rows: &mut [u32],
     prepared: &mut [u32],
 ) -> i64
-    ensures { λ r. ⌜ ReturnsElement (now (batch .entry)) number (now (table .entry) ∷ now (source .entry) ∷ now (changes .entry) ∷ now (notes .entry) ∷ now (incoming .entry) ∷ now (changed .entry) ∷ now (marks .entry) ∷ now (rows .entry) ∷ now (prepared .entry) ∷ []) r (now (table .exit) ∷ now (source .exit) ∷ now (changes .exit) ∷ now (notes .exit) ∷ now (incoming .exit) ∷ now (changed .exit) ∷ now (marks .exit) ∷ now (rows .exit) ∷ now (prepared .exit) ∷ []) ⌝ }
+    ensures { λ r. ⌜ ReturnsElement (record { edge = edge }) (now (batch .entry)) number (now (table .entry) ∷ now (source .entry) ∷ now (changes .entry) ∷ now (notes .entry) ∷ now (incoming .entry) ∷ now (changed .entry) ∷ now (marks .entry) ∷ now (rows .entry) ∷ now (prepared .entry) ∷ []) r (now (table .exit) ∷ now (source .exit) ∷ now (changes .exit) ∷ now (notes .exit) ∷ now (incoming .exit) ∷ now (changed .exit) ∷ now (marks .exit) ∷ now (rows .exit) ∷ now (prepared .exit) ∷ []) ⌝ }
 {
     let mut none = [0u8; 0];
     let told = serve(
+        Choices { edge },
         Job::Find(number),
         batch,
         &mut none,
@@ -82,6 +87,7 @@ pub extern "C" fn syntax_find_element(
 // The nine others are work slices, which end as zeros.
 #[no_mangle]
 pub extern "C" fn syntax_account(
+    edge: usize,
     batch: &[u8],
     result: &mut [u8],
     table: &mut [u32],
@@ -94,9 +100,10 @@ pub extern "C" fn syntax_account(
     rows: &mut [u32],
     prepared: &mut [u32],
 ) -> i64
-    ensures { λ r. ⌜ ReturnsAccount (now (batch .entry)) (now (result .entry)) (now (table .entry) ∷ now (source .entry) ∷ now (changes .entry) ∷ now (notes .entry) ∷ now (incoming .entry) ∷ now (changed .entry) ∷ now (marks .entry) ∷ now (rows .entry) ∷ now (prepared .entry) ∷ []) r (now (result .exit)) (now (table .exit) ∷ now (source .exit) ∷ now (changes .exit) ∷ now (notes .exit) ∷ now (incoming .exit) ∷ now (changed .exit) ∷ now (marks .exit) ∷ now (rows .exit) ∷ now (prepared .exit) ∷ []) ⌝ }
+    ensures { λ r. ⌜ ReturnsAccount (record { edge = edge }) (now (batch .entry)) (now (result .entry)) (now (table .entry) ∷ now (source .entry) ∷ now (changes .entry) ∷ now (notes .entry) ∷ now (incoming .entry) ∷ now (changed .entry) ∷ now (marks .entry) ∷ now (rows .entry) ∷ now (prepared .entry) ∷ []) r (now (result .exit)) (now (table .exit) ∷ now (source .exit) ∷ now (changes .exit) ∷ now (notes .exit) ∷ now (incoming .exit) ∷ now (changed .exit) ∷ now (marks .exit) ∷ now (rows .exit) ∷ now (prepared .exit) ∷ []) ⌝ }
 {
     let told = serve(
+        Choices { edge },
         Job::Account,
         batch,
         result,
