@@ -1,14 +1,16 @@
-// The account program: reads a batch on standard input and prints what becomes of each change.
+// The account program: reads the edge rule, its first argument, and a batch on standard input, and prints what becomes of each change.
+use choices::Choices;
 use edit_algo::Answer;
 ghost use mathlib.Core.Path.{_≡_};
 ghost use Prim.Native.Nat.{_≤_};
 ghost use lib.ListN.{length};
+ghost use Rattle.choices.specs.Meant.{meant};
 ghost use Rattle.account_program.specs.Responds.{Tells, Responds};
 
 // The account of a batch, its text at the front of `out`. The work slices are made here, of the lengths of docs/WORK.md.
-fn account_batch(batch: &[u8], out: &mut [u8]) -> Answer
+fn account_batch(choices: Choices, batch: &[u8], out: &mut [u8]) -> Answer
     requires { ⌜ (length (now batch) ≤ 65536) × (8192 ≡ length (now out)) ⌝ }
-    ensures { λ r. ⌜ Tells (now (batch .entry)) r (now (out .exit)) ⌝ }
+    ensures { λ r. ⌜ Tells (meant choices) (now (batch .entry)) r (now (out .exit)) ⌝ }
 {
     let mut table = [0u32; 16384];
     let mut source = [0u32; 6147];
@@ -20,6 +22,7 @@ fn account_batch(batch: &[u8], out: &mut [u8]) -> Answer
     let mut rows = [0u32; 12291];
     let mut prepared = [0u32; 12288];
     edit_algo::account(
+        choices,
         batch,
         out,
         &mut table,
@@ -35,11 +38,11 @@ fn account_batch(batch: &[u8], out: &mut [u8]) -> Answer
 }
 
 // What is printed of the batch in the first `read` bytes is written at the front of `out`: the text, or a refusal's number alone.
-fn answer(batch: &[u8], read: usize, out: &mut [u8]) -> usize
+fn answer(choices: Choices, batch: &[u8], read: usize, out: &mut [u8]) -> usize
     requires { ⌜ (65536 ≡ length (now batch)) × (read ≤ length (now batch)) × (8192 ≡ length (now out)) ⌝ }
-    ensures { λ r. ⌜ Responds (now (batch .entry)) read (now (out .exit)) r ⌝ }
+    ensures { λ r. ⌜ Responds (meant choices) (now (batch .entry)) read (now (out .exit)) r ⌝ }
 {
-    let told = account_batch(&batch[..read], out);
+    let told = account_batch(choices, &batch[..read], out);
     match told {
         Answer::Refused(number) => account_lines::print_refusal(out, number),
         Answer::Edited(n) => n,
@@ -54,20 +57,21 @@ pub struct Response {
 
 // Reads a batch and writes what is printed of it at the front of `out`. The bytes judged are the first `read` of the batch's buffer, as reading left it; that
 // these are the bytes that came on standard input is not promised (`program_input::read_batch`).
-pub fn respond(batch: &mut [u8], out: &mut [u8]) -> Response
+pub fn respond(choices: Choices, batch: &mut [u8], out: &mut [u8]) -> Response
     requires { ⌜ (65536 ≡ length (now batch)) × (8192 ≡ length (now out)) ⌝ }
-    ensures { λ r. ⌜ Responds (now (batch .exit)) (r .read) (now (out .exit)) (r .written) ⌝ }
+    ensures { λ r. ⌜ Responds (meant choices) (now (batch .exit)) (r .read) (now (out .exit)) (r .written) ⌝ }
 {
     let read = program_input::read_batch(batch);
-    let written = answer(batch, read, out);
+    let written = answer(choices, batch, read, out);
     Response { read, written }
 }
 
 // The whole program: the first `written` bytes of the output are printed. How many of them the operating system takes is not promised.
 pub fn run() {
+    let choices = program_choices::choices();
     let mut batch = io::large_buffer();
     let mut out = [0u8; 8192];
-    let response = respond(&mut batch, &mut out);
+    let response = respond(choices, &mut batch, &mut out);
     let written = response.written;
     io::write_all(1, &out[..written]);
 }
