@@ -1,5 +1,5 @@
-//! The static library beside the Rust `SyntaxEditor` over two stand-ins for rowan, on the same batches:   bench [--quick] [--writer] [NAME]...
-//! NAME is the beginning of a row's name; without one, all rows, and the writer's behind them; with `--writer` these alone. bench/README.md says what each column counts.
+//! The static library beside the Rust `SyntaxEditor` over two stand-ins for rowan, on the same batches:   bench [--quick] [--writer] [--rules] [NAME]...
+//! NAME is the beginning of a row's name; without one, all rows, and those of the edge rules and of the writer behind them; with `--rules` or `--writer` these alone. bench/README.md says what each column counts.
 
 use std::{env, hint::black_box};
 
@@ -9,6 +9,7 @@ use batches::Case;
 use time::{Clock, Contestant, Effort, FULL, QUICK, medians, shown};
 
 mod batches;
+mod rules;
 mod time;
 mod writer;
 
@@ -156,6 +157,9 @@ fn main() {
     if options.iter().any(|it| it == "--writer") {
         return tables[..2].iter().for_each(|(what, cases)| writer::table(what, cases, effort));
     }
+    if options.iter().any(|it| it == "--rules") {
+        return rules::table(&tables[0].1, effort);
+    }
     if !names.is_empty() {
         head("");
         let named = tables.iter().flat_map(|(_, cases)| cases).filter(|case| names.iter().any(|it| case.name.starts_with(it)));
@@ -174,5 +178,6 @@ fn main() {
     ranges("Rows with 64 calls and more", all.iter().filter(|it| it.calls >= 64));
     ranges("All rows", all.iter());
     println!();
+    rules::table(&tables[0].1, effort);
     tables[..2].iter().for_each(|(what, cases)| writer::table(what, cases, effort));
 }
