@@ -1,16 +1,18 @@
-// The edit program: reads a batch on standard input and prints its answer.
+// The edit program: reads the edge rule, its first argument, and a batch on standard input, and prints the batch's answer.
+use choices::Choices;
 use edit_algo::Answer;
 ghost use mathlib.Core.Path.{_≡_};
 ghost use Prim.Native.Nat.{_≤_};
 ghost use lib.ListN.{length};
+ghost use Rattle.choices.specs.Meant.{meant};
 ghost use Rattle.edit_print.specs.Lines.{Put};
 ghost use Rattle.edit_program.specs.Told.{Showable, told, Tells};
 ghost use Rattle.edit_program.specs.Responds.{Responds};
 
 // The answer to a batch, its result at the front of `result`. The work slices are made here, of the lengths of docs/WORK.md.
-fn edit_batch(batch: &[u8], result: &mut [u8]) -> Answer
+fn edit_batch(choices: Choices, batch: &[u8], result: &mut [u8]) -> Answer
     requires { ⌜ (length (now batch) ≤ 65536) × (65536 ≡ length (now result)) ⌝ }
-    ensures { λ r. ⌜ Tells (now (batch .entry)) r (now (result .exit)) ⌝ }
+    ensures { λ r. ⌜ Tells (meant choices) (now (batch .entry)) r (now (result .exit)) ⌝ }
 {
     let mut table = [0u32; 16384];
     let mut source = [0u32; 6147];
@@ -22,6 +24,7 @@ fn edit_batch(batch: &[u8], result: &mut [u8]) -> Answer
     let mut rows = [0u32; 12291];
     let mut prepared = [0u32; 12288];
     edit_algo::edit(
+        choices,
         batch,
         result,
         &mut table,
@@ -48,12 +51,12 @@ fn show(answer: Answer, result: &[u8], out: &mut [u8]) -> usize
 }
 
 // What is printed of the batch in the first `read` bytes is written at the front of `out`.
-fn answer(batch: &[u8], read: usize, out: &mut [u8]) -> usize
+fn answer(choices: Choices, batch: &[u8], read: usize, out: &mut [u8]) -> usize
     requires { ⌜ (65536 ≡ length (now batch)) × (read ≤ length (now batch)) × (180000 ≤ length (now out)) ⌝ }
-    ensures { λ r. ⌜ Responds (now (batch .entry)) read (now (out .exit)) r ⌝ }
+    ensures { λ r. ⌜ Responds (meant choices) (now (batch .entry)) read (now (out .exit)) r ⌝ }
 {
     let mut result = io::large_buffer();
-    let answer = edit_batch(&batch[..read], &mut result);
+    let answer = edit_batch(choices, &batch[..read], &mut result);
     show(answer, &result, out)
 }
 
@@ -65,20 +68,21 @@ pub struct Response {
 
 // Reads a batch and writes what is printed of it at the front of `out`. The bytes judged are the first `read` of the batch's buffer, as reading left it; that
 // these are the bytes that came on standard input is not promised (`program_input::read_batch`).
-pub fn respond(batch: &mut [u8], out: &mut [u8]) -> Response
+pub fn respond(choices: Choices, batch: &mut [u8], out: &mut [u8]) -> Response
     requires { ⌜ (65536 ≡ length (now batch)) × (180000 ≤ length (now out)) ⌝ }
-    ensures { λ r. ⌜ Responds (now (batch .exit)) (r .read) (now (out .exit)) (r .written) ⌝ }
+    ensures { λ r. ⌜ Responds (meant choices) (now (batch .exit)) (r .read) (now (out .exit)) (r .written) ⌝ }
 {
     let read = program_input::read_batch(batch);
-    let written = answer(batch, read, out);
+    let written = answer(choices, batch, read, out);
     Response { read, written }
 }
 
 // The whole program: the first `written` bytes of the output are printed. How many of them the operating system takes is not promised.
 pub fn run() {
+    let choices = program_choices::choices();
     let mut batch = io::large_buffer();
     let mut out = [0u8; 180000];
-    let response = respond(&mut batch, &mut out);
+    let response = respond(choices, &mut batch, &mut out);
     let written = response.written;
     io::write_all(1, &out[..written]);
 }
