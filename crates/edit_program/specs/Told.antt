@@ -96,9 +96,9 @@ pub record Tells (h : Choices) (b : List ℕ) (r : Answer) (result : List ℕ) :
   pub tells : told r result ≡ printed h b
 
 -- a wrong choice refuses the edit, and that is what is printed
-wrong-tells : {h : Choices} {b held : List ℕ} {work : List (List ℕ)} {holds : List ℕ} {left : List (List ℕ)} {r : Answer} (k : ℕ) → chosen h ≡ refused k → Edits h b held work (answerOf r) holds left → told r holds ≡ printed h b
+wrong-tells : {h : Choices} {b held : List ℕ} {work : List (List ℕ)} {holds : List ℕ} {left : List (List ℕ)} (r : Answer) (k : ℕ) → chosen h ≡ refused k → Edits h b held work (answerOf r) holds left → told r holds ≡ printed h b
 unfolding printed answerOf edited applied _>>=_
-wrong-tells {h} {b} {held} {work} {holds} {left} {r} k c p = go r (p .answer ∙ rw (wrongly-chosen h (lengths needed work) (applied h b (length held)) k c) refl)
+wrong-tells {h} {b} {held} {work} {holds} {left} r k c p = go r (p .answer ∙ rw (wrongly-chosen h (lengths needed work) (applied h b (length held)) k c) refl)
   where
     go : (r : Answer) → answerOf r ≡ refused k → told r holds ≡ printed h b
     go (Refused n) e = let y : n ≡ k = cc in rw (c, y) refl
@@ -111,7 +111,7 @@ edit-tells {h} {b} {held} {work} {holds} {left} {r} p e s n v =
     record { showable = λ room m. edit-showable h b held work holds left r room m p; tells = go (chosen h) refl }
   where
     go : (o : basics.Answer (Unit {0})) → chosen h ≡ o → told r holds ≡ printed h b
-    go (refused k) c = wrong-tells k c p
+    go (refused k) c = wrong-tells r k c p
     go (gives u) c =
         let whole = take-all 65536 b n in
         edit-told h b held work holds left r v p ∙ printed-run h b held work (answerOf r) holds left (rw whole p) (rw whole v) c s (sym e)
