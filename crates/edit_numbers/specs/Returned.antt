@@ -9,7 +9,7 @@ use lib.IntN.{ℤ, pos, negℤ}
 use lib.ListN.{length}
 use mir.Syntax.{w64}
 use mir.Val.{toZ, ofZ}
-use Rattle.definition.specs.Basics.{Answer, refused, gives, _>>=_, any}
+use Rattle.definition.specs.Basics.{Answer, refused, gives, _>>=_, any, among}
 use Rattle.definition.specs.Choices.{Choices}
 use Rattle.definition.specs.Answers.{edited}
 use Rattle.definition.specs.FindElement.{findElement}
@@ -99,6 +99,7 @@ module _ {h : Choices} {b held holds : List ℕ} {work left : List (List ℕ)} {
 
   -- what an account tells is small
   pub account-small : Small r
+  unfolding among any
   account-small = rw text-told (bytes-small text (by-more accountNumbers editNumbers text refl (accounted-by h (lengths needed work) b (length held))) (λ bytes e. omega (arith, accounted-short h (lengths needed work) b bytes (length held) e)))
 
   -- and its number is what is promised
