@@ -38,7 +38,7 @@ use Rattle.run_execute.specs.Stepping.{Performs as RowPerforms}
 use Rattle.run_execute.specs.Running.{listsAll, Ran}
 use Rattle.edit_perform.specs.Ending.{ending}
 use Rattle.edit_perform.specs.Beginning.{LaidOut}
-use Rattle.edit_perform.specs.AtEnd.{AtEnd, Told, Marked, Overlapped, Performs}
+use Rattle.edit_perform.specs.AtEnd.{asked, AtEnd, Told, Marked, Overlapped, Performs}
 use Rattle.edit_perform.specs.Performing.{begins, all-perform, room-recorded, all-elements, run-refused, run-ended, run-marked, run-recounted}
 use Rattle.edit_perform.specs.Accounting.{not-accepted, overlapping, not-planned}
 use Rattle.edit_perform.specs.declared.Ended.{Ended}
@@ -150,10 +150,10 @@ module _ {h : definition.Choices} {b : List ℕ} {l : Layout} {t s changes runni
   pub plan-made : (c : Counts) → r ≡ Made c → PlanMade h b l t s changes running first (Made c)
   plan-made c e = subst (PlanMade h b l t s changes running first) e P
 
-module _ {h : definition.Choices} {b t₀ s₀ t s : List ℕ} {r : Laid} (J : Judged b t₀ s₀ t s r) where
-  pub judged-stops : {changes rows notes changed marks : List ℕ} (k : ℕ) → r ≡ Unlaid k → Performs h b t s changes rows notes changed marks (Refused k)
+module _ {b t₀ s₀ t s : List ℕ} {r : Laid} (J : Judged b t₀ s₀ t s r) where
+  pub judged-stops : {h : definition.Choices} {changes rows notes changed marks : List ℕ} (k : ℕ) → r ≡ Unlaid k → Performs h b t s changes rows notes changed marks (Refused k)
   unfolding laidOf
-  judged-stops k e = performs-refused k (not-accepted h b k (judged-refuses b k (sym (J .answer) ∙ ap laidOf e)))
+  judged-stops {h} k e = performs-refused k (not-accepted h b k (judged-refuses b k (sym (J .answer) ∙ ap laidOf e)))
 
   pub judged-laid : (l : Layout) → r ≡ At l → 16384 ≤ length t₀ → 6147 ≤ length s₀ → LaidOut b l t s
   judged-laid l e lt ls = record { before = t₀; beforeRows = s₀; leaves = J .left l e; long = lt; longRows = ls }
@@ -162,31 +162,31 @@ module _ {h : definition.Choices} {b t₀ s₀ t s : List ℕ} {r : Laid} (J : J
 
 -- 17, 1, or neither
 module _ (c : Choices) (work : List (ℕ × ℕ)) (k : ℕ) (e : k ≡ refusalOf (chosen (meant c))) where
-  pub refused-17 : ¬ (k ≡ 0) → k ≡ refusalOf (withChoices (meant c) work (gives tt))
-  unfolding refusalOf withChoices _>>=_
+  pub refused-17 : ¬ (k ≡ 0) → k ≡ refusalOf (asked (meant c) work)
+  unfolding refusalOf asked withChoices _>>=_
   refused-17 n = rw (wrongly-chosen c k e n) refl
 
   module _ (z : k ≡ 0) (t : Bool) (f : t ≡ tooShort work) where
-    pub refused-1 : t ≡ true → 1 ≡ refusalOf (withChoices (meant c) work (gives tt))
-    unfolding refusalOf withChoices withWork refuse _>>=_
+    pub refused-1 : t ≡ true → 1 ≡ refusalOf (asked (meant c) work)
+    unfolding refusalOf asked withChoices withWork refuse _>>=_
     refused-1 h = rw (well-chosen c k e z, sym f ∙ h) refl
 
-    pub refused-0 : t ≡ false → 0 ≡ refusalOf (withChoices (meant c) work (gives tt))
-    unfolding refusalOf withChoices withWork refuse _>>=_
+    pub refused-0 : t ≡ false → 0 ≡ refusalOf (asked (meant c) work)
+    unfolding refusalOf asked withChoices withWork refuse _>>=_
     refused-0 h = rw (well-chosen c k e z, sym f ∙ h) refl
 
 -- what its number tells
-module _ (h : definition.Choices) (work : List (ℕ × ℕ)) (k : ℕ) (e : k ≡ refusalOf (withChoices h work (gives tt))) where
-  pub stopped-early : ¬ (k ≡ 0) → withChoices h work (gives tt) ≡ refused k
+module _ (h : definition.Choices) (work : List (ℕ × ℕ)) (k : ℕ) (e : k ≡ refusalOf (asked h work)) where
+  pub stopped-early : ¬ (k ≡ 0) → asked h work ≡ refused k
   unfolding refusalOf
-  stopped-early n = go (withChoices h work (gives tt)) e
+  stopped-early n = go (asked h work) e
     where
       go : (o : Answer (Unit {0})) → k ≡ refusalOf o → o ≡ refused k
       go (refused j) e = ap refused (sym e)
       go (gives u) e = absurd (n e)
 
   pub nothing-wrong : k ≡ 0 → (chosen h ≡ gives tt) × (tooShort work ≡ false)
-  unfolding refusalOf withChoices withWork chosen refuse _>>=_
+  unfolding refusalOf asked withChoices withWork chosen refuse _>>=_
   nothing-wrong z = go (ltb 1 (h .edge)) refl (tooShort work) refl
     where
       go : (c : Bool) → ltb 1 (h .edge) ≡ c → (t : Bool) → tooShort work ≡ t → (chosen h ≡ gives tt) × (tooShort work ≡ false)

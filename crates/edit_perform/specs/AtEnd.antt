@@ -1,16 +1,18 @@
 -- What is held at the end of a run, as the words tell it.
 -- Assumes nothing.
-use mathlib.Core.Path.{_≡_}
-use mathlib.Core.Bool.{false}
+use mathlib.Core.Path.{_≡_, refl, sym, ap, _∙_}
+use mathlib.Core.Bool.{Bool, true, false}
 use mathlib.Core.List.{List, map}
 use Prim.Native.Nat.{ℕ, _*_, _^_, _≤_, _<_}
+use lib.Dec.{ltb}
 use lib.ListN.{length, take, drop}
-use Rattle.definition.specs.Basics.{refused, gives, keep}
+use Rattle.definition.specs.Basics.{Answer, refused, gives, _>>=_, refuse, keep}
 use Rattle.definition.specs.Choices.{Choices, chosen}
 use Rattle.definition.specs.Planning.{isDiscarded}
 use Rattle.definition.specs.Refusals.{Accepted, accepted}
-use Rattle.definition.specs.Answers.{tooShort, withChoices}
+use Rattle.definition.specs.Answers.{tooShort, withWork, withChoices}
 use Rattle.definition.specs.Account.{fateLines, overlapLine, account}
+use Rattle.definition_laws.specs.Answers.{refused-gives}
 use Rattle.definition_laws.specs.Held.{Holds}
 use Rattle.read_element_table.specs.View.{view}
 use Rattle.read_element_table.specs.Wellformed.{Wellformed}
@@ -84,7 +86,21 @@ pub record Performs (h : Choices) (b t s changes rows notes changed marks : List
   pub marked : (d : Ended) → r ≡ Done d → Marked h b marks d
   pub recounts : (d : Ended) → r ≡ Done d → Recounted h b changes d
 
+-- what is asked before a batch is read: 17, then 1
+unfoldable pub asked : Choices → List (ℕ × ℕ) → Answer (Unit {0})
+asked h work = withChoices h work (gives tt)
+
+-- what it refuses, every answer by those choices with those slices is refused by
+pub asked-first : {A : Type 0} (h : Choices) (work : List (ℕ × ℕ)) (k : ℕ) (answer : Answer A) → asked h work ≡ refused k → withChoices h work answer ≡ refused k
+unfolding asked withChoices withWork chosen refuse _>>=_
+asked-first h work k answer e = go (ltb 1 h.edge) refl (tooShort work) refl e
+  where
+    go : (c : Bool) → ltb 1 h.edge ≡ c → (t : Bool) → tooShort work ≡ t → asked h work ≡ refused k → withChoices h work answer ≡ refused k
+    go true c t f e = let a : asked h work ≡ refused 17 = rw c refl in let b = sym a ∙ e in let z : 17 ≡ k = cc in rw c (ap refused z)
+    go false c true f e = let a : asked h work ≡ refused 1 = rw (c, f) refl in let b = sym a ∙ e in let z : 1 ≡ k = cc in rw (c, f) (ap refused z)
+    go false c false f e = let a : asked h work ≡ gives tt = rw (c, f) refl in refused-gives (sym e ∙ a)
+
 -- THE PROMISE of performing by the choices h with the work slices `work`: 17 where there is no such edge rule, 1 where a slice is too short, or what a run answers
 pub data PerformsWith (h : Choices) (work : List (List ℕ)) (b t s changes rows notes changed marks : List ℕ) (r : Performed) : Type 0 where
-  early : (k : ℕ) → withChoices h (lengths needed work) (gives tt) ≡ refused k → r ≡ Refused k → PerformsWith h work b t s changes rows notes changed marks r
+  early : (k : ℕ) → asked h (lengths needed work) ≡ refused k → r ≡ Refused k → PerformsWith h work b t s changes rows notes changed marks r
   long : chosen h ≡ gives tt → tooShort (lengths needed work) ≡ false → Performs h b t s changes rows notes changed marks r → PerformsWith h work b t s changes rows notes changed marks r

@@ -12,14 +12,12 @@ ghost use mathlib.Core.Path.{_≡_};
 ghost use mathlib.Core.List.{_∷_, []};
 ghost use Prim.Native.Nat.{_≤_};
 ghost use lib.ListN.{length};
-ghost use Rattle.definition.specs.Basics.{gives};
-ghost use Rattle.definition.specs.Answers.{withChoices};
 ghost use Rattle.choices.specs.Meant.{meant, refusalOf};
 ghost use Rattle.promises.specs.Slices.{needed, lengths};
 ghost use Rattle.plan_edit.specs.Answers.{PlanMade};
 ghost use Rattle.plan_edit.specs.declared.Planned.the-variants.{Made};
 ghost use Rattle.edit_perform.specs.Beginning.{LaidOut};
-ghost use Rattle.edit_perform.specs.AtEnd.{Performs, PerformsWith};
+ghost use Rattle.edit_perform.specs.AtEnd.{asked, Performs, PerformsWith};
 
 // What a run leaves: where the batch's text starts, how many elements it has, how many changes are recorded, where the root of tree 0 stands, the rows, notes and changed rows that are held, and two numbers of the result.
 pub struct Ended {
@@ -176,7 +174,7 @@ fn refused_first(
     rows: &[u32],
     prepared: &[u32],
 ) -> usize
-    ensures { λ r. ⌜ r ≡ refusalOf (withChoices (meant choices) (lengths needed (now (table .entry) ∷ now (source .entry) ∷ now (changes .entry) ∷ now (notes .entry) ∷ now (incoming .entry) ∷ now (changed .entry) ∷ now (marks .entry) ∷ now (rows .entry) ∷ now (prepared .entry) ∷ [])) (gives tt)) ⌝ }
+    ensures { λ r. ⌜ r ≡ refusalOf (asked (meant choices) (lengths needed (now (table .entry) ∷ now (source .entry) ∷ now (changes .entry) ∷ now (notes .entry) ∷ now (incoming .entry) ∷ now (changed .entry) ∷ now (marks .entry) ∷ now (rows .entry) ∷ now (prepared .entry) ∷ []))) ⌝ }
 {
     let n = choices::refusal(choices);
     if n != 0 {

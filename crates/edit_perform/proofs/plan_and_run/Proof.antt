@@ -93,7 +93,7 @@ same-length-14 : tie.Need-same-length-14
 same-length-14 c = c .before .before .before .before .before .before .before .changed2 .given ∙ c .before .before .before .before .before .before .before .before .before .before .before .before .before .before .before .before .before .before .before .before .before .before .before .before .before .before .before .before .before .before .changed .given
 
 same-length-15 : tie.Need-same-length-15
-same-length-15 c = search needs
+same-length-15 c = omega (arith, c .before .before .before .before .before .marks2 .given, c .before .before .before .before .before .before .before .before .before .before .before .before .before .before .before .before .before .before .before .before .before .before .before .before .before .before .before .marks .given)
 
 same-length-16 : tie.Need-same-length-16
 same-length-16 c = c .before .before .before .rows2 .given ∙ c .before .before .before .before .before .before .before .before .before .before .before .before .before .before .before .before .before .before .before .before .before .before .before .before .before .before .before .before .before .before .before .before .before .before .before .before .rows .given
