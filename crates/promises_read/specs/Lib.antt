@@ -6,6 +6,7 @@
 --     Examples   THE EXAMPLES of document 01, as the calls answer them
 --     Demand1    DEMAND 1: what each lent slice holds then
 --     Demand3    DEMAND 3: an accepted batch whose splices are apart is answered with the one-go tree
+--     Kept       EDGE RULE 1: no own insertion is lost
 --     Written    THE WRITER: what each lent slice holds then, that what is written is read as the same lists, and that what is read is written byte for byte
 --     WrongEditors   the editors of the reviewer's checklist, each excluded by an example
 pub mod Refused
@@ -14,5 +15,6 @@ pub mod Printing
 pub mod Examples
 pub mod Demand1
 pub mod Demand3
+pub mod Kept
 pub mod Written
 pub mod WrongEditors
