@@ -1,5 +1,6 @@
 // Replays the recorded cases on standard input: every byte of the result, every work slice, and the elements found. Each batch is also taken apart and
 // written again.
+use choices::Choices;
 use edit_algo::serve;
 use promises::Job;
 use promises::Outcome;
@@ -17,6 +18,9 @@ const NONE: usize = 0xffff_ffff;
 
 // What a batch comes to that is written again with other bytes.
 const OTHERWISE: usize = 0xffff_ffff;
+
+// The choices of every recorded case: edge rule 0.
+const RECORDED: Choices = Choices { edge: 0 };
 
 // A number that is read, or the input's end.
 enum Read {
@@ -181,6 +185,7 @@ fn run_job(job: Job, batch: &[u8], result: &mut [u8]) -> Served {
     let mut rows = [WORD; 12291];
     let mut prepared = [WORD; 12288];
     let told = serve(
+        RECORDED,
         job,
         batch,
         result,
