@@ -79,8 +79,8 @@ fn recorded_batches_written_again() {
     for case in 0..cases.word() {
         let (batch, refusal, _) = (cases.bytes(), cases.word(), cases.bytes());
         match (refusal, rewritten(batch)) {
-            (2..=4, None) | (3 | 5..=7, Some(Err(14))) => {}
-            (2..=7, _) => panic!("case {case}"),
+            (2..=4, None) | (3 | 5..=7 | 16, Some(Err(14))) => {}
+            (2..=7 | 16, _) => panic!("case {case}"),
             (_, again) => assert!(again == Some(Ok(batch.to_vec())), "case {case}"),
         }
         for _ in 0..cases.word() {
