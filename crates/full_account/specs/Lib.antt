@@ -1,0 +1,15 @@
+-- A full account of the new tree (document 02, Note 13): reading only the changed elements suffices.
+-- To know what is said, read:
+--     Words     THE STATEMENT, of what a result holds (`Accounted`); counted (`sheet`), with a test (`full?`)
+--     Examples  the sheets of batches by either edge rule, by computation
+--     Needed    each half of the condition is needed (`root-needed`, `aside-needed`): a batch without it whose sheet fails the test
+--     Holds     NOTE 13, of every batch by any choices (`accounted`, `sheet-full`); which half each sentence needs (`each-accounted`, `nowhere-accounted`)
+--     Answered  NOTE 13, of every call of `edit` that keeps its promise (`note-13-answered`): counted in the result slice
+-- The proof:
+--     Says      the test says just what the statement says (`full-says`)
+pub mod Words
+pub mod Says
+pub mod Holds
+pub mod Answered
+pub mod Examples
+pub mod Needed
