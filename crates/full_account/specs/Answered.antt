@@ -1,10 +1,9 @@
 -- NOTE 13, of every call of `edit` that keeps its promise: what stands in the result slice is a full account.
 -- Assumes nothing.
-use mathlib.Core.Path.{_≡_, refl, sym, ap, _∙_, subst}
+use mathlib.Core.Path.{_≡_, sym, ap, _∙_, subst}
 use mathlib.Core.Bool.{true}
 use mathlib.Core.List.{List}
 use Prim.Native.Nat.{ℕ}
-use Rattle.orders.specs.ListLaws.{both-true}
 use Rattle.definition.specs.Basics.{Answer, gives, _>>=_}
 use Rattle.definition.specs.Choices.{Choices}
 use Rattle.definition.specs.Refusals.{Accepted, accepted}
@@ -16,10 +15,10 @@ use Rattle.definition_account.specs.Words.{keepsRoot, noDependentIn0}
 use Rattle.result_laws.specs.Worded.{Bytes}
 use Rattle.result_laws.specs.Decoded.{decoded}
 use Rattle.promises.specs.Promises.{Edits}
-use Rattle.promises_read.specs.Demand1.{Finished, demand-1}
+use Rattle.promises_read.specs.Demand1.{demand-1}
 use Rattle.promises_read.specs.Demand3.{finished-read}
-use Rattle.full_account.specs.Words.{Accounted, Sheet, sheetOf, sheet, condition?, full?}
-use Rattle.full_account.specs.Holds.{accounted, sheet-full}
+use Rattle.full_account.specs.Words.{Accounted, sheetOf, sheet}
+use Rattle.full_account.specs.Holds.{accounted}
 
 -- what a reader of the result slice counts there
 pub record Counted (h : Choices) (b holds : List ℕ) : Type 0 where

@@ -7,8 +7,6 @@ use Prim.Native.Nat.{ℕ}
 use Rattle.orders.specs.Lists
 use Rattle.orders.specs.Check.{each}
 use Rattle.definition.specs.Basics.{Answer, gives, _>>=_}
-use Rattle.definition.specs.Choices.{Choices}
-use Rattle.definition.specs.Refusals.{Call}
 use Rattle.definition.specs.Answers.{edit}
 use Rattle.definition.specs.Computing.{computed}
 use Rattle.definition.specs.Examples.{Told, inLists, inBytes, call, onS}

@@ -1,8 +1,8 @@
 -- NOTE 13, of every batch that is not refused, by any choices.
 -- Assumes nothing.
 use mathlib.Core.Path.{_≡_, refl, sym, ap, _∙_, subst}
-use mathlib.Core.Bool.{Bool, true}
-use mathlib.Core.List.{List, [], _∷_, map, flatMap, zip}
+use mathlib.Core.Bool.{true}
+use mathlib.Core.List.{List, flatMap}
 use mathlib.Core.Logic.{_↔_}
 use mathlib.Core.Option.{bind}
 use Prim.Native.Nat.{ℕ, _<_}
@@ -10,10 +10,10 @@ use native.Mathlib.Omega.{arith}
 use lib.ListN.{length, take, length-map}
 use Rattle.orders.specs.Lists.{All}
 use Rattle.orders.specs.ListLaws.{both-true}
-use Rattle.orders.specs.Tree.{Tree, node, token, list, forest, children, label, measure, text, preorder}
-use Rattle.definition.specs.Basics.{Answer, gives}
+use Rattle.orders.specs.Tree.{Tree, node, token, list, children, label, text, preorder}
+use Rattle.definition.specs.Basics.{gives}
 use Rattle.definition.specs.Choices.{Choices}
-use Rattle.definition.specs.Elements.{Table, table, pieces, grow}
+use Rattle.definition.specs.Elements.{Table, table}
 use Rattle.definition.specs.Refusals.{Accepted, accepted}
 use Rattle.definition.specs.Planning.{Planned}
 use Rattle.definition.specs.Running.{World, begin}

@@ -9,7 +9,7 @@ use Rattle.orders.specs.ListLaws.{bool-absurd}
 use Rattle.orders.specs.Check.{each}
 use Rattle.definition.specs.Basics.{gives, _>>=_}
 use Rattle.definition.specs.Choices.{Choices}
-use Rattle.definition.specs.Refusals.{Call, Accepted, accepted}
+use Rattle.definition.specs.Refusals.{Accepted, accepted}
 use Rattle.definition.specs.Running.{World}
 use Rattle.definition.specs.Finishing.{result}
 use Rattle.definition.specs.Answers.{Plan, plan, ran}
@@ -46,9 +46,9 @@ dependentSheet = record { root = true; aside = false; elements = went ∷ new �
 
 -- by either edge rule
 pub counted-without : (map {A = ℕ × Told} (λ m. sheet (edge (m .0)) (inBytes (m .1))) ((0, rootReplaced) ∷ (1, rootReplaced) ∷ (0, dependentInY) ∷ (1, dependentInY) ∷ []) ≡ gives rootSheet ∷ gives rootSheet ∷ gives dependentSheet ∷ gives dependentSheet ∷ [])
-    × (full? rootSheet ≡ false) × (full? dependentSheet ≡ false)
-unfolding computed inLists inBytes replacesRoot Lists.total each wentTo count oldElements is? oldAt dependentIn0 keepsRoot noDependentIn0 treesIn tableIn changedAbove inRun? deleted? sheetOf sheet oneOf? alike? full?
-counted-without = (refl, refl, refl)
+    × ((condition? rootSheet ≡ false) × (full? rootSheet ≡ false)) × ((condition? dependentSheet ≡ false) × (full? dependentSheet ≡ false))
+unfolding computed inLists inBytes replacesRoot Lists.total each wentTo count oldElements is? oldAt dependentIn0 keepsRoot noDependentIn0 treesIn tableIn changedAbove inRun? deleted? sheetOf sheet condition? oneOf? alike? full?
+counted-without = (refl, (refl, refl), (refl, refl))
 
 -- ── The halves ──────────────────────────────────────────────────────────────────────────────────────────────
 
@@ -58,11 +58,11 @@ HoldsUnder c = (h : Choices) (bytes : List ℕ) (s : Sheet) → sheet h bytes �
 
 -- "that does not replace the root": it does not hold without this
 pub root-needed : ¬ HoldsUnder (λ s. s .aside)
-root-needed k = bool-absurd (k (edge 0) (inBytes rootReplaced) rootSheet (head-eq-of-cons-eq (counted-without .0)) refl) (counted-without .1)
+root-needed k = bool-absurd (k (edge 0) (inBytes rootReplaced) rootSheet (head-eq-of-cons-eq (counted-without .0)) refl) (counted-without .1 .1)
 
 -- "has no dependent change ending in tree 0": nor without this
 pub aside-needed : ¬ HoldsUnder (λ s. s .root)
-aside-needed k = bool-absurd (k (edge 0) (inBytes dependentInY) dependentSheet (head-eq-of-cons-eq (tail-eq-of-cons-eq (tail-eq-of-cons-eq (counted-without .0)))) refl) (counted-without .2)
+aside-needed k = bool-absurd (k (edge 0) (inBytes dependentInY) dependentSheet (head-eq-of-cons-eq (tail-eq-of-cons-eq (tail-eq-of-cons-eq (counted-without .0)))) refl) (counted-without .2 .1)
 
 -- with both it does
 pub both-suffice : HoldsUnder condition?

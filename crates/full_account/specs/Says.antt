@@ -25,7 +25,7 @@ use Rattle.definition.specs.Answers.{Plan}
 use Rattle.definition.specs.Performed.{splices}
 use Rattle.definition_laws.specs.Kin.{path-long}
 use Rattle.definition_account.specs.Words.{wentTo, oldElements, oldAt, OneOf, changed, old, NowhereIfDeleted}
-use Rattle.full_account.specs.Words.{changedAbove, Accounted, inRun?, deleted?, Sheet, sheetOf, oneOf?, alike?, full?}
+use Rattle.full_account.specs.Words.{changedAbove, Accounted, inRun?, deleted?, sheetOf, oneOf?, alike?, full?}
 
 -- ── Lists ───────────────────────────────────────────────────────────────────────────────────────────────────
 

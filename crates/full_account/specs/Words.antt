@@ -1,6 +1,6 @@
 -- NOTE 13 (document 02): a full account of the new tree, said of what a result holds. It computes: `sheet` counts, `full?` is the test.
 -- Assumes nothing.
-use mathlib.Core.Bool.{Bool, true, false, not, _&&_, _||_}
+use mathlib.Core.Bool.{Bool, false, not, _&&_, _||_}
 use mathlib.Core.List.{List, [], _∷_, map, zip}
 use mathlib.Core.Option.{Option, none, some, Option·getD, bind}
 use Prim.Native.Nat.{ℕ, _<_}
