@@ -3,7 +3,8 @@
 use mathlib.Core.Path.{_≡_, sym, ap, _∙_, subst}
 use mathlib.Core.Bool.{true}
 use mathlib.Core.List.{List}
-use Prim.Native.Nat.{ℕ}
+use Prim.Native.Nat.{ℕ, _<_}
+use lib.ListN.{length}
 use Rattle.definition.specs.Basics.{Answer, gives, _>>=_}
 use Rattle.definition.specs.Choices.{Choices}
 use Rattle.definition.specs.Refusals.{Accepted, accepted}
@@ -17,8 +18,9 @@ use Rattle.result_laws.specs.Decoded.{decoded}
 use Rattle.promises.specs.Promises.{Edits}
 use Rattle.promises_read.specs.Demand1.{demand-1}
 use Rattle.promises_read.specs.Demand3.{finished-read}
-use Rattle.full_account.specs.Words.{Accounted, sheetOf, sheet}
+use Rattle.full_account.specs.Words.{changedAbove, Accounted, sheetOf, sheet}
 use Rattle.full_account.specs.Holds.{accounted}
+use Rattle.full_account.specs.Suffices.{AsItWas, rest-as-it-was}
 
 -- what a reader of the result slice counts there
 pub record Counted (h : Choices) (b holds : List ℕ) : Type 0 where
@@ -33,6 +35,8 @@ pub record Counted (h : Choices) (b holds : List ℕ) : Type 0 where
   pub counts : sheet h b ≡ gives (sheetOf batch planned end (decoded holds))
   -- NOTE 13: "every element of the new tree .. for an accepted batch that does not replace the root and has no dependent change ending in tree 0"
   pub full : keepsRoot batch.table (performed batch planned) ≡ true → noDependentIn0 batch.table (performed batch planned) ≡ true → Accounted batch planned end (decoded holds)
+  -- "Our release reviewers read only the changed elements. Show that this suffices": each element at or below none of them is an old element as it was
+  pub rest : noDependentIn0 batch.table (performed batch planned) ≡ true → (n : ℕ) → n < length ((decoded holds) .kinds) → changedAbove (decoded holds) n ≡ 0 → AsItWas batch.table batch.trees end (decoded holds) n
 
 finished-counted : (h : Choices) (b holds : List ℕ) (R : Result) → edit h b ≡ gives R → decoded holds ≡ R → Counted h b holds
 unfolding edit sheet _>>=_
@@ -50,6 +54,7 @@ finished-counted h b holds R e read =
       runs = z;
       counts = rw (x, y, z) (ap (λ (S : Result). gives (sheetOf a p w S)) same);
       full = λ r d. subst (Accounted a p w) same (accounted h b a p w x y z r d);
+      rest = λ d. subst (λ (S : Result). (n : ℕ) → n < length S.kinds → changedAbove S n ≡ 0 → AsItWas a.table a.trees w S n) same (rest-as-it-was h b a p w x y z d);
     }
 
 -- Every call that keeps its promise and does not refuse, by whatever choices.

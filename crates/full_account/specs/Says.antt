@@ -51,7 +51,7 @@ module _ {A : Type 0} (P : ℕ → Type 0) where
 
 module _ (p : ℕ → Bool) (P : ℕ → Type 0) where
   -- all that pass a test
-  all-kept : (l : List ℕ) → All (λ x. p x ≡ true → P x) l → All P (keep p l)
+  pub all-kept : (l : List ℕ) → All (λ x. p x ≡ true → P x) l → All P (keep p l)
   unfolding keep pick
   all-kept [] h = tt
   all-kept (x ∷ l) h = go (p x) refl (all-kept l (h .1))
@@ -69,7 +69,7 @@ module _ (p : ℕ → Bool) (P : ℕ → Type 0) where
       go true e k f = (λ y. k .0, f (k .1))
       go false e k f = (λ y. bool-absurd y e, f k)
 
-each-of : {X : Type 0} {P : X → Type 0} → ((x : X) → P x) → (l : List X) → All P l
+pub each-of : {X : Type 0} {P : X → Type 0} → ((x : X) → P x) → (l : List X) → All P l
 each-of f [] = tt
 each-of f (x ∷ l) = (f x, each-of f l)
 
