@@ -10,7 +10,7 @@ use native.Mathlib.Omega.{arith}
 use lib.Dec.{eqb}
 use lib.ListN.{length, getElem?}
 use borrow.Author.Tests.{eqb-true}
-use Rattle.orders.specs.Lists.{any, All, total}
+use Rattle.orders.specs.Lists.{any, All}
 use Rattle.orders.specs.ListLaws.{bool-absurd, bool?, some-inj, get-take, any-mem, none-passes, total-none, All-mem}
 use Rattle.orders.specs.Tree.{Tree, node, token, list, forest, children, label, Path, resolve}
 use Rattle.orders.specs.TreeLaws.{list-forest}
