@@ -110,12 +110,15 @@ first-three d h =
     let g = group-told (d % 64) x in
     let f = group-told (d / 256 / 4) y in
     let j : d / 64 % 4 < 4 = omega arith in
-    let k : d / 256 % 4 < 4 = omega arith in
-    (
+    let k : d / 256 % 4 < 4 = omega arith in (
       replace-fine (block (d % 64)) (block-low (d % 64) x) (g .block-hangs) replacement (omega arith),
-      (after-fine (blockToken (d % 64) (d / 64 % 4)) (token-low (d % 64) x (d / 64 % 4) j) ((g .tokens (d / 64 % 4) j) .1) (donor 0) (donor-low 0 (omega arith)),
-      (after-fine (blockToken (d / 256 / 4) (d / 256 % 4)) (token-low (d / 256 / 4) y (d / 256 % 4) k) ((f .tokens (d / 256 % 4) k) .1) (donor 1) (donor-low 1 (omega arith)),
-      tt)),
+      (
+        after-fine (blockToken (d % 64) (d / 64 % 4)) (token-low (d % 64) x (d / 64 % 4) j) ((g .tokens (d / 64 % 4) j) .1) (donor 0) (donor-low 0 (omega arith)),
+        (
+          after-fine (blockToken (d / 256 / 4) (d / 256 % 4)) (token-low (d / 256 / 4) y (d / 256 % 4) k) ((f .tokens (d / 256 % 4) k) .1) (donor 1) (donor-low 1 (omega arith)),
+          tt,
+        ),
+      ),
     )
 
 -- a draw has 16 bits

@@ -143,16 +143,31 @@ module _ (s : ℕ) where
 
   worded : Worded (load s)
   unfolding load
-  worded =
-      (computed-words (along kindAt 0 elements) (tree-words .0),
-      (computed-words (along measureAt 0 elements) (tree-words .1),
-      (all-words (map (λ c. c .target) (calls s)) (All-over (λ c. c .target) Fine (λ x. x < 4294967296) (λ c f. let h = (call-known c f) .1 in omega arith) (calls s) (calls-fine s)),
-      (all-words (flatMap (λ c. c .listed) (calls s)) (over-listed (calls s) (calls-fine s)),
-      (all-words (block (drawn s % 64) ∷ []) (let h = block-low (drawn s % 64) (omega arith) in omega arith, tt),
-      (all-words (copy ∷ []) (omega arith, tt),
-      (all-words (noted s) (All-map (λ e k. omega arith) (noted s) (all-noted s)),
-      (computed-words (along (λ n. n) 1 8) (tree-words .2),
-      tt))))))))
+  worded = (
+    computed-words (along kindAt 0 elements) (tree-words .0),
+    (
+      computed-words (along measureAt 0 elements) (tree-words .1),
+      (
+        all-words (map (λ c. c .target) (calls s)) (All-over (λ c. c .target) Fine (λ x. x < 4294967296) (λ c f. let h = (call-known c f) .1 in omega arith) (calls s) (calls-fine s)),
+        (
+          all-words (flatMap (λ c. c .listed) (calls s)) (over-listed (calls s) (calls-fine s)),
+          (
+            all-words (block (drawn s % 64) ∷ []) (let h = block-low (drawn s % 64) (omega arith) in omega arith, tt),
+            (
+              all-words (copy ∷ []) (omega arith, tt),
+              (
+                all-words (noted s) (All-map (λ e k. omega arith) (noted s) (all-noted s)),
+                (
+                  computed-words (along (λ n. n) 1 8) (tree-words .2),
+                  tt,
+                ),
+              ),
+            ),
+          ),
+        ),
+      ),
+    ),
+  )
 
 -- ── Lines 2 to 7 ────────────────────────────────────────────────────────────────────────────────────────────
 
