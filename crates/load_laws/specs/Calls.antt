@@ -134,7 +134,7 @@ free-all (suc n) s = (free-fine (drawn s) (drawn (next s)) (drawn (next (next s)
 -- LINES 6 AND 16 let every call pass.
 pub calls-fine : (s : ℕ) → All Fine (calls s)
 unfolding calls
-calls-fine s = All-append Fine (firstCalls (drawn s)) (freeCalls 93 (next s)) (first-three (drawn s) (drawn-low s)) (free-all 93 (next s))
+calls-fine s = All-append Fine (firstCalls (drawn s)) _ (first-three (drawn s) (drawn-low s)) (free-all _ (next s))
 
 length-free : (n s : ℕ) → length (freeCalls n s) ≡ n
 unfolding freeCalls
@@ -144,7 +144,7 @@ length-free (suc n) s = ap suc (length-free n (next (next (next s))))
 -- "a batch of at least 64 calls"
 pub calls-many : (s : ℕ) → length (calls s) ≡ 96
 unfolding calls firstCalls
-calls-many s = omega (arith, length-free 93 (next s))
+calls-many s = rw length-free refl
 
 -- ── What is known of a call ─────────────────────────────────────────────────────────────────────────────────
 
