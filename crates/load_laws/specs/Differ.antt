@@ -1,9 +1,9 @@
 -- "From 0 to 255 no two batches agree in operations and targets": the targets of calls 0, 1 and 2 tell draw 1, and draw 1 tells the starting number.
 -- Assumes nothing.
-use mathlib.Core.Path.{_≡_, refl, sym, ap, _∙_}
-use mathlib.Core.List.{List, [], _∷_, _++_, map}
+use mathlib.Core.Path.{_≡_, sym, ap, _∙_}
+use mathlib.Core.List.{List}
 use lib.ListN.{getD}
-use Prim.Native.Nat.{ℕ, zero, suc, _+_, _*_, _/_, _%_, _≤_, _<_}
+use Prim.Native.Nat.{ℕ, _+_, _*_, _/_, _%_, _<_}
 use native.Mathlib.Omega.{arith}
 use native.Mathlib.Nat.{div-div-eq-div-mul}
 use Rattle.load_laws.specs.Load.{next, drawn, block, blockToken, firstCalls, calls, load}

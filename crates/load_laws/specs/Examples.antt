@@ -2,15 +2,17 @@
 -- Assumes nothing.
 use mathlib.Core.Path.{_≡_, refl}
 use mathlib.Core.List as List
-use mathlib.Core.List.{List, [], _∷_, _++_, map, flatMap}
+use mathlib.Core.List.{List, [], _∷_, map, flatMap}
 use Prim.Native.Nat.{ℕ, _+_, _%_}
-use lib.ListN.{take, drop}
+use lib.ListN.{length, take, drop}
 use Rattle.orders.specs.Tree as Tree
 use Rattle.orders.specs.Tree.{Tree, token}
+use Rattle.definition.specs.Words as Words
+use Rattle.definition.specs.Refusals as Refusals
+use Rattle.definition.specs.Writing as Writing
 use Rattle.definition.specs.Refusals.{Call}
-use Rattle.definition.specs.Writing.{Lists}
+use Rattle.definition.specs.Writing.{laidOut}
 use Rattle.definition.specs.Printed as Printed
-use Rattle.definition.specs.Examples as Told
 use Rattle.definition.specs.Examples.{Told, inLists, nodeOf, tokenOf}
 use Rattle.load_laws.specs.Load as Load
 use Rattle.load_laws.specs.Load.{draws, call, along, calls, noted, load}
@@ -47,22 +49,33 @@ trees-told s = (refl, refl, refl, refl)
 
 -- ── Four starting numbers ───────────────────────────────────────────────────────────────────────────────────
 
--- draws 1 to 4, calls 0 to 3, call 95, and the elements of the notes
+-- some numbers, added up
+unfoldable pub sum : List ℕ → ℕ
+sum [] = 0
+sum (n ∷ l) = n + sum l
+
+-- draws 1 to 4, calls 0 to 3, call 95, the elements of the notes; how many elements are listed in all, how many bytes it has, and their sum
 pub record Shown : Type 0 where
   pub draws : List ℕ
   pub first : List Call
   pub last : List Call
   pub noted : List ℕ
+  pub listed : ℕ
+  pub bytes : ℕ
+  pub sum : ℕ
 
 unfoldable pub shown : ℕ → Shown
-shown s = record { draws = draws 4 s; first = take 4 (calls s); last = drop 95 (calls s); noted = noted s }
+shown s = record { draws = draws 4 s; first = take 4 (calls s); last = drop 95 (calls s); noted = noted s; listed = length ((load s) .listed); bytes = length (laidOut (load s)); sum = sum (laidOut (load s)) }
 
 -- 0, 1, 255 and the greatest
 pub examples : map shown (0 ∷ 1 ∷ 255 ∷ 4294967295 ∷ []) ≡
-    (record { draws = 15470 ∷ 18256 ∷ 53708 ∷ 43769 ∷ []; first = call 2 278 (786 ∷ []) ∷ call 1 280 (770 ∷ []) ∷ call 1 93 (771 ∷ []) ∷ call 0 458 (779 ∷ []) ∷ []; last = call 1 132 (773 ∷ []) ∷ []; noted = 382 ∷ 450 ∷ 212 ∷ 626 ∷ 221 ∷ 418 ∷ 15 ∷ 489 ∷ [] }
-    ∷ record { draws = 15496 ∷ 24200 ∷ 33046 ∷ 46195 ∷ []; first = call 2 50 (786 ∷ []) ∷ call 1 53 (770 ∷ []) ∷ call 1 93 (771 ∷ []) ∷ call 0 134 (773 ∷ []) ∷ []; last = call 3 306 [] ∷ []; noted = 299 ∷ 516 ∷ 236 ∷ 317 ∷ 311 ∷ 243 ∷ 20 ∷ 557 ∷ [] }
-    ∷ record { draws = 21947 ∷ 26740 ∷ 27534 ∷ 7014 ∷ []; first = call 2 356 (786 ∷ []) ∷ call 1 359 (770 ∷ []) ∷ call 1 130 (771 ∷ []) ∷ call 2 90 (776 ∷ []) ∷ []; last = call 1 257 (776 ∷ []) ∷ []; noted = 191 ∷ 208 ∷ 718 ∷ 319 ∷ 652 ∷ 221 ∷ 6 ∷ 103 ∷ [] }
-    ∷ record { draws = 15445 ∷ 12311 ∷ 8835 ∷ 41343 ∷ []; first = call 2 128 (786 ∷ []) ∷ call 1 130 (770 ∷ []) ∷ call 1 93 (771 ∷ []) ∷ call 1 19 (785 ∷ 785 ∷ []) ∷ []; last = call 0 716 (776 ∷ []) ∷ []; noted = 636 ∷ 554 ∷ 187 ∷ 167 ∷ 302 ∷ 592 ∷ 10 ∷ 422 ∷ [] }
+    (record { draws = 15470 ∷ 18256 ∷ 53708 ∷ 43769 ∷ []; first = call 2 278 (786 ∷ []) ∷ call 1 280 (770 ∷ []) ∷ call 1 93 (771 ∷ []) ∷ call 0 458 (779 ∷ []) ∷ []; last = call 1 132 (773 ∷ []) ∷ []; noted = 382 ∷ 450 ∷ 212 ∷ 626 ∷ 221 ∷ 418 ∷ 15 ∷ 489 ∷ []; listed = 90; bytes = 8224; sum = 100929 }
+    ∷ record { draws = 15496 ∷ 24200 ∷ 33046 ∷ 46195 ∷ []; first = call 2 50 (786 ∷ []) ∷ call 1 53 (770 ∷ []) ∷ call 1 93 (771 ∷ []) ∷ call 0 134 (773 ∷ []) ∷ []; last = call 3 306 [] ∷ []; noted = 299 ∷ 516 ∷ 236 ∷ 317 ∷ 311 ∷ 243 ∷ 20 ∷ 557 ∷ []; listed = 96; bytes = 8248; sum = 99487 }
+    ∷ record { draws = 21947 ∷ 26740 ∷ 27534 ∷ 7014 ∷ []; first = call 2 356 (786 ∷ []) ∷ call 1 359 (770 ∷ []) ∷ call 1 130 (771 ∷ []) ∷ call 2 90 (776 ∷ []) ∷ []; last = call 1 257 (776 ∷ []) ∷ []; noted = 191 ∷ 208 ∷ 718 ∷ 319 ∷ 652 ∷ 221 ∷ 6 ∷ 103 ∷ []; listed = 86; bytes = 8208; sum = 100695 }
+    ∷ record { draws = 15445 ∷ 12311 ∷ 8835 ∷ 41343 ∷ []; first = call 2 128 (786 ∷ []) ∷ call 1 130 (770 ∷ []) ∷ call 1 93 (771 ∷ []) ∷ call 1 19 (785 ∷ 785 ∷ []) ∷ []; last = call 0 716 (776 ∷ []) ∷ []; noted = 636 ∷ 554 ∷ 187 ∷ 167 ∷ 302 ∷ 592 ∷ 10 ∷ 422 ∷ []; listed = 95; bytes = 8244; sum = 101687 }
     ∷ [])
-unfolding Load.next Load.drawn Load.after draws Load.separator Load.block Load.blockToken Load.donor Load.firstCalls Load.freeCall Load.freeCalls calls noted shown
+unfolding
+    List.flatMap List.zipWith Words.bytes Words.written Refusals.callWord Writing.sizesOf Writing.sevenSizes Writing.callWords laidOut
+    Load.next Load.drawn Load.after draws Load.separator Load.block Load.blockToken Load.donor Load.kindAt Load.measureAt Load.byteAt along
+    Load.firstCalls Load.freeCall Load.freeCalls calls noted load sum shown
 examples = refl

@@ -2,31 +2,30 @@
 -- replaced node. The writer lays it out, 15 included."
 -- Assumes nothing.
 use mathlib.Core.Path.{_≡_, refl, sym, ap, _∙_}
-use mathlib.Core.Bool.{Bool, true, false, _&&_, _||_}
+use mathlib.Core.Bool.{false}
 use mathlib.Core.List as List
 use mathlib.Core.List.{List, [], _∷_, _++_, map, flatMap, zip}
-use mathlib.Core.Option.{Option, none, some}
-use Prim.Native.Nat.{ℕ, zero, suc, _+_, _*_, _/_, _%_, _^_, _≤_, _<_}
+use mathlib.Core.Option.{some}
+use Prim.Native.Nat.{ℕ, zero, suc, _+_, _*_, _/_, _%_, _≤_, _<_}
 use native.Mathlib.Omega.{arith}
-use lib.ListN.{length, getD, take, drop, length-append, length-map}
+use lib.ListN.{length, length-append, length-map}
 use lib.Seq.{take-at, drop-at}
-use lib.Dec.{ltb, leb, eqb}
-use borrow.Author.Tests.{lt-leb, le-leb, leb-false, le-ltb, lt-ltb, eq-eqb, ne-eqb}
-use Rattle.orders.specs.Lists as Lists
+use lib.Dec.{leb}
+use borrow.Author.Tests.{lt-leb, le-leb, le-ltb, lt-ltb, eq-eqb, ne-eqb}
 use Rattle.orders.specs.Lists.{All}
-use Rattle.orders.specs.ListLaws.{All-map, All-over, passes-none, either-false}
-use Rattle.definition.specs.Basics.{Answer, refused, gives, _>>=_, refuse, orRefuse, isRefused, any}
+use Rattle.orders.specs.ListLaws.{All-map, All-over, passes-none}
+use Rattle.definition.specs.Basics.{refused, gives, _>>=_, refuse, orRefuse, isRefused, any}
 use Rattle.definition.specs.Batch.{beyond, whole}
-use Rattle.definition.specs.Elements.{table, spelled}
+use Rattle.definition.specs.Elements.{table}
 use Rattle.definition.specs.Refusals as Refusals
 use Rattle.definition.specs.Refusals.{Call, callWord, operationOf, countOf, listsTooMany, wrongCall, wrongMapping, wrongNote, Accepted, accepted}
-use Rattle.definition.specs.Writing.{Lists, sizesOf, callWords, laidOut, differ, outOfStep, unfitting, unlayable, wrongLists, write}
+use Rattle.definition.specs.Writing.{sizesOf, callWords, laidOut, differ, outOfStep, unfitting, unlayable, wrongLists, write}
 use Rattle.definition_laws.specs.Basics.{All-append}
 use Rattle.definition_laws.specs.Accepted.{limited}
 use Rattle.words.specs.Bytes.{Words}
 use Rattle.write_laws.specs.CallWords.{Below, none-over, over-none}
 use Rattle.write_laws.specs.RoundTrip.{Worded, Layable}
-use Rattle.load_laws.specs.Load.{next, drawn, after, draws, block, blockToken, donor, replacement, copy, ofTree0, elements, kindAt, measureAt, byteAt, along, firstCalls, calls, noted, load}
+use Rattle.load_laws.specs.Load.{next, drawn, after, draws, block, copy, elements, kindAt, measureAt, byteAt, along, calls, noted, load}
 use Rattle.load_laws.specs.Laid.{arraysOf, laid-length, batch-laid}
 use Rattle.load_laws.specs.Trees.{loadTrees, T, spells, many, group-told, copied}
 use Rattle.load_laws.specs.Calls.{Fine, block-low, calls-fine, calls-many, call-known, call-few}

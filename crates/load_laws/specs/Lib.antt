@@ -1,6 +1,7 @@
 -- A load that anyone can repeat: the lists of a starting number, and their laws (document 02, Note 12). docs/LOAD.md says in words which draw chooses what.
 -- To know what is said, read:
 --     Load      the generator, the trees, the calls; THE LOAD of a starting number, as lists for the writer
+--     Note12    NOTE 12, whole, for every starting number (`note-12`)
 --     Draws     which draw chooses what, draw by draw (`first-drawn`, `call-drawn`, `note-drawn`)
 --     Good      every load passes lines 2 to 7 (`load-accepted`); the writer never says 14 (`load-right`): it gives the bytes (`load-written`) or 15 (`load-short`)
 --     Uses      every load has 64 calls or more, an insertion, a replacement, a change inside a replaced node (`load-uses`)
@@ -18,4 +19,5 @@ pub mod Calls
 pub mod Good
 pub mod Uses
 pub mod Differ
+pub mod Note12
 pub mod Examples

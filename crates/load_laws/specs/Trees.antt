@@ -4,9 +4,9 @@ use mathlib.Core.Path.{_≡_, refl, sym, ap, _∙_}
 use mathlib.Core.Bool.{Bool, true, false, not, _&&_}
 use mathlib.Core.List as List
 use mathlib.Core.Option as Option
-use mathlib.Core.List.{List, [], _∷_}
+use mathlib.Core.List.{List, []}
 use mathlib.Core.Option.{Option, none, some, Option·getD}
-use Prim.Native.Nat.{ℕ, zero, suc, _+_, _*_, _<_}
+use Prim.Native.Nat.{ℕ, zero, suc, _+_, _<_}
 use native.Mathlib.Omega.{arith}
 use native.Mathlib.Nat.{add-zero}
 use lib.ListN.{length}
@@ -20,7 +20,6 @@ use Rattle.definition.specs.Basics.{isSome}
 use Rattle.definition.specs.Batch.{Batch}
 use Rattle.definition.specs.Elements as Elements
 use Rattle.definition.specs.Elements.{Table, spelled, table, root?, node?, parent}
-use Rattle.load_laws.specs.Load as Load
 use Rattle.load_laws.specs.Load.{separator, block, blockToken, copy, elements, kindAt, measureAt, byteAt, along, load}
 use Rattle.load_laws.specs.Laid.{arraysOf}
 
