@@ -86,8 +86,6 @@ module _ (i : ℕ) (l : i < 128) where
 pub free-fine : (what place which : ℕ) → Fine (freeCall what place which)
 unfolding freeCall
 free-fine what place which =
-    let i : ℕ = place % 128 in
-    let j : ℕ = place / 128 % 4 in
     let l : place % 128 < 128 = omega arith in
     let m : place / 128 % 4 < 4 = omega arith in
     let n : which % 16 < 16 = omega arith in

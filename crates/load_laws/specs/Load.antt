@@ -109,7 +109,7 @@ firstCalls d =
     ∷ call 1 (blockToken (d / 256 / 4) (d / 256 % 4)) (donor 1 ∷ [])
     ∷ []
 
--- every further call, from three draws: what, where and which donor. Where: bits 0 to 6 choose the block, bits 7 and 8 its token.
+-- every further call, from three draws: what is done, at which place, with which donor. Place: bits 0 to 6 choose the block, bits 7 and 8 its token.
 -- What, bits 0 to 2: 0 first child of the block; 1, 2, 3 after the token; 4, 5 the token replaced; 6 deleted, the whole block if bit 3 is set and it
 -- is one of blocks 64 to 127, else the token; 7 the donor twice after the separator before the block
 unfoldable pub freeCall : ℕ → ℕ → ℕ → Call

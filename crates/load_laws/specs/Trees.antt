@@ -1,6 +1,6 @@
 -- What the trees of every load tell, by computation.
 -- Assumes nothing.
-use mathlib.Core.Path.{_≡_, refl, sym, ap, _∙_}
+use mathlib.Core.Path.{_≡_, refl, sym, _∙_}
 use mathlib.Core.Bool.{Bool, true, false, not, _&&_}
 use mathlib.Core.List as List
 use mathlib.Core.Option as Option
@@ -20,6 +20,8 @@ use Rattle.definition.specs.Basics.{isSome}
 use Rattle.definition.specs.Batch.{Batch}
 use Rattle.definition.specs.Elements as Elements
 use Rattle.definition.specs.Elements.{Table, spelled, table, root?, node?, parent}
+use Rattle.definition.specs.Refusals.{sameParent}
+use Rattle.definition_laws.specs.Right.{same-parent}
 use Rattle.load_laws.specs.Load.{separator, block, blockToken, copy, elements, kindAt, measureAt, byteAt, along, load}
 use Rattle.load_laws.specs.Laid.{arraysOf}
 
@@ -90,13 +92,9 @@ spells s = same-trees s ∙ there [] (spelled treesOnly) spelled-some
 unfoldable pub T : Table
 T = table 0 0 loadTrees
 
-unfoldable pub is : ℕ → Option ℕ → Bool
-is x none = false
-is x (some y) = eqb x y
-
 -- token j of block i stands below it
 unfoldable pub inBlock : Table → ℕ → ℕ → Bool
-inBlock T i j = is (block i) (parent T (blockToken i j)) && not (root? T (blockToken i j))
+inBlock T i j = sameParent (parent T (blockToken i j)) (some (block i)) && not (root? T (blockToken i j))
 
 -- separator i, block i and its tokens stand where they should
 unfoldable pub group : Table → ℕ → Bool
@@ -112,7 +110,7 @@ unfolding
     Elements.isNode Elements.malformed Elements.pieces Elements.plant Elements.grow Elements.startsWithToken Elements.unspelled Elements.spelled
     Elements.numbers Elements.rows Elements.rowsBelow Elements.table Elements.noRow Elements.row Elements.node? Elements.parent Elements.root?
     along kindAt measureAt byteAt separator block blockToken treesOnly loadTrees
-    every is inBlock group told T
+    sameParent every inBlock group told T
 tells = refl
 
 -- ── Told one by one ─────────────────────────────────────────────────────────────────────────────────────────
@@ -143,16 +141,11 @@ pub record Group (i : ℕ) : Type 0 where
   pub node : node? T (block i) ≡ true
   pub tokens : (j : ℕ) → j < 4 → (parent T (blockToken i j) ≡ some (block i)) × (root? T (blockToken i j) ≡ false)
 
-is-some : (x : ℕ) (o : Option ℕ) → is x o ≡ true → o ≡ some x
-unfolding is
-is-some x none e = absurd (let z : _≡_ {A = ℕ} 0 1 = cc in omega arith)
-is-some x (some y) e = ap some (sym (eqb-true x y e))
-
 token-told : (i j : ℕ) → inBlock T i j ≡ true → (parent T (blockToken i j) ≡ some (block i)) × (root? T (blockToken i j) ≡ false)
 unfolding inBlock
 token-told i j e =
-    let (a, b) = both-true (is (block i) (parent T (blockToken i j))) (not (root? T (blockToken i j))) e in
-    (is-some (block i) (parent T (blockToken i j)) a, not-true _ b)
+    let (a, b) = both-true (sameParent (parent T (blockToken i j)) (some (block i))) (not (root? T (blockToken i j))) e in
+    (same-parent (parent T (blockToken i j)) (some (block i)) a, not-true _ b)
 
 pub group-told : (i : ℕ) → i < 128 → Group i
 unfolding group
