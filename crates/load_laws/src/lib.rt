@@ -1,0 +1,1 @@
+// Specifications only: the load of a starting number, and its laws.
