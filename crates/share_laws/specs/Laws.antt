@@ -1,0 +1,114 @@
+-- What the share of text rewritten tells: its bounds, what it is where all or nothing is changed, that its numbers fit words, and that it is refused where the edit is.
+-- Assumes nothing.
+use mathlib.Core.Path.{_≡_, refl, sym, ap, _∙_, subst}
+use mathlib.Core.Bool.{Bool, true, false, cond, _&&_}
+use mathlib.Core.List.{List, [], _∷_, flatMap, List·Memᴰ}
+use mathlib.Core.Option.{none, some}
+use Prim.Native.Nat.{ℕ, zero, suc, _+_, _*_, _/_, _%_, _≤_, _<_}
+use native.Mathlib.Nat.{zero-div, zero-mod, mod-lt, div-add-mod, div-le-of-le-mul, mul-div-cancel, mul-mod-left, mul-comm}
+use native.Mathlib.Omega.{arith}
+use lib.ListN.{length, take, length-append}
+use Rattle.orders.specs.Lists.{any, pick}
+use Rattle.orders.specs.ListLaws.{mem-any}
+use Rattle.orders.specs.Tree.{Tree, Trees, nil, cons, list, children, text, textOf}
+use Rattle.orders.specs.TreeLaws.{forest-list}
+use Rattle.definition.specs.Basics.{Answer, refused, gives, _>>=_, keep, numbered}
+use Rattle.definition.specs.Choices.{Choices}
+use Rattle.definition.specs.Elements.{table, row}
+use Rattle.definition.specs.Refusals.{Accepted, accepted}
+use Rattle.definition.specs.Running.{World}
+use Rattle.definition.specs.Finishing.{newTree, newTable, changedElements, result}
+use Rattle.definition.specs.Answers.{Plan, plan, ran, edit}
+use Rattle.definition_laws.specs.Limits.{Small, keep-length, ran-known}
+use Rattle.share_laws.specs.Share.{liesIn, liesInOne, bytesIn, newText, rewrittenBytes, thousandths, shareIn, share, shared}
+use Rattle.share_laws.specs.Sum.{hits-none}
+
+-- ── Thousandths ─────────────────────────────────────────────────────────────────────────────────────────────
+
+-- "whole quotient and exact remainder"
+pub record Exact (part all : ℕ) : Type 0 where
+  pub quotient : (thousandths part all) .0 ≤ 1000
+  pub remainder : 0 < all → (thousandths part all) .1 < all
+  pub exact : 0 < all → all * (thousandths part all) .0 + (thousandths part all) .1 ≡ 1000 * part
+
+pub thousandths-exact : (part all : ℕ) → part ≤ all → Exact part all
+unfolding thousandths
+thousandths-exact part zero h = record { quotient = omega arith; remainder = λ k. absurd (omega arith); exact = λ k. absurd (omega arith) }
+thousandths-exact part (suc n) h = record {
+  quotient = div-le-of-le-mul (suc n) (omega arith);
+  remainder = λ k. mod-lt (1000 * part) k;
+  exact = λ k. div-add-mod (1000 * part) (suc n);
+}
+
+pub thousandths-all : (all : ℕ) → 0 < all → thousandths all all ≡ (1000, 0)
+unfolding thousandths
+thousandths-all zero h = absurd (omega arith)
+thousandths-all (suc n) h = rw (mul-div-cancel 1000 h, mul-mod-left 1000 (suc n))
+
+pub thousandths-nothing : (all : ℕ) → thousandths 0 all ≡ (0, 0)
+unfolding thousandths
+thousandths-nothing zero = refl
+thousandths-nothing (suc n) = rw (zero-div (suc n), zero-mod (suc n))
+
+pub thousandths-empty : (part : ℕ) → thousandths part 0 ≡ (0, 0)
+unfolding thousandths
+thousandths-empty part = refl
+
+-- ── The new tree ────────────────────────────────────────────────────────────────────────────────────────────
+
+numbered-length : {A : Type 0} (n : ℕ) (l : List A) → length (numbered n l) ≡ length l
+unfolding numbered
+numbered-length n [] = refl
+numbered-length n (x ∷ l) = ap suc (numbered-length (suc n) l)
+
+-- no more bytes are rewritten than there are
+pub rewritten-within : (w : World) → length (rewrittenBytes w) ≤ length (newText w)
+unfolding rewrittenBytes bytesIn
+rewritten-within w = omega (arith, keep-length (λ b. liesInOne (newTable w) (changedElements (newTable w) w) (b .0)) (numbered 0 (newText w)), numbered-length 0 (newText w))
+
+-- THE BOUNDS
+pub share-exact : (w : World) → Exact (length (rewrittenBytes w)) (length (newText w))
+share-exact w = thousandths-exact (length (rewrittenBytes w)) (length (newText w)) (rewritten-within w)
+
+-- nothing changed gives 0 and 0
+pub share-nothing : (w : World) → changedElements (newTable w) w ≡ [] → shareIn w ≡ (0, 0)
+unfolding shareIn rewrittenBytes bytesIn liesInOne any
+share-nothing w e = ap (λ (n : ℕ). thousandths n (length (newText w))) (ap (λ (l : List ℕ). length (bytesIn (newTable w) l (newText w))) e ∙ hits-none (λ i. false) (λ i. refl) 0 (newText w)) ∙ thousandths-nothing (length (newText w))
+
+-- an empty text gives 0 and 0
+pub share-empty : (w : World) → newText w ≡ [] → shareIn w ≡ (0, 0)
+unfolding shareIn
+share-empty w e = ap (λ (l : List ℕ). thousandths (length (rewrittenBytes w)) (length l)) e ∙ thousandths-empty (length (rewrittenBytes w))
+
+-- ── Numbers that fit ────────────────────────────────────────────────────────────────────────────────────────
+
+-- the new tree is one of the current trees
+new-text-within : (w : World) → length (newText w) ≤ length (textOf (children w.trees))
+unfolding newText newTree flatMap text list
+new-text-within w = go (children w.trees)
+  where
+    go : (cs : Trees ℕ) → length (flatMap text (take 1 (list cs))) ≤ length (textOf cs)
+    go nil = omega arith
+    go (cons c cs) = omega (arith, length-append (text c) [], length-append (text c) (textOf cs))
+
+-- numbers that a computation of the share meets
+pub record Fits (w : World) : Type 0 where
+  pub text : length (newText w) ≤ 16384
+  pub product : 1000 * length (rewrittenBytes w) ≤ 16384000
+  pub quotient : (shareIn w) .0 ≤ 1000
+  pub remainder : (shareIn w) .1 < 16384
+
+-- 1,000 times 16,384 is below 2^32
+pub product-in-word : 16384000 < 4294967296
+product-in-word = omega arith
+
+pub share-fits : (w : World) → Small w → Fits w
+unfolding shareIn thousandths
+share-fits w s =
+    let t : length (newText w) ≤ 16384 = omega (arith, new-text-within w, s .text) in
+    let e = share-exact w in
+    record { text = t; product = omega (arith, rewritten-within w); quotient = e .quotient; remainder = go (length (newText w)) t (e .remainder) }
+  where
+    go : (all : ℕ) → all ≤ 16384 → (0 < all → (thousandths (length (rewrittenBytes w)) all) .1 < all) → (thousandths (length (rewrittenBytes w)) all) .1 < 16384
+    go zero h k = omega arith
+    go (suc n) h k = omega (arith, k (omega arith))

@@ -1,0 +1,5 @@
+pub mod Share
+pub mod Ranges
+pub mod Sum
+pub mod Laws
+pub mod Examples
