@@ -3,7 +3,7 @@
 use mathlib.Core.Path.{_≡_, refl, sym, ap, _∙_, subst}
 use mathlib.Core.Bool.{Bool, true, false, cond, _&&_}
 use mathlib.Core.List.{List, [], _∷_, flatMap, List·Memᴰ}
-use mathlib.Core.Option.{none, some}
+use mathlib.Core.Option.{Option, none, some}
 use Prim.Native.Nat.{ℕ, zero, suc, _+_, _*_, _/_, _%_, _≤_, _<_}
 use native.Mathlib.Nat.{zero-div, zero-mod, mod-lt, div-add-mod, div-le-of-le-mul, mul-div-cancel, mul-mod-left, mul-comm}
 use native.Mathlib.Omega.{arith}
@@ -19,6 +19,7 @@ use Rattle.definition.specs.Refusals.{Accepted, accepted}
 use Rattle.definition.specs.Running.{World}
 use Rattle.definition.specs.Finishing.{newTree, newTable, changedElements, result}
 use Rattle.definition.specs.Answers.{Plan, plan, ran, edit}
+use Rattle.definition_laws.specs.Answers.{gives-inj, given}
 use Rattle.definition_laws.specs.Limits.{Small, keep-length, ran-known}
 use Rattle.share_laws.specs.Share.{liesIn, liesInOne, bytesIn, newText, rewrittenBytes, thousandths, shareIn, share, shared}
 use Rattle.share_laws.specs.Sum.{hits-none}
@@ -112,3 +113,40 @@ share-fits w s =
     go : (all : ℕ) → all ≤ 16384 → (0 < all → (thousandths (length (rewrittenBytes w)) all) .1 < all) → (thousandths (length (rewrittenBytes w)) all) .1 < 16384
     go zero h k = omega arith
     go (suc n) h k = omega (arith, k (omega arith))
+
+-- ── A batch ─────────────────────────────────────────────────────────────────────────────────────────────────
+
+-- what is not refused, and what is left then
+pub share-ran : (h : Choices) (bytes : List ℕ) (s : ℕ × ℕ) → share h bytes ≡ gives s → (a : Accepted) × (p : Plan) × (w : World) × (accepted bytes ≡ gives a) × (plan h a ≡ gives p) × (ran a p ≡ gives w) × (shareIn w ≡ s)
+unfolding share
+share-ran h bytes s e =
+    given (accepted bytes) _ e λ a x e.
+    given (plan h a) _ e λ p y e.
+    given (ran a p) _ e λ w z e.
+    (a, p, w, x, y, z, gives-inj e)
+
+-- the share fits, whatever the choices
+pub ran-fits : (h : Choices) (bytes : List ℕ) (a : Accepted) (p : Plan) (w : World) → accepted bytes ≡ gives a → plan h a ≡ gives p → ran a p ≡ gives w → Fits w
+ran-fits h bytes a p w x y z = share-fits w ((ran-known h bytes a p w x y z) .small)
+
+-- the number of a refusal, or none
+unfoldable pub refusal : {A : Type 0} → Answer A → Option ℕ
+refusal (refused n) = some n
+refusal (gives a) = none
+
+-- "A call on a batch, whose refusals come first": it is refused just where the edit is, by the same number
+pub refused-alike : (h : Choices) (bytes : List ℕ) → refusal (share h bytes) ≡ refusal (edit h bytes)
+unfolding share edit refusal _>>=_
+refused-alike h bytes = by-batch (accepted bytes)
+  where
+    by-world : (p : Plan) (o : Answer World) → refusal (o >>= λ w. gives (shareIn w)) ≡ refusal (o >>= λ w. gives (result p.changes p.climbs w))
+    by-world p (refused n) = refl
+    by-world p (gives w) = refl
+
+    by-plan : (a : Accepted) (o : Answer Plan) → refusal (o >>= λ p. ran a p >>= λ w. gives (shareIn w)) ≡ refusal (o >>= λ p. ran a p >>= λ w. gives (result p.changes p.climbs w))
+    by-plan a (refused n) = refl
+    by-plan a (gives p) = by-world p (ran a p)
+
+    by-batch : (o : Answer Accepted) → refusal (o >>= λ a. plan h a >>= λ p. ran a p >>= λ w. gives (shareIn w)) ≡ refusal (o >>= λ a. plan h a >>= λ p. ran a p >>= λ w. gives (result p.changes p.climbs w))
+    by-batch (refused n) = refl
+    by-batch (gives a) = by-plan a (plan h a)
