@@ -8,19 +8,19 @@ use Prim.Native.Nat.{ℕ, zero, suc, _+_, _*_, _/_, _%_, _≤_, _<_}
 use native.Mathlib.Nat.{zero-div, zero-mod, mod-lt, div-add-mod, div-le-of-le-mul, mul-div-cancel, mul-mod-left, mul-comm}
 use native.Mathlib.Omega.{arith}
 use lib.ListN.{length, take, length-append}
-use Rattle.orders.specs.Lists.{any, pick}
+use Rattle.orders.specs.Lists.{any, pick, total}
 use Rattle.orders.specs.ListLaws.{mem-any}
 use Rattle.orders.specs.Tree.{Tree, Trees, nil, cons, list, children, text, textOf}
 use Rattle.orders.specs.TreeLaws.{forest-list}
-use Rattle.definition.specs.Basics.{Answer, refused, gives, _>>=_, keep, numbered}
+use Rattle.definition.specs.Basics.{Answer, refused, gives, _>>=_, keep, numbered, sortBy, rising}
 use Rattle.definition.specs.Choices.{Choices}
 use Rattle.definition.specs.Elements.{table, row}
 use Rattle.definition.specs.Refusals.{Accepted, accepted}
-use Rattle.definition.specs.Running.{World}
-use Rattle.definition.specs.Finishing.{newTree, newTable, changedElements, result}
-use Rattle.definition.specs.Answers.{Plan, plan, ran, edit}
+use Rattle.definition.specs.Running.{World, Changed, begin, news, records}
+use Rattle.definition.specs.Finishing.{newTree, newTable, numberAt, changedElements, result}
+use Rattle.definition.specs.Answers.{Plan, plan, performed, atFirst, ran, edit}
 use Rattle.definition_laws.specs.Answers.{gives-inj, given}
-use Rattle.definition_laws.specs.Limits.{Small, keep-length, ran-known}
+use Rattle.definition_laws.specs.Limits.{Small, keep-length, steps-changed, ran-known}
 use Rattle.share_laws.specs.Share.{liesIn, liesInOne, bytesIn, newText, rewrittenBytes, thousandths, shareIn, share, shared}
 use Rattle.share_laws.specs.Sum.{hits-none}
 
@@ -128,6 +128,17 @@ share-ran h bytes s e =
 -- the share fits, whatever the choices
 pub ran-fits : (h : Choices) (bytes : List ℕ) (a : Accepted) (p : Plan) (w : World) → accepted bytes ≡ gives a → plan h a ≡ gives p → ran a p ≡ gives w → Fits w
 ran-fits h bytes a p w x y z = share-fits w ((ran-known h bytes a p w x y z) .small)
+
+-- nothing put into tree 0 and recorded, as by deletions alone: 0 and 0
+pub ran-nothing : (h : Choices) (bytes : List ℕ) (a : Accepted) (p : Plan) (w : World) → accepted bytes ≡ gives a → plan h a ≡ gives p → ran a p ≡ gives w
+    → total (records a.table) (λ q. length (news q.change)) (performed a p) ≡ 0 → shareIn w ≡ (0, 0)
+unfolding ran atFirst begin changedElements rising sortBy pick
+ran-nothing h bytes a p w x y z e =
+    share-nothing w (none-in w.changed (omega (arith, steps-changed a.table (atFirst a p) (performed a p) (atFirst a p) w z)) refl)
+  where
+    none-in : (l : List Changed) → length l ≤ 0 → w .changed ≡ l → changedElements (newTable w) w ≡ []
+    none-in [] k e = ap (λ (l : List Changed). rising (λ e. (row (newTable w) e) .start ∷ []) (pick (numberAt (newTable w)) l)) e
+    none-in (c ∷ l) k e = absurd (omega arith)
 
 -- the number of a refusal, or none
 unfoldable pub refusal : {A : Type 0} → Answer A → Option ℕ
