@@ -1,11 +1,11 @@
 -- The share of batches that are written out, by computation.
 -- Assumes nothing.
 use mathlib.Core.Path.{_≡_, refl}
-use mathlib.Core.Bool.{Bool, true, false}
+use mathlib.Core.Bool.{Bool, false}
 use mathlib.Core.List.{List, [], _∷_, map}
 use Prim.Native.Nat.{ℕ}
 use Rattle.definition.specs.Basics.{Answer, gives, refused, _>>=_}
-use Rattle.definition.specs.Choices.{Choices, byDefault}
+use Rattle.definition.specs.Choices.{byDefault}
 use Rattle.definition.specs.Refusals.{Call, accepted}
 use Rattle.definition.specs.Answers.{plan, performed, ran}
 use Rattle.definition.specs.Computing.{computed}

@@ -1,18 +1,16 @@
 -- What the share of text rewritten tells: its bounds, what it is where all or nothing is changed, that its numbers fit words, and that it is refused where the edit is.
 -- Assumes nothing.
-use mathlib.Core.Path.{_≡_, refl, sym, ap, _∙_, subst}
-use mathlib.Core.Bool.{Bool, true, false, cond, _&&_}
-use mathlib.Core.List.{List, [], _∷_, flatMap, List·Memᴰ}
+use mathlib.Core.Path.{_≡_, refl, ap, _∙_}
+use mathlib.Core.Bool.{false}
+use mathlib.Core.List.{List, [], _∷_, flatMap}
 use mathlib.Core.Option.{Option, none, some}
-use Prim.Native.Nat.{ℕ, zero, suc, _+_, _*_, _/_, _%_, _≤_, _<_}
-use native.Mathlib.Nat.{zero-div, zero-mod, mod-lt, div-add-mod, div-le-of-le-mul, mul-div-cancel, mul-mod-left, mul-comm}
+use Prim.Native.Nat.{ℕ, zero, suc, _+_, _*_, _≤_, _<_}
+use native.Mathlib.Nat.{zero-div, zero-mod, mod-lt, div-add-mod, div-le-of-le-mul, mul-div-cancel, mul-mod-left}
 use native.Mathlib.Omega.{arith}
 use lib.ListN.{length, take, length-append}
 use Rattle.orders.specs.Lists.{any, pick, total}
-use Rattle.orders.specs.ListLaws.{mem-any}
-use Rattle.orders.specs.Tree.{Tree, Trees, nil, cons, list, children, text, textOf}
-use Rattle.orders.specs.TreeLaws.{forest-list}
-use Rattle.definition.specs.Basics.{Answer, refused, gives, _>>=_, keep, numbered, sortBy, rising}
+use Rattle.orders.specs.Tree.{Trees, nil, cons, list, children, text, textOf}
+use Rattle.definition.specs.Basics.{Answer, refused, gives, _>>=_, numbered, sortBy, rising}
 use Rattle.definition.specs.Choices.{Choices}
 use Rattle.definition.specs.Elements.{table, row}
 use Rattle.definition.specs.Refusals.{Accepted, accepted}
@@ -21,7 +19,7 @@ use Rattle.definition.specs.Finishing.{newTree, newTable, numberAt, changedElem
 use Rattle.definition.specs.Answers.{Plan, plan, performed, atFirst, ran, edit}
 use Rattle.definition_laws.specs.Answers.{gives-inj, given}
 use Rattle.definition_laws.specs.Limits.{Small, keep-length, steps-changed, ran-known}
-use Rattle.share_laws.specs.Share.{liesIn, liesInOne, bytesIn, newText, rewrittenBytes, thousandths, shareIn, share, shared}
+use Rattle.share_laws.specs.Share.{liesInOne, bytesIn, newText, rewrittenBytes, thousandths, shareIn, share}
 use Rattle.share_laws.specs.Sum.{hits-none}
 
 -- ── Thousandths ─────────────────────────────────────────────────────────────────────────────────────────────
@@ -37,7 +35,7 @@ unfolding thousandths
 thousandths-exact part zero h = record { quotient = omega arith; remainder = λ k. absurd (omega arith); exact = λ k. absurd (omega arith) }
 thousandths-exact part (suc n) h = record {
   quotient = div-le-of-le-mul (suc n) (omega arith);
-  remainder = λ k. mod-lt (1000 * part) k;
+  remainder = λ k. mod-lt _ k;
   exact = λ k. div-add-mod (1000 * part) (suc n);
 }
 

@@ -1,21 +1,19 @@
 -- The text ranges of the elements of one tree: each is within the tree's text, and those of two elements, neither at or below the other, share no byte.
 -- Assumes nothing.
-use mathlib.Core.Path.{_≡_, refl, sym, ap, ap₂, _∙_}
-use mathlib.Core.Bool.{Bool, true, false, cond}
+use mathlib.Core.Path.{_≡_, sym, ap, ap₂, _∙_}
 use mathlib.Core.List.{List, [], _∷_}
 use mathlib.Core.Logic.{_⊎_, inl, inr}
-use mathlib.Core.Option.{Option, none, some, bind}
+use mathlib.Core.Option.{none, some, bind}
 use Prim.Native.Nat.{ℕ, zero, suc, _+_, _≤_, _<_}
 use native.Mathlib.Omega.{arith}
-use lib.Dec.{eqb}
 use lib.ListN.{length, take, getElem?, length-append, List·getD-eq-default}
-use borrow.Author.Tests.{eq-eqb, eqb-false}
+use borrow.Author.Tests.{eq-eqb}
 use Rattle.orders.specs.ListLaws.{some-inj, none-some, bind-some, map-some, lt-or-le, get-lt}
 use Rattle.orders.specs.Tree.{Tree, Trees, node, token, list, forest, Path, text, textOf, children, elements, strip}
 use Rattle.orders.specs.TreeLaws.{forest-list}
 use Rattle.definition.specs.Elements.{Row, Table, table, noRow, row, placeBelow}
 use Rattle.definition_laws.specs.Rows.{Element, rowOf, before, childOf, elementAt, rootOf, element}
-use Rattle.definition_laws.specs.Kin.{IsChild, child-is, Stands, stands, element-path}
+use Rattle.definition_laws.specs.Kin.{child-is, stands}
 
 -- ── Children ────────────────────────────────────────────────────────────────────────────────────────────────
 

@@ -3,16 +3,16 @@
 use mathlib.Core.Path.{_≡_, refl, sym, ap, ap₂, _∙_, subst}
 use mathlib.Core.Bool.{Bool, true, false, cond, not, _&&_}
 use mathlib.Core.List.{List, [], _∷_, _++_, map, flatMap, append-nil, List·Permᴰ, List·Memᴰ, List·Memᴰ·head, Memᴰ·append-left, Memᴰ·append-right}
-use mathlib.Core.Logic.{_⊎_, inl, inr}
-use mathlib.Core.Option.{Option, none, some, Option·map, bind}
+use mathlib.Core.Logic.{inl, inr}
+use mathlib.Core.Option.{none, some, Option·map, bind}
 use Prim.Native.Nat.{ℕ, zero, suc, _+_, _≤_, _<_}
 use native.Mathlib.Omega.{arith}
-use lib.Dec.{leb, ltb, eqb}
+use lib.Dec.{eqb}
 use lib.ListN.{length, take, length-map}
 use borrow.Author.Tests.{le-leb, lt-ltb, eq-eqb, eqb-true, not-true, not-false}
 use Rattle.orders.specs.Lists.{All, any, pick}
-use Rattle.orders.specs.ListLaws.{bool-absurd, both-true, either-true, some-inj, none-some, bind-some, lt-or-le, mem-pick, mem-any, any-mem, any-perm, none-passes, All-map, zone-before}
-use Rattle.orders.specs.Tree.{Tree, node, token, list, children, Path, adjust, zone, front, last, text}
+use Rattle.orders.specs.ListLaws.{bool-absurd, both-true, either-true, some-inj, mem-pick, mem-any, any-mem, any-perm, none-passes, All-map, zone-before}
+use Rattle.orders.specs.Tree.{Tree, node, token, list, children, Path, adjust, front, last, text}
 use Rattle.orders.specs.TreeLaws.{front-child, adjust-root}
 use Rattle.definition.specs.Basics.{gives, keep, numbered}
 use Rattle.definition.specs.Choices.{Choices}
@@ -26,12 +26,11 @@ use Rattle.definition.specs.Finishing.{newTree, newTable, numberAt, changedElem
 use Rattle.definition.specs.Answers.{Plan, plan, performed, ran}
 use Rattle.definition_laws.specs.Answers.{gives-inj, given, bound}
 use Rattle.definition_laws.specs.Kin.{root-is}
-use Rattle.definition_laws.specs.Moves.{Keeps}
 use Rattle.definition_laws.specs.Limits.{ran-known}
 use Rattle.definition_laws.specs.Spelling.{Worded}
 use Rattle.definition_laws.specs.Right.{Right, Sits, right-sits}
 use Rattle.definition_laws.specs.Running.{Follows, follows-begin, step-follows}
-use Rattle.definition_demand.specs.Aims.{Below, Aim, within, root, atFirst, behind, over, aimed, replacesRoot, AtRoot, aims}
+use Rattle.definition_demand.specs.Aims.{Aim, within, root, atFirst, behind, over, aimed, replacesRoot, AtRoot, aims}
 use Rattle.share_laws.specs.Share.{liesIn, liesInOne, bytesIn, newText, rewrittenBytes, thousandths, shareIn}
 use Rattle.share_laws.specs.Sum.{hits-cons}
 use Rattle.share_laws.specs.Laws.{thousandths-all}

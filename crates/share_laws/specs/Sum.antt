@@ -4,14 +4,14 @@ use mathlib.Core.Path.{_≡_, refl, sym, ap, _∙_}
 use mathlib.Core.Bool.{Bool, true, false, cond, _&&_, _||_}
 use mathlib.Core.List.{List, [], _∷_, flatMap, append-nil}
 use mathlib.Core.Logic.{_⊎_, inl, inr}
-use mathlib.Core.Option.{none, some}
-use Prim.Native.Nat.{ℕ, zero, suc, _+_, _-_, _≤_, _<_}
+use mathlib.Core.Option.{none}
+use Prim.Native.Nat.{ℕ, suc, _+_, _-_, _≤_, _<_}
 use native.Mathlib.Omega.{arith}
 use lib.Dec.{leb, ltb}
 use lib.ListN.{length, take}
-use borrow.Author.Tests.{ltb-true, ltb-false, leb-true, leb-false, lt-ltb, le-ltb, le-leb, lt-leb}
-use Rattle.orders.specs.Lists.{All, Pairs, any, pick, total}
-use Rattle.orders.specs.ListLaws.{bool-absurd, both-true, lt-or-le, any-mem, All-mem, total-perm}
+use borrow.Author.Tests.{ltb-true, leb-true, lt-ltb, le-ltb, le-leb, lt-leb}
+use Rattle.orders.specs.Lists.{Pairs, any, pick, total}
+use Rattle.orders.specs.ListLaws.{both-true, lt-or-le, any-mem, All-mem, total-perm}
 use Rattle.orders.specs.Tree.{Tree, list, children, text}
 use Rattle.definition.specs.Basics.{gives, keep, numbered}
 use Rattle.definition.specs.Choices.{Choices}
@@ -83,6 +83,11 @@ hits-range s e n (b ∷ l) h k = hits-cons (λ i. leb s i && ltb i e) n b l ∙ 
     go (inr a) (inl c) r = rw (le-leb s n a, lt-ltb n e c) (omega arith)
     go (inr a) (inr c) r = rw (le-leb s n a, le-ltb n e c) (omega arith)
 
+-- what it is to lie in an element
+lies : (i : ℕ) (r : Row) → liesIn i r ≡ true → (r .start ≤ i) × (i < r .end)
+unfolding liesIn
+lies i r e = let (a, b) = both-true _ _ e in (leb-true _ _ a, ltb-true _ _ b)
+
 -- ── One tree ────────────────────────────────────────────────────────────────────────────────────────────────
 
 module _ (t : Tree ℕ) where
@@ -91,13 +96,12 @@ module _ (t : Tree ℕ) where
 
   -- no byte lies in two elements that are beside each other
   not-both : (i m n : ℕ) → Beside F m n → liesIn i (row F m) ≡ true → liesIn i (row F n) ≡ true → ⊥
-  unfolding liesIn
   not-both i m n a x y =
-      let (b, c) = both-true (leb ((row F m) .start) i) (ltb i ((row F m) .end)) x in
-      let (d, e) = both-true (leb ((row F n) .start) i) (ltb i ((row F n) .end)) y in
+      let (b, c) = lies i (row F m) x in
+      let (d, e) = lies i (row F n) y in
       elim (ranges-apart t m n (a .0) (a .1)) [
-        | inl z ↦ omega (arith, ltb-true i ((row F m) .end) c, leb-true ((row F n) .start) i d)
-        | inr z ↦ omega (arith, ltb-true i ((row F n) .end) e, leb-true ((row F m) .start) i b)
+        | inl z ↦ omega arith
+        | inr z ↦ omega arith
       ]
 
   -- as many lie in an element as its text is long

@@ -1,11 +1,11 @@
 -- The sum law by the trees themselves: the texts of what stands at the changed paths in tree 0, which is what a run holds.
 -- Assumes nothing.
-use mathlib.Core.Path.{_≡_, refl, sym, ap, _∙_, subst}
+use mathlib.Core.Path.{_≡_, refl, sym, ap, _∙_}
 use mathlib.Core.Bool.{Bool, true, false, cond}
 use mathlib.Core.List.{List, [], _∷_}
 use mathlib.Core.Logic.{_⊎_, inl, inr}
 use mathlib.Core.Option.{Option, none, some, Option·map, Option·getD, bind}
-use Prim.Native.Nat.{ℕ, suc, _+_, _-_}
+use Prim.Native.Nat.{ℕ, _+_, _-_}
 use native.Mathlib.Omega.{arith}
 use lib.Dec.{eqb}
 use lib.ListN.{length, take, getElem?}
@@ -15,10 +15,10 @@ use Rattle.orders.specs.ListLaws.{some-inj, none-some, map-some, bind-some, pic
 use Rattle.orders.specs.Tree.{Tree, token, list, forest, children, Path, resolve, elements, text}
 use Rattle.definition.specs.Basics.{gives}
 use Rattle.definition.specs.Choices.{Choices}
-use Rattle.definition.specs.Elements.{Row, Table, table, row, descend}
+use Rattle.definition.specs.Elements.{Row, Table, table, descend}
 use Rattle.definition.specs.Refusals.{Accepted, accepted}
 use Rattle.definition.specs.Running.{World}
-use Rattle.definition.specs.Finishing.{newTree, newTable, numberAt, changedElements}
+use Rattle.definition.specs.Finishing.{newTree, newTable, numberAt}
 use Rattle.definition.specs.Answers.{Plan, plan, ran}
 use Rattle.definition_laws.specs.Rows.{Element, rowOf, element, rootOf, elementAt}
 use Rattle.definition_laws.specs.Kin.{resolve-down, elementAt-tree, row-told, descend-element}
