@@ -10,16 +10,17 @@ use native.Mathlib.Omega.{arith}
 use lib.ListN.{length, take, length-append}
 use Rattle.orders.specs.Lists.{any, pick, total}
 use Rattle.orders.specs.Tree.{Trees, nil, cons, list, children, text, textOf}
-use Rattle.definition.specs.Basics.{Answer, refused, gives, _>>=_, numbered, sortBy, rising}
-use Rattle.definition.specs.Choices.{Choices}
+use Rattle.definition.specs.Basics.{Answer, refused, gives, _>>=_, refuse, numbered, sortBy, rising}
+use Rattle.definition.specs.Choices.{Choices, chosen}
 use Rattle.definition.specs.Elements.{table, row}
 use Rattle.definition.specs.Refusals.{Accepted, accepted}
 use Rattle.definition.specs.Running.{World, Changed, begin, news, records}
 use Rattle.definition.specs.Finishing.{newTree, newTable, numberAt, changedElements, result}
-use Rattle.definition.specs.Answers.{Plan, plan, performed, atFirst, ran, edit}
+use Rattle.definition.specs.Answers.{Plan, plan, performed, atFirst, ran, edit, tooShort, withWork, withChoices}
 use Rattle.definition_laws.specs.Answers.{gives-inj, given}
 use Rattle.definition_laws.specs.Limits.{Small, keep-length, steps-changed, ran-known}
-use Rattle.share_laws.specs.Share.{liesInOne, bytesIn, newText, rewrittenBytes, thousandths, shareIn, share}
+use Rattle.definition_laws.specs.Stages.{numbered-length}
+use Rattle.share_laws.specs.Share.{liesInOne, bytesIn, newText, rewrittenBytes, thousandths, shareIn, share, shared}
 use Rattle.share_laws.specs.Sum.{hits-none}
 
 -- ── Thousandths ─────────────────────────────────────────────────────────────────────────────────────────────
@@ -54,11 +55,6 @@ unfolding thousandths
 thousandths-empty part = refl
 
 -- ── The new tree ────────────────────────────────────────────────────────────────────────────────────────────
-
-numbered-length : {A : Type 0} (n : ℕ) (l : List A) → length (numbered n l) ≡ length l
-unfolding numbered
-numbered-length n [] = refl
-numbered-length n (x ∷ l) = ap suc (numbered-length (suc n) l)
 
 -- no more bytes are rewritten than there are
 pub rewritten-within : (w : World) → length (rewrittenBytes w) ≤ length (newText w)
@@ -159,3 +155,13 @@ refused-alike h bytes = by-batch (accepted bytes)
     by-batch : (o : Answer Accepted) → refusal (o >>= λ a. plan h a >>= λ p. ran a p >>= λ w. gives (shareIn w)) ≡ refusal (o >>= λ a. plan h a >>= λ p. ran a p >>= λ w. gives (result p.changes p.climbs w))
     by-batch (refused n) = refl
     by-batch (gives a) = by-plan a (plan h a)
+
+-- the public call too, with 17 and 1 before that: what `edited` refuses but for 13
+pub shared-alike : (h : Choices) (work : List (ℕ × ℕ)) (bytes : List ℕ) → refusal (shared h work bytes) ≡ refusal (withChoices h work (edit h bytes))
+unfolding shared withChoices withWork refusal _>>=_
+shared-alike h work bytes = go (chosen h) (refuse 1 (tooShort work))
+  where
+    go : (c s : Answer (Unit {0})) → refusal (c >>= λ u. s >>= λ v. share h bytes) ≡ refusal (c >>= λ u. s >>= λ v. edit h bytes)
+    go (refused n) s = refl
+    go (gives u) (refused n) = refl
+    go (gives u) (gives v) = refused-alike h bytes

@@ -11,7 +11,7 @@ use lib.Dec.{eqb}
 use lib.ListN.{length, take, length-map}
 use borrow.Author.Tests.{le-leb, lt-ltb, eq-eqb, eqb-true, not-true, not-false}
 use Rattle.orders.specs.Lists.{All, any, pick}
-use Rattle.orders.specs.ListLaws.{bool-absurd, both-true, either-true, some-inj, mem-pick, mem-any, any-mem, any-perm, none-passes, All-map, zone-before}
+use Rattle.orders.specs.ListLaws.{bool-absurd, both-true, either-true, some-inj, mem-pick, mem-any, any-mem, any-perm, none-passes, passes-none, All-map, zone-before}
 use Rattle.orders.specs.Tree.{Tree, node, token, list, children, Path, adjust, front, last, text}
 use Rattle.orders.specs.TreeLaws.{front-child, adjust-root}
 use Rattle.definition.specs.Basics.{gives, keep, numbered}
@@ -31,13 +31,13 @@ use Rattle.definition_laws.specs.Spelling.{Worded}
 use Rattle.definition_laws.specs.Right.{Right, Sits, right-sits}
 use Rattle.definition_laws.specs.Running.{Follows, follows-begin, step-follows}
 use Rattle.definition_demand.specs.Aims.{Aim, within, root, atFirst, behind, over, aimed, replacesRoot, AtRoot, aims}
-use Rattle.share_laws.specs.Share.{liesIn, liesInOne, bytesIn, newText, rewrittenBytes, thousandths, shareIn}
-use Rattle.share_laws.specs.Sum.{hits-cons}
-use Rattle.share_laws.specs.Laws.{thousandths-all}
-use Rattle.definition_account.specs.Words.{changedPaths, keepsRoot}
+use Rattle.definition_account.specs.Words.{changedPaths, keepsRoot, dependentIn0, noDependentIn0}
 use Rattle.definition_account.specs.Changed.{filled, spliced-changed, changed-numbers}
 use Rattle.definition_account.specs.Run.{performs}
 use Rattle.definition_account.specs.Account.{Performed, ran-performed}
+use Rattle.share_laws.specs.Share.{liesIn, liesInOne, bytesIn, newText, rewrittenBytes, thousandths, shareIn}
+use Rattle.share_laws.specs.Sum.{hits-cons}
+use Rattle.share_laws.specs.Laws.{thousandths-all}
 
 -- ── All of a text ───────────────────────────────────────────────────────────────────────────────────────────
 
@@ -223,6 +223,24 @@ own-records T p e h = go p.change (owned none p.fate) e h
     go (replaceAll x y l) o e h = bool-absurd h refl
     go (replace x y) false e h = bool-absurd (ap (λ (b : Bool). b && true) h) e
     go (replace x y) true e h = (both-true (root? T x) (eqb (tree T x) 0) h) .1
+
+-- as where no dependent change ends in tree 0 at all, which is Note 13's condition
+pub own-roots : (T : Table) (ps : List Planned) → noDependentIn0 T ps ≡ true → ownRoots T ps ≡ true
+unfolding ownRoots noDependentIn0 dependentIn0 replacesRoot target
+own-roots T ps h = ap not (passes-none (λ p. replacesRoot T p.change && not (owned none p.fate)) ps (All-map (λ p e. go p.change (owned none p.fate) e) ps (none-passes (dependentIn0 T) ps (not-true _ h))))
+  where
+    go : (c : Change) (o : Bool) → (not o && eqb (tree T (target c)) 0) ≡ false → (replacesRoot T c && not o) ≡ false
+    go (insert q x l) o e = refl
+    go (delete x) o e = refl
+    go (replaceWithMany x l) o e = refl
+    go (replaceAll x y l) o e = refl
+    go (replace x y) o e = by (root? T x) (eqb (tree T x) 0) o e
+      where
+        by : (r t o : Bool) → (not o && t) ≡ false → ((r && t) && not o) ≡ false
+        by false t o e = refl
+        by true false o e = refl
+        by true true true e = refl
+        by true true false e = e
 
 -- THE ROOT REPLACED, by any performed changes
 pub performed-root : (ts : List (Tree ℕ)) (notes : List Note) (ps : List Planned) (w : World) → Performed ts notes ps w → keepsRoot (table 0 0 ts) ps ≡ false → ownRoots (table 0 0 ts) ps ≡ true → RootChanged w
