@@ -33,7 +33,7 @@ shares =
     ∷ (onText (call 1 1 (5 ∷ []) ∷ []), gives (375, 0))
     -- W behind X: its 3 bytes count once, though fgh is in W
     ∷ (onText (call 1 1 (4 ∷ []) ∷ []), gives (375, 0))
-    -- fgh in X before ab, and fgh by its side for cde: 6 bytes of 8
+    -- fgh first in X, and cde by fgh: 6 bytes of 8
     ∷ (onText (call 0 1 (5 ∷ []) ∷ call 2 3 (5 ∷ []) ∷ []), gives (750, 0))
     -- fgh first in X, V behind it: an empty element has no byte
     ∷ (onText (call 0 1 (5 ∷ []) ∷ call 1 1 (6 ∷ []) ∷ []), gives (375, 0))

@@ -2,20 +2,20 @@
 -- Assumes nothing.
 use mathlib.Core.Path.{_≡_, refl, ap, _∙_}
 use mathlib.Core.Bool.{false}
-use mathlib.Core.List.{List, [], _∷_, flatMap}
+use mathlib.Core.List.{List, [], _∷_, map, flatMap}
 use mathlib.Core.Option.{Option, none, some}
 use Prim.Native.Nat.{ℕ, zero, suc, _+_, _*_, _≤_, _<_}
 use native.Mathlib.Nat.{zero-div, zero-mod, mod-lt, div-add-mod, div-le-of-le-mul, mul-div-cancel, mul-mod-left}
 use native.Mathlib.Omega.{arith}
 use lib.ListN.{length, take, length-append}
 use Rattle.orders.specs.Lists.{any, pick, total}
-use Rattle.orders.specs.Tree.{Trees, nil, cons, list, children, text, textOf}
+use Rattle.orders.specs.Tree.{Tree, Trees, nil, cons, list, children, label, measure, preorder, text, textOf}
 use Rattle.definition.specs.Basics.{Answer, refused, gives, _>>=_, refuse, numbered, sortBy, rising}
 use Rattle.definition.specs.Choices.{Choices, chosen}
 use Rattle.definition.specs.Elements.{table, row}
 use Rattle.definition.specs.Refusals.{Accepted, accepted}
 use Rattle.definition.specs.Running.{World, Changed, begin, news, records}
-use Rattle.definition.specs.Finishing.{newTree, newTable, numberAt, changedElements, result}
+use Rattle.definition.specs.Finishing.{newTree, newTable, numberAt, changedElements, Result, result}
 use Rattle.definition.specs.Answers.{Plan, plan, performed, atFirst, ran, edit, tooShort, withWork, withChoices}
 use Rattle.definition_laws.specs.Answers.{gives-inj, given}
 use Rattle.definition_laws.specs.Limits.{Small, keep-length, steps-changed, ran-known}
@@ -118,6 +118,24 @@ share-ran h bytes s e =
     given (plan h a) _ e λ p y e.
     given (ran a p) _ e λ w z e.
     (a, p, w, x, y, z, gives-inj e)
+
+-- the result that the same batch has by the edit, and what the share has to do with it
+pub record OfEdit (h : Choices) (bytes : List ℕ) (s : ℕ × ℕ) : Type 0 where
+  pub result : Result
+  pub edited : edit h bytes ≡ gives result
+  -- the new tree that it spells (a list of one)
+  pub tree : List (Tree ℕ)
+  pub kinds : map label (flatMap preorder tree) ≡ result .kinds
+  pub measures : map measure (flatMap preorder tree) ≡ result .measures
+  pub text : flatMap text tree ≡ result .text
+  -- so many bytes of its text lie in an element that it tells as changed
+  pub share : thousandths (length (bytesIn (table 0 0 tree) (result .changed) (result .text))) (length (result .text)) ≡ s
+
+pub share-of-edit : (h : Choices) (bytes : List ℕ) (s : ℕ × ℕ) → share h bytes ≡ gives s → OfEdit h bytes s
+unfolding edit result newText newTable shareIn rewrittenBytes _>>=_
+share-of-edit h bytes s e =
+    let (a, p, w, x, y, z, q) = share-ran h bytes s e in
+    record { result = result p.changes p.climbs w; edited = rw (x, y, z); tree = newTree w; kinds = refl; measures = refl; text = refl; share = q }
 
 -- the share fits, whatever the choices
 pub ran-fits : (h : Choices) (bytes : List ℕ) (a : Accepted) (p : Plan) (w : World) → accepted bytes ≡ gives a → plan h a ≡ gives p → ran a p ≡ gives w → Fits w
