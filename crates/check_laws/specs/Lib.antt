@@ -3,4 +3,8 @@
 --     Check      THE CHECKER: what is claimed, each of the six clauses by name, and the order of the refusals (`checked`)
 --     Examples   claims that are accepted, one that breaks each clause alone, and each refusal, by computation
 pub mod Check
+pub mod ListLaws
+pub mod Alone
+pub mod Claimed
+pub mod Own
 pub mod Examples
