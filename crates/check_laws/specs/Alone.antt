@@ -47,6 +47,13 @@ first-row (c ∷ cs) x h =
     let l : x < length r = omega (arith, length-append r []) in
     (omega (arith, length-append r (table (0 + elements c) 1 cs)), getD-left r [] x noRow l ∙ sym (getD-left r (table (0 + elements c) 1 cs) x noRow l))
 
+-- there is one
+pub first-there : (ts : List (Tree ℕ)) → 0 < length ts → 0 < length (firstTable ts)
+unfolding table rows
+first-there [] h = absurd (omega arith)
+first-there (node w ds ∷ cs) h = omega arith
+first-there (token w own ∷ cs) h = omega arith
+
 -- and its path begins with 0
 pub first-path : (ts : List (Tree ℕ)) (x : ℕ) → x < length (firstTable ts) → (q : Path) × ((row (firstTable ts) x) .path ≡ 0 ∷ q)
 unfolding children

@@ -7,4 +7,6 @@ pub mod ListLaws
 pub mod Alone
 pub mod Claimed
 pub mod Own
+pub mod Formed
+pub mod Accepted
 pub mod Examples

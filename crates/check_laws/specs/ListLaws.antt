@@ -10,7 +10,7 @@ use lib.Dec.{eqb}
 use lib.ListN.{length, getD, length-append}
 use borrow.Author.Tests.{eqb-true, eq-eqb, ne-eqb}
 use Rattle.orders.specs.Lists.{any, All, Pairs, total}
-use Rattle.orders.specs.ListLaws.{bool-absurd, lt-or-le, any-over, mem-any, any-mem, none-passes, passes-none, total-none, All-map}
+use Rattle.orders.specs.ListLaws.{bool-absurd, either-false, lt-or-le, any-over, mem-any, any-mem, none-passes, passes-none, total-none, All-map}
 use Rattle.definition.specs.Basics.{among, numbered}
 use Rattle.definition_account.specs.Words.{count}
 use Rattle.check_laws.specs.Check.{every, isPair, sameBytes, noRepeat}
@@ -30,6 +30,11 @@ pub none-any : {A : Type 0} (p : A → Bool) (l : List A) → ((x : A) → List�
 unfolding any
 none-any p [] h = refl
 none-any p (x ∷ l) h = rw (h x (List·Memᴰ·head refl), none-any p l (λ y m. h y (List·Memᴰ·tail m)))
+
+pub none-append : {A : Type 0} (p : A → Bool) (l m : List A) → any p l ≡ false → any p m ≡ false → any p (l ++ m) ≡ false
+unfolding any
+none-append p [] m e f = f
+none-append p (x ∷ l) m e f = let (a, b) = either-false (p x) (any p l) e in rw (a, none-append p l m b f)
 
 pub mem-map : {A B : Type 0} (f : A → B) (l : List A) (y : B) → List·Memᴰ y (map f l) → (x : A) × List·Memᴰ x l × (f x ≡ y)
 mem-map f [] y m = absurd (List·Memᴰ·not-nil m)

@@ -49,10 +49,10 @@ module _ (ts : List (Tree ℕ)) (notes : List Note) (ps : List Planned) (w : Wor
   abbrev P : List (ℕ × ℕ)
   P = ownPairs ts w
 
-  kept : Kept ts w
+  pub kept : Kept ts w
   kept = let k = first-kept ts notes (h .worded) in (steps-kept ts (begin ts T notes) (k .follows .worded) ps (begin ts T notes) w k (h .right) (h .ran)) .0
 
-  held : Holds w
+  pub held : Holds w
   held =
       let f = follows-begin ts notes (h .worded) in
       let b = begin-holds ts notes (h .noted) in
@@ -69,7 +69,7 @@ module _ (ts : List (Tree ℕ)) (notes : List Note) (ps : List Planned) (w : Wor
   unfolding ownPairs oldTree
   pair-in x n k = mem-pick (λ x. Option·map (λ n. (x, n)) (wentTo w x)) (numbersOf 0 O) x (x, n) (within-numbers 0 O x (omega arith) (omega (arith, k .old))) (ap (Option·map (λ n. (x, n))) (k .went))
 
-  in-pair : (p : ℕ × ℕ) → List·Memᴰ p P → Pair (p .0) (p .1)
+  pub in-pair : (p : ℕ × ℕ) → List·Memᴰ p P → Pair (p .0) (p .1)
   unfolding ownPairs oldTree
   in-pair p m =
       let (x, a, b) = pick-mem (λ x. Option·map (λ n. (x, n)) (wentTo w x)) (numbersOf 0 O) p m in
@@ -78,7 +78,7 @@ module _ (ts : List (Tree ℕ)) (notes : List Note) (ps : List Planned) (w : Wor
       rw (← d) (record { old = omega arith; went = c })
 
   module _ (x n : ℕ) (k : Pair x n) where
-    in-new : n < length F
+    pub in-new : n < length F
     in-new = (went-path w ts kept held x n (k .went)) .0
 
     in-old : x < length T
@@ -127,7 +127,7 @@ module _ (ts : List (Tree ℕ)) (notes : List Note) (ps : List Planned) (w : Wor
       (z, a, b, ap (λ (p : Path). resolve p w.trees) e ∙ (sym (tops-resolve w.trees 2147483648 q) ∙ (ap (λ (p : Path). resolve p (node 2147483648 (forest (newTree w)))) (sym e) ∙ a)))
 
   module _ (x n : ℕ) (k : Pair x n) where
-    same-kind : (row O x) .kind ≡ (row F n) .kind
+    pub same-kind : (row O x) .kind ≡ (row F n) .kind
     same-kind =
         let (z, a, b, c) = new-stands n (in-new x n k) in
         let (y, d, e) = present-kind ts w (kept .follows) x ((row F n) .path) (in-old x n k) (now x n k) in
