@@ -38,6 +38,7 @@ tried =
     ∷ (claims before after (0 ∷ 3 ∷ []) (0 ∷ 4 ∷ []) (1 ∷ 2 ∷ 3 ∷ []), gives true)
     -- 3 before 4, 4 before 5, 5 before 19, 19 before the clauses; a tree of no element gets 5
     ∷ (record { old = record { kinds = replicate 4097 0; measures = []; text = [] }; new = flat after; olds = 0 ∷ []; news = []; changed = [] }, refused 3)
+    ∷ (record { old = flat before; new = record { kinds = []; measures = []; text = replicate 16385 0 }; olds = 0 ∷ []; news = []; changed = [] }, refused 3)
     ∷ (record { old = record { kinds = []; measures = []; text = [] }; new = flat after; olds = 0 ∷ []; news = []; changed = [] }, refused 4)
     ∷ (record { old = record { kinds = []; measures = []; text = [] }; new = flat after; olds = 9 ∷ []; news = 0 ∷ []; changed = [] }, refused 5)
     ∷ (record { old = flat before; new = record { kinds = []; measures = []; text = [] }; olds = 9 ∷ []; news = 0 ∷ []; changed = [] }, refused 5)

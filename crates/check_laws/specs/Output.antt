@@ -10,7 +10,7 @@ use lib.Dec.{leb, ltb, eqb}
 use lib.ListN.{length, take, length-append, length-map}
 use borrow.Author.Tests.{eqb-true, eq-eqb, le-ltb, lt-leb}
 use Rattle.orders.specs.Lists.{any, All, pick}
-use Rattle.orders.specs.ListLaws.{bool-absurd, some-inj, none-some, All-mem, All-pick, All-perm}
+use Rattle.orders.specs.ListLaws.{bool-absurd, both-true, some-inj, none-some, All-mem, All-pick, All-perm}
 use Rattle.orders.specs.Tree.{Tree, Trees, node, token, nil, cons, forest, list, children, label, measure, text, preorder, deepest, deepestOf, Path, resolve}
 use Rattle.definition.specs.Basics.{Answer, gives, _>>=_, refuse, orRefuse}
 use Rattle.definition.specs.Choices.{Choices}
@@ -23,6 +23,7 @@ use Rattle.definition.specs.Running.{World}
 use Rattle.definition.specs.Finishing.{newTree, newTable, numberAt, changedElements, result}
 use Rattle.definition.specs.Answers.{Plan, plan, performed, ran, edit}
 use Rattle.definition_laws.specs.Basics.{zip-map}
+use Rattle.definition_laws.specs.Answers.{gives-inj, given}
 use Rattle.definition_laws.specs.Spelling.{Worded, WordedAll, spells-read}
 use Rattle.definition_laws.specs.Rows.{table-kinds}
 use Rattle.definition_laws.specs.Kin.{path-leads}
@@ -35,7 +36,7 @@ use Rattle.definition_account.specs.Account.{Performed, ran-performed}
 use Rattle.check_laws.specs.Check.{Flat, Claims, tooBig, unequal, alone, namesNone, accepts, checked}
 use Rattle.check_laws.specs.ListLaws.{none-any, none-append, mem-map, same-pairs}
 use Rattle.check_laws.specs.Alone.{firstTable, first-resolve, tops-resolve, first-there}
-use Rattle.check_laws.specs.Claimed.{oldTree, flatOf, ownPairs, ownClaims}
+use Rattle.check_laws.specs.Claimed.{oldTree, flatOf, ownPairs, ownClaims, ownOutput, plainRun}
 use Rattle.check_laws.specs.Own.{Pair, in-pair, in-new, roots-stay, same-kind, kept, held, own-accepts}
 use Rattle.check_laws.specs.Formed.{Formed, top-formed, performed-formed, first-formed}
 
@@ -170,11 +171,11 @@ same-length : (l m : List ℕ) → length l ≡ length m → differ l m ≡ fals
 unfolding differ
 same-length l m e = rw (eq-eqb (length l) (length m) e)
 
--- THE THEOREM: "Our own output, with the surviving paths as pairs, must be accepted if the root was not replaced and no dependent change ended in tree 0."
-pub own-accepted : (h : Choices) (bytes : List ℕ) (a : Accepted) (p : Plan) (w : World) → accepted bytes ≡ gives a → plan h a ≡ gives p → ran a p ≡ gives w
+-- by the stages of a batch
+pub own-claims-accepted : (h : Choices) (bytes : List ℕ) (a : Accepted) (p : Plan) (w : World) → accepted bytes ≡ gives a → plan h a ≡ gives p → ran a p ≡ gives w
     → keepsRoot a.table (performed a p) ≡ true → noDependentIn0 a.table (performed a p) ≡ true → checked (ownClaims a w (result p.changes p.climbs w)) ≡ gives true
 unfolding ownClaims result edit _>>=_ flatOf unequal namesNone
-own-accepted h bytes a p w x y e r d =
+own-claims-accepted h bytes a p w x y e r d =
     let R = ran-known h bytes a p w x y e in
     let K = R .known in
     let H = ran-performed h bytes a p w x y e in
@@ -205,3 +206,13 @@ own-accepted h bytes a p w x y e r d =
       (new-spelled ts p.notes ps w H k (K .begins) formed some-tree (R .small .depth))
       (own-names ts p.notes ps w H)
     ∙ ap {B = Answer Bool} gives (ap (λ (Q : List (ℕ × ℕ)). accepts (oldTree ts) (newTree w) Q (changedElements (newTable w) w)) (own-zipped P) ∙ own-accepts ts p.notes ps w H some-old roots owners)
+
+-- THE THEOREM: "Our own output, with the surviving paths as pairs, must be accepted if the root was not replaced and no dependent change ended in tree 0."
+pub own-accepted : (h : Choices) (bytes : List ℕ) (c : Claims) → ownOutput h bytes ≡ gives c → plainRun h bytes ≡ gives true → checked c ≡ gives true
+unfolding ownOutput plainRun _>>=_
+own-accepted h bytes c o q =
+    given (accepted bytes) _ o λ a x o.
+    given (plan h a) _ o λ p y o.
+    given (ran a p) _ o λ w e o.
+    let (r, d) = both-true (keepsRoot a.table (performed a p)) (noDependentIn0 a.table (performed a p)) (gives-inj (rw (x, y, e) at q)) in
+    ap checked (sym (gives-inj o)) ∙ own-claims-accepted h bytes a p w x y e r d
