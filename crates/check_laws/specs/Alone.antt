@@ -1,12 +1,11 @@
 -- The first tree, taken alone, is as it is among all.
 -- Assumes nothing.
 use mathlib.Core.Path.{_≡_, refl, sym, ap, _∙_}
-use mathlib.Core.List.{List, [], _∷_, _++_}
-use mathlib.Core.Option.{Option, none, some, bind}
+use mathlib.Core.List.{List, [], _∷_}
+use mathlib.Core.Option.{Option, some, bind}
 use Prim.Native.Nat.{ℕ, _+_, _<_}
 use native.Mathlib.Omega.{arith}
 use lib.ListN.{length, take, getElem?, length-append}
-use Rattle.orders.specs.Lists.{All}
 use Rattle.orders.specs.ListLaws.{map-some, bind-some, get-lt, get-take}
 use Rattle.orders.specs.Tree.{Tree, node, token, forest, list, children, elements, Path, resolve}
 use Rattle.orders.specs.TreeLaws.{list-forest}

@@ -5,7 +5,7 @@ use mathlib.Core.Bool.{Bool, true, false}
 use mathlib.Core.List.{List, [], _∷_, map}
 use Prim.Native.Nat.{ℕ}
 use Rattle.orders.specs.Lists
-use Rattle.definition.specs.Basics.{Answer, refused, gives, _>>=_}
+use Rattle.definition.specs.Basics.{Answer, gives, _>>=_}
 use Rattle.definition.specs.Choices.{Choices, byDefault}
 use Rattle.definition.specs.Refusals.{Call}
 use Rattle.definition.specs.Computing.{computed}
@@ -13,7 +13,7 @@ use Rattle.definition.specs.Examples.{Told, inLists, inBytes, nodeOf, tokenOf, 
 use Rattle.definition_demand.specs.Aims.{replacesRoot}
 use Rattle.definition_account.specs.Words.{wentTo, dependentIn0, keepsRoot, noDependentIn0}
 use Rattle.check_laws.specs.Check
-use Rattle.check_laws.specs.Check.{Claims, checked}
+use Rattle.check_laws.specs.Check.{checked}
 use Rattle.check_laws.specs.ListLaws.{numbersOf}
 use Rattle.check_laws.specs.Claimed.{oldTree, flatOf, ownPairs, ownClaims, ownOutput, plainRun}
 

@@ -1,19 +1,19 @@
 -- Kind words keep the form that line 5 asks for, whatever steps are performed.
 -- Assumes nothing.
 use mathlib.Core.Path.{_≡_, refl, sym, ap, _∙_, subst}
-use mathlib.Core.Bool.{Bool, true, false}
+use mathlib.Core.Bool.{Bool, false}
 use mathlib.Core.List.{List, [], _∷_, _++_, map, flatMap, List·Memᴰ, List·Memᴰ·cases-cons, List·Memᴰ·not-nil}
 use mathlib.Core.Logic.{_⊎_, inl, inr}
-use mathlib.Core.Option.{Option, none, some, Option·map, Option·getD, bind}
-use Prim.Native.Nat.{ℕ, zero, suc, _<_}
+use mathlib.Core.Option.{Option, none, some, Option·getD, bind}
+use Prim.Native.Nat.{ℕ, suc, _<_}
 use native.Mathlib.Omega.{arith}
-use lib.ListN.{length, getD, take, getElem?}
+use lib.ListN.{length, getD, take}
 use Rattle.orders.specs.Lists.{any, All}
 use Rattle.orders.specs.ListLaws.{some-inj, none-some, map-some, get-mem, All-mem}
 use Rattle.orders.specs.Tree.{Tree, node, token, forest, label, preorder, Path, resolve, splice, HasRun, strip}
 use Rattle.orders.specs.TreeLaws.{resolve-append, label-spliceIn, Origin, kept, came, splice-origin}
 use Rattle.definition.specs.Basics.{gives}
-use Rattle.definition.specs.Elements.{Table, Row, table, row, noRow, malformed}
+use Rattle.definition.specs.Elements.{Row, table, row, noRow, malformed}
 use Rattle.definition.specs.Planning.{Planned}
 use Rattle.definition.specs.Rewriting.{Note}
 use Rattle.definition.specs.Running.{World, begin, present, Yield, yieldAt, yield, news, Run, spliced, records, step, steps}

@@ -1,16 +1,16 @@
 -- Laws of the tests that the clauses are made of.
 -- Assumes nothing.
-use mathlib.Core.Path.{_≡_, refl, sym, ap, _∙_}
-use mathlib.Core.Bool.{Bool, true, false, not, _&&_}
+use mathlib.Core.Path.{_≡_, refl, sym, ap}
+use mathlib.Core.Bool.{Bool, true, false, _&&_}
 use mathlib.Core.List.{List, [], _∷_, _++_, map, List·Memᴰ, List·Memᴰ·head, List·Memᴰ·tail, List·Memᴰ·cases-cons, List·Memᴰ·not-nil}
 use mathlib.Core.Logic.{_⊎_, inl, inr}
 use Prim.Native.Nat.{ℕ, zero, suc, _+_, _≤_, _<_}
 use native.Mathlib.Omega.{arith}
 use lib.Dec.{eqb}
-use lib.ListN.{length, getD, length-append}
-use borrow.Author.Tests.{eqb-true, eq-eqb, ne-eqb}
-use Rattle.orders.specs.Lists.{any, All, Pairs, total}
-use Rattle.orders.specs.ListLaws.{bool-absurd, either-false, lt-or-le, any-over, mem-any, any-mem, none-passes, passes-none, total-none, All-map}
+use lib.ListN.{length, getD}
+use borrow.Author.Tests.{eq-eqb, ne-eqb}
+use Rattle.orders.specs.Lists.{any, All, Pairs}
+use Rattle.orders.specs.ListLaws.{either-false, lt-or-le, any-over, mem-any, none-passes, passes-none, total-none, All-map}
 use Rattle.definition.specs.Basics.{among, numbered}
 use Rattle.definition_account.specs.Words.{count}
 use Rattle.check_laws.specs.Check.{every, isPair, sameBytes, noRepeat}

@@ -2,16 +2,16 @@
 -- Assumes nothing.
 use mathlib.Core.Path.{_≡_, refl, sym, ap, _∙_, subst}
 use mathlib.Core.Bool.{Bool, true, false, cond, _||_}
-use mathlib.Core.List.{List, [], _∷_, _++_, map, flatMap, zip, List·Memᴰ}
-use mathlib.Core.Option.{Option, none, some, Option·map, bind}
+use mathlib.Core.List.{List, [], _∷_, _++_, map, flatMap, zip}
+use mathlib.Core.Option.{none, some, bind}
 use Prim.Native.Nat.{ℕ, _+_, _≤_, _<_}
 use native.Mathlib.Omega.{arith}
-use lib.Dec.{leb, ltb, eqb}
+use lib.Dec.{leb, eqb}
 use lib.ListN.{length, take, length-append, length-map}
 use borrow.Author.Tests.{eqb-true, eq-eqb, le-ltb, lt-leb}
-use Rattle.orders.specs.Lists.{any, All, pick}
+use Rattle.orders.specs.Lists.{any, All}
 use Rattle.orders.specs.ListLaws.{bool-absurd, both-true, some-inj, none-some, All-mem, All-pick, All-perm}
-use Rattle.orders.specs.Tree.{Tree, Trees, node, token, nil, cons, forest, list, children, label, measure, text, preorder, deepest, deepestOf, Path, resolve}
+use Rattle.orders.specs.Tree.{Tree, Trees, node, token, nil, cons, list, children, label, measure, text, preorder, deepest, deepestOf, Path}
 use Rattle.definition.specs.Basics.{Answer, gives, _>>=_, refuse, orRefuse}
 use Rattle.definition.specs.Choices.{Choices}
 use Rattle.definition.specs.Elements.{Table, rows, table, row, isNode, malformed, startsWithToken, unspelled, spelled, descend}
@@ -25,8 +25,6 @@ use Rattle.definition.specs.Answers.{Plan, plan, performed, ran, edit}
 use Rattle.definition_laws.specs.Basics.{zip-map}
 use Rattle.definition_laws.specs.Answers.{gives-inj, given}
 use Rattle.definition_laws.specs.Spelling.{Worded, WordedAll, spells-read}
-use Rattle.definition_laws.specs.Rows.{table-kinds}
-use Rattle.definition_laws.specs.Kin.{path-leads}
 use Rattle.definition_laws.specs.Running.{top}
 use Rattle.definition_laws.specs.Held.{Leads, number-found}
 use Rattle.definition_laws.specs.Limits.{edit-within, ran-known}
@@ -38,7 +36,7 @@ use Rattle.check_laws.specs.ListLaws.{none-any, none-append, mem-map, sa
 use Rattle.check_laws.specs.Alone.{firstTable, first-resolve, tops-resolve, first-there}
 use Rattle.check_laws.specs.Claimed.{oldTree, flatOf, ownPairs, ownClaims, ownOutput, plainRun}
 use Rattle.check_laws.specs.Own.{Pair, in-pair, in-new, roots-stay, same-kind, kept, held, own-accepts}
-use Rattle.check_laws.specs.Formed.{Formed, top-formed, performed-formed, first-formed}
+use Rattle.check_laws.specs.Formed.{top-formed, performed-formed, first-formed}
 
 -- ── Line 5 ──────────────────────────────────────────────────────────────────────────────────────────────────
 
@@ -135,8 +133,8 @@ module _ (ts : List (Tree ℕ)) (notes : List Note) (ps : List Planned) (w : Wor
   new-named : any (leb (length (newTable w))) (map (λ p. p .1) (ownPairs ts w) ++ changedElements (newTable w) w) ≡ false
   new-named = none-append (leb (length (newTable w))) (map (λ p. p .1) (ownPairs ts w)) (changedElements (newTable w) w)
       (none-any (leb (length (newTable w))) (map (λ p. p .1) (ownPairs ts w)) (λ n m.
-          let (p, a, b) = mem-map (λ (p : ℕ × ℕ). p .1) (ownPairs ts w) n m in
-          lt-leb (length (newTable w)) n (omega (arith, in-new ts notes ps w h (p .0) (p .1) (in-pair ts notes ps w h p a)))))
+      let (p, a, b) = mem-map (λ (p : ℕ × ℕ). p .1) (ownPairs ts w) n m in
+      lt-leb (length (newTable w)) n (omega (arith, in-new ts notes ps w h (p .0) (p .1) (in-pair ts notes ps w h p a)))))
       (none-any (leb (length (newTable w))) (changedElements (newTable w) w) (λ n m. lt-leb (length (newTable w)) n (All-mem (λ n. n < length (newTable w)) (changedElements (newTable w) w) n changed-within m)))
 
   own-names : (any (leb (length (table 0 0 (oldTree ts)))) (map (λ p. p .0) (ownPairs ts w)) || any (leb (length (table 0 0 (newTree w)))) (map (λ p. p .1) (ownPairs ts w) ++ changedElements (newTable w) w)) ≡ false
@@ -195,16 +193,16 @@ own-claims-accepted h bytes a p w x y e r d =
     let old-small = small-flat (flatOf (oldTree ts)) (omega (arith, length-map els label, part-length preorder ts)) (omega (arith, length-map els measure, part-length preorder ts)) (omega (arith, part-length text ts, ap length (K .spells .written), K .long .text, K .limits .text)) in
     let new-small = small-flat (flatOf (newTree w)) (within .elements) (omega (arith, within .elements, within .measures)) (within .text) in
     checked-gives (ownClaims a w (result p.changes p.climbs w)) (oldTree ts) (newTree w)
-      old-small
-      new-small
-      (rw (
-        same-length (map label els) (map measure els) (length-map els label ∙ sym (length-map els measure)),
-        same-length (map label news) (map measure news) (length-map news label ∙ sym (length-map news measure)),
-        same-length (map (λ q. q .0) P) (map (λ q. q .1) P) (length-map P (λ q. q .0) ∙ sym (length-map P (λ q. q .1))),
-      ))
-      (old-spelled ts some-tree (K .spells .worded) (K .begins) (K .shallow) formed)
-      (new-spelled ts p.notes ps w H k (K .begins) formed some-tree (R .small .depth))
-      (own-names ts p.notes ps w H)
+    old-small
+    new-small
+    (rw (
+      same-length (map label els) (map measure els) (length-map els label ∙ sym (length-map els measure)),
+      same-length (map label news) (map measure news) (length-map news label ∙ sym (length-map news measure)),
+      same-length (map (λ q. q .0) P) (map (λ q. q .1) P) (length-map P (λ q. q .0) ∙ sym (length-map P (λ q. q .1))),
+    ))
+    (old-spelled ts some-tree (K .spells .worded) (K .begins) (K .shallow) formed)
+    (new-spelled ts p.notes ps w H k (K .begins) formed some-tree (R .small .depth))
+    (own-names ts p.notes ps w H)
     ∙ ap {B = Answer Bool} gives (ap (λ (Q : List (ℕ × ℕ)). accepts (oldTree ts) (newTree w) Q (changedElements (newTable w) w)) (own-zipped P) ∙ own-accepts ts p.notes ps w H some-old roots owners)
 
 -- THE THEOREM: "Our own output, with the surviving paths as pairs, must be accepted if the root was not replaced and no dependent change ended in tree 0."

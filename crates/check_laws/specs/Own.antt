@@ -1,17 +1,17 @@
 -- Our own output keeps each clause, of any performed changes.
 -- Assumes nothing.
-use mathlib.Core.Path.{_≡_, refl, sym, ap, _∙_, subst}
+use mathlib.Core.Path.{_≡_, refl, sym, ap, _∙_}
 use mathlib.Core.Bool.{Bool, true, false, cond, not, _&&_, _||_}
 use mathlib.Core.List.{List, [], _∷_, _++_, map, headD, head-eq-of-cons-eq, List·Memᴰ}
 use mathlib.Core.Logic.{_⊎_, inl, inr}
-use mathlib.Core.Option.{Option, none, some, Option·map, bind}
-use Prim.Native.Nat.{ℕ, zero, suc, _+_, _≤_, _<_}
+use mathlib.Core.Option.{Option, none, some, Option·map}
+use Prim.Native.Nat.{ℕ, suc, _+_, _≤_, _<_}
 use native.Mathlib.Omega.{arith}
 use lib.Dec.{eqb, ltb}
 use lib.ListN.{length, take}
 use borrow.Author.Tests.{eqb-true, eq-eqb, lt-ltb, ltb-true}
-use Rattle.orders.specs.Lists.{any, All, Pairs, pick}
-use Rattle.orders.specs.ListLaws.{bool-absurd, both-true, some-inj, none-some, map-some, bind-some, lt-or-le, mem-pick, pick-mem, mem-any, any-mem, All-mem, Pairs-pick}
+use Rattle.orders.specs.Lists.{any, All, Pairs}
+use Rattle.orders.specs.ListLaws.{bool-absurd, both-true, some-inj, none-some, map-some, lt-or-le, mem-pick, pick-mem, mem-any, any-mem, All-mem, Pairs-pick}
 use Rattle.orders.specs.Tree.{Tree, node, token, forest, list, children, label, Path, resolve, front, last}
 use Rattle.orders.specs.TreeLaws.{front-same, front-last}
 use Rattle.orders.specs.Splices.{Splice, EntersDeleted}
@@ -26,12 +26,12 @@ use Rattle.definition_laws.specs.Spelling.{Worded, forest-worded}
 use Rattle.definition_laws.specs.Kin.{path-leads, path-long, path-tells, depth-path, IsRoot, IsParent, Kin, root, below, kin, parent-is}
 use Rattle.definition_laws.specs.Running.{worded-resolve, follows-begin, present-kind, present-depth, Under, present-under, present-order}
 use Rattle.definition_laws.specs.Held.{Holds, begin-holds, steps-hold}
-use Rattle.definition_account.specs.Words.{wentTo, ChangedApartInNew, count, changedOver, oldElements, is?, oldAt, OneOf, changed, old, EachOneOf, keepsRoot, noDependentIn0}
+use Rattle.definition_account.specs.Words.{wentTo, changedOver, oldElements, is?, oldAt, OneOf, changed, old, EachOneOf, keepsRoot, noDependentIn0}
 use Rattle.definition_account.specs.Run.{Kept, first-present, first-kept, steps-kept, present-within, present-once}
 use Rattle.definition_account.specs.Numbers.{went-path, path-went}
 use Rattle.definition_account.specs.Account.{Performed, performed-apart-in-new, each-one-of, nowhere-if-deleted}
-use Rattle.definition_account.specs.Tokens.{TokensStay, performed-tokens}
-use Rattle.check_laws.specs.Check.{every, isPair, sameBytes, ownText, textAt, noRepeat, arePair, earlier, justOne, rootsPaired, noneTwice, pairsAlike, parentsPaired, ordersAgree, isPaired, isCovered, allAccounted, accepts}
+use Rattle.definition_account.specs.Tokens.{performed-tokens}
+use Rattle.check_laws.specs.Check.{sameBytes, ownText, textAt, arePair, earlier, justOne, rootsPaired, noneTwice, pairsAlike, parentsPaired, ordersAgree, isPaired, isCovered, allAccounted, accepts}
 use Rattle.check_laws.specs.ListLaws.{Pairs-map, every-all, none-any, mem-map, map-mem, numbersOf, numbers-within, within-numbers, numbers-rise, every-number, mem-pair, same-bytes, differ-once, count-any}
 use Rattle.check_laws.specs.Alone.{firstTable, tops-resolve, first-resolve, first-row, first-path, within-first, first-parent, first-child}
 use Rattle.check_laws.specs.Claimed.{oldTree, ownPairs}
