@@ -19,3 +19,4 @@ pub mod Alone
 pub mod Own
 pub mod Formed
 pub mod Output
+pub mod Meaning
