@@ -2,6 +2,7 @@
 -- To know what is said, read:
 --     Check            THE CHECKER: what is claimed, each of the six clauses by name, and the order of the refusals (`checked`)
 --     Examples         claims that are accepted, claims that break one clause each, and the refusals, by computation
+--     Meaning          the six clauses as statements; the checker accepts exactly if they hold (`checked-exactly`)
 --     Claimed          our own output as claims: the old tree, the new tree, the surviving pairs, the changed elements
 --     Output           THE THEOREM: our own output is accepted if the root was not replaced and no dependent change ended in tree 0 (`own-accepted`)
 --     ClaimedExamples  our own output of batches, by computation; each half of the condition is needed
@@ -13,10 +14,10 @@
 pub mod Check
 pub mod Examples
 pub mod ListLaws
+pub mod Meaning
 pub mod Claimed
 pub mod ClaimedExamples
 pub mod Alone
 pub mod Own
 pub mod Formed
 pub mod Output
-pub mod Meaning

@@ -2,22 +2,23 @@
 -- Assumes nothing.
 use mathlib.Core.Path.{_≡_, refl, sym, ap, _∙_, subst}
 use mathlib.Core.Bool.{Bool, true, false, not, _&&_, _||_}
-use mathlib.Core.List.{List, [], _∷_, map, List·Memᴰ, List·Memᴰ·cases-cons, List·Memᴰ·not-nil}
+use mathlib.Core.List.{List, [], _∷_, map, zip, zipWith, _++_, List·Memᴰ, List·Memᴰ·head, List·Memᴰ·tail, List·Memᴰ·cases-cons, List·Memᴰ·not-nil}
 use mathlib.Core.Logic.{_⊎_, inl, inr, _↔_}
 use mathlib.Core.Option.{Option, none, some}
 use Prim.Native.Nat.{ℕ, _<_}
 use native.Mathlib.Omega.{arith}
-use lib.Dec.{eqb, ltb}
+use lib.Dec.{leb, eqb, ltb}
 use lib.ListN.{length}
-use borrow.Author.Tests.{eqb-true, eqb-false, eq-eqb, lt-ltb, ltb-true, not-true, not-false}
-use Rattle.orders.specs.Lists.{any, All, Pairs}
-use Rattle.orders.specs.ListLaws.{bool-absurd, both-true, either-true, some-inj, none-some, any-over, any-mem, mem-any, none-passes, All-map, All-mem}
+use borrow.Author.Tests.{leb-false, eqb-true, eq-eqb, lt-ltb, ltb-true, not-true}
+use Rattle.orders.specs.Lists.{any, Pairs}
+use Rattle.orders.specs.ListLaws.{bool-absurd, both-true, either-true, either-false, any-over, any-mem, mem-any, none-passes, All-map, All-mem}
 use Rattle.orders.specs.Tree.{Tree, Path}
-use Rattle.definition.specs.Basics.{isSome, among, numbered}
-use Rattle.definition.specs.Elements.{Table, table, row, node?, parent, child, placeBelow}
+use Rattle.definition.specs.Basics.{Answer, gives, _>>=_, refuse, orRefuse, isSome, among, numbered}
+use Rattle.definition.specs.Elements.{Table, table, row, node?, parent, child, placeBelow, spelled}
 use Rattle.definition.specs.Refusals.{sameParent}
-use Rattle.check_laws.specs.Check.{every, isPair, sameBytes, textAt, noRepeat, arePair, earlier, justOne, rootsPaired, noneTwice, pairsAlike, parentsPaired, ordersAgree, isPaired, isCovered, allAccounted, accepts}
-use Rattle.check_laws.specs.ListLaws.{Pairs-map, every-all, none-any, mem-map, map-mem, numbersOf, within-numbers, every-number, mem-pair, same-bytes, differ-once}
+use Rattle.definition_laws.specs.Answers.{gives-inj, given, not-wrong, is-there}
+use Rattle.check_laws.specs.Check.{Claims, tooBig, unequal, alone, namesNone, every, isPair, sameBytes, textAt, noRepeat, arePair, earlier, justOne, rootsPaired, noneTwice, pairsAlike, parentsPaired, ordersAgree, isPaired, isCovered, allAccounted, accepts, checked}
+use Rattle.check_laws.specs.ListLaws.{every-all, mem-map, map-mem, numbersOf, within-numbers, every-number, mem-pair, same-bytes, differ-once}
 
 -- ── What is said ────────────────────────────────────────────────────────────────────────────────────────────
 
@@ -263,3 +264,67 @@ module _ (os ns : List (Tree ℕ)) (P : List (ℕ × ℕ)) (changed : List ℕ) 
     -- "It accepts exactly if"
     pub accepts-exactly : (accepts os ns P changed ≡ true) ↔ Says os ns P changed
     accepts-exactly = (accepts-says, says-accepts)
+
+-- ── The checker ─────────────────────────────────────────────────────────────────────────────────────────────
+
+-- what 3, 4, 5 and 19 let pass, and the trees that it spells
+pub record Passed (c : Claims) : Type 0 where
+  pub os : List (Tree ℕ)
+  pub ns : List (Tree ℕ)
+  pub old-small : tooBig c.old ≡ false
+  pub new-small : tooBig c.new ≡ false
+  pub equal : unequal c ≡ false
+  pub old : spelled (alone c.old) ≡ some os
+  pub new : spelled (alone c.new) ≡ some ns
+  pub named : namesNone (table 0 0 os) (table 0 0 ns) c ≡ false
+
+pub passed-gives : (c : Claims) (p : Passed c) → checked c ≡ gives (accepts (p .os) (p .ns) (zip c.olds c.news) c.changed)
+unfolding checked refuse orRefuse _>>=_
+passed-gives c p = rw (p .old-small, p .new-small, p .equal, p .old, p .new, p .named)
+
+-- nothing else is answered
+pub gives-passed : (c : Claims) (b : Bool) → checked c ≡ gives b → Passed c
+unfolding checked
+gives-passed c b e =
+    given (refuse 3 (tooBig c.old || tooBig c.new)) _ e λ u x e.
+    given (refuse 4 (unequal c)) _ e λ u y e.
+    given (orRefuse 5 (spelled (alone c.old))) _ e λ os o e.
+    given (orRefuse 5 (spelled (alone c.new))) _ e λ ns n e.
+    given (refuse 19 (namesNone (table 0 0 os) (table 0 0 ns) c)) _ e λ u z e.
+    let (s, t) = either-false (tooBig c.old) (tooBig c.new) (not-wrong 3 _ x) in
+    record { os = os; ns = ns; old-small = s; new-small = t; equal = not-wrong 4 _ y; old = is-there 5 _ o; new = is-there 5 _ n; named = not-wrong 19 _ z }
+
+zip-second : (l m : List ℕ) (x y : ℕ) → List·Memᴰ (x, y) (zip l m) → List·Memᴰ y m
+unfolding zip zipWith
+zip-second [] m x y e = absurd (List·Memᴰ·not-nil e)
+zip-second (a ∷ l) [] x y e = absurd (List·Memᴰ·not-nil e)
+zip-second (a ∷ l) (b ∷ m) x y e = go (List·Memᴰ·cases-cons e) (zip-second l m x y)
+  where
+    go : (_≡_ {A = ℕ × ℕ} (x, y) (a, b)) ⊎ List·Memᴰ (x, y) (zip l m) → (List·Memᴰ (x, y) (zip l m) → List·Memᴰ y m) → List·Memᴰ y (b ∷ m)
+    go (inl q) r = List·Memᴰ·head (ap (λ (p : ℕ × ℕ). p .1) q)
+    go (inr q) r = List·Memᴰ·tail (r q)
+
+-- the new element of each pair is one of the new tree
+passed-within : (c : Claims) (p : Passed c) (x y : ℕ) → List·Memᴰ (x, y) (zip c.olds c.news) → y < length (table 0 0 (p .ns))
+unfolding namesNone
+passed-within c p x y m =
+    let test = leb (length (table 0 0 (p .ns))) in
+    let (a, b) = either-false (any (leb (length (table 0 0 (p .os)))) c.olds) (any test (c .news ++ c .changed)) (p .named) in
+    leb-false (length (table 0 0 (p .ns))) y (All-mem (λ y. test y ≡ false) (c .news ++ c .changed) y (none-passes test (c .news ++ c .changed) b) (in-left c.news c.changed y (zip-second c.olds c.news x y m)))
+  where
+    in-left : (l m : List ℕ) (y : ℕ) → List·Memᴰ y l → List·Memᴰ y (l ++ m)
+    in-left [] m y e = absurd (List·Memᴰ·not-nil e)
+    in-left (z ∷ l) m y e = go (List·Memᴰ·cases-cons e) (in-left l m y)
+      where
+        go : (y ≡ z) ⊎ List·Memᴰ y l → (List·Memᴰ y l → List·Memᴰ y (l ++ m)) → List·Memᴰ y (z ∷ (l ++ m))
+        go (inl q) r = List·Memᴰ·head q
+        go (inr q) r = List·Memᴰ·tail (r q)
+
+-- THE CHECKER ACCEPTS EXACTLY IF the refusals let the claims pass and the six clauses hold
+pub checked-exactly : (c : Claims) → (checked c ≡ gives true) ↔ ((p : Passed c) × Says (p .os) (p .ns) (zip c.olds c.news) c.changed)
+checked-exactly c = (there, λ r. passed-gives c (r .0) ∙ ap {B = Answer Bool} gives (says-accepts (r .0 .os) (r .0 .ns) (zip c.olds c.news) c.changed (r .1)))
+  where
+    there : checked c ≡ gives true → (p : Passed c) × Says (p .os) (p .ns) (zip c.olds c.news) c.changed
+    there e =
+        let p = gives-passed c true e in
+        (p, accepts-says (p .os) (p .ns) (zip c.olds c.news) c.changed (passed-within c p) (gives-inj (sym (passed-gives c p) ∙ e)))

@@ -12,7 +12,7 @@ use borrow.Author.Tests.{eqb-true, eq-eqb, le-ltb, lt-leb}
 use Rattle.orders.specs.Lists.{any, All}
 use Rattle.orders.specs.ListLaws.{bool-absurd, both-true, some-inj, none-some, All-mem, All-pick, All-perm}
 use Rattle.orders.specs.Tree.{Tree, Trees, node, token, nil, cons, list, children, label, measure, text, preorder, deepest, deepestOf, Path}
-use Rattle.definition.specs.Basics.{Answer, gives, _>>=_, refuse, orRefuse}
+use Rattle.definition.specs.Basics.{Answer, gives, _>>=_}
 use Rattle.definition.specs.Choices.{Choices}
 use Rattle.definition.specs.Elements.{Table, rows, table, row, isNode, malformed, startsWithToken, unspelled, spelled, descend}
 use Rattle.definition.specs.Refusals.{Accepted, accepted}
@@ -33,6 +33,7 @@ use Rattle.definition_account.specs.Changed.{changed-lead, changed-numbers}
 use Rattle.definition_account.specs.Account.{Performed, ran-performed}
 use Rattle.check_laws.specs.Check.{Flat, Claims, tooBig, unequal, alone, namesNone, accepts, checked}
 use Rattle.check_laws.specs.ListLaws.{none-any, none-append, mem-map, same-pairs}
+use Rattle.check_laws.specs.Meaning.{passed-gives}
 use Rattle.check_laws.specs.Alone.{firstTable, first-resolve, tops-resolve, first-there}
 use Rattle.check_laws.specs.Claimed.{oldTree, flatOf, ownPairs, ownClaims, ownOutput, plainRun}
 use Rattle.check_laws.specs.Own.{Pair, in-pair, in-new, roots-stay, same-kind, kept, held, own-accepts}
@@ -149,12 +150,6 @@ module _ (ts : List (Tree ℕ)) (notes : List Note) (ps : List Planned) (w : Wor
 own-zipped : (P : List (ℕ × ℕ)) → zip (map (λ p. p .0) P) (map (λ p. p .1) P) ≡ P
 own-zipped P = zip-map (λ p. p .0) (λ p. p .1) P ∙ same-pairs P
 
--- what is let pass by 3, 4, 5 and 19 is accepted exactly by the clauses
-pub checked-gives : (c : Claims) (os ns : List (Tree ℕ)) → tooBig c.old ≡ false → tooBig c.new ≡ false → unequal c ≡ false → spelled (alone c.old) ≡ some os → spelled (alone c.new) ≡ some ns → namesNone (table 0 0 os) (table 0 0 ns) c ≡ false
-    → checked c ≡ gives (accepts os ns (zip c.olds c.news) c.changed)
-unfolding checked refuse orRefuse _>>=_
-checked-gives c os ns a b u d e f = rw (a, b, u, d, e, f)
-
 -- a tree of so many elements and bytes passes 3
 small-flat : (t : Flat) → length t.kinds ≤ 4096 → length t.measures ≤ 4096 → length t.text ≤ 16384 → tooBig t ≡ false
 unfolding tooBig
@@ -192,17 +187,20 @@ own-claims-accepted h bytes a p w x y e r d =
     let long : length (flatMap preorder ts) ≤ 2048 = omega (arith, length-map (flatMap preorder ts) label, ap length (K .spells .kinds), K .long .kinds, K .limits .elements) in
     let old-small = small-flat (flatOf (oldTree ts)) (omega (arith, length-map els label, part-length preorder ts)) (omega (arith, length-map els measure, part-length preorder ts)) (omega (arith, part-length text ts, ap length (K .spells .written), K .long .text, K .limits .text)) in
     let new-small = small-flat (flatOf (newTree w)) (within .elements) (omega (arith, within .elements, within .measures)) (within .text) in
-    checked-gives (ownClaims a w (result p.changes p.climbs w)) (oldTree ts) (newTree w)
-    old-small
-    new-small
-    (rw (
-      same-length (map label els) (map measure els) (length-map els label ∙ sym (length-map els measure)),
-      same-length (map label news) (map measure news) (length-map news label ∙ sym (length-map news measure)),
-      same-length (map (λ q. q .0) P) (map (λ q. q .1) P) (length-map P (λ q. q .0) ∙ sym (length-map P (λ q. q .1))),
-    ))
-    (old-spelled ts some-tree (K .spells .worded) (K .begins) (K .shallow) formed)
-    (new-spelled ts p.notes ps w H k (K .begins) formed some-tree (R .small .depth))
-    (own-names ts p.notes ps w H)
+    passed-gives (ownClaims a w (result p.changes p.climbs w)) (record {
+      os = oldTree ts;
+      ns = newTree w;
+      old-small = old-small;
+      new-small = new-small;
+      equal = rw (
+        same-length (map label els) (map measure els) (length-map els label ∙ sym (length-map els measure)),
+        same-length (map label news) (map measure news) (length-map news label ∙ sym (length-map news measure)),
+        same-length (map (λ q. q .0) P) (map (λ q. q .1) P) (length-map P (λ q. q .0) ∙ sym (length-map P (λ q. q .1))),
+      );
+      old = old-spelled ts some-tree (K .spells .worded) (K .begins) (K .shallow) formed;
+      new = new-spelled ts p.notes ps w H k (K .begins) formed some-tree (R .small .depth);
+      named = own-names ts p.notes ps w H;
+    })
     ∙ ap {B = Answer Bool} gives (ap (λ (Q : List (ℕ × ℕ)). accepts (oldTree ts) (newTree w) Q (changedElements (newTable w) w)) (own-zipped P) ∙ own-accepts ts p.notes ps w H some-old roots owners)
 
 -- THE THEOREM: "Our own output, with the surviving paths as pairs, must be accepted if the root was not replaced and no dependent change ended in tree 0."
