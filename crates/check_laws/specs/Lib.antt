@@ -15,6 +15,7 @@ pub mod Check
 pub mod Examples
 pub mod ListLaws
 pub mod Meaning
+pub mod Sweep
 pub mod Claimed
 pub mod ClaimedExamples
 pub mod Alone
