@@ -1,23 +1,72 @@
--- Clause 6 in one sweep: an element is at or below a changed one exactly if it is changed, or its parent is at or below one. In preorder the parent comes first.
+-- Laws for one sweep in preorder. Clause 5: siblings stand in the order of their numbers. Clause 6: an element is at or below a changed one exactly if it is changed, or its parent,
+-- which comes first, is at or below one.
 -- Assumes nothing.
 use mathlib.Core.Path.{_≡_, refl, sym, ap, _∙_}
 use mathlib.Core.Bool.{Bool, true, false, cond, _&&_, _||_}
 use mathlib.Core.List.{List, [], _∷_, _++_}
-use mathlib.Core.Option.{Option, none, some}
-use Prim.Native.Nat.{ℕ, _<_}
+use mathlib.Core.Logic.{_⊎_, inl, inr, _↔_}
+use mathlib.Core.Option.{none, some}
+use Prim.Native.Nat.{ℕ, zero, suc, _+_, _≤_, _<_}
 use native.Mathlib.Omega.{arith}
 use lib.Dec.{eqb}
-use lib.ListN.{length}
+use lib.ListN.{length, getElem?}
 use borrow.Author.Tests.{eq-eqb, ne-eqb}
 use Rattle.orders.specs.Lists.{any, All}
-use Rattle.orders.specs.ListLaws.{bool-absurd, none-some, All-map}
-use Rattle.orders.specs.Tree.{Tree, Path, strip}
+use Rattle.orders.specs.ListLaws.{bool-absurd, some-inj, none-some, lt-or-le, All-map}
+use Rattle.orders.specs.Tree.{Tree, Trees, node, token, nil, cons, elements, children, Path, strip}
 use Rattle.definition.specs.Basics.{isSome, among}
-use Rattle.definition.specs.Elements.{Table, table, row, parent, child, tree, placeBelow}
-use Rattle.definition_laws.specs.Kin.{path-long, path-tells, Kin, root, below, kin, parent-is}
+use Rattle.definition.specs.Elements.{Table, numbers, table, row, parent, child, tree, placeBelow}
+use Rattle.definition_laws.specs.Rows.{rowOf}
+use Rattle.definition_laws.specs.Kin.{IsParent, stands, path-long, path-tells, Kin, root, below, kin, parent-is}
 use Rattle.check_laws.specs.Check.{sameBytes, isCovered}
 use Rattle.check_laws.specs.ListLaws.{same-bytes}
 use Rattle.check_laws.specs.Meaning.{bytes-same}
+
+-- ── 5: siblings by number ───────────────────────────────────────────────────────────────────────────────────
+
+numbers-after : (cs : Trees ℕ) (n i b : ℕ) → getElem? (numbers n cs) i ≡ some b → n ≤ b
+unfolding numbers
+numbers-after nil n i b e = none-some e
+numbers-after (cons c cs) n zero b e = omega (arith, some-inj e)
+numbers-after (cons c cs) n (suc i) b e = omega (arith, numbers-after cs (n + elements c) i b e)
+
+-- the numbers of trees one behind another rise
+children-rise : (cs : Trees ℕ) (n i j a b : ℕ) → getElem? (numbers n cs) i ≡ some a → getElem? (numbers n cs) j ≡ some b → i < j → a < b
+unfolding numbers elements
+children-rise nil n i j a b e f h = none-some e
+children-rise (cons c cs) n i zero a b e f h = absurd (omega arith)
+children-rise (cons c cs) n zero (suc j) a b e f h = omega (arith, some-inj e, some-there c, numbers-after cs (n + elements c) j b f)
+  where
+    some-there : (t : Tree ℕ) → 0 < elements t
+    some-there (node w ds) = omega arith
+    some-there (token w own) = omega arith
+children-rise (cons c cs) n (suc i) (suc j) a b e f h = children-rise cs (n + elements c) i j a b e f (omega arith)
+
+-- so of two siblings the one with the lower child number has the lower number
+pub sibling-rise : (ts : List (Tree ℕ)) (m x y : ℕ) → IsParent ts m x → IsParent ts m y → child (table 0 0 ts) x < child (table 0 0 ts) y → x < y
+unfolding rowOf
+sibling-rise ts m x y i j h =
+    let s = stands ts m (i .within) in
+    let told : (row (table 0 0 ts) m) .children ≡ numbers (suc (s .here .number)) (children (s .here .tree)) = ap (λ r. r .children) (s .told) in
+    children-rise (children (s .here .tree)) (suc (s .here .number)) (child (table 0 0 ts) x) (child (table 0 0 ts) y) x y
+    (ap (λ (l : List ℕ). getElem? l (child (table 0 0 ts) x)) (sym told) ∙ i .child) (ap (λ (l : List ℕ). getElem? l (child (table 0 0 ts) y)) (sym told) ∙ j .child) h
+
+-- and the other way round
+pub sibling-order : (ts : List (Tree ℕ)) (m x y : ℕ) → IsParent ts m x → IsParent ts m y → (child (table 0 0 ts) x < child (table 0 0 ts) y) ↔ (x < y)
+sibling-order ts m x y i j = (sibling-rise ts m x y i j, λ l. go l (lt-or-le (child (table 0 0 ts) x) (child (table 0 0 ts) y)))
+  where
+    go : x < y → (child (table 0 0 ts) x < child (table 0 0 ts) y) ⊎ (child (table 0 0 ts) y ≤ child (table 0 0 ts) x) → child (table 0 0 ts) x < child (table 0 0 ts) y
+    go l (inl k) = k
+    go l (inr k) = absurd (by (lt-or-le (child (table 0 0 ts) y) (child (table 0 0 ts) x)))
+      where
+        by : (child (table 0 0 ts) y < child (table 0 0 ts) x) ⊎ (child (table 0 0 ts) x ≤ child (table 0 0 ts) y) → ⊥
+        by (inl z) = omega (arith, sibling-rise ts m y x j i z)
+        by (inr z) =
+            let same : child (table 0 0 ts) x ≡ child (table 0 0 ts) y = omega arith in
+            let xy : x ≡ y = some-inj (sym (i .child) ∙ (ap (λ (k : ℕ). getElem? ((row (table 0 0 ts) m) .children) k) same ∙ j .child)) in
+            omega arith
+
+-- ── 6: what is covered ──────────────────────────────────────────────────────────────────────────────────────
 
 -- below a child's path: below its parent's, or that path itself
 strip-child : (c p : Path) (i : ℕ) → isSome (strip c (p ++ (i ∷ []))) ≡ (isSome (strip c p) || sameBytes c (p ++ (i ∷ [])))
@@ -98,7 +147,7 @@ module _ (os ns : List (Tree ℕ)) (P : List (ℕ × ℕ)) (changed : List ℕ) 
         let i = parent-is ns y m l e in
         any-either (λ c. isSome (placeBelow N c y)) (eqb y) (λ c. isSome (placeBelow N c m)) changed
         (All-map (λ c k. ap (λ (p : Path). isSome (strip ((row N c) .path) p)) (i .path)
-            ∙ (strip-child ((row N c) .path) ((row N m) .path) (child N y)
-            ∙ (ap (λ (p : Path). isSome (strip ((row N c) .path) ((row N m) .path)) || sameBytes ((row N c) .path) p) (sym (i .path))
-            ∙ (ap (λ (b : Bool). isSome (strip ((row N c) .path) ((row N m) .path)) || b) (same-path c y k l)
-            ∙ or-comm (isSome (strip ((row N c) .path) ((row N m) .path))) (eqb y c))))) changed named)
+        ∙ (strip-child ((row N c) .path) ((row N m) .path) (child N y)
+        ∙ (ap (λ (p : Path). isSome (strip ((row N c) .path) ((row N m) .path)) || sameBytes ((row N c) .path) p) (sym (i .path))
+        ∙ (ap (λ (b : Bool). isSome (strip ((row N c) .path) ((row N m) .path)) || b) (same-path c y k l)
+        ∙ or-comm (isSome (strip ((row N c) .path) ((row N m) .path))) (eqb y c))))) changed named)
