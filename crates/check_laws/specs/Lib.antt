@@ -8,6 +8,7 @@
 --     ClaimedExamples  our own output of batches, by computation; each half of the condition is needed
 -- The proof, each file resting on those above it:
 --     ListLaws         of the tests that the clauses are made of
+--     Sweep            for code: siblings by number, and what is covered, in one sweep in preorder (`sibling-order`, `covered-below`)
 --     Alone            the first tree, taken alone, is as it is among all
 --     Own              each clause, of any performed changes (`own-1` to `own-6`, `own-accepts`)
 --     Formed           kind words keep their form, whatever steps are performed; so the new tree passes line 5
@@ -15,6 +16,7 @@ pub mod Check
 pub mod Examples
 pub mod ListLaws
 pub mod Meaning
+pub mod Sweep
 pub mod Claimed
 pub mod ClaimedExamples
 pub mod Alone

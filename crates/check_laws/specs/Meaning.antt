@@ -90,7 +90,7 @@ pair-mem P x y e =
     let (a, b) = both-true (eqb (p .0) x) (eqb (p .1) y) t in
     subst (λ (q : ℕ × ℕ). List·Memᴰ q P) (λ i. (eqb-true (p .0) x a i, eqb-true (p .1) y b i)) m
 
-bytes-same : (l m : List ℕ) → sameBytes l m ≡ true → l ≡ m
+pub bytes-same : (l m : List ℕ) → sameBytes l m ≡ true → l ≡ m
 unfolding sameBytes
 bytes-same [] [] e = refl
 bytes-same [] (b ∷ m) e = bool-absurd e refl
