@@ -1,7 +1,7 @@
 -- From what the run leaves to the new tree in order, and from there to the words that are written.
 -- Assumes nothing.
 use mathlib.Core.Path.{_≡_, sym, ap, _∙_}
-use mathlib.Core.List.{List}
+use mathlib.Core.List.{List, map}
 use Prim.Native.Nat.{ℕ, _+_, _-_, _*_, _/_, _≤_}
 use native.Mathlib.Nat.{zero-add}
 use native.Mathlib.Numerals.{add-one}
@@ -12,6 +12,7 @@ use Rattle.rows_model.specs.Row.{Row, triples, firstRows}
 use Rattle.rows_model.specs.Place.{subtree}
 use Rattle.rows_model.specs.Words.{length-triples}
 use Rattle.rows_syntax_node.specs.Promises.{Part}
+use Rattle.run_annotations.specs.Changed.{changedOf, changedIn}
 use Rattle.run_annotations.specs.Notes.{notesOf, notes-same}
 use Rattle.run_tree_store.specs.Stored.{stored}
 use Rattle.finish_model.specs.Finished.{firstTree, starts, resultOf}
@@ -34,10 +35,10 @@ notes-part k r w h b =
 module _ (d tree starts text changed notes : List ℕ) (c k discarded climbs : ℕ) where
   pub tree-answered : {changed′ notes′ : List ℕ} {from first : ℕ} {out : List ℕ} {a : Finished} → 3 * k ≤ length notes → ChangedSorted changed c (length tree / 3 + 1) starts changed′ from → NotesSorted notes k (length tree / 3 + 1) starts notes′ first
       → Answered d (toldResult discarded climbs tree text (take (c - from) (drop from changed′)) (take (3 * k - 3 * first) (drop (3 * first) notes′))) out a
-      → Answered d (resultIn discarded climbs (triples text tree) (changedBy starts (length tree / 3) (take c changed)) (notesBy starts (length tree / 3) (notesOf k notes))) out a
-  unfolding changedBy notesBy
+      → Answered d (resultIn discarded climbs (triples text tree) (changedBy starts (length tree / 3) (changedIn c changed)) (notesBy starts (length tree / 3) (notesOf k notes))) out a
+  unfolding changedBy notesBy changedIn
   tree-answered {changed′} {notes′} {from} {first} {out} {a} b p q w =
-      let e : take (c - from) (drop from changed′) ≡ changedBy starts (length tree / 3) (take c changed) = p .numbers ∙ rw (add-one (length tree / 3)) in
+      let e : map changedOf (take (c - from) (drop from changed′)) ≡ changedBy starts (length tree / 3) (changedIn c changed) = p .numbers ∙ rw (add-one (length tree / 3)) in
       let f : notesOf (length (take (3 * k - 3 * first) (drop (3 * first) notes′)) / 3) (take (3 * k - 3 * first) (drop (3 * first) notes′)) ≡ notesBy starts (length tree / 3) (notesOf k notes) =
       notes-part k first notes′ (q .high) (omega (arith, q .long)) ∙ (q .notes ∙ rw (add-one (length tree / 3))) in
       rw (← e, ← f) w
@@ -54,14 +55,14 @@ module _ {rows : List ℕ} {n : ℕ} {tree : List ℕ} (p : Part rows n 1 tree) 
 
   module _ (d text starts₀ notes changed : List ℕ) (k c discarded climbs : ℕ) where
     pub finish-answered : {starts′ out : List ℕ} {a : Finished} → length tree ≤ 3 * length starts₀ → Starts tree starts₀ starts′
-        → Answered d (resultIn discarded climbs (triples text tree) (changedBy (take (length tree / 3) starts′) (length tree / 3) (take c changed)) (notesBy (take (length tree / 3) starts′) (length tree / 3) (notesOf k notes))) out a
-        → (marks : List ℕ) → Answered d (resultOf discarded climbs (stored text n rows marks (notesOf k notes) (take c changed))) out a
+        → Answered d (resultIn discarded climbs (triples text tree) (changedBy (take (length tree / 3) starts′) (length tree / 3) (changedIn c changed)) (notesBy (take (length tree / 3) starts′) (length tree / 3) (notesOf k notes))) out a
+        → (marks : List ℕ) → Answered d (resultOf discarded climbs (stored text n rows marks (notesOf k notes) (changedIn c changed))) out a
     unfolding stored firstTree
     finish-answered {starts′} {out} {a} h f w marks =
         let T : List Row = triples text tree in
         let e : take (length tree / 3) starts′ ≡ starts 0 T = starts-listed text starts₀ starts′ h (f .listed text) in
         let m : length tree / 3 ≡ length T = sym (length-triples text tree) in
         let t : T ≡ subtree (firstRows text n rows) 1 = p .told text in
-        let g : resultOf discarded climbs (stored text n rows marks (notesOf k notes) (take c changed)) ≡ resultIn discarded climbs T (changedBy (starts 0 T) (length T) (take c changed)) (notesBy (starts 0 T) (length T) (notesOf k notes)) =
-        result-in discarded climbs (stored text n rows marks (notesOf k notes) (take c changed)) ∙ rw (← t) in
+        let g : resultOf discarded climbs (stored text n rows marks (notesOf k notes) (changedIn c changed)) ≡ resultIn discarded climbs T (changedBy (starts 0 T) (length T) (changedIn c changed)) (notesBy (starts 0 T) (length T) (notesOf k notes)) =
+        result-in discarded climbs (stored text n rows marks (notesOf k notes) (changedIn c changed)) ∙ rw (← t) in
         rw (g, ← e, ← m) w
