@@ -113,8 +113,8 @@ unfolding rowsOf rowAt
 rows-each P zero w h i b = absurd (omega arith)
 rows-each P (suc c) w h zero b = h .0
 rows-each P (suc c) w h (suc i) b =
-    let e : 13 * suc i ≡ 13 + 13 * i = omega arith in
-    rw (e, ← drop-drop (13 * i) 13 w) (rows-each P c (drop 13 w) (h .1) i (omega arith))
+    let e : 14 * suc i ≡ 14 + 14 * i = omega arith in
+    rw (e, ← drop-drop (14 * i) 14 w) (rows-each P c (drop 14 w) (h .1) i (omega arith))
 
 -- c rows with their fates, as the second stage goes by them
 pub record RowsFated (n : ℕ) (T : Table) (listed : List ℕ) (c : ℕ) (w : List ℕ) : Type 0 where
@@ -125,7 +125,7 @@ pub record RowsFated (n : ℕ) (T : Table) (listed : List ℕ) (c : ℕ) (w : Li
   pub owned : (i : ℕ) → i < c → (rowAt w i) .fate ≡ 1 → ((rowAt w i) .owner < c) × ((rowAt w ((rowAt w i) .owner)) .operation ≡ 2)
 
 -- what rewriting asks of them
-pub rewritable : (n : ℕ) (T : Table) (listed : List ℕ) (c : ℕ) (w : List ℕ) → RowsFated n T listed c w → 13 * c ≤ length w → All (λ e. e < n) listed → Rewritable n listed w c
+pub rewritable : (n : ℕ) (T : Table) (listed : List ℕ) (c : ℕ) (w : List ℕ) → RowsFated n T listed c w → 14 * c ≤ length w → All (λ e. e < n) listed → Rewritable n listed w c
 rewritable n T listed c w F fits elements =
     record { few = F .few; long = fits; elements = elements; stated = λ i h. (rows-each (Kept n T listed) c w (F .kept) i h) .stated; owned = F .owned }
 

@@ -57,7 +57,7 @@ stepsOf (NotRewritten number) = 0
 -- the row at place i is written as wanted, or refused, and the rows behind it stay
 pub record RowRewritten (want : Answer (ChangeRow × ℕ)) (i : ℕ) (before after : List ℕ) (answer : Rewritten) : Type 0 where
   pub row : rewrittenBy answer (rowAt after i) ≡ want
-  pub behind : drop (13 * suc i) after ≡ drop (13 * suc i) before
+  pub behind : drop (14 * suc i) after ≡ drop (14 * suc i) before
   pub few : stepsOf answer ≤ 4096
 
 -- what a judged change becomes as the row r

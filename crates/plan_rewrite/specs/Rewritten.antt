@@ -229,10 +229,10 @@ module _ (T : Table) (mapped : ℕ → Option ℕ) (listed : List ℕ) where
 all-rows : (P : ChangeRow → Type 0) (w : List ℕ) (c : ℕ) → ((i : ℕ) → i < c → P (rowAt w i)) → All P (rowsOf c w)
 unfolding rowsOf rowAt
 all-rows P w zero h = tt
-all-rows P w (suc c) h = (h 0 (omega arith), all-rows P (drop 13 w) c (λ i b. rw (behind i) (h (suc i) (omega arith))))
+all-rows P w (suc c) h = (h 0 (omega arith), all-rows P (drop 14 w) c (λ i b. rw (behind i) (h (suc i) (omega arith))))
   where
-    behind : (i : ℕ) → drop (13 * i) (drop 13 w) ≡ drop (13 * suc i) w
-    behind i = let e : 13 * suc i ≡ 13 + 13 * i = omega arith in rw e (drop-drop (13 * i) 13 w)
+    behind : (i : ℕ) → drop (14 * i) (drop 14 w) ≡ drop (14 * suc i) w
+    behind i = let e : 14 * suc i ≡ 14 + 14 * i = omega arith in rw e (drop-drop (14 * i) 14 w)
 
 map-both : (listed : List ℕ) (rs : List ChangeRow) → map (λ (p : Planned). p .change) (map (planOf listed) rs) ≡ map (changeOf listed) rs
 unfolding planOf

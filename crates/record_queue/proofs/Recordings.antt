@@ -45,20 +45,20 @@ unfolding isSingle
 single-delete op e = rw (ne-eqb op 2 e)
 
 module _ (w : List ℕ) (k : ℕ) where
-  first-word : (v : ℕ) → v ≡ getD w (13 * k) 0 → v ≡ (rowAt w k) .operation
+  first-word : (v : ℕ) → v ≡ getD w (14 * k) 0 → v ≡ (rowAt w k) .operation
   unfolding rowAt rowOf
-  first-word v e = e ∙ sym (getD-drop (13 * k) w 0 0 ∙ ap (λ (i : ℕ). getD w i 0) (omega arith))
+  first-word v e = e ∙ sym (getD-drop (14 * k) w 0 0 ∙ ap (λ (i : ℕ). getD w i 0) (omega arith))
 
-  second-word : (v : ℕ) → v ≡ getD w (13 * k + 1) 0 → v ≡ (rowAt w k) .target
+  second-word : (v : ℕ) → v ≡ getD w (14 * k + 1) 0 → v ≡ (rowAt w k) .target
   unfolding rowAt rowOf
-  second-word v e = e ∙ sym (getD-drop (13 * k) w 1 0)
+  second-word v e = e ∙ sym (getD-drop (14 * k) w 1 0)
 
-  module _ (x z : ℕ) (h : z ≡ getD w (13 * k + 1) 0) where
+  module _ (x z : ℕ) (h : z ≡ getD w (14 * k + 1) 0) where
     pub meets-other : (x ≡ z → ⊥) → false ≡ meetsSingle x (rowAt w k)
     unfolding meetsSingle
     meets-other n = rw (← second-word z h, ne-eqb x z n, and-false)
 
-    pub meets-target : x ≡ z → (v : ℕ) → v ≡ getD w (13 * k) 0 → (t : Bool) → t ≡ isSingle v → t ≡ meetsSingle x (rowAt w k)
+    pub meets-target : x ≡ z → (v : ℕ) → v ≡ getD w (14 * k) 0 → (t : Bool) → t ≡ isSingle v → t ≡ meetsSingle x (rowAt w k)
     unfolding meetsSingle
     meets-target e v f t g = rw (← second-word z h, eq-eqb x z e, and-true, ← first-word v f) g
 
@@ -113,13 +113,13 @@ module _ (w : List ℕ) (start count op x : ℕ) (t : Bool) (e : t ≡ isSingle 
 
 module _ (r : ChangeRow) (start count : ℕ) (w : List ℕ) (h : start ≤ count) (k : ℕ) (e : k ≡ start + place (meetsBy (r .operation) (r .target)) (drop start (rowsOf count w))) where
   -- what is written at the place of a row leaves what stands behind it
-  behind : (c : ℕ) → suc k ≤ c → 13 * k + 13 ≤ length w → drop (13 * c) (paste w (13 * k) (rowWords r) 13) ≡ drop (13 * c) w
+  behind : (c : ℕ) → suc k ≤ c → 14 * k + 14 ≤ length w → drop (14 * c) (paste w (14 * k) (rowWords r) 14) ≡ drop (14 * c) w
   behind c b l =
-      let f : 13 * c ≡ 13 * k + 13 + (13 * c - (13 * k + 13)) = omega arith in
-      let j : ℕ = 13 * c - (13 * k + 13) in
-      rw (f, ← drop-drop j (13 * k + 13) (paste w (13 * k) (rowWords r) 13), drop-paste w (13 * k) (rowWords r) 13 (omega arith) (omega (arith, length-row r)), drop-drop j (13 * k + 13) w)
+      let f : 14 * c ≡ 14 * k + 14 + (14 * c - (14 * k + 14)) = omega arith in
+      let j : ℕ = 14 * c - (14 * k + 14) in
+      rw (f, ← drop-drop j (14 * k + 14) (paste w (14 * k) (rowWords r) 14), drop-paste w (14 * k) (rowWords r) 14 (omega arith) (omega (arith, length-row r)), drop-drop j (14 * k + 14) w)
 
-  pub put-added : (w′ : List ℕ) → k ≡ count → 13 * count + 13 ≤ length w → w′ ≡ paste w (13 * k) (rowWords r) 13 → Put r start count w (count + 1) w′
+  pub put-added : (w′ : List ℕ) → k ≡ count → 14 * count + 14 ≤ length w → w′ ≡ paste w (14 * k) (rowWords r) 14 → Put r start count w (count + 1) w′
   put-added w′ q l p =
       record {
         low = omega arith;
@@ -130,7 +130,7 @@ module _ (r : ChangeRow) (start count : ℕ) (w : List ℕ) (h : start ≤ count
         beyond = rw p (behind (count + 1) (omega arith) (omega arith));
       }
 
-  module _ (b : k ≤ count) (n : k ≡ count → ⊥) (l : 13 * count + 13 ≤ length w) (v : ℕ) (f : v ≡ getD w (13 * k) 0) where
+  module _ (b : k ≤ count) (n : k ≡ count → ⊥) (l : 14 * count + 14 ≤ length w) (v : ℕ) (f : v ≡ getD w (14 * k) 0) where
     found : take start (rowsOf count w) ++ put meetsRow mergedRow r (drop start (rowsOf count w)) ≡ take k (rowsOf count w) ++ (mergedRow r (rowAt w k) ∷ drop (suc k) (rowsOf count w))
     found =
         let m : k < count = omega (arith, n) in
@@ -151,7 +151,7 @@ module _ (r : ChangeRow) (start count : ℕ) (w : List ℕ) (h : start ≤ count
         }
 
     -- any other row is written over
-    pub put-over : (w′ : List ℕ) → (v ≡ 3 → ⊥) → w′ ≡ paste w (13 * k) (rowWords r) 13 → Put r start count w count w′
+    pub put-over : (w′ : List ℕ) → (v ≡ 3 → ⊥) → w′ ≡ paste w (14 * k) (rowWords r) 14 → Put r start count w count w′
     unfolding mergedRow
     put-over w′ q p =
         let m : k < count = omega (arith, n) in
@@ -166,17 +166,17 @@ module _ (r : ChangeRow) (start count : ℕ) (w : List ℕ) (h : start ≤ count
         }
 
 -- the row of a change by its numbers
-module _ (m : Numbers) (s : Spot) (start count : ℕ) (w : List ℕ) (h : start ≤ count) (l : 13 * count + 13 ≤ length w) (k : ℕ) (e : k ≡ start + place (meetsBy (m .operation) (m .target)) (drop start (rowsOf count w))) where
-  pub record-added : (w′ : List ℕ) → k ≡ count → w′ ≡ paste w (13 * k) (rowWords (rowWith m s)) 13 → Put (rowWith m s) start count w (count + 1) w′
+module _ (m : Numbers) (s : Spot) (start count : ℕ) (w : List ℕ) (h : start ≤ count) (l : 14 * count + 14 ≤ length w) (k : ℕ) (e : k ≡ start + place (meetsBy (m .operation) (m .target)) (drop start (rowsOf count w))) where
+  pub record-added : (w′ : List ℕ) → k ≡ count → w′ ≡ paste w (14 * k) (rowWords (rowWith m s)) 14 → Put (rowWith m s) start count w (count + 1) w′
   unfolding rowWith
   record-added w′ q p = put-added (rowWith m s) start count w h k e w′ q l p
 
-  module _ (b : k ≤ count) (n : k ≡ count → ⊥) (v : ℕ) (f : v ≡ getD w (13 * k) 0) where
+  module _ (b : k ≤ count) (n : k ≡ count → ⊥) (v : ℕ) (f : v ≡ getD w (14 * k) 0) where
     pub record-stays : v ≡ 3 → Put (rowWith m s) start count w count w
     unfolding rowWith
     record-stays q = put-stays (rowWith m s) start count w h k e b n l v f q
 
-    pub record-over : (w′ : List ℕ) → (v ≡ 3 → ⊥) → w′ ≡ paste w (13 * k) (rowWords (rowWith m s)) 13 → Put (rowWith m s) start count w count w′
+    pub record-over : (w′ : List ℕ) → (v ≡ 3 → ⊥) → w′ ≡ paste w (14 * k) (rowWords (rowWith m s)) 14 → Put (rowWith m s) start count w count w′
     unfolding rowWith
     record-over w′ q p = put-over (rowWith m s) start count w h k e b n l v f w′ q p
 
@@ -284,7 +284,7 @@ module _ (T : Table) (n : ℕ) (b : List ℕ) (heads targets calls list listed :
     pub high : count ≤ i
     pub long : length w ≡ length w₀
     pub fit : Fit n (callsFrom b heads targets calls i) (listFrom taken)
-    pub beyond : drop (13 * count) w ≡ drop (13 * count) w₀
+    pub beyond : drop (14 * count) w ≡ drop (14 * count) w₀
     pub verdict : changeRows T all ≡ through meetsRow mergedRow (take start (rowsOf count w)) (drop start (rowsOf count w)) (rowsAsked T taken (callsOf (callsFrom b heads targets calls i) (listFrom taken)))
 
   list-all : listFrom 0 ≡ words listed (drop list b)
@@ -309,14 +309,14 @@ module _ (T : Table) (n : ℕ) (b : List ℕ) (heads targets calls list listed :
 
 module _ {T : Table} {n : ℕ} {b : List ℕ} {heads targets calls list listed : ℕ} {w₀ : List ℕ} {start count taken i : ℕ} {w : List ℕ} (v : Recording T n b heads targets calls list listed w₀ start count taken i w) where
   -- no call is left
-  pub recording-done : calls ≤ i → 13 * calls ≤ length w₀ → RowsRecorded calls (changeRows T (all T n b heads targets calls list listed w₀)) w₀ count w
+  pub recording-done : calls ≤ i → 14 * calls ≤ length w₀ → RowsRecorded calls (changeRows T (all T n b heads targets calls list listed w₀)) w₀ count w
   unfolding callsOf allAsked
   recording-done h l =
       let e : changeRows T (all T n b heads targets calls list listed w₀) ≡ rowsOf count w = v .verdict ∙ rw (calls-none b heads targets calls i h) (through-end meetsRow mergedRow (rowsOf count w) start) in
       record {
         few = omega (arith, v .high, v .inside);
         counted = rw e (sym (length-rowsOf count w));
-        written = rw (e, length-rowsOf count w, rows-written count w (omega (arith, v .long, v .high, v .inside)), ← v .beyond) (sym (take-append-drop (13 * count) w));
+        written = rw (e, length-rowsOf count w, rows-written count w (omega (arith, v .long, v .high, v .inside)), ← v .beyond) (sym (take-append-drop (14 * count) w));
       }
 
   module _ (h : i < calls) {word₁ x k : ℕ} (ew : word₁ ≡ word (drop (heads + 4 * i) b)) (ex : x ≡ word (drop (targets + 4 * i) b)) (ek : k ≡ countOf word₁) where
@@ -367,8 +367,8 @@ module _ {T : Table} {n : ℕ} {b : List ℕ} {heads targets calls list listed :
     pub recording-next : {op : ℕ} → op ≡ operationOf word₁ → {start′ count′ : ℕ} {w′ : List ℕ} → CallPut T taken (callAs op x (words k m)) start count w start′ count′ w′ → length w′ ≡ length w → Recording T n b heads targets calls list listed w₀ start′ count′ (taken + k) (i + 1) w′
     recording-next eo {start′} {count′} {w′} p l =
         let rest : List (Option ChangeRow) = rowsAsked T (taken + k) (callsOf (callsFrom b heads targets calls (i + 1)) (words (listed - (taken + k)) (drop (list + 4 * (taken + k)) b))) in
-        let j : ℕ = 13 * count′ - 13 * count in
-        let e : 13 * count′ ≡ 13 * count + j = omega (arith, p .low) in
+        let j : ℕ = 14 * count′ - 14 * count in
+        let e : 14 * count′ ≡ 14 * count + j = omega (arith, p .low) in
         record {
           inside = omega arith;
           few = omega (arith, recording-front, v .few);
@@ -376,6 +376,6 @@ module _ {T : Table} {n : ℕ} {b : List ℕ} {heads targets calls list listed :
           high = omega (arith, p .high, v .high);
           long = l ∙ v .long;
           fit = fits .2;
-          beyond = p .beyond ∙ rw (e, ← drop-drop j (13 * count) w, v .beyond, drop-drop j (13 * count) w₀);
+          beyond = p .beyond ∙ rw (e, ← drop-drop j (14 * count) w, v .beyond, drop-drop j (14 * count) w₀);
           verdict = v .verdict ∙ (ap (λ (cs : List (Option ChangeRow)). through meetsRow mergedRow (take start (rowsOf count w)) (drop start (rowsOf count w)) cs) (turn eo) ∙ p .step rest);
         }

@@ -114,7 +114,7 @@ pub record CallPut (T : Table) (at : ℕ) (c : Call) (start count : ℕ) (w : Li
   pub sound : start′ ≤ count′
   pub low : count ≤ count′
   pub high : count′ ≤ count + 1
-  pub beyond : drop (13 * count′) w′ ≡ drop (13 * count′) w
+  pub beyond : drop (14 * count′) w′ ≡ drop (14 * count′) w
   pub step : (cs : List (Option ChangeRow))
       → through meetsRow mergedRow (take start (rowsOf count w)) (drop start (rowsOf count w)) (Option·map (rowFor T) (askedAt at c) ∷ cs)
       ≡ through meetsRow mergedRow (take start′ (rowsOf count′ w′)) (drop start′ (rowsOf count′ w′)) cs

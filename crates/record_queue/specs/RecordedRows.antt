@@ -85,10 +85,10 @@ pub record Put (r : ChangeRow) (start count : ℕ) (w : List ℕ) (count′ : �
   pub low : count ≤ count′
   pub high : count′ ≤ count + 1
   pub rows : rowsOf count′ w′ ≡ take start (rowsOf count w) ++ put meetsRow mergedRow r (drop start (rowsOf count w))
-  pub beyond : drop (13 * count′) w′ ≡ drop (13 * count′) w
+  pub beyond : drop (14 * count′) w′ ≡ drop (14 * count′) w
 
 -- THE PROMISE: the words w with the rows rs in front are w′; how many rows there are, no more than calls
 pub record RowsRecorded (calls : ℕ) (rs : List ChangeRow) (w : List ℕ) (count : ℕ) (w′ : List ℕ) : Type 0 where
   pub few : count ≤ calls
   pub counted : count ≡ length rs
-  pub written : w′ ≡ rowsWords rs ++ drop (13 * length rs) w
+  pub written : w′ ≡ rowsWords rs ++ drop (14 * length rs) w

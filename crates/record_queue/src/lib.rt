@@ -36,7 +36,7 @@ fn is_single(operation: usize) -> bool
 
 // Whether the row at place `k` and a later change of this target, whose operation merges, merge.
 fn meets(rows: &[u32], k: usize, target: usize) -> bool
-    requires { ⌜ (13 * k + 13 ≤ length (now rows)) × (k < 2 ^ 32) ⌝ }
+    requires { ⌜ (14 * k + 14 ≤ length (now rows)) × (k < 2 ^ 32) ⌝ }
     ensures { λ r. ⌜ r ≡ meetsSingle target (rowAt (now (rows .entry)) k) ⌝ }
 {
     // The target first: most rows differ there.
@@ -48,7 +48,7 @@ fn meets(rows: &[u32], k: usize, target: usize) -> bool
 
 // The place of the first row that a change of this target, whose operation merges, meets, from `start` on; `count` if there is none.
 fn single_place(rows: &[u32], start: usize, count: usize, target: usize) -> usize
-    requires { ⌜ (start ≤ count) × (count ≤ 256) × (13 * count ≤ length (now rows)) ⌝ }
+    requires { ⌜ (start ≤ count) × (count ≤ 256) × (14 * count ≤ length (now rows)) ⌝ }
     ensures { λ r. ⌜ (r ≡ start + place (meetsSingle target) (drop start (rowsOf count (now (rows .entry))))) × (r ≤ count) ⌝ }
 {
     let mut k = start;
@@ -63,7 +63,7 @@ fn single_place(rows: &[u32], start: usize, count: usize, target: usize) -> usiz
 
 // The place of the first row that a change of this operation and target meets, from `start` on; `count` if there is none.
 fn place_of(rows: &[u32], start: usize, count: usize, operation: usize, target: usize) -> usize
-    requires { ⌜ (start ≤ count) × (count ≤ 256) × (13 * count ≤ length (now rows)) ⌝ }
+    requires { ⌜ (start ≤ count) × (count ≤ 256) × (14 * count ≤ length (now rows)) ⌝ }
     ensures { λ r. ⌜ (r ≡ start + place (meetsBy operation target) (drop start (rowsOf count (now (rows .entry))))) × (r ≤ count) ⌝ }
 {
     if !is_single(operation) {
@@ -75,7 +75,7 @@ fn place_of(rows: &[u32], start: usize, count: usize, operation: usize, target: 
 // Rust: SyntaxEditor::replace, SyntaxEditor::delete, which look for a replacement of the same element. A change is recorded among the rows from `start`
 // on, over the one it meets unless that is a delete, which stays; how many rows there are then.
 fn record_change(rows: &mut [u32], start: usize, count: usize, m: Numbers, s: Spot) -> usize
-    requires { ⌜ (start ≤ count) × (count < 256) × (13 * count + 13 ≤ length (now rows)) × NumbersFit m × SpotFits s ⌝ }
+    requires { ⌜ (start ≤ count) × (count < 256) × (14 * count + 14 ≤ length (now rows)) × NumbersFit m × SpotFits s ⌝ }
     ensures { λ r. ⌜ Put (rowWith m s) start count (now (rows .entry)) r (now (rows .exit)) ⌝ }
 {
     let k = place_of(rows, start, count, m.operation, m.target);
@@ -107,7 +107,7 @@ fn record_call(
 ) -> Queue
     requires { ⌜ Wellformed n (now table) (now source) ⌝ }
     requires { ⌜ CallFits n (now b) from at listed target ⌝ }
-    requires { ⌜ (q .start ≤ q .count) × (q .count < 256) × (13 * q .count + 13 ≤ length (now rows)) ⌝ }
+    requires { ⌜ (q .start ≤ q .count) × (q .count < 256) × (14 * q .count + 14 ≤ length (now rows)) ⌝ }
     ensures { λ r. ⌜ CallPut (view n (now (table .entry)) (now (source .entry))) at (callAs operation target (wordsOf listed (drop from (now (b .entry))))) (q .start) (q .count) (now (rows .entry)) (r .start) (r .count) (now (rows .exit)) ⌝ }
 {
     let start = q.start;
@@ -141,7 +141,7 @@ pub fn record_calls(
 ) -> usize
     requires { ⌜ Wellformed n (now table) (now source) ⌝ }
     requires { ⌜ Stands (now b) words targets calls list listed ⌝ }
-    requires { ⌜ 13 * calls ≤ length (now rows) ⌝ }
+    requires { ⌜ 14 * calls ≤ length (now rows) ⌝ }
     requires { ⌜ Fit n (zip (wordsOf calls (drop words (now b))) (wordsOf calls (drop targets (now b)))) (wordsOf listed (drop list (now b))) ⌝ }
     ensures { λ r. ⌜ RowsRecorded calls (changeRows (view n (now (table .entry)) (now (source .entry))) (callsOf (zip (wordsOf calls (drop words (now (b .entry)))) (wordsOf calls (drop targets (now (b .entry))))) (wordsOf listed (drop list (now (b .entry)))))) (now (rows .entry)) r (now (rows .exit)) ⌝ }
 {

@@ -70,13 +70,13 @@ pub record NewEnds (n : ℕ) (listed : List ℕ) (r : ChangeRow) (x y : ℕ) : T
 -- the row at place i is one of 256 and states a change; as a dependent it has an owner
 pub record Fated (n : ℕ) (listed w : List ℕ) (i : ℕ) : Type 0 where
   pub few : i < 256
-  pub long : 13 * i + 13 ≤ length w
+  pub long : 14 * i + 14 ≤ length w
   pub owned : (rowAt w i) .fate ≡ 1 → ((rowAt w i) .owner < 256) × Dependent n listed (rowAt w ((rowAt w i) .owner)) (rowAt w i)
 
 -- c rows that state changes, each dependent with a call 2 as owner
 pub record Rewritable (n : ℕ) (listed w : List ℕ) (c : ℕ) : Type 0 where
   pub few : c ≤ 256
-  pub long : 13 * c ≤ length w
+  pub long : 14 * c ≤ length w
   pub elements : All (λ e. e < n) listed
   pub stated : (i : ℕ) → i < c → Stated n listed (rowAt w i)
   pub owned : (i : ℕ) → i < c → (rowAt w i) .fate ≡ 1 → ((rowAt w i) .owner < c) × ((rowAt w ((rowAt w i) .owner)) .operation ≡ 2)
