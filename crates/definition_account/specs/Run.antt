@@ -40,7 +40,7 @@ Home T w = (x : ℕ) (p : Path) → present w x ≡ some p → (q : Path) × (p 
 abbrev pub Recorded : Table → Planned → Type 0
 Recorded T p = tree T (target p.change) ≡ 0 → records T p ≡ true
 
-recorded-some : (T : Table) (p : Planned) → records T p ≡ true → isSome (recordedBy T p) ≡ true
+pub recorded-some : (T : Table) (p : Planned) → records T p ≡ true → isSome (recordedBy T p) ≡ true
 unfolding recordedBy isSome
 recorded-some T p e = rw e refl
 
