@@ -4,6 +4,7 @@ use borrow.Author.Needs.{needs}
 use lib.ListN.{length}
 use mathlib.Core.Path.{_≡_}
 use Prim.Native.Nat.{_-_}
+use Rattle.definition.specs.Refusals.{operationOf, countOf}
 use Rattle.write_again.proofs.part_words.Statement.{statement}
 use Rattle.write_again.proofs.part_words.Tie as tie
 
@@ -17,26 +18,31 @@ abbrev μ-loop : tie.MeasureT-loop
 loop-holds : tie.Need-loop-holds Inv-loop μ-loop
 loop-holds c = search needs
 
+word-requires : tie.Need-word-requires Inv-loop μ-loop
+word-requires c κs = search needs
+
+operation-of-requires : tie.Need-operation-of-requires Inv-loop μ-loop
+operation-of-requires c κs = search needs
+
+cast-operations : tie.Need-cast-operations Inv-loop μ-loop
+unfolding operationOf
+cast-operations c = search needs
+
 mul-operations : tie.Need-mul-operations Inv-loop μ-loop
 mul-operations c = search needs
-
-shared-slice-read-operations : tie.Need-shared-slice-read-operations Inv-loop μ-loop
-shared-slice-read-operations c = search needs
-
-mul-operations-2 : tie.Need-mul-operations-2 Inv-loop μ-loop
-mul-operations-2 c = search needs
 
 slice-write-operations : tie.Need-slice-write-operations Inv-loop μ-loop
 slice-write-operations c = search needs
 
+count-of-requires : tie.Need-count-of-requires Inv-loop μ-loop
+count-of-requires c κs = search needs
+
+cast-counts : tie.Need-cast-counts Inv-loop μ-loop
+unfolding countOf
+cast-counts c = search needs
+
 mul-counts : tie.Need-mul-counts Inv-loop μ-loop
 mul-counts c = search needs
-
-shared-slice-read-counts : tie.Need-shared-slice-read-counts Inv-loop μ-loop
-shared-slice-read-counts c = search needs
-
-mul-counts-2 : tie.Need-mul-counts-2 Inv-loop μ-loop
-mul-counts-2 c = search needs
 
 slice-write-counts : tie.Need-slice-write-counts Inv-loop μ-loop
 slice-write-counts c = search needs
@@ -66,13 +72,14 @@ part-words-spec =
     Inv-loop
     μ-loop
     loop-holds
+    word-requires
+    operation-of-requires
+    cast-operations
     mul-operations
-    shared-slice-read-operations
-    mul-operations-2
     slice-write-operations
+    count-of-requires
+    cast-counts
     mul-counts
-    shared-slice-read-counts
-    mul-counts-2
     slice-write-counts
     add-i
     loop-less
