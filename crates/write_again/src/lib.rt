@@ -12,9 +12,10 @@ fn part_words(words: &[u32], operations: &mut [u32], counts: &mut [u32], rules: 
 {
     let mut i = 0;
     while i < words.len() {
-        operations[i] = words[i] % 256;
-        counts[i] = words[i] / 256 % 4096;
-        rules[i] = words[i] / 1048576;
+        let word = words::word(words, i);
+        operations[i] = read_calls::operation_of(word) as u32;
+        counts[i] = read_calls::count_of(word) as u32;
+        rules[i] = read_calls::rule_of(word) as u32;
         i += 1;
     }
 }
