@@ -16,7 +16,7 @@ pub use answer::{Answer, Element, Note};
 pub use batch::{Batch, BatchBuilder, Unfit};
 
 /// The most bytes that an answer has.
-pub const MOST_ANSWER: usize = 61_464;
+pub const MOST_ANSWER: usize = 65_560;
 
 /// The most bytes that an account has.
 pub const MOST_ACCOUNT: usize = 8_192;
