@@ -148,7 +148,7 @@ int64_t syntax_write(
     uint32_t *table, size_t table_length,
     uint32_t *source, size_t source_length);
 
-/* All work memory, 233 KiB in nine slices; static or on the heap, and one for each thread that edits at the same time. It need not be cleared. */
+/* All work memory, 234 KiB in nine slices; static or on the heap, and one for each thread that edits at the same time. It need not be cleared. */
 typedef struct syntax_work {
     uint32_t table[SYNTAX_TABLE];
     uint32_t source[SYNTAX_SOURCE];

@@ -2,7 +2,7 @@
 //!
 //! A [`Batch`] (trees, calls, mappings, notes) is told to a [`BatchBuilder`] and laid out by the library's writer; an [`Editor`], which owns the work memory, answers it with an
 //! [`Answer`] (the new tree, its changed elements, its notes) or a [`Refusal`]: every batch of bytes gets one of the two. The library's calls have no
-//! precondition but that lent buffers do not overlap, which references see to here. An editor has 233 KiB of work memory in nine slices.
+//! precondition but that lent buffers do not overlap, which references see to here. An editor has 234 KiB of work memory in nine slices.
 
 mod account;
 mod answer;
