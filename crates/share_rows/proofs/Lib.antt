@@ -1,0 +1,2 @@
+-- Ways   each answer, from what the code knows there
+pub mod Ways
