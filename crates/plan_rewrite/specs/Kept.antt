@@ -84,16 +84,17 @@ ends-low n (suc (suc (suc (suc zero)))) x y z new h a = (a .0, a .0)
 ends-low n (suc (suc (suc (suc (suc zero))))) x y z new h a = (a .0, a .1 .0)
 ends-low n (suc (suc (suc (suc (suc (suc op)))))) x y z new h a = absurd (omega arith)
 
--- what is kept
+-- what is kept: the row is exact, states a change, and its rule number has twelve bits
 pub record Kept (n : ℕ) (T : Table) (listed : List ℕ) (r : ChangeRow) : Type 0 where
   pub exact : Exact T listed r
   pub stated : Stated n listed r
+  pub ruled : r .rule < 4096
 
 module _ (n : ℕ) (T : Table) (mapped : ℕ → Option ℕ) (listed : List ℕ) (long : length T ≡ n) where
-  kept-anew : (r : ChangeRow) (x y : ℕ) → Stated n listed r → wrongCall T (call (changeBy (r .operation) x y (getD listed (r .list) 0) (newOf listed r))) ≡ false
+  kept-anew : (r : ChangeRow) (x y : ℕ) → Stated n listed r → r .rule < 4096 → wrongCall T (call (changeBy (r .operation) x y (getD listed (r .list) 0) (newOf listed r))) ≡ false
       → Kept n T listed (withFate (changeRow T (r .list) (r .rule) (changeBy (r .operation) x y (getD listed (r .list) 0) (newOf listed r))) (rowFate r))
   unfolding withFate changeRow changeOf
-  kept-anew r x y S w =
+  kept-anew r x y S u w =
       let op : ℕ = r .operation in
       let z : ℕ = getD listed (r .list) 0 in
       let new : List ℕ = newOf listed r in
@@ -105,12 +106,13 @@ module _ (n : ℕ) (T : Table) (mapped : ℕ → Option ℕ) (listed : List ℕ)
       record {
         exact = e;
         stated = exact-stated n T listed (withFate (changeRow T (r .list) (r .rule) c) (rowFate r)) e (omega (arith, operation-by op x y z new (S .known), S .known)) (omega (arith, b .0, long)) (omega (arith, b .1, long)) (omega (arith, k, S .within));
+        ruled = u;
       }
 
   kept-row : (rs : List ChangeRow) (r : ChangeRow) (m : ChangeRow × ℕ) → Kept n T listed r → rewriteRow T mapped listed rs r ≡ gives m → Kept n T listed (m .0)
   unfolding rewriteRow
   kept-row rs r m K e =
-      ⊎-elim (λ q. subst (Kept n T listed) q K) (λ q. subst (Kept n T listed) (sym (q .row)) (kept-anew r (q .x) (q .y) (K .stated) (q .right)))
+      ⊎-elim (λ q. subst (Kept n T listed) q K) (λ q. subst (Kept n T listed) (sym (q .row)) (kept-anew r (q .x) (q .y) (K .stated) (K .ruled) (q .right)))
       (same-or-anew T mapped listed rs r (rowFate r) m (K .stated .known) e)
 
   pub rewritten-kept : (rs later : List ChangeRow) (q : List ChangeRow × ℕ) → All (Kept n T listed) later → rewriteRows T mapped listed rs later ≡ gives q → All (Kept n T listed) (q .0)
