@@ -16,6 +16,8 @@ use Rattle.definition.specs.Running.{World, begin, news, records}
 use Rattle.orders.specs.Lists.{total}
 use Rattle.definition.specs.Answers.{Plan, plan, atFirst, performed, ran}
 use Rattle.definition.specs.Refusals.{mostListed, Accepted, accepted}
+use Rattle.definition.specs.Finishing.{fitting}
+use Rattle.definition.specs.Printed.{programRoom}
 use Rattle.definition.specs.Account.{fateLines, account}
 use Rattle.definition_laws.specs.Answers.{gives-inj, refused-gives}
 use Rattle.definition_laws.specs.Basics.{map-All}
@@ -51,9 +53,9 @@ use Rattle.run_execute.specs.Standing.{Begun, first-told, Standing}
 use Rattle.run_execute.specs.Opening.{rows-some, rows-few, notes-few, bytes-few}
 use Rattle.run_execute.specs.Stepping.{Performs}
 use Rattle.run_execute.specs.Running.{plansIn, listsAll, lists-total, Ran, marks-many}
-use Rattle.edit_perform.specs.Ending.{ending}
+use Rattle.edit_perform.specs.Ending.{End, ending, resultAt}
 use Rattle.edit_perform.specs.Beginning.{known, planned, begun}
-use Rattle.edit_perform.specs.Accounting.{linesOf, planned-account}
+use Rattle.edit_perform.specs.Accounting.{toldOf, planned-account}
 use Rattle.edit_perform.specs.AtEnd.{AtEnd, Marked, Recounted}
 use Rattle.edit_perform.specs.declared.Ended.{Ended}
 
@@ -160,7 +162,7 @@ module _ {h : Choices} {b : List ℕ} {l : Layout} {t₀ s₀ t s : List ℕ} (v
     ended-by o e = rw (v .accepted, m .plan, e) refl
 
     -- and so is the account
-    accounted-by : account h b ≡ (ran a p >>= λ w. gives (linesOf (p .changes)))
+    accounted-by : account h b ≡ (ran a p >>= λ w. toldOf p w)
     accounted-by = planned-account h b a (v .accepted) (P .found .changes) (judged-accepted h b a (v .accepted) (P .found .judged)) p (m .plan)
 
     -- refused at the same step
@@ -171,7 +173,7 @@ module _ {h : Choices} {b : List ℕ} {l : Layout} {t₀ s₀ t s : List ℕ} (v
         go : (o : Answer World) → ran a p ≡ o → refused k ≡ inRows o → (ending h b ≡ refused k) × (account h b ≡ refused k)
         go (refused n) i j =
             let same : n ≡ k = cc in
-            (ended-by (refused n) i ∙ ap refused same, accounted-by ∙ (ap (λ (o : Answer World). o >>= λ w. gives (linesOf (p .changes))) i ∙ ap refused same))
+            (ended-by (refused n) i ∙ ap refused same, accounted-by ∙ (ap (λ (o : Answer World). o >>= λ w. toldOf p w) i ∙ ap refused same))
         go (gives w) i j = refused-gives j
 
     -- or what is held at the end is the definition's
@@ -236,12 +238,19 @@ module _ {h : Choices} {b : List ℕ} {l : Layout} {t₀ s₀ t s : List ℕ} (v
 
     -- so that the account is told by them
     pub run-recounted : (r : TreeState) → x ≡ Done r → (d : Ended) → d .recorded ≡ c .changes → Recounted h b changes d
-    unfolding executedIn _>>=_
+    unfolding executedIn resultAt _>>=_
     run-recounted r e d q = go (ran a p) refl (sym (ap (executedIn text rows marks notes changed) e) ∙ ran-told)
       where
         go : (o : Answer World) → ran a p ≡ o → gives (heldIn text r rows marks notes changed) ≡ inRows o → Recounted h b changes d
         go (refused n) i j = refused-gives (sym j)
         go (gives w) i j = record {
           few = omega (arith, P .within .few);
-          text = accounted-by ∙ (ap (λ (o : Answer World). o >>= λ w. gives (linesOf (p .changes))) i ∙ ap (λ (fs : List Fate). gives (fateLines fs)) (sym (ap (λ (n : ℕ). map rowFate (rowsOf n changes)) q ∙ fates-told)));
+          text = λ y z.
+              let last : End = record { batch = a; planned = p; world = w } in
+              let same : last ≡ y = gives-inj (sym (ended-by (gives w) i) ∙ z) in
+              let fates : map (λ f. f .fate) (p .changes) ≡ map rowFate (rowsOf (d .recorded) changes) = sym (ap (λ (n : ℕ). map rowFate (rowsOf n changes)) q ∙ fates-told) in
+              accounted-by
+              ∙ (ap (λ (o : Answer World). o >>= λ w. toldOf p w) i
+              ∙ (ap (λ (fs : List Fate). fitting programRoom (resultAt last) >>= λ r. gives (fateLines fs)) fates
+              ∙ ap (λ (e : End). fitting programRoom (resultAt e) >>= λ r. gives (fateLines (map rowFate (rowsOf (d .recorded) changes)))) same));
         }
