@@ -22,6 +22,7 @@ use Rattle.plan_sort.specs.Rows.{rowFate}
 use Rattle.rows_model.specs.Row.{firstRows, rowsOf as treeRows, bytes}
 use Rattle.rows_model.specs.Place.{markOf}
 use Rattle.run_annotations.specs.Notes.{notesOf}
+use Rattle.run_annotations.specs.Changed.{changedIn}
 use Rattle.run_model.specs.Store.{store}
 use Rattle.run_tree_store.specs.Stored.{stored}
 use Rattle.promises.specs.Slices.{needed, lengths}
@@ -37,7 +38,7 @@ pub record AtEnd (h : Choices) (b rows notes changed : List ℕ) (d : Ended) : T
   pub holds : Holds (end .world)
   -- the current trees, the notes and the changed elements, by their rows
   pub marks : List ℕ
-  pub held : store (end .world) ≡ stored (drop (d .text) b) (d .rows) rows marks (notesOf (d .notes) notes) (take (d .changed) changed)
+  pub held : store (end .world) ≡ stored (drop (d .text) b) (d .rows) rows marks (notesOf (d .notes) notes) (changedIn (d .changed) changed)
   pub discarded : d .discarded ≡ length (keep (λ p. isDiscarded (p .fate)) (end .planned .changes))
   pub climbs : d .climbs ≡ end .planned .climbs
   -- and nothing is larger than its slice
