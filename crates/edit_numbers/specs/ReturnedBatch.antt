@@ -63,7 +63,7 @@ laid-short : (l : Lists) → InStep l → length (laidOut l) ≤ 49180
 unfolding laidOut sevenSizes sizesOf
 laid-short l y =
     simp (length-append, length-written)
-    (omega (arith, length-calls l.operations l.counts (y .counts), y .measures, y .targets, y .outputs, y .numbers, y .limits .elements, y .limits .text, y .limits .calls, y .limits .listed, y .limits .mappings, y .limits .notes))
+    (omega (arith, length-calls l.operations l.counts l.rules (y .counts) (y .rules), y .measures, y .targets, y .outputs, y .numbers, y .limits .elements, y .limits .text, y .limits .calls, y .limits .listed, y .limits .mappings, y .limits .notes))
 
 -- A batch that is written has at most 49,180 bytes.
 pub wrote-short : (work : List (List ℕ)) (l : Lists) (room : ℕ) (b : List ℕ) → wrote work l room ≡ gives b → length b ≤ 49180
