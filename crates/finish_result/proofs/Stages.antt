@@ -1,25 +1,32 @@
 -- From what the run leaves to the new tree in order, and from there to the words that are written.
 -- Assumes nothing.
 use mathlib.Core.Path.{_≡_, sym, ap, _∙_}
-use mathlib.Core.List.{List, map}
-use Prim.Native.Nat.{ℕ, _+_, _-_, _*_, _/_, _≤_}
+use mathlib.Core.List.{List, [], map, flatMap}
+use mathlib.Core.Option.{Option}
+use Prim.Native.Nat.{ℕ, _+_, _-_, _*_, _/_, _^_, _≤_, _<_}
 use native.Mathlib.Nat.{zero-add}
 use native.Mathlib.Numerals.{add-one}
 use native.Mathlib.Omega.{arith}
 use lib.ListN.{length, take, drop, length-drop}
 use lib.Seq.{paste, take-paste, take-all, length-take-le, getD-take}
-use Rattle.rows_model.specs.Row.{Row, triples, firstRows}
+use Rattle.rows_model.specs.Row.{Row, own, bytes, triples, firstRows}
 use Rattle.rows_model.specs.Place.{subtree}
 use Rattle.rows_model.specs.Words.{length-triples}
 use Rattle.rows_syntax_node.specs.Promises.{Part}
+use Rattle.run_model.specs.Store.{HeldNote, HeldChanged}
+use Rattle.run_annotations.specs.Promises.{noteIn}
 use Rattle.run_annotations.specs.Changed.{changedOf, changedIn}
 use Rattle.run_annotations.specs.Notes.{notesOf, notes-same}
 use Rattle.run_tree_store.specs.Stored.{stored}
 use Rattle.finish_model.specs.Finished.{firstTree, starts, resultOf}
 use Rattle.finish_arrays.specs.Starts.{Starts, length-starts}
+use Rattle.finish_arrays.specs.NewTree.{tree-long, tree-bytes}
+use Rattle.finish_sort.specs.Keys.{elementIn}
+use Rattle.finish_sort.specs.Counted.{Counts}
 use Rattle.finish_sort.specs.Sorted.{ChangedSorted, NotesSorted}
 use Rattle.finish_result.specs.declared.Finished.{Finished}
 use Rattle.finish_result.specs.InTree.{resultIn, changedBy, notesBy, result-in}
+use Rattle.finish_result.specs.Weighed.{Weighs, parts-weigh}
 use Rattle.finish_result.specs.Answered.{Answered}
 use Rattle.finish_result.specs.Arrays.{toldResult}
 
@@ -66,3 +73,24 @@ module _ {rows : List ℕ} {n : ℕ} {tree : List ℕ} (p : Part rows n 1 tree) 
         let g : resultOf discarded climbs (stored text n rows marks (notesOf k notes) (changedIn c changed)) ≡ resultIn discarded climbs T (changedBy (starts 0 T) (length T) (changedIn c changed)) (notesBy (starts 0 T) (length T) (notesOf k notes)) =
         result-in discarded climbs (stored text n rows marks (notesOf k notes) (changedIn c changed)) ∙ rw (← t) in
         rw (g, ← e, ← m) w
+
+-- ── How many bytes ──────────────────────────────────────────────────────────────────────────────────────────
+
+-- tree 0, and how large it is at most
+module _ {rows : List ℕ} {n root : ℕ} {tree : List ℕ} (p : Part rows n root tree) (e : root ≡ 1) where
+  pub tree-short : 3 * n ≤ length rows → 1 ≤ n → n < 2 ^ 16 → length tree < 3 * 2 ^ 16
+  tree-short h b m = let l = tree-long (rw e at p) h b in omega arith
+
+  pub tree-countable : 3 * n ≤ length rows → 1 ≤ n → n < 2 ^ 16 → length tree / 3 < 2 ^ 32
+  tree-countable h b m = let l = tree-long (rw e at p) h b in omega arith
+
+  pub tree-light : (text : List ℕ) → bytes (firstRows text n rows) < 2 ^ 32 → bytes (triples [] tree) < 2 ^ 32
+  tree-light text h = tree-bytes (rw e at p) text h
+
+  pub tree-weighs : (text : List ℕ) (notes : List HeldNote) (changed : List HeldChanged) (k c : ℕ) {size x y r : ℕ} → (size ≡ length (flatMap own (triples text tree))) × (size < 2 ^ 32)
+      → Counts (elementIn 1 (length tree / 3 + 1)) changed c x → Counts (noteIn 1 (length tree / 3 + 1)) notes k y → r ≡ 24 + 8 * (length tree / 3) + 8 * x + 8 * y + size → Weighs text n rows notes changed r
+  tree-weighs text notes changed k c s u v g = parts-weigh text notes changed k c (rw e at p) s u v g
+
+-- a number that is counted is no more than those that are looked at
+pub counted-few : {X : Type 0} {f : X → Option X} {l : List X} {c r : ℕ} → Counts f l c r → c < 2 ^ 16 → r < 2 ^ 32
+counted-few u h = omega (arith, u .most)

@@ -13,11 +13,14 @@ ghost use Rattle.finish_model.specs.Finished.{resultOf};
 ghost use Rattle.finish_result.specs.Answered.{Answered};
 ghost use Rattle.finish_result.specs.Arrays.{noteColumn, elementColumn, ruleColumn, Front, arraysOver, restOver, toldResult};
 ghost use Rattle.finish_result.specs.InTree.{resultIn, changedBy, notesBy};
+ghost use Rattle.finish_result.specs.Weighed.{Weighs};
 use finish_arrays::fill_starts;
 use finish_arrays::text_size;
 use finish_arrays::write_elements;
 use finish_arrays::write_sizes;
 use finish_arrays::write_text;
+use finish_sort::count_changed;
+use finish_sort::count_notes;
 use finish_sort::sort_changed;
 use finish_sort::sort_notes;
 use rows_syntax_node::ROW_WORDS;
@@ -220,4 +223,27 @@ pub fn finish(
         climbs,
         result,
     )
+}
+
+// How many bytes the result has, from what the run leaves: told before anything is sorted or written.
+pub fn result_size(
+    rows: &[u32],
+    n: usize,
+    root: usize,
+    notes: &[u32],
+    k: usize,
+    changed: &[u32],
+    c: usize,
+    text: &[u8],
+) -> usize
+    requires { ⌜ (3 * n ≤ length (now rows)) × (1 ≤ n) × (n < 2 ^ 16) × (bytes (firstRows (now text) n (now rows)) < 2 ^ 32) × (3 * k ≤ length (now notes)) × (k < 2 ^ 16) × (c ≤ length (now changed)) × (c < 2 ^ 16) ⌝ }
+    requires { ⌜ root ≡ 1 ⌝ }
+    ensures { λ r. ⌜ Weighs (now (text .entry)) n (now (rows .entry)) (notesOf k (now (notes .entry))) (changedIn c (now (changed .entry))) r ⌝ }
+{
+    let tree = subtree(rows, n, root);
+    let elements = tree.len() / ROW_WORDS;
+    let size = text_size(tree, text);
+    let changes = count_changed(changed, c, elements + 1);
+    let annotations = count_notes(notes, k, elements + 1);
+    bytes_of(elements, size, changes, annotations)
 }

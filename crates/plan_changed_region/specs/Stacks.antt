@@ -129,10 +129,10 @@ module _ (w : List ℕ) (k : ℕ) (f : Fate) (h : 14 * k + 14 ≤ length w) wher
   unfolding stated
   told = drop-set-add (14 * k) (set w (14 * k + 11) (fateOf f)) 12 (ownerOf f) ∙ ap (λ (l : List ℕ). set l 12 (ownerOf f)) (drop-set-add (14 * k) w 11 (fateOf f))
 
-  same : (i : ℕ) → i < 11 → getD (drop (14 * k) (stated w k f)) i 0 ≡ getD (drop (14 * k) w) i 0
-  same i b =
+  same : (i : ℕ) → (i ≡ 11 → ⊥) → (i ≡ 12 → ⊥) → getD (drop (14 * k) (stated w k f)) i 0 ≡ getD (drop (14 * k) w) i 0
+  same i a b =
       rw told
-      (getD-set-other (set (drop (14 * k) w) 11 (fateOf f)) 12 i (ownerOf f) 0 (λ e. omega arith) ∙ getD-set-other (drop (14 * k) w) 11 i (fateOf f) 0 (λ e. omega arith))
+      (getD-set-other (set (drop (14 * k) w) 11 (fateOf f)) 12 i (ownerOf f) 0 b ∙ getD-set-other (drop (14 * k) w) 11 i (fateOf f) 0 a)
 
   long : 12 < length (drop (14 * k) w)
   long = omega (arith, length-drop (14 * k) w)
@@ -147,7 +147,7 @@ module _ (w : List ℕ) (k : ℕ) (f : Fate) (h : 14 * k + 14 ≤ length w) wher
 
   pub stated-row : rowAt (stated w k f) k ≡ withFate (rowAt w k) f
   unfolding rowAt rowOf withFate
-  stated-row = λ i. record { operation = same 0 (lit< tt) i; target = same 1 (lit< tt) i; end = same 2 (lit< tt) i; list = same 3 (lit< tt) i; count = same 4 (lit< tt) i; tree = same 5 (lit< tt) i; from = same 6 (lit< tt) i; to = same 7 (lit< tt) i; depth = same 8 (lit< tt) i; rank = same 9 (lit< tt) i; region = same 10 (lit< tt) i; fate = fate-word i; owner = owner-word i }
+  stated-row = λ i. record { operation = same 0 (λ e. omega arith) (λ e. omega arith) i; target = same 1 (λ e. omega arith) (λ e. omega arith) i; end = same 2 (λ e. omega arith) (λ e. omega arith) i; list = same 3 (λ e. omega arith) (λ e. omega arith) i; count = same 4 (λ e. omega arith) (λ e. omega arith) i; tree = same 5 (λ e. omega arith) (λ e. omega arith) i; from = same 6 (λ e. omega arith) (λ e. omega arith) i; to = same 7 (λ e. omega arith) (λ e. omega arith) i; depth = same 8 (λ e. omega arith) (λ e. omega arith) i; rank = same 9 (λ e. omega arith) (λ e. omega arith) i; region = same 10 (λ e. omega arith) (λ e. omega arith) i; fate = fate-word i; owner = owner-word i; rule = same 13 (λ e. omega arith) (λ e. omega arith) i }
 
   pub stated-before : (j : ℕ) → j < k → rowAt (stated w k f) j ≡ rowAt w j
   unfolding rowAt stated

@@ -64,7 +64,7 @@ pub record RowRewritten (want : Answer (ChangeRow × ℕ)) (i : ℕ) (before aft
 unfoldable pub judgedRow : Table → List ℕ → ChangeRow → ℕ × ℕ × ℕ → Answer (ChangeRow × ℕ)
 judgedRow T listed r q = do
   m ← judgedEnds T (r .operation) (getD listed (r .list) 0) (newOf listed r) q
-  gives (withFate (changeRow T (r .list) (m .0)) (rowFate r), m .1)
+  gives (withFate (changeRow T (r .list) (r .rule) (m .0)) (rowFate r), m .1)
 
 -- all c rows, rewritten by the sorted rows w
 pub record RowsRewritten (n : ℕ) (table source map listed w : List ℕ) (c : ℕ) (after : List ℕ) (answer : Rewritten) : Type 0 where
