@@ -14,23 +14,25 @@ use Rattle.definition.specs.Answers.{tooShort, withWork, withChoices}
 use Rattle.definition.specs.Account.{account}
 use Rattle.definition_laws.specs.Answers.{refused-gives}
 use Rattle.promises.specs.Slices.{needed, lengths, zeros, zeroed}
-use Rattle.promises.specs.Promises.{Edits, Finds, Accounts, applied, recounted, with-long}
-use Rattle.promises.specs.Serving.{reached, served, place, ofLength, ofPlace, Tells, Serves, serves-edits, serves-finds, serves-accounts}
+use Rattle.promises.specs.Promises.{Edits, Finds, Accounts, Shares, applied, recounted, with-long}
+use Rattle.promises.specs.Serving.{reached, served, place, ofLength, ofPlace, ofShare, Tells, Serves, serves-edits, serves-finds, serves-accounts, serves-shares}
 use Rattle.promises.specs.declared.Job.{Job}
-use Rattle.promises.specs.declared.Job.the-variants.{Edit, Find, Account}
+use Rattle.promises.specs.declared.Job.the-variants.{Edit, Find, Account, Share}
 use Rattle.promises.specs.declared.Outcome.{Outcome}
-use Rattle.promises.specs.declared.Outcome.the-variants.{Refused as NotServed, Bytes, Nothing as NotThere, At as Stands}
+use Rattle.promises.specs.declared.Outcome.the-variants.{Refused as NotServed, Bytes, Nothing as NotThere, At as Stands, Of as Parts}
 use Rattle.edit_perform.specs.AtEnd.{Overlapped, Performs, PerformsWith, early, long}
 use Rattle.edit_perform.specs.Ending.{ending, edit-ending, found-ending}
 use Rattle.edit_perform.specs.declared.Performed.{Performed}
 use Rattle.edit_perform.specs.declared.Performed.the-variants.{Refused as Stopped, Overlap, Done}
 use Rattle.edit_perform.specs.declared.Ended.{Ended}
-use Rattle.edit_answer.specs.AtEnd.{unless, unless-refused, unless-done, unless-overlap, ToAnswer}
+use Rattle.edit_answer.specs.AtEnd.{unless, unless-refused, unless-done, unless-overlap, share-ending, ToAnswer}
 use Rattle.edit_algo.specs.declared.Answer.{Answer}
 use Rattle.edit_algo.specs.declared.Answer.the-variants.{Refused, Edited}
 use Rattle.edit_algo.specs.declared.Element.{Element}
 use Rattle.edit_algo.specs.declared.Element.the-variants.{Refused as NoElement, Nothing, At}
-use Rattle.edit_algo.specs.Numbers.{answerOf, elementOf, TellsLength, TellsPlace}
+use Rattle.edit_algo.specs.declared.Shared.{Shared}
+use Rattle.edit_algo.specs.declared.Shared.the-variants.{Refused as NoShare, Of}
+use Rattle.edit_algo.specs.Numbers.{answerOf, elementOf, shareOf, TellsLength, TellsPlace, TellsShare}
 
 -- ── Refused, or at the end of the run ───────────────────────────────────────────────────────────────────────
 
@@ -46,6 +48,7 @@ unfolding reached applied recounted _>>=_
 job-refused h Edit b room k e = rw (edit-ending h b, e .0) refl
 job-refused h (Find n) b room k e = rw (found-ending h b n, e .0) refl
 job-refused h Account b room k e = rw (e .1) refl
+job-refused h Share b room k e = rw (share-ending h b, e .0) refl
 
 -- where 17 or 1 refuses, it refuses every answer
 early-refused : {A : Type 0} (h : Choices) (work : List (ℕ × ℕ)) (x : basics.Answer A) (k : ℕ) → _≡_ {A = basics.Answer (Unit {0})} (withChoices h work (gives tt)) (refused k) → withChoices h work x ≡ refused k
@@ -126,6 +129,11 @@ module _ {told : Outcome} where
   no-element e (refused k) h = absurd (let z : _≡_ {A = ℕ} 0 1 = cc in omega arith)
   no-element e (gives k) h = absurd (let z : _≡_ {A = ℕ} 0 1 = cc in omega arith)
 
+  pub no-share : {q m : ℕ} → told ≡ Parts q m → TellsLength told (Refused 0)
+  unfolding ofLength
+  no-share e (refused k) h = absurd (let z : _≡_ {A = ℕ} 0 1 = cc in omega arith)
+  no-share e (gives k) h = absurd (let z : _≡_ {A = ℕ} 0 1 = cc in omega arith)
+
   pub place-refused : {n : ℕ} → told ≡ NotServed n → TellsPlace told (NoElement n)
   unfolding ofPlace place elementOf
   place-refused {n} e (refused k) h = let same : n ≡ k = cc in ap refused same
@@ -139,6 +147,12 @@ module _ {told : Outcome} where
   no-bytes e (gives none) h = absurd (let z : _≡_ {A = ℕ} 0 1 = cc in omega arith)
   no-bytes e (gives (some k)) h = absurd (let z : _≡_ {A = ℕ} 0 1 = cc in omega arith)
 
+  pub no-parts : {q m : ℕ} → told ≡ Parts q m → TellsPlace told (NoElement 0)
+  unfolding ofPlace place
+  no-parts e (refused k) h = absurd (let z : _≡_ {A = ℕ} 0 1 = cc in omega arith)
+  no-parts e (gives none) h = absurd (let z : _≡_ {A = ℕ} 0 1 = cc in omega arith)
+  no-parts e (gives (some k)) h = absurd (let z : _≡_ {A = ℕ} 0 1 = cc in omega arith)
+
   pub place-none : told ≡ NotThere → TellsPlace told Nothing
   unfolding ofPlace place elementOf
   place-none e (refused k) h = absurd (let z : _≡_ {A = ℕ} 0 1 = cc in omega arith)
@@ -151,6 +165,35 @@ module _ {told : Outcome} where
   place-told e (gives none) h = absurd (let z : _≡_ {A = ℕ} 0 1 = cc in omega arith)
   place-told {n} e (gives (some k)) h = let same : n ≡ k = cc in ap (λ (x : ℕ). gives (some x)) same
 
+  pub share-refused : {n : ℕ} → told ≡ NotServed n → TellsShare told (NoShare n)
+  unfolding ofShare shareOf
+  share-refused {n} e (refused k) h = let same : n ≡ k = cc in ap refused same
+  share-refused e (gives s) h = absurd (let z : _≡_ {A = ℕ} 0 1 = cc in omega arith)
+
+  -- a share is no length, and no place
+  pub share-no-bytes : {n : ℕ} → told ≡ Bytes n → TellsShare told (NoShare 0)
+  unfolding ofShare
+  share-no-bytes e (refused k) h = absurd (let z : _≡_ {A = ℕ} 0 1 = cc in omega arith)
+  share-no-bytes e (gives s) h = absurd (let z : _≡_ {A = ℕ} 0 1 = cc in omega arith)
+
+  pub share-nowhere : told ≡ NotThere → TellsShare told (NoShare 0)
+  unfolding ofShare
+  share-nowhere e (refused k) h = absurd (let z : _≡_ {A = ℕ} 0 1 = cc in omega arith)
+  share-nowhere e (gives s) h = absurd (let z : _≡_ {A = ℕ} 0 1 = cc in omega arith)
+
+  pub share-no-place : {n : ℕ} → told ≡ Stands n → TellsShare told (NoShare 0)
+  unfolding ofShare
+  share-no-place e (refused k) h = absurd (let z : _≡_ {A = ℕ} 0 1 = cc in omega arith)
+  share-no-place e (gives s) h = absurd (let z : _≡_ {A = ℕ} 0 1 = cc in omega arith)
+
+  pub share-told : {q m : ℕ} → told ≡ Parts q m → TellsShare told (Of q m)
+  unfolding ofShare shareOf
+  share-told e (refused k) h = absurd (let z : _≡_ {A = ℕ} 0 1 = cc in omega arith)
+  share-told {q} {m} e (gives s) h =
+      let x : q ≡ s .0 = cc in
+      let y : m ≡ s .1 = cc in
+      rw (x, y) refl
+
 -- what is told of an edit keeps the promise of `edit`
 pub edits-told : (h : Choices) (b held holds : List ℕ) (work left : List (List ℕ)) (told : Outcome) (r : Answer) → Serves h Edit b held work told holds left → TellsLength told r → Edits h b held work (answerOf r) holds left
 edits-told h b held holds work left told r s f = let (a, e, k) = serves-edits h s in subst (λ (x : basics.Answer ℕ). Edits h b held work x holds left) (sym (f a e)) k
@@ -162,3 +205,7 @@ finds-told h b held holds n work left told r s f = let (a, e, k) = serves-finds 
 -- what is told of an account keeps the promise of `account`
 pub accounts-told : (h : Choices) (b held holds : List ℕ) (work left : List (List ℕ)) (told : Outcome) (r : Answer) → Serves h Account b held work told holds left → TellsLength told r → Accounts h b held work (answerOf r) holds left
 accounts-told h b held holds work left told r s f = let (a, e, k) = serves-accounts h s in subst (λ (x : basics.Answer ℕ). Accounts h b held work x holds left) (sym (f a e)) k
+
+-- what is told of a share keeps the promise of `share`
+pub shares-told : (h : Choices) (b held holds : List ℕ) (work left : List (List ℕ)) (told : Outcome) (r : Shared) → Serves h Share b held work told holds left → TellsShare told r → Shares h b work (shareOf r) left
+shares-told h b held holds work left told r s f = let (a, e, k) = serves-shares h s in subst (λ (x : basics.Answer (ℕ × ℕ)). Shares h b work x left) (sym (f a e)) k

@@ -5,12 +5,19 @@ use mathlib.Core.Option.{Option, none, some}
 use Prim.Native.Nat.{ℕ}
 use Rattle.definition.specs.Basics as basics
 use Rattle.definition.specs.Basics.{gives, refused}
-use Rattle.promises.specs.Serving.{ofLength, ofPlace}
+use Rattle.promises.specs.Serving.{ofLength, ofPlace, ofShare}
 use Rattle.promises.specs.declared.Outcome.{Outcome}
 use Rattle.edit_algo.specs.declared.Answer.{Answer}
 use Rattle.edit_algo.specs.declared.Answer.the-variants.{Refused, Edited}
 use Rattle.edit_algo.specs.declared.Element.{Element}
 use Rattle.edit_algo.specs.declared.Element.the-variants.{Refused as NoElement, Nothing, At}
+use Rattle.edit_algo.specs.declared.Shared.{Shared}
+use Rattle.edit_algo.specs.declared.Shared.the-variants.{Refused as NoShare, Of}
+
+-- the refusal's number, or quotient and remainder
+unfoldable pub shareOf : Shared → basics.Answer (ℕ × ℕ)
+shareOf (NoShare n) = refused n
+shareOf (Of q m) = gives (q, m)
 
 -- the refusal's number, or how many bytes the result has
 unfoldable pub answerOf : Answer → basics.Answer ℕ
@@ -30,3 +37,7 @@ TellsLength told r = (a : basics.Answer ℕ) → told ≡ ofLength a → answerO
 -- and one that tells an answer on an element
 abbrev pub TellsPlace : Outcome → Element → Type 0
 TellsPlace told r = (a : basics.Answer (Option ℕ)) → told ≡ ofPlace a → elementOf r ≡ a
+
+-- and one that tells an answer on a share
+abbrev pub TellsShare : Outcome → Shared → Type 0
+TellsShare told r = (a : basics.Answer (ℕ × ℕ)) → told ≡ ofShare a → shareOf r ≡ a

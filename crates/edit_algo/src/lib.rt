@@ -1,13 +1,13 @@
-// The public calls: one for every job, and the edit, the found element and the account, each thin over it.
+// The public calls: one for every job, and the edit, the found element, the account and the share, each thin over it.
 use choices::Choices;
 use edit_perform::perform;
 use promises::Job;
 use promises::Outcome;
 ghost use mathlib.Core.List.{_∷_, []};
 ghost use Rattle.choices.specs.Meant.{meant};
-ghost use Rattle.promises.specs.Promises.{Edits, Finds, Accounts};
+ghost use Rattle.promises.specs.Promises.{Edits, Finds, Accounts, Shares};
 ghost use Rattle.promises.specs.Serving.{Serves};
-ghost use Rattle.edit_algo.specs.Numbers.{answerOf, elementOf, TellsLength, TellsPlace};
+ghost use Rattle.edit_algo.specs.Numbers.{answerOf, elementOf, shareOf, TellsLength, TellsPlace, TellsShare};
 
 // How many bytes the result or the account has, or a refusal's number.
 pub enum Answer {
@@ -20,6 +20,12 @@ pub enum Element {
     Refused(usize),
     Nothing,
     At(usize),
+}
+
+// How much of the text is rewritten, in thousandths: a whole quotient and an exact remainder; or a refusal's number.
+pub enum Shared {
+    Refused(usize),
+    Of(usize, usize),
 }
 
 // ── One call for all ──
@@ -86,7 +92,7 @@ pub fn serve(
 
 // ── The public calls ──
 
-// What is told of an edit or an account. (Neither finds an element.)
+// What is told of an edit or an account. (Neither finds an element or tells a share.)
 fn answer_in(told: Outcome) -> Answer
     ensures { λ r. ⌜ TellsLength told r ⌝ }
 {
@@ -95,6 +101,7 @@ fn answer_in(told: Outcome) -> Answer
         Outcome::Bytes(n) => Answer::Edited(n),
         Outcome::Nothing => Answer::Refused(0),
         Outcome::At(n) => Answer::Refused(0),
+        Outcome::Of(q, m) => Answer::Refused(0),
     }
 }
 
@@ -107,6 +114,20 @@ fn element_in(told: Outcome) -> Element
         Outcome::Bytes(n) => Element::Refused(0),
         Outcome::Nothing => Element::Nothing,
         Outcome::At(e) => Element::At(e),
+        Outcome::Of(q, m) => Element::Refused(0),
+    }
+}
+
+// What is told of a share. (It writes no bytes and finds no element.)
+fn share_in(told: Outcome) -> Shared
+    ensures { λ r. ⌜ TellsShare told r ⌝ }
+{
+    match told {
+        Outcome::Refused(n) => Shared::Refused(n),
+        Outcome::Bytes(n) => Shared::Refused(0),
+        Outcome::Nothing => Shared::Refused(0),
+        Outcome::At(e) => Shared::Refused(0),
+        Outcome::Of(q, m) => Shared::Of(q, m),
     }
 }
 
@@ -202,6 +223,41 @@ pub fn account(
         Job::Account,
         batch,
         result,
+        table,
+        source,
+        changes,
+        notes,
+        incoming,
+        changed,
+        marks,
+        rows,
+        prepared,
+    ))
+}
+
+// THE SHARE OF TEXT REWRITTEN by a batch: the bytes of the new tree that lie in a changed element, in thousandths of all its bytes; of an empty text 0 and 0. The nine
+// others are work slices, which end as zeros.
+pub fn share(
+    choices: Choices,
+    batch: &[u8],
+    table: &mut [u32],
+    source: &mut [u32],
+    changes: &mut [u32],
+    notes: &mut [u32],
+    incoming: &mut [u32],
+    changed: &mut [u32],
+    marks: &mut [u32],
+    rows: &mut [u32],
+    prepared: &mut [u32],
+) -> Shared
+    ensures { λ r. ⌜ Shares (meant choices) (now (batch .entry)) (now (table .entry) ∷ now (source .entry) ∷ now (changes .entry) ∷ now (notes .entry) ∷ now (incoming .entry) ∷ now (changed .entry) ∷ now (marks .entry) ∷ now (rows .entry) ∷ now (prepared .entry) ∷ []) (shareOf r) (now (table .exit) ∷ now (source .exit) ∷ now (changes .exit) ∷ now (notes .exit) ∷ now (incoming .exit) ∷ now (changed .exit) ∷ now (marks .exit) ∷ now (rows .exit) ∷ now (prepared .exit) ∷ []) ⌝ }
+{
+    let mut none = [0u8; 0];
+    share_in(serve(
+        choices,
+        Job::Share,
+        batch,
+        &mut none,
         table,
         source,
         changes,

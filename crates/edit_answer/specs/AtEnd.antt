@@ -16,7 +16,8 @@ use Rattle.definition.specs.Basics.{Answer, refused, gives, _>>=_, refuse}
 use Rattle.definition.specs.Choices.{Choices}
 use Rattle.definition.specs.Elements.{Table, isNode, node?, tree, row, noRow}
 use Rattle.definition.specs.Refusals.{Accepted, accepted}
-use Rattle.definition.specs.Answers.{plan, ran}
+use Rattle.definition.specs.Answers.{Plan, plan, ran}
+use Rattle.definition.specs.Running.{World}
 use Rattle.definition.specs.Finishing.{fitting, encoded}
 use Rattle.definition.specs.Printed.{programRoom}
 use Rattle.definition.specs.Account.{fateLines, overlapLine}
@@ -30,7 +31,9 @@ use Rattle.read_element_table.specs.Wellformed.{Lines}
 use Rattle.read_element_table.specs.Told.{length-view, row-view, node-told, tree-told}
 use Rattle.rows_model.specs.Row.{firstRows, rowsOf}
 use Rattle.run_model.specs.Store as model
-use Rattle.run_model.specs.Store.{store}
+use Rattle.run_model.specs.Store.{store, heldChanged}
+use Rattle.share_laws.specs.Share.{share, shareIn}
+use Rattle.share_rows.specs.Summed.{shareOf, share-rows}
 use Rattle.run_annotations.specs.Notes.{notesOf}
 use Rattle.run_annotations.specs.Changed.{changedIn}
 use Rattle.run_tree_store.specs.Stored.{stored}
@@ -47,10 +50,11 @@ use Rattle.edit_perform.specs.declared.Ended.{Ended}
 use Rattle.edit_perform.specs.declared.Performed.{Performed}
 use Rattle.edit_perform.specs.declared.Performed.the-variants.{Refused, Overlap, Done}
 use Rattle.promises.specs.Promises.{leftIn, applied, found, recounted}
-use Rattle.promises.specs.Serving.{reached, ofLength, outcome, written, Tells, edit-outcome, edit-written}
+use Rattle.promises.specs.Serving.{reached, ofLength, ofShare, outcome, written, Tells, edit-outcome, edit-written}
 use Rattle.promises.specs.declared.Job.{Job}
-use Rattle.promises.specs.declared.Job.the-variants.{Edit, Find, Account}
+use Rattle.promises.specs.declared.Job.the-variants.{Edit, Find, Account, Share}
 use Rattle.promises.specs.declared.Outcome.{Outcome}
+use Rattle.promises.specs.declared.Outcome.the-variants.{Of}
 
 -- ── The edit ────────────────────────────────────────────────────────────────────────────────────────────────
 
@@ -158,6 +162,39 @@ module _ {h : Choices} {b rows t s : List ℕ} {d : Ended} (v : RowsAtEnd h b ro
       → gives (findRow (firstTree (firstRows (drop (d .text) b) (d .rows) rows)) kind start) ≡ found h b k
   old-node q low kind start e f = sym (found-by ∙ rw (q, kind-told (d .elements) t s k low, ← e, ← f) refl)
 
+-- ── The share ───────────────────────────────────────────────────────────────────────────────────────────────
+
+-- the share by the end of the run
+pub share-ending : (h : Choices) (b : List ℕ) → share h b ≡ (ending h b >>= λ e. gives (shareIn (e .world)))
+unfolding share ending _>>=_
+share-ending h b = by-batch (accepted b)
+  where
+    by-run : (a : Accepted) (p : Plan) (o : Answer World) → (o >>= λ w. gives (shareIn w)) ≡ ((o >>= λ w. gives (record { batch = a; planned = p; world = w })) >>= λ e. gives (shareIn (e .world)))
+    by-run a p (refused k) = refl
+    by-run a p (gives w) = refl
+
+    by-plan : (a : Accepted) (o : Answer Plan) → (o >>= λ p. ran a p >>= λ w. gives (shareIn w)) ≡ ((o >>= λ p. ran a p >>= λ w. gives (record { batch = a; planned = p; world = w })) >>= λ e. gives (shareIn (e .world)))
+    by-plan a (refused k) = refl
+    by-plan a (gives p) = by-run a p (ran a p)
+
+    by-batch : (o : Answer Accepted) → (o >>= λ a. plan h a >>= λ p. ran a p >>= λ w. gives (shareIn w)) ≡ ((o >>= λ a. plan h a >>= λ p. ran a p >>= λ w. gives (record { batch = a; planned = p; world = w })) >>= λ e. gives (shareIn (e .world)))
+    by-batch (refused k) = refl
+    by-batch (gives a) = by-plan a (plan h a)
+
+-- what the rows and the changed elements at the end tell is the batch's share
+pub share-told : {h : Choices} {b rows notes changed : List ℕ} {d : Ended} → AtEnd h b rows notes changed d → {q m : ℕ} → (q, m) ≡ shareOf (firstRows (drop (d .text) b) (d .rows) rows) (changedIn (d .changed) changed) → Of q m ≡ ofShare (share h b)
+unfolding ending ofShare store stored _>>=_
+share-told {h} {b} {rows} {notes} {changed} {d} v {q} {m} e =
+    given (accepted b) _ (v .ends) λ a x f.
+    given (plan h a) _ f λ p y f.
+    given (ran a p) _ f λ w z f.
+    let same : v .end .world ≡ w = ap (λ (k : End). k .world) (sym (gives-inj f)) in
+    let there : shareIn w ≡ shareOf (rowsOf w.trees) (map (heldChanged w.trees) w.changed) = share-rows h b a p w x y z in
+    let held : shareOf (rowsOf w.trees) (map (heldChanged w.trees) w.changed) ≡ shareOf (firstRows (drop (d .text) b) (d .rows) rows) (changedIn (d .changed) changed) =
+    ap (λ (s : model.Store). shareOf (s .rows) (s .changed)) (ap store (sym same) ∙ v .held) in
+    let is : shareIn w ≡ (q, m) = there ∙ (held ∙ sym e) in
+    rw (x, y, z, is) refl
+
 -- ── Refused, or at the end of the run ───────────────────────────────────────────────────────────────────────
 
 -- the answer `a`, unless what is performed is refused
@@ -186,6 +223,7 @@ unfoldable pub overlapTold : Job → ℕ → ℕ → ℕ → Answer (Outcome × 
 overlapTold Edit j k room = refused 8
 overlapTold (Find n) j k room = refused 8
 overlapTold Account j k room = tellIn room (overlapLine j k)
+overlapTold Share j k room = refused 8
 
 -- is the answer of every job
 pub overlap-answers : (h : Choices) (job : Job) (b : List ℕ) (j k room : ℕ) → Overlapped h b j k → overlapTold job j k room ≡ reached h job b room
@@ -193,6 +231,7 @@ unfolding overlapTold reached applied recounted _>>=_
 overlap-answers h Edit b j k room o = sym (rw (edit-ending h b, o .refused8) refl)
 overlap-answers h (Find n) b j k room o = sym (rw (found-ending h b n, o .refused8) refl)
 overlap-answers h Account b j k room o = sym (rw (o .text) refl)
+overlap-answers h Share b j k room o = sym (rw (share-ending h b, o .refused8) refl)
 
 -- ── The account ─────────────────────────────────────────────────────────────────────────────────────────────
 

@@ -14,7 +14,8 @@ ghost use Rattle.read_element_table.specs.View.{view};
 ghost use Rattle.read_element_table.specs.Wellformed.{Wellformed};
 ghost use Rattle.edit_perform.specs.AtEnd.{AtEnd, Told, Recounted};
 ghost use Rattle.promises.specs.Promises.{found};
-ghost use Rattle.promises.specs.Serving.{reached, ofPlace, Tells};
+ghost use Rattle.promises.specs.Serving.{reached, ofPlace, ofShare, Tells};
+ghost use Rattle.share_laws.specs.Share.{share};
 ghost use Rattle.promises.specs.declared.Job.the-variants as asked;
 ghost use Rattle.edit_answer.specs.AtEnd.{RowsAtEnd, oldNode, overlapTold, unless, ToAnswer};
 
@@ -130,6 +131,23 @@ fn account_from(
     account_lines::tell_fates(changes, d.recorded, result)
 }
 
+// The share of text rewritten, from what the run of the batch leaves.
+fn share_from(
+    choices: Choices,
+    batch: &[u8],
+    d: Ended,
+    rows: &[u32],
+    notes: &[u32],
+    changed: &[u32],
+) -> Outcome
+    requires { ⌜ AtEnd (meant choices) (now batch) (now rows) (now notes) (now changed) d ⌝ }
+    ensures { λ r. ⌜ r ≡ ofShare (share (meant choices) (now (batch .entry))) ⌝ }
+{
+    let c = d.changed;
+    let s = share_rows::share(rows, d.rows, d.root, &changed[..c]);
+    Outcome::Of(s.quotient, s.remainder)
+}
+
 // What the job answers where the changes at the places `j` and `k` overlap: the account tells them, every other job is refused by 8.
 fn overlapping(job: Job, j: usize, k: usize, result: &mut [u8]) -> Outcome
     ensures { λ r. ⌜ Tells (overlapTold job j k (length (now (result .entry)))) (now (result .entry)) r (now (result .exit)) ⌝ }
@@ -138,6 +156,7 @@ fn overlapping(job: Job, j: usize, k: usize, result: &mut [u8]) -> Outcome
         Job::Edit => Outcome::Refused(8),
         Job::Find(_) => Outcome::Refused(8),
         Job::Account => account_lines::tell_overlap(j, k, result),
+        Job::Share => Outcome::Refused(8),
     }
 }
 
@@ -168,6 +187,7 @@ pub fn answer(
             Job::Account => {
                 account_from(choices, batch, d, changes, rows, notes, changed, result)
             }
+            Job::Share => share_from(choices, batch, d, rows, notes, changed),
         },
     }
 }

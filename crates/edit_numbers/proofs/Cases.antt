@@ -1,29 +1,29 @@
 -- An outcome's number, case by case.
 -- Assumes nothing.
 use mathlib.Core.Path.{_≡_, refl, subst}
-use Prim.Native.Nat.{ℕ, _≤_}
+use Prim.Native.Nat.{ℕ, _≤_, _<_}
 use lib.IntN.{ℤ, pos, negsuc, negℤ}
 use mir.Syntax.{w64}
 use mir.Val.{toZ, ofZ}
 use Rattle.promises.specs.declared.Outcome.{Outcome}
-use Rattle.promises.specs.declared.Outcome.the-variants.{Refused, Bytes, Nothing, At}
+use Rattle.promises.specs.declared.Outcome.the-variants.{Refused, Bytes, Nothing, At, Of}
 use Rattle.write_batch.specs.Handing.{answerOf}
 use Rattle.write_batch.specs.declared.Written.{Written}
 use Rattle.write_batch.specs.declared.Written.the-variants.{Refused as Unwritten, Bytes as Laid}
-use Rattle.edit_numbers.specs.Told.{Small, numberOf}
+use Rattle.edit_numbers.specs.Told.{Small, numberOf, shareWord, share-small}
 use Rattle.edit_numbers.specs.Negated.{neg-told, pos-told}
 use Rattle.edit_numbers.specs.ReturnedBatch.{Few, lengthNumber}
 
 module _ (a : Outcome) (n : ℕ) where
-  pub small-refused : a ≡ Refused n → Small a → n ≤ 131072
+  pub small-refused : a ≡ Refused n → Small a → n ≤ 134217728
   unfolding Small
   small-refused e h = subst Small e h
 
-  pub small-bytes : a ≡ Bytes n → Small a → n ≤ 131072
+  pub small-bytes : a ≡ Bytes n → Small a → n ≤ 134217728
   unfolding Small
   small-bytes e h = subst Small e h
 
-  pub small-at : a ≡ At n → Small a → n ≤ 131072
+  pub small-at : a ≡ At n → Small a → n ≤ 134217728
   unfolding Small
   small-at e h = subst Small e h
 
@@ -39,17 +39,27 @@ module _ (a : Outcome) (n : ℕ) where
   unfolding numberOf
   tells-at z e h q = rw (e, q) (pos-told n (small-at e h))
 
+-- a share
+module _ (a : Outcome) (q m : ℕ) where
+  pub small-of : a ≡ Of q m → Small a → (q ≤ 1000) × (m < 65536)
+  unfolding Small
+  small-of e h = subst Small e h
+
+  pub tells-of : (z : ℤ) → a ≡ Of q m → Small a → z ≡ pos (shareWord q m) → toZ w64 (ofZ w64 z) ≡ numberOf a
+  unfolding numberOf
+  tells-of z e h i = rw (e, i) (pos-told (shareWord q m) (share-small q m (small-of e h)))
+
 pub tells-nothing : (a : Outcome) → a ≡ Nothing → negsuc 999 ≡ numberOf a
 unfolding numberOf
 tells-nothing a e = rw e refl
 
 -- what the writer tells
 module _ (a : Written) (n : ℕ) where
-  pub few-refused : a ≡ Unwritten n → Few (answerOf a) → n ≤ 131072
+  pub few-refused : a ≡ Unwritten n → Few (answerOf a) → n ≤ 134217728
   unfolding Few answerOf
   few-refused e h = subst (λ (w : Written). Few (answerOf w)) e h
 
-  pub few-bytes : a ≡ Laid n → Few (answerOf a) → n ≤ 131072
+  pub few-bytes : a ≡ Laid n → Few (answerOf a) → n ≤ 134217728
   unfolding Few answerOf
   few-bytes e h = subst (λ (w : Written). Few (answerOf w)) e h
 

@@ -23,6 +23,8 @@ use Rattle.definition.specs.Account.{account, inRoom, accounted}
 use Rattle.definition_laws.specs.Answers.{given, gives-inj}
 use Rattle.account_lines.specs.Short.{mostText, account-short}
 use Rattle.definition_laws.specs.Basics.{All-append}
+use Rattle.share_laws.specs.Share.{shared}
+use Rattle.share_laws.specs.Laws.{share-ran, ran-fits}
 use Rattle.definition_laws.specs.Limits.{mostBytes, encoded-within, ran-known}
 
 -- ── The bytes ───────────────────────────────────────────────────────────────────────────────────────────────
@@ -50,6 +52,18 @@ accounted-short h work b text room e =
     given (account h b) _ e λ t y e.
     given _ _ e λ u z e.
     rw (← gives-inj e) (account-short h b t y)
+
+-- ── The share ───────────────────────────────────────────────────────────────────────────────────────────────
+
+-- A share has a quotient of at most 1,000, and its remainder is less than 65,536.
+pub shared-few : (h : Choices) (work : List (ℕ × ℕ)) (b : List ℕ) (s : ℕ × ℕ) → shared h work b ≡ gives s → (s .0 ≤ 1000) × (s .1 < 65536)
+unfolding shared withChoices withWork
+shared-few h work b s e =
+    given _ _ e λ u x e.
+    given _ _ e λ u x e.
+    let (a, p, w, x, y, z, q) = share-ran h b s e in
+    let f = ran-fits h b a p w x y z in
+    rw (← q) (f .quotient, omega (arith, f .remainder))
 
 -- ── The element ─────────────────────────────────────────────────────────────────────────────────────────────
 

@@ -15,14 +15,15 @@ use Rattle.definition.specs.Answers.{edited}
 use Rattle.definition.specs.FindElement.{findElement}
 use Rattle.definition.specs.Performed.{InsertsFew}
 use Rattle.definition.specs.Account.{accounted}
+use Rattle.share_laws.specs.Share.{shared}
 use Rattle.promises.specs.Slices.{needed, lengths, zeroed}
 use Rattle.promises.specs.Promises.{leftIn}
-use Rattle.promises.specs.Serving.{place, ofLength, ofPlace, Serves, serves-edits, serves-finds, serves-accounts}
-use Rattle.promises.specs.declared.Job.the-variants.{Edit, Find, Account}
+use Rattle.promises.specs.Serving.{place, ofLength, ofPlace, ofShare, Serves, serves-edits, serves-finds, serves-accounts, serves-shares}
+use Rattle.promises.specs.declared.Job.the-variants.{Edit, Find, Account, Share}
 use Rattle.promises.specs.declared.Outcome.{Outcome}
-use Rattle.promises_read.specs.Refused.{By, editNumbers, findNumbers, accountNumbers, by-number, by-more, edited-by, found-by, accounted-by}
-use Rattle.edit_numbers.specs.Bounded.{edited-short, found-short, accounted-short}
-use Rattle.edit_numbers.specs.Told.{numberOf, Small, number-read}
+use Rattle.promises_read.specs.Refused.{By, editNumbers, findNumbers, accountNumbers, by-number, by-more, edited-by, found-by, accounted-by, shared-by}
+use Rattle.edit_numbers.specs.Bounded.{edited-short, found-short, accounted-short, shared-few}
+use Rattle.edit_numbers.specs.Told.{numberOf, shareWord, Small, number-read}
 
 -- ── The promises ────────────────────────────────────────────────────────────────────────────────────────────
 
@@ -59,10 +60,20 @@ pub record ReturnsAccount (h : Choices) (b held : List ℕ) (work : List (List �
   pub result : holds ≡ leftIn held (accounted h (lengths needed work) b (length held))
   pub zeros : left ≡ zeroed work
 
+-- a share: 65,536 times the quotient and the remainder, or the refusal's number with a minus
+unfoldable pub returnedShare : Answer (ℕ × ℕ) → ℤ
+returnedShare (refused n) = negℤ (pos n)
+returnedShare (gives s) = pos (shareWord (s .0) (s .1))
+
+-- THE PROMISE of `syntax_share`, from the choices h, the batch b and the work slices as they were lent
+pub record ReturnsShare (h : Choices) (b : List ℕ) (work : List (List ℕ)) (r : ℤ) (left : List (List ℕ)) : Type 0 where
+  pub share : r ≡ returnedShare (shared h (lengths needed work) b)
+  pub zeros : left ≡ zeroed work
+
 -- ── From what is served ─────────────────────────────────────────────────────────────────────────────────────
 
 -- what tells the length of a text is small, if the text is and its refusal is
-bytes-small : (o : Answer (List ℕ)) → By editNumbers o → ((bytes : List ℕ) → o ≡ gives bytes → length bytes ≤ 131072) → Small (ofLength (o >>= λ bytes. gives (length bytes)))
+bytes-small : (o : Answer (List ℕ)) → By editNumbers o → ((bytes : List ℕ) → o ≡ gives bytes → length bytes ≤ 134217728) → Small (ofLength (o >>= λ bytes. gives (length bytes)))
 unfolding Small ofLength _>>=_ any
 bytes-small (refused n) h k = omega (arith, (by-number {A = List ℕ} editNumbers 1 17 n (refused n) refl h refl) .1)
 bytes-small (gives bytes) h k = k bytes refl
@@ -136,3 +147,30 @@ module _ {h : Choices} {b held holds : List ℕ} {n : ℕ} {work left : List (Li
       go (refused m) = refl
       go (gives none) = refl
       go (gives (some e)) = refl
+
+module _ {h : Choices} {b held holds : List ℕ} {work left : List (List ℕ)} {r : Outcome} (s : Serves h Share b held work r holds left) where
+  abbrev part : Answer (ℕ × ℕ)
+  part = shared h (lengths needed work) b
+
+  part-told : r ≡ ofShare part
+  part-told = let (a, e, k) = serves-shares h s in e ∙ ap ofShare (k .share)
+
+  -- what is told of a share is small
+  pub share-fits : Small r
+  unfolding Small ofShare any
+  share-fits = rw part-told (go part (λ m. by-number findNumbers 1 17 m part refl (shared-by h (lengths needed work) b)) (shared-few h (lengths needed work) b))
+    where
+      go : (o : Answer (ℕ × ℕ)) → ((m : ℕ) → o ≡ refused m → (1 ≤ m) × (m ≤ 17)) → ((q : ℕ × ℕ) → o ≡ gives q → (q .0 ≤ 1000) × (q .1 < 65536)) → Small (ofShare o)
+      go (refused m) h k = omega (arith, (h m refl) .1)
+      go (gives q) h k = k q refl
+
+  -- and its number is what is promised
+  pub share-returned : (z : ℤ) → z ≡ numberOf r → ReturnsShare h b work (toZ w64 (ofZ w64 z)) left
+  unfolding numberOf ofShare returnedShare
+  share-returned z q =
+      let (a, e, k) = serves-shares h s in
+      record { share = ap (λ (y : ℤ). toZ w64 (ofZ w64 y)) q ∙ (number-read r share-fits ∙ (ap numberOf part-told ∙ go part)); zeros = k .zeros }
+    where
+      go : (o : Answer (ℕ × ℕ)) → numberOf (ofShare o) ≡ returnedShare o
+      go (refused m) = refl
+      go (gives q) = refl

@@ -47,8 +47,8 @@ lengthNumber (gives n) = pos n
 
 -- what is told is small
 unfoldable pub Few : Answer ℕ → Type 0
-Few (refused n) = n ≤ 131072
-Few (gives n) = n ≤ 131072
+Few (refused n) = n ≤ 134217728
+Few (gives n) = n ≤ 134217728
 
 -- the number is read back as it was written
 pub length-read : (a : Answer ℕ) → Few a → toZ w64 (ofZ w64 (lengthNumber a)) ≡ lengthNumber a

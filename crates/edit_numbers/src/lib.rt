@@ -2,15 +2,15 @@
 use promises::Outcome;
 use write_batch::Written;
 ghost use mathlib.Core.Path.{_≡_};
-ghost use Prim.Native.Nat.{_≤_};
+ghost use Prim.Native.Nat.{_≤_, _<_};
 ghost use lib.IntN.{pos, negℤ};
 ghost use Rattle.write_batch.specs.Handing.{answerOf};
-ghost use Rattle.edit_numbers.specs.Told.{Small, numberOf};
+ghost use Rattle.edit_numbers.specs.Told.{Small, numberOf, shareWord};
 ghost use Rattle.edit_numbers.specs.ReturnedBatch.{Few, lengthNumber};
 
 // A refusal's number, with a minus.
 fn negative(n: usize) -> i64
-    requires { ⌜ n ≤ 131072 ⌝ }
+    requires { ⌜ n ≤ 134217728 ⌝ }
     ensures { λ r. ⌜ r ≡ negℤ (pos n) ⌝ }
 {
     let m = n as i64;
@@ -19,10 +19,21 @@ fn negative(n: usize) -> i64
 
 // A length or an element's number.
 fn positive(n: usize) -> i64
-    requires { ⌜ n ≤ 131072 ⌝ }
+    requires { ⌜ n ≤ 134217728 ⌝ }
     ensures { λ r. ⌜ r ≡ pos n ⌝ }
 {
     n as i64
+}
+
+// For how much a share's quotient counts in its number: its remainder is less.
+const QUOTIENT: usize = 65536;
+
+// A share as one number.
+fn share_number(quotient: usize, remainder: usize) -> i64
+    requires { ⌜ (quotient ≤ 1000) × (remainder < 65536) ⌝ }
+    ensures { λ r. ⌜ r ≡ pos (shareWord quotient remainder) ⌝ }
+{
+    positive(QUOTIENT * quotient + remainder)
 }
 
 // The number of an outcome.
@@ -35,6 +46,7 @@ pub fn number_of(told: Outcome) -> i64
         Outcome::Bytes(n) => positive(n),
         Outcome::Nothing => -1000,
         Outcome::At(n) => positive(n),
+        Outcome::Of(q, m) => share_number(q, m),
     }
 }
 

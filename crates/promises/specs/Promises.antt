@@ -14,6 +14,7 @@ use Rattle.definition.specs.FindElement.{findIn, findElement}
 use Rattle.definition.specs.Finishing.{fitting, encoded}
 use Rattle.definition.specs.Performed.{InsertsFew}
 use Rattle.definition.specs.Account.{account, inRoom, accounted}
+use Rattle.share_laws.specs.Share.{shared}
 use Rattle.promises.specs.Slices.{needed, lengths, zeroed}
 
 -- ── The edit ────────────────────────────────────────────────────────────────────────────────────────────────
@@ -45,6 +46,12 @@ pub record Accounts (h : Choices) (b held : List ℕ) (work : List (List ℕ)) (
   pub answer : r ≡ (accounted h (lengths needed work) b (length held) >>= λ text. gives (length text))
   -- the text stands at the front of the result slice, beyond it what that held, or on refusal all that it held
   pub result : holds ≡ leftIn held (accounted h (lengths needed work) b (length held))
+  pub zeros : left ≡ zeroed work
+
+-- THE PROMISE of `share`, from the choices h, the batch b and the work slices as they were lent (document 02, Note 10)
+pub record Shares (h : Choices) (b : List ℕ) (work : List (List ℕ)) (r : Answer (ℕ × ℕ)) (left : List (List ℕ)) : Type 0 where
+  -- the quotient and the remainder are the definition's
+  pub share : r ≡ shared h (lengths needed work) b
   pub zeros : left ≡ zeroed work
 
 -- ── Refusals 17 and 1 ───────────────────────────────────────────────────────────────────────────────────────

@@ -12,12 +12,13 @@ use Rattle.definition.specs.Answers.{edited, withWork, withChoices, tooShort}
 use Rattle.definition.specs.FindElement.{findElement}
 use Rattle.definition_laws.specs.Performed.{inserts-few}
 use Rattle.definition.specs.Account.{accounted}
+use Rattle.share_laws.specs.Share.{share, shared}
 use Rattle.promises.specs.Slices.{needed, lengths, zeroed}
-use Rattle.promises.specs.Promises.{leftIn, Edits, Finds, Accounts, applied, found, recounted, wrongly-chosen, with-short}
+use Rattle.promises.specs.Promises.{leftIn, Edits, Finds, Accounts, Shares, applied, found, recounted, wrongly-chosen, with-short}
 use Rattle.promises.specs.declared.Job.{Job}
-use Rattle.promises.specs.declared.Job.the-variants.{Edit, Find, Account}
+use Rattle.promises.specs.declared.Job.the-variants.{Edit, Find, Account, Share}
 use Rattle.promises.specs.declared.Outcome.{Outcome}
-use Rattle.promises.specs.declared.Outcome.the-variants.{Refused, Bytes, Nothing, At}
+use Rattle.promises.specs.declared.Outcome.the-variants.{Refused, Bytes, Nothing, At, Of}
 
 -- ── What a job answers ──────────────────────────────────────────────────────────────────────────────────────
 
@@ -34,11 +35,16 @@ tellBytes bytes = gives (Bytes (length bytes), bytes)
 abbrev pub tellPlace : Option ℕ → Answer (Outcome × List ℕ)
 tellPlace e = gives (place e, [])
 
+-- nor does the share
+abbrev pub tellShare : ℕ × ℕ → Answer (Outcome × List ℕ)
+tellShare s = gives (Of (s .0) (s .1), [])
+
 -- what a job answers where neither 17 nor 1 refuses: how it is told, and the bytes that it writes
 unfoldable pub reached : Choices → Job → List ℕ → ℕ → Answer (Outcome × List ℕ)
 reached h Edit b room = applied h b room >>= tellBytes
 reached h (Find n) b room = found h b n >>= tellPlace
 reached h Account b room = recounted h b room >>= tellBytes
+reached h Share b room = share h b >>= tellShare
 
 -- refusals 17 and 1 come before every job
 unfoldable pub served : Choices → Job → List (ℕ × ℕ) → List ℕ → ℕ → Answer (Outcome × List ℕ)
@@ -100,6 +106,23 @@ unfolding written leftIn _>>=_
 find-written held (refused k) = refl
 find-written held (gives e) = refl
 
+-- ── The share ───────────────────────────────────────────────────────────────────────────────────────────────
+
+-- how a share is told
+unfoldable pub ofShare : Answer (ℕ × ℕ) → Outcome
+ofShare (refused k) = Refused k
+ofShare (gives s) = Of (s .0) (s .1)
+
+pub share-outcome : (x : Answer (ℕ × ℕ)) → outcome (x >>= tellShare) ≡ ofShare x
+unfolding outcome ofShare _>>=_
+share-outcome (refused k) = refl
+share-outcome (gives s) = refl
+
+pub share-written : (held : List ℕ) (x : Answer (ℕ × ℕ)) → held ≡ leftIn held (written (x >>= tellShare))
+unfolding written leftIn _>>=_
+share-written held (refused k) = refl
+share-written held (gives s) = refl
+
 -- ── What follows ────────────────────────────────────────────────────────────────────────────────────────────
 
 -- refusals 17 and 1 before what comes of an answer are those before the answer
@@ -135,6 +158,14 @@ serves-finds h {b} {held} {holds} {n} {work} {left} {r} s =
     let x = findElement h (lengths needed work) b n in
     let same = with-then h (lengths needed work) (found h b n) tellPlace in
     (x, s .told .answer ∙ (ap outcome same ∙ find-outcome x), record { element = refl; zeros = s .zeros; inserts = inserts-few h b })
+
+-- What it answers to `Share` tells an answer that keeps the promise of `share`.
+pub serves-shares : (h : Choices) {b held holds : List ℕ} {work left : List (List ℕ)} {r : Outcome} → Serves h Share b held work r holds left → (a : Answer (ℕ × ℕ)) × (r ≡ ofShare a) × Shares h b work a left
+unfolding served reached shared
+serves-shares h {b} {held} {holds} {work} {left} {r} s =
+    let x = shared h (lengths needed work) b in
+    let same = with-then h (lengths needed work) (share h b) tellShare in
+    (x, s .told .answer ∙ (ap outcome same ∙ share-outcome x), record { share = refl; zeros = s .zeros })
 
 -- what is told of a refusal: its number, and the result slice holds all that it held
 tells-refused : {want : Answer (Outcome × List ℕ)} {held holds : List ℕ} {r : Outcome} (k : ℕ) → want ≡ refused k → Tells want held r holds → (r ≡ Refused k) × (holds ≡ held)

@@ -6,19 +6,21 @@ ghost use lib.Dec.{ltb};
 ghost use Rattle.definition.specs.Answers.{tooShort};
 ghost use Rattle.promises.specs.Slices.{asked, needed, lengths, zeros, zeroed};
 
-// What is asked of a batch: its edit, where a node of tree 0 stands then, or what becomes of each change.
+// What is asked of a batch: its edit, where a node of tree 0 stands then, what becomes of each change, or how much of the text is rewritten.
 pub enum Job {
     Edit,
     Find(usize),
     Account,
+    Share,
 }
 
-// A refusal's number; how many bytes the result or the account has; no element; or an element's number.
+// A refusal's number; how many bytes the result or the account has; no element; an element's number; or a share's quotient and remainder.
 pub enum Outcome {
     Refused(usize),
     Bytes(usize),
     Nothing,
     At(usize),
+    Of(usize, usize),
 }
 
 // Whether a slice has less than `n` words.

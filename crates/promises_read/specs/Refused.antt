@@ -27,6 +27,7 @@ use Rattle.definition.specs.Printed.{programRoom}
 use Rattle.definition.specs.Account.{said, account, inRoom, accounted}
 use Rattle.definition_laws.specs.Answers.{refused-gives}
 use Rattle.definition_laws.specs.Limits.{mostBytes, encoded-within}
+use Rattle.share_laws.specs.Share.{shareIn, share, shared}
 use Rattle.promises.specs.Slices.{needed, lengths}
 use Rattle.promises.specs.Promises.{Edits, Finds, applied, found, short-edited, long-edited, long-found}
 
@@ -331,6 +332,11 @@ found-by h work b n = with-by findNumbers refl refl h work _ (by-more editLines 
 -- So they are 1 to 12, 16 and 17.
 pub found-numbered : (h : Choices) (work : List (ℕ × ℕ)) (b : List ℕ) (n k : ℕ) → findElement h work b n ≡ refused k → among findNumbers k ≡ true
 found-numbered h work b n k e = let by = found-by h work b n in rw e at by
+
+-- `share` refuses by one of these too: it has no result slice, so never by 13.
+pub shared-by : (h : Choices) (work : List (ℕ × ℕ)) (b : List ℕ) → By findNumbers (shared h work b)
+unfolding shared share among any
+shared-by h work b = with-by findNumbers refl refl h work _ (by-more editLines findNumbers (share h b) refl (stages-by h b (λ a p w. shareIn w)))
 
 -- why a call is refused: for the edge rule, for a work slice, for the batch, or for the result slice
 pub data Why (h : Choices) (b held : List ℕ) (work : List (List ℕ)) : ℕ → Type 0 where

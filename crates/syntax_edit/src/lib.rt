@@ -4,7 +4,7 @@ use edit_algo::serve;
 use promises::Job;
 ghost use mathlib.Core.List.{_∷_, []};
 ghost use Rattle.write_layout.specs.Laying.{listsIn};
-ghost use Rattle.edit_numbers.specs.Returned.{Returns, ReturnsElement, ReturnsAccount};
+ghost use Rattle.edit_numbers.specs.Returned.{Returns, ReturnsElement, ReturnsAccount, ReturnsShare};
 ghost use Rattle.edit_numbers.specs.ReturnedBatch.{ReturnsBatch};
 
 // THE EDIT of a batch: the length of the answer, which stands at the front of `result`, or a refusal's number with a minus.
@@ -107,6 +107,43 @@ pub extern "C" fn syntax_account(
         Job::Account,
         batch,
         result,
+        table,
+        source,
+        changes,
+        notes,
+        incoming,
+        changed,
+        marks,
+        rows,
+        prepared,
+    );
+    edit_numbers::number_of(told)
+}
+
+// THE SHARE OF TEXT REWRITTEN by a batch, in thousandths: 65,536 times the quotient and the remainder, or a refusal's number with a minus. The nine others are
+// work slices, which end as zeros.
+#[no_mangle]
+pub extern "C" fn syntax_share(
+    edge: usize,
+    batch: &[u8],
+    table: &mut [u32],
+    source: &mut [u32],
+    changes: &mut [u32],
+    notes: &mut [u32],
+    incoming: &mut [u32],
+    changed: &mut [u32],
+    marks: &mut [u32],
+    rows: &mut [u32],
+    prepared: &mut [u32],
+) -> i64
+    ensures { λ r. ⌜ ReturnsShare (record { edge = edge }) (now (batch .entry)) (now (table .entry) ∷ now (source .entry) ∷ now (changes .entry) ∷ now (notes .entry) ∷ now (incoming .entry) ∷ now (changed .entry) ∷ now (marks .entry) ∷ now (rows .entry) ∷ now (prepared .entry) ∷ []) r (now (table .exit) ∷ now (source .exit) ∷ now (changes .exit) ∷ now (notes .exit) ∷ now (incoming .exit) ∷ now (changed .exit) ∷ now (marks .exit) ∷ now (rows .exit) ∷ now (prepared .exit) ∷ []) ⌝ }
+{
+    let mut none = [0u8; 0];
+    let told = serve(
+        Choices { edge },
+        Job::Share,
+        batch,
+        &mut none,
         table,
         source,
         changes,

@@ -1,0 +1,4 @@
+// The share program.
+fn main() {
+    share_program::run();
+}

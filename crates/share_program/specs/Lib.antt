@@ -1,0 +1,2 @@
+-- What the program prints of a batch.
+pub mod Responds
