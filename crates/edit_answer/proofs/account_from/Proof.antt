@@ -16,10 +16,10 @@ part-text-end : tie.Need-part-text-end
 part-text-end c = search needs
 
 result-size-requires : tie.Need-result-size-requires
-result-size-requires c κs = ?
+result-size-requires c κs = let v = c .before .before .before .before .before .before .before .pre in ((v .0 .rowsWithin, v .0 .someRows, omega (arith, v .0 .fewRows), v .0 .fewBytes _, v .0 .notesWithin, v .0 .fewNotes, v .0 .changedWithin, v .0 .fewChanged), v .0 .place)
 
 returns : tie.Need-returns
-returns c = search (whole-rest, account-refused, needs)
+returns c = account-refused (c .before .before .before .before .before .before .before .before .before .pre) _ _ (whole-rest (c .before .before .before .before .before .before .before .before .before .args .d .text) (c .before .before .before .before .before .before .before .before .before .args .batch .now)) (c .before .result-size .ensures) (c .if1 .taken)
 
 tell-fates-requires : tie.Need-tell-fates-requires
 tell-fates-requires c κs = search needs
@@ -28,7 +28,7 @@ same-length : tie.Need-same-length
 same-length c = search needs
 
 returns-2 : tie.Need-returns-2
-returns-2 c = search (whole-rest, account-told, needs)
+returns-2 c = account-told (c .before .before .before .before .before .before .before .before .before .before .before .before .before .pre) _ _ (whole-rest (c .before .before .before .before .before .before .before .before .before .before .before .before .before .args .d .text) (c .before .before .before .before .before .before .before .before .before .before .before .before .before .args .batch .now)) (c .before .before .before .before .before .result-size .ensures) (c .before .before .before .before .if1 .left) (c .before .before .tell-fates .ensures)
 
 pub account-from-spec : {M : Type 1} → statement M
 account-from-spec =
