@@ -4,11 +4,11 @@ use mathlib.Core.Path.{_≡_, refl, sym, ap, subst, _∙_}
 use mathlib.Core.Bool.{Bool, true, false, not}
 use mathlib.Core.List.{List, map}
 use mathlib.Core.Option.{Option, none, some}
-use Prim.Native.Nat.{ℕ, suc, _+_, _-_, _*_, _≤_, _<_}
+use Prim.Native.Nat.{ℕ, suc, _+_, _-_, _*_, _^_, _≤_, _<_}
 use native.Mathlib.Nat.{add-zero}
 use native.Mathlib.Omega.{arith}
 use lib.ListN.{length, getD, drop, take, length-drop}
-use lib.Seq.{take-all}
+use lib.Seq.{take-all, length-take-le}
 use lib.Dec.{eqb}
 use borrow.Author.Tests.{not-true, not-false}
 use Rattle.definition.specs.Basics as basics
@@ -38,13 +38,16 @@ use Rattle.edit_perform.specs.AtEnd.{AtEnd, Told, Recounted}
 use Rattle.edit_perform.specs.declared.Ended.{Ended}
 use Rattle.edit_perform.specs.declared.Performed.{Performed}
 use Rattle.edit_perform.specs.declared.Performed.the-variants.{Refused as Stopped, Overlap, Done}
+use Rattle.share_laws.specs.Share.{share}
+use Rattle.share_rows.specs.Promises.{Shares}
+use Rattle.share_rows.specs.declared.Thousandths.{Thousandths}
 use Rattle.promises.specs.Promises.{leftIn, found}
-use Rattle.promises.specs.Serving.{reached, place, ofLength, ofPlace, outcome, written, Tells, find-outcome, find-written}
+use Rattle.promises.specs.Serving.{reached, place, ofLength, ofPlace, ofShare, outcome, written, Tells, find-outcome, find-written, share-outcome, share-written}
 use Rattle.promises.specs.declared.Job.{Job}
-use Rattle.promises.specs.declared.Job.the-variants.{Edit, Find, Account}
+use Rattle.promises.specs.declared.Job.the-variants.{Edit, Find, Account, Share}
 use Rattle.promises.specs.declared.Outcome.{Outcome}
-use Rattle.promises.specs.declared.Outcome.the-variants.{Refused, Bytes as Written, Nothing as NoElement, At as Stands}
-use Rattle.edit_answer.specs.AtEnd.{RowsAtEnd, answered-edit, oldNode, none-there, no-node, node-there, old-tree, no-old-node, old-node, unless, unless-refused, unless-done, unless-overlap, overlapTold, overlap-answers, account-13, fates-answer, ToAnswer}
+use Rattle.promises.specs.declared.Outcome.the-variants.{Refused, Bytes as Written, Nothing as NoElement, At as Stands, Of}
+use Rattle.edit_answer.specs.AtEnd.{RowsAtEnd, answered-edit, oldNode, none-there, no-node, node-there, old-tree, no-old-node, old-node, unless, unless-refused, unless-done, unless-overlap, overlapTold, overlap-answers, account-13, fates-answer, share-told, ToAnswer}
 
 -- what is behind a place, as a part is told
 pub whole-rest : (k : ℕ) (b : List ℕ) → take (length b - k) (drop k b) ≡ drop k b
@@ -81,6 +84,20 @@ pub tells-found : (h : Choices) (b held : List ℕ) (room n : ℕ) {r : Outcome}
 unfolding reached
 tells-found h b held room n e = record { answer = e ∙ sym (find-outcome (found h b n)); result = find-written held (found h b n) }
 
+-- the changed elements in use are few
+pub few-used : {h : Choices} {b rows notes changed : List ℕ} {d : Ended} → AtEnd h b rows notes changed d → length (take (d .changed) changed) < 2 ^ 16
+few-used {changed = changed} {d = d} v = omega (arith, length-take-le (d .changed) changed (v .changedWithin), v .fewChanged)
+
+-- what `share_rows` promises of the end of the run is the batch's share
+pub share-answers : {h : Choices} {b rows notes changed : List ℕ} {d : Ended} {r : Thousandths} → AtEnd h b rows notes changed d → Shares rows (d .rows) (take (d .changed) changed) r → Of (r .quotient) (r .remainder) ≡ ofShare (share h b)
+unfolding changedIn
+share-answers {b = b} {d = d} v f = share-told v (f (drop (d .text) b))
+
+-- nor does the share write
+pub tells-share : (h : Choices) (b held : List ℕ) (room : ℕ) {r : Outcome} → r ≡ ofShare (share h b) → Tells (reached h Share b room) held r held
+unfolding reached
+tells-share h b held room e = record { answer = e ∙ sym (share-outcome (share h b)); result = share-written held (share h b) }
+
 -- two changes overlap
 pub tells-overlap : {h : Choices} {b t s changes rows notes changed starts : List ℕ} {p : Performed} {j k : ℕ} {held out : List ℕ} {r : Outcome} (job : Job) → ToAnswer h b t s changes rows notes changed starts p → p ≡ Overlap j k
     → Tells (overlapTold job j k (length held)) held r out → Tells (unless p (reached h job b (length held))) held r out
@@ -109,6 +126,10 @@ edit-8 {job} j k held e = tells-8 job j k (length held) held (rw e refl)
 pub find-8 : {job : Job} {n : ℕ} (j k : ℕ) (held : List ℕ) → job ≡ Find n → Tells (overlapTold job j k (length held)) held (Refused 8) held
 unfolding overlapTold
 find-8 {job} j k held e = tells-8 job j k (length held) held (rw e refl)
+
+pub share-8 : {job : Job} (j k : ℕ) (held : List ℕ) → job ≡ Share → Tells (overlapTold job j k (length held)) held (Refused 8) held
+unfolding overlapTold
+share-8 {job} j k held e = tells-8 job j k (length held) held (rw e refl)
 
 pub account-8 : {job : Job} (j k : ℕ) {held out : List ℕ} {r : Outcome} → job ≡ Account → Tells (tellIn (length held) (overlapLine j k)) held r out → Tells (overlapTold job j k (length held)) held r out
 unfolding overlapTold

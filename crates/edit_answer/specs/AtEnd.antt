@@ -167,19 +167,25 @@ module _ {h : Choices} {b rows t s : List ℕ} {d : Ended} (v : RowsAtEnd h b ro
 -- the share by the end of the run
 pub share-ending : (h : Choices) (b : List ℕ) → share h b ≡ (ending h b >>= λ e. gives (shareIn (e .world)))
 unfolding share ending _>>=_
-share-ending h b = by-batch (accepted b)
+share-ending h b = go (accepted b)
   where
-    by-run : (a : Accepted) (p : Plan) (o : Answer World) → (o >>= λ w. gives (shareIn w)) ≡ ((o >>= λ w. gives (record { batch = a; planned = p; world = w })) >>= λ e. gives (shareIn (e .world)))
-    by-run a p (refused k) = refl
-    by-run a p (gives w) = refl
+    ended : World → Answer (ℕ × ℕ)
+    ended w = gives (shareIn w)
 
-    by-plan : (a : Accepted) (o : Answer Plan) → (o >>= λ p. ran a p >>= λ w. gives (shareIn w)) ≡ ((o >>= λ p. ran a p >>= λ w. gives (record { batch = a; planned = p; world = w })) >>= λ e. gives (shareIn (e .world)))
-    by-plan a (refused k) = refl
-    by-plan a (gives p) = by-run a p (ran a p)
+    at : End → Answer (ℕ × ℕ)
+    at e = gives (shareIn (e .world))
 
-    by-batch : (o : Answer Accepted) → (o >>= λ a. plan h a >>= λ p. ran a p >>= λ w. gives (shareIn w)) ≡ ((o >>= λ a. plan h a >>= λ p. ran a p >>= λ w. gives (record { batch = a; planned = p; world = w })) >>= λ e. gives (shareIn (e .world)))
-    by-batch (refused k) = refl
-    by-batch (gives a) = by-plan a (plan h a)
+    last : (a : Accepted) (p : Plan) (o : Answer World) → (o >>= λ w. ended w) ≡ ((o >>= λ w. gives (record { batch = a; planned = p; world = w })) >>= at)
+    last a p (refused k) = refl
+    last a p (gives w) = refl
+
+    mid : (a : Accepted) (o : Answer Plan) → (o >>= λ p. ran a p >>= λ w. ended w) ≡ ((o >>= λ p. ran a p >>= λ w. gives (record { batch = a; planned = p; world = w })) >>= at)
+    mid a (refused k) = refl
+    mid a (gives p) = last a p (ran a p)
+
+    go : (o : Answer Accepted) → (o >>= λ a. plan h a >>= λ p. ran a p >>= λ w. ended w) ≡ ((o >>= λ a. plan h a >>= λ p. ran a p >>= λ w. gives (record { batch = a; planned = p; world = w })) >>= at)
+    go (refused k) = refl
+    go (gives a) = mid a (plan h a)
 
 -- what the rows and the changed elements at the end tell is the batch's share
 pub share-told : {h : Choices} {b rows notes changed : List ℕ} {d : Ended} → AtEnd h b rows notes changed d → {q m : ℕ} → (q, m) ≡ shareOf (firstRows (drop (d .text) b) (d .rows) rows) (changedIn (d .changed) changed) → Of q m ≡ ofShare (share h b)
@@ -192,8 +198,9 @@ share-told {h} {b} {rows} {notes} {changed} {d} v {q} {m} e =
     let there : shareIn w ≡ shareOf (rowsOf w.trees) (map (heldChanged w.trees) w.changed) = share-rows h b a p w x y z in
     let held : shareOf (rowsOf w.trees) (map (heldChanged w.trees) w.changed) ≡ shareOf (firstRows (drop (d .text) b) (d .rows) rows) (changedIn (d .changed) changed) =
     ap (λ (s : model.Store). shareOf (s .rows) (s .changed)) (ap store (sym same) ∙ v .held) in
-    let is : shareIn w ≡ (q, m) = there ∙ (held ∙ sym e) in
-    rw (x, y, z, is) refl
+    let is : shareIn (v .end .world) ≡ (q, m) = ap shareIn same ∙ (there ∙ (held ∙ sym e)) in
+    let t : share h b ≡ gives (q, m) = share-ending h b ∙ rw (v .ends, is) refl in
+    sym (ap ofShare t)
 
 -- ── Refused, or at the end of the run ───────────────────────────────────────────────────────────────────────
 

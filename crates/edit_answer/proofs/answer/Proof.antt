@@ -2,7 +2,7 @@
 -- Assumes nothing.
 use borrow.Author.Needs.{needs}
 use Rattle.edit_answer.specs.AtEnd.{rows-at-end}
-use Rattle.edit_answer.proofs.Ends.{tells-refused, tells-done, tells-found, tells-overlap}
+use Rattle.edit_answer.proofs.Ends.{tells-refused, tells-done, tells-found, tells-share, tells-overlap}
 use Rattle.edit_answer.proofs.answer.Statement.{statement}
 use Rattle.edit_answer.proofs.answer.Tie as tie
 
@@ -35,6 +35,12 @@ enum-told-2 c = search needs
 
 account-from-requires : tie.Need-account-from-requires
 account-from-requires c κs = let e = c .before .before .before .before .before .before .done3 .given .1 in let v = c .before .before .before .before .before .before .before .before .before .before .before .before .before .before .before .before .before .pre in (v .ends _ e, v .recounts _ e)
+
+enum-told-3 : tie.Need-enum-told-3
+enum-told-3 c = search needs
+
+share-from-requires : tie.Need-share-from-requires
+share-from-requires c κs = (c .before .before .before .before .before .before .before .before .before .before .before .before .before .before .before .before .pre) .ends _ (c .before .before .before .before .before .done3 .given .1)
 
 returns : tie.Need-returns
 returns c = tells-refused (c .before .done .given .1) _ _
@@ -75,6 +81,15 @@ same-length-8 c = search needs
 returns-5 : tie.Need-returns-5
 returns-5 c = rw (c .before .before .before .before .before .before .enum-told2 .given .1) (tells-done (c .before .before .before .before .before .before .before .before .before .done3 .given .1) _ (c .before .before .account-from .ensures))
 
+same-length-9 : tie.Need-same-length-9
+same-length-9 c = search needs
+
+same-length-10 : tie.Need-same-length-10
+same-length-10 c = search needs
+
+returns-6 : tie.Need-returns-6
+returns-6 c = rw (c .before .before .before .enum-told3 .given .1) (tells-done (c .before .before .before .before .before .before .done3 .given .1) _ (tells-share _ _ _ _ (c .share-from .ensures)))
+
 pub answer-spec : {M : Type 1} → statement M
 answer-spec =
     tie.close
@@ -89,6 +104,8 @@ answer-spec =
     find-from-requires
     enum-told-2
     account-from-requires
+    enum-told-3
+    share-from-requires
     returns
     same-length
     returns-2
@@ -101,4 +118,7 @@ answer-spec =
     same-length-6
     same-length-7
     same-length-8
-    returns-5)
+    returns-5
+    same-length-9
+    same-length-10
+    returns-6)
