@@ -45,6 +45,12 @@ module _ (a : Outcome) (q m : ℕ) where
   unfolding Small
   small-of e h = subst Small e h
 
+  pub small-quotient : a ≡ Of q m → Small a → q ≤ 1000
+  small-quotient e h = small-of e h .0
+
+  pub small-remainder : a ≡ Of q m → Small a → m < 65536
+  small-remainder e h = small-of e h .1
+
   pub tells-of : (z : ℤ) → a ≡ Of q m → Small a → z ≡ pos (shareWord q m) → toZ w64 (ofZ w64 z) ≡ numberOf a
   unfolding numberOf
   tells-of z e h i = rw (e, i) (pos-told (shareWord q m) (share-small q m (small-of e h)))

@@ -27,8 +27,8 @@ abbrev pub reckoned : Choices → List ℕ → basics.Answer (ℕ × ℕ)
 reckoned h b = chosen h >>= λ u. share h b
 
 -- an answer tells it
-abbrev pub Tells : Choices → List ℕ → Shared → Type 0
-Tells h b r = shareOf r ≡ reckoned h b
+pub record Tells (h : Choices) (b : List ℕ) (r : Shared) : Type 0 where
+  pub says : shareOf r ≡ reckoned h b
 
 -- the first `written` bytes of the output are what is printed by the choices h of the first `read` bytes of the batch's buffer
 pub record Responds (h : Choices) (batch : List ℕ) (read : ℕ) (out : List ℕ) (written : ℕ) : Type 0 where
@@ -50,23 +50,23 @@ shared-whole h work b s = go (chosen h) refl
     go (refused k) c = wrongly-chosen h work (share h b) k c
     go (gives u) c = with-long h work (share h b) c s
 
-pub share-tells : {h : Choices} {b : List ℕ} {work left : List (List ℕ)} {r : Shared} → Shares h b work (shareOf r) left → tooShort (lengths needed work) ≡ false → Tells h b r
-share-tells {h} {b} {work} p s = p .share ∙ shared-whole h (lengths needed work) b s
+pub share-tells : {h : Choices} {b : List ℕ} {work left : List (List ℕ)} (r : Shared) → Shares h b work (shareOf r) left → tooShort (lengths needed work) ≡ false → Tells h b r
+share-tells {h} {b} {work} r p s = record { says = p .share ∙ shared-whole h (lengths needed work) b s }
 
 -- ── Printed ─────────────────────────────────────────────────────────────────────────────────────────────────
 
-module _ {h : Choices} (b : List ℕ) (read : ℕ) {r : Shared} {d out : List ℕ} {to : ℕ} (n : 65536 ≡ length b) (c : read ≤ length b) (t : Tells h (take read b) r) where
+module _ {h : Choices} (b : List ℕ) (read : ℕ) {r : Shared} (n : 65536 ≡ length b) (c : read ≤ length b) (t : Tells h (take read b) r) where
   whole : take programRoom (take read b) ≡ take read b
   whole = take-all 65536 (take read b) (omega (arith, length-take-le read b c))
 
   printed : sharePrinted h (take read b) ≡ shareLine (shareOf r)
   unfolding sharePrinted
-  printed = ap (λ (l : List ℕ). shareLine (reckoned h l)) whole ∙ ap shareLine (sym t)
+  printed = ap (λ (l : List ℕ). shareLine (reckoned h l)) whole ∙ ap shareLine (sym (t .says))
 
-  pub refused-responds : {k : ℕ} → r ≡ Refused k → Put d 0 (print (refused k)) out to → length out ≡ length d → Responds h b read out to
+  pub refused-responds : {k : ℕ} {d out : List ℕ} {to : ℕ} → r ≡ Refused k → Put d 0 (print (refused k)) out to → length out ≡ length d → Responds h b read out to
   unfolding shareOf shareLine print
-  refused-responds {k} e p m = record { judged = c; fits = (put-fits p m, sym (length-take-le to out (put-fits p m))); says = put-front p m ∙ sym (printed ∙ rw e refl) }
+  refused-responds {k} {d} {out} {to} e p m = record { judged = c; fits = (put-fits p m, sym (length-take-le to out (put-fits p m))); says = put-front p m ∙ sym (printed ∙ rw e refl) }
 
-  pub told-responds : {q s : ℕ} → r ≡ Of q s → Put d 0 (lineOf (115 ∷ 104 ∷ 97 ∷ 114 ∷ 101 ∷ []) (q ∷ s ∷ [])) out to → length out ≡ length d → Responds h b read out to
+  pub told-responds : {q s : ℕ} {d out : List ℕ} {to : ℕ} → r ≡ Of q s → Put d 0 (lineOf (115 ∷ 104 ∷ 97 ∷ 114 ∷ 101 ∷ []) (q ∷ s ∷ [])) out to → length out ≡ length d → Responds h b read out to
   unfolding shareOf shareLine line lineOf spaced ascii
-  told-responds {q} {s} e p m = record { judged = c; fits = (put-fits p m, sym (length-take-le to out (put-fits p m))); says = put-front p m ∙ sym (printed ∙ rw e refl) }
+  told-responds {q} {s} {d} {out} {to} e p m = record { judged = c; fits = (put-fits p m, sym (length-take-le to out (put-fits p m))); says = put-front p m ∙ sym (printed ∙ rw e refl) }

@@ -1,7 +1,7 @@
 -- `number_of` meets its contract: case by case.
 -- Assumes nothing.
 use borrow.Author.Needs.{needs}
-use Rattle.edit_numbers.proofs.Cases.{small-refused, small-bytes, small-at, tells-refused, tells-bytes, tells-nothing, tells-at, small-of, tells-of}
+use Rattle.edit_numbers.proofs.Cases.{small-refused, small-bytes, small-at, tells-refused, tells-bytes, tells-nothing, tells-at, small-quotient, small-remainder, tells-of}
 use Rattle.edit_numbers.proofs.number_of.Statement.{statement}
 use Rattle.edit_numbers.proofs.number_of.Tie as tie
 
@@ -30,7 +30,7 @@ enum-known-told-4 : tie.Need-enum-known-told-4
 enum-known-told-4 c = search needs
 
 share-number-requires : tie.Need-share-number-requires
-share-number-requires c κs = search (small-of, needs)
+share-number-requires c κs = search (small-quotient, small-remainder, needs)
 
 returns : tie.Need-returns
 returns c = search (tells-refused, needs)
