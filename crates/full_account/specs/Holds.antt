@@ -27,7 +27,7 @@ use Rattle.definition_laws.specs.Rows.{table-length}
 use Rattle.definition_laws.specs.Spelling.{Worded, worded-list, Spells, spells-read}
 use Rattle.definition_laws.specs.Limits.{Ran, ran-known}
 use Rattle.definition_demand.specs.Run.{splicesIn0}
-use Rattle.definition_account.specs.Words.{changedOver, oldAt, OneOf, EachOneOf, NowhereIfDeleted, keepsRoot, noDependentIn0}
+use Rattle.definition_account.specs.Words.{changedIn, changedOver, oldAt, OneOf, EachOneOf, NowhereIfDeleted, keepsRoot, noDependentIn0}
 use Rattle.definition_account.specs.Account.{Performed, each-one-of, nowhere-if-deleted, ran-performed}
 use Rattle.full_account.specs.Words.{treesIn, tableIn, changedAbove, Accounted, Sheet, sheetOf, sheet, condition?, full?}
 use Rattle.full_account.specs.Says.{full-says}
@@ -57,7 +57,7 @@ module _ (ps : List Planned) (climbs : ℕ) (w : World) (h : Worded w.trees) whe
 
   -- so changed elements are counted as in the new tree
   pub changed-read : (n : ℕ) → changedAbove R n ≡ changedOver w n
-  unfolding changedAbove changedOver tableIn newTable result
+  unfolding changedAbove changedOver tableIn newTable result changedIn
   changed-read n = rw trees-read refl
 
   elements-read : length (R .kinds) ≡ length (newTable w)

@@ -2,7 +2,7 @@
 -- Assumes nothing.
 use borrow.Author.Needs.{needs}
 use Rattle.edit_answer.specs.AtEnd.{rows-at-end}
-use Rattle.edit_answer.proofs.Ends.{tells-refused, tells-done, tells-found, tells-overlap, tells-account, few-recorded}
+use Rattle.edit_answer.proofs.Ends.{tells-refused, tells-done, tells-found, tells-overlap}
 use Rattle.edit_answer.proofs.answer.Statement.{statement}
 use Rattle.edit_answer.proofs.answer.Tie as tie
 
@@ -33,8 +33,8 @@ find-from-requires c κs = let e = c .before .before .before .before .done3 .giv
 enum-told-2 : tie.Need-enum-told-2
 enum-told-2 c = search needs
 
-tell-fates-requires : tie.Need-tell-fates-requires
-tell-fates-requires c κs = few-recorded (c .before .before .before .before .before .before .before .before .before .before .before .before .before .before .before .pre) (c .before .before .before .before .done3 .given .1)
+account-from-requires : tie.Need-account-from-requires
+account-from-requires c κs = let e = c .before .before .before .before .before .before .done3 .given .1 in let v = c .before .before .before .before .before .before .before .before .before .before .before .before .before .before .before .before .before .pre in (v .ends _ e, v .recounts _ e)
 
 returns : tie.Need-returns
 returns c = tells-refused (c .before .done .given .1) _ _
@@ -64,10 +64,16 @@ returns-4 : tie.Need-returns-4
 returns-4 c = rw (c .before .before .job .given .1) (tells-done (c .before .before .before .before .before .done3 .given .1) _ (tells-found _ _ _ _ _ (c .find-from .ensures)))
 
 same-length-6 : tie.Need-same-length-6
-same-length-6 c = c .before .result3 .given
+same-length-6 c = search needs
+
+same-length-7 : tie.Need-same-length-7
+same-length-7 c = search needs
+
+same-length-8 : tie.Need-same-length-8
+same-length-8 c = search needs
 
 returns-5 : tie.Need-returns-5
-returns-5 c = let e = c .before .before .before .before .before .before .before .done3 .given .1 in rw (c .before .before .before .before .enum-told2 .given .1) (tells-done e _ (tells-account (c .before .before .before .before .before .before .before .before .before .before .before .before .before .before .before .before .before .before .pre) e (c .before .before .tell-fates .ensures)))
+returns-5 c = rw (c .before .before .before .before .before .before .enum-told2 .given .1) (tells-done (c .before .before .before .before .before .before .before .before .before .done3 .given .1) _ (c .before .before .account-from .ensures))
 
 pub answer-spec : {M : Type 1} → statement M
 answer-spec =
@@ -82,7 +88,7 @@ answer-spec =
     enum-known-job
     find-from-requires
     enum-told-2
-    tell-fates-requires
+    account-from-requires
     returns
     same-length
     returns-2
@@ -93,4 +99,6 @@ answer-spec =
     returns-3
     returns-4
     same-length-6
+    same-length-7
+    same-length-8
     returns-5)
