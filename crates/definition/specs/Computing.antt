@@ -36,13 +36,13 @@ unfolding
     Words.word Words.words Words.bytes Words.written
     Batch.sizes Batch.beyond Batch.whole Batch.arrays Batch.batch
     Elements.isNode Elements.kindOf Elements.malformed Elements.pieces Elements.plant Elements.grow Elements.startsWithToken Elements.unspelled Elements.spelled Elements.numbers Elements.rows Elements.rowsBelow Elements.table Elements.noRow Elements.row Elements.node? Elements.parent Elements.root? Elements.depth Elements.tree Elements.child Elements.placeBelow Elements.descend
-    Refusals.callWord Refusals.operationOf Refusals.countOf Refusals.calls Refusals.wrongCount Refusals.tooMany Refusals.listsTooMany Refusals.sameParent Refusals.wrongRun Refusals.misplaced Refusals.wrongCall Refusals.wrongMapping Refusals.wrongNote Refusals.accepted
+    Refusals.callWord Refusals.operationOf Refusals.countOf Refusals.ruleOf Refusals.calls Refusals.wrongCount Refusals.tooMany Refusals.listsTooMany Refusals.ruledStart Refusals.sameParent Refusals.wrongRun Refusals.misplaced Refusals.wrongCall Refusals.wrongMapping Refusals.wrongNote Refusals.accepted
     Writing.sizesOf Writing.sevenSizes Writing.callWords Writing.laidOut Writing.differ Writing.outOfStep Writing.unfitting Writing.unlayable Writing.wrongLists Writing.write Writing.listsOf Writing.lists
-    Recording.run Recording.change Recording.call Recording.merges Recording.merged Recording.merge Recording.queued Recording.recordCall Recording.recorded
-    Planning.target Planning.rank Planning.from Planning.to Planning.above Planning.parentDepth Planning.key Planning.sorted Planning.peers Planning.exceeds Planning.overlapping Planning.overlap Planning.isDiscarded Planning.around Planning.fate Planning.addsRegion Planning.nodeByNode Planning.inner Planning.pushed Planning.fatesFrom Planning.fates Planning.withFates
+    Recording.run Recording.change Recording.call Recording.merges Recording.replacesBy Recording.idle Recording.merged Recording.merge Recording.queued Recording.recordCall Recording.recorded
+    Planning.target Planning.rank Planning.from Planning.to Planning.above Planning.parentDepth Planning.key Planning.sorted Planning.peers Planning.exceeds Planning.overlapping Planning.overlap Planning.isDiscarded Planning.around Planning.fate Planning.addsRegion Planning.nodeByNode Planning.inner Planning.pushed Planning.fatesFrom Planning.fates Planning.changesOf Planning.withFates
     EdgeRule.inRun EdgeRule.atOrBelow EdgeRule.parentOrRoot EdgeRule.targetParent EdgeRule.ofRoot EdgeRule.removes EdgeRule.onlyIn EdgeRule.isRunOf EdgeRule.inside EdgeRule.takes EdgeRule.regionDepth EdgeRule.innermost EdgeRule.regionOf EdgeRule.fateIn EdgeRule.fateWithin EdgeRule.fateAmong EdgeRule.fates1 EdgeRule.fatesBy EdgeRule.planned EdgeRule.judge
     Rewriting.mapping Rewriting.replacement Rewriting.mappedOr Rewriting.climb Rewriting.trail Rewriting.land Rewriting.moved Rewriting.retarget Rewriting.rewriteInto Rewriting.rewriteOne Rewriting.rewriting Rewriting.rewritten Rewriting.nearest Rewriting.isParent Rewriting.noteFrom Rewriting.settle Rewriting.settled
-    Running.owned Running.ranked Running.order Running.begin Running.present Running.withPath Running.notesAt Running.yieldAt Running.yield Running.news Running.fromTo Running.emptyAt Running.place Running.placed Running.spliced Running.tooLarge Running.records Running.step Running.steps
+    Running.owned Running.ranked Running.order Running.begin Running.present Running.withPath Running.notesAt Running.yieldAt Running.yield Running.news Running.fromTo Running.emptyAt Running.place Running.placed Running.spliced Running.tooLarge Running.records Running.recordedBy Running.step Running.steps
     Finishing.newTree Finishing.newTable Finishing.numberAt Finishing.changedElements Finishing.noteElements Finishing.result Finishing.sixSizes Finishing.encoded Finishing.fitting
     Answers.judgeChanges Answers.disjoint Answers.rewriteChanges Answers.plan Answers.performed Answers.atFirst Answers.ran Answers.edit Answers.tooShort Answers.withWork Answers.withChoices Answers.edited
     FindElement.alike FindElement.findIn FindElement.findElement

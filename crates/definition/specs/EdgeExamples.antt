@@ -10,7 +10,7 @@ use Rattle.definition.specs.Basics.{Answer, refused, gives, _>>=_}
 use Rattle.definition.specs.Choices.{Choices, noRule, given}
 use Rattle.definition.specs.Refusals.{Call, accepted}
 use Rattle.definition.specs.Recording.{recorded}
-use Rattle.definition.specs.Planning.{Fate, own, dependent, discarded, sorted}
+use Rattle.definition.specs.Planning.{Fate, own, dependent, discarded, sorted, changesOf}
 use Rattle.definition.specs.EdgeRule.{fatesBy}
 use Rattle.definition.specs.Finishing.{Result}
 use Rattle.definition.specs.Answers.{edit, edited}
@@ -64,7 +64,7 @@ edge n = record { edge = n }
 
 -- the fates by a choice, in sorted order
 unfoldable pub fatesOf : Choices → Told → Answer (List Fate)
-fatesOf h b = accepted (inBytes b) >>= λ a. gives (fatesBy h a.table (sorted a.table (recorded a.calls)))
+fatesOf h b = accepted (inBytes b) >>= λ a. gives (fatesBy h a.table (changesOf (sorted a.table (recorded a.calls))))
 
 -- the text that a choice gives
 unfoldable pub textBy : Choices → Told → Answer (List ℕ)

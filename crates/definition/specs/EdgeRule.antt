@@ -9,8 +9,8 @@ use Rattle.definition.specs.Basics.{any, keep, numbered}
 use Rattle.definition.specs.Choices.{Choices}
 use Rattle.definition.specs.Elements.{Table, row, root?, parent, child}
 use Rattle.definition.specs.Refusals.{sameParent}
-use Rattle.definition.specs.Recording.{firstChild, after, Change, insert, replace, delete, replaceWithMany, replaceAll}
-use Rattle.definition.specs.Planning.{Fate, own, parentDepth, addsRegion, inner, overlap, fates, Planned, withFates, Judgement, overlaps, fated}
+use Rattle.definition.specs.Recording.{Recorded, firstChild, after, Change, insert, replace, delete, replaceWithMany, replaceAll}
+use Rattle.definition.specs.Planning.{Fate, own, parentDepth, addsRegion, inner, overlap, fates, Planned, changesOf, withFates, Judgement, overlaps, fated}
 
 module _ (T : Table) where
   -- ── Where elements stand ──────────────────────────────────────────────────────────────────────────────────
@@ -127,9 +127,9 @@ module _ (h : Choices) (T : Table) where
   fatesBy cs = cond (eqb h.edge 0) (fates T cs) (fates1 T cs)
 
   -- sorted changes with what becomes of them
-  unfoldable pub planned : List Change → List Planned
-  planned cs = withFates cs (fatesBy cs)
+  unfoldable pub planned : List Recorded → List Planned
+  planned rs = withFates rs (fatesBy (changesOf rs))
 
   -- sorted changes judged
-  unfoldable pub judge : List Change → Judgement
-  judge cs = elim (overlap T cs) [ none ↦ fated (planned cs) | some p ↦ overlaps (p .0) (p .1) ]
+  unfoldable pub judge : List Recorded → Judgement
+  judge rs = elim (overlap T (changesOf rs)) [ none ↦ fated (planned rs) | some p ↦ overlaps (p .0) (p .1) ]

@@ -1,7 +1,7 @@
 -- Printed case, and the marked examples of S: one table, by computation.
 -- Assumes nothing.
 use mathlib.Core.Path.{_≡_, refl}
-use mathlib.Core.List.{List, [], _∷_, map, flatMap}
+use mathlib.Core.List.{List, [], _∷_, _++_, map, flatMap}
 use mathlib.Core.Option.{none, some}
 use Prim.Native.Nat.{ℕ, _+_}
 use Prim.Native.String.{String}
@@ -9,6 +9,7 @@ use lib.ListN.{length, replicate}
 use Rattle.definition.specs.Basics.{Answer, refused, gives, _>>=_}
 use Rattle.orders.specs.Tree.{Tree, node, token, forest, label, text, measure, preorder}
 use Rattle.orders.specs.Splices.{Splice}
+use Rattle.definition.specs.Words.{written}
 use Rattle.definition.specs.Choices.{byDefault}
 use Rattle.definition.specs.Refusals.{Call, accepted}
 use Rattle.definition.specs.Writing.{Lists, laidOut, write, lists}
@@ -16,7 +17,7 @@ use Rattle.definition.specs.Recording.{recorded}
 use Rattle.definition.specs.Planning.{Fate, own, discarded, sorted}
 use Rattle.definition.specs.EdgeRule.{planned}
 use Rattle.definition.specs.Finishing.{Result}
-use Rattle.definition.specs.Answers.{edit}
+use Rattle.definition.specs.Answers.{edit, edited}
 use Rattle.definition.specs.FindElement.{findElement}
 use Rattle.definition.specs.Performed.{splicesOf}
 use Rattle.definition.specs.Printed.{ascii, printed}
@@ -43,6 +44,7 @@ inLists b =
       text = flatMap text b.trees;
       operations = map (λ c. c .operation) b.calls;
       counts = map (λ c. length c.listed) b.calls;
+      rules = map (λ c. c .rule) b.calls;
       targets = map (λ c. c .target) b.calls;
       listed = flatMap (λ c. c .listed) b.calls;
       inputs = map (λ m. m .0) b.mappings;
@@ -63,9 +65,13 @@ nodeOf kind children = node (2147483648 + kind) (forest children)
 abbrev pub tokenOf : ℕ → String → Tree ℕ
 tokenOf kind text = token kind (ascii text)
 
--- a call: operation, target, listed elements
+-- a call by a rule: its number, operation, target, listed elements
+abbrev pub callBy : ℕ → ℕ → ℕ → List ℕ → Call
+callBy rule op x listed = record { operation = op; target = x; listed = listed; rule = rule }
+
+-- a call by none
 abbrev pub call : ℕ → ℕ → List ℕ → Call
-call op x listed = record { operation = op; target = x; listed = listed }
+call op x listed = callBy 0 op x listed
 
 -- ── Printed case ────────────────────────────────────────────────────────────────────────────────────────────
 
@@ -80,7 +86,7 @@ printedCase = record {
 
 -- what it prints
 abbrev pub printedLines : String
-printedLines = "ok 4 3 1 1 0 0\nn 1 3\nt 2 1\nt 4 1\nt 3 1\ntext 616362\nchanged 2\nnote 9 2\n"
+printedLines = "ok 4 3 1 1 0 0\nn 1 3\nt 2 1\nt 4 1\nt 3 1\ntext 616362\nchanged 2 0\nnote 9 2\n"
 
 -- ── The marked examples ─────────────────────────────────────────────────────────────────────────────────────
 
@@ -321,7 +327,7 @@ withNotes = record {
 
 -- what it prints
 abbrev pub withNotesLines : String
-withNotesLines = "ok 6 3 1 3 0 1\nn 1 2\nn 7 1\nn 2 2\nt 3 1\nt 6 1\nt 4 1\ntext 616362\nchanged 1\nnote 1 5\nnote 2 3\nnote 2 2\n"
+withNotesLines = "ok 6 3 1 3 0 1\nn 1 2\nn 7 1\nn 2 2\nt 3 1\nt 6 1\nt 4 1\ntext 616362\nchanged 1 0\nnote 1 5\nnote 2 3\nnote 2 2\n"
 
 -- the fates of a batch's changes, in sorted order
 unfoldable pub fatesOf : List ℕ → Answer (List Fate)
@@ -363,8 +369,8 @@ accounts =
     ∷ []
 
 -- the lists of S with calls by these lists
-abbrev callsOnS : List ℕ → List ℕ → List ℕ → List ℕ → Lists
-callsOnS operations counts targets listed =
+abbrev callsOnS : List ℕ → List ℕ → List ℕ → List ℕ → List ℕ → Lists
+callsOnS operations counts rules targets listed =
     let l = inLists (onS []) in
     record {
       trees = l .trees;
@@ -373,6 +379,7 @@ callsOnS operations counts targets listed =
       text = l .text;
       operations = operations;
       counts = counts;
+      rules = rules;
       targets = targets;
       listed = listed;
       inputs = [];
@@ -381,15 +388,65 @@ callsOnS operations counts targets listed =
       numbers = [];
     }
 
--- c after X; the same with one count too many; with an operation that its part of the word cannot hold; with an element of E; with
--- 42 elements. The second and the third would be laid out as the first
+-- c after X by rule 7; the same with one count too many; with one rule number too many; with an operation, a count and a rule number that their parts of the word
+-- cannot hold; with an element of E; with 42 elements. The second to the fifth would be laid out as the first
 abbrev tried : List Lists
 tried =
-    callsOnS (1 ∷ []) (1 ∷ []) (1 ∷ []) (5 ∷ [])
-    ∷ callsOnS (1 ∷ []) (1 ∷ 1 ∷ []) (1 ∷ []) (5 ∷ [])
-    ∷ callsOnS (257 ∷ []) (0 ∷ []) (1 ∷ []) (5 ∷ [])
-    ∷ callsOnS (1 ∷ []) (1 ∷ []) (1 ∷ []) (11 ∷ [])
-    ∷ callsOnS (1 ∷ []) (42 ∷ []) (1 ∷ []) (replicate 42 5)
+    callsOnS (1 ∷ []) (1 ∷ []) (7 ∷ []) (1 ∷ []) (5 ∷ [])
+    ∷ callsOnS (1 ∷ []) (1 ∷ 1 ∷ []) (7 ∷ []) (1 ∷ []) (5 ∷ [])
+    ∷ callsOnS (1 ∷ []) (1 ∷ []) (7 ∷ 7 ∷ []) (1 ∷ []) (5 ∷ [])
+    ∷ callsOnS (257 ∷ []) (0 ∷ []) (7 ∷ []) (1 ∷ []) (5 ∷ [])
+    ∷ callsOnS (1 ∷ []) (4097 ∷ []) (6 ∷ []) (1 ∷ []) (5 ∷ [])
+    ∷ callsOnS (1 ∷ []) (1 ∷ []) (4096 ∷ []) (1 ∷ []) (5 ∷ [])
+    ∷ callsOnS (1 ∷ []) (1 ∷ []) (7 ∷ []) (1 ∷ []) (11 ∷ [])
+    ∷ callsOnS (1 ∷ []) (42 ∷ []) (7 ∷ []) (1 ∷ []) (replicate 42 5)
+    ∷ []
+
+-- ── Rule numbers ────────────────────────────────────────────────────────────────────────────────────────────
+
+-- X by c, by d (elements 5 and 7), or X deleted, by a rule
+abbrev byC : ℕ → Call
+byC rule = callBy rule 2 1 (5 ∷ [])
+
+abbrev byD : ℕ → Call
+byD rule = callBy rule 2 1 (7 ∷ [])
+
+abbrev deleteX : ℕ → Call
+deleteX rule = callBy rule 3 1 []
+
+-- each list of calls, and the rule numbers of what is recorded. "Merging keeps the number of the call that had the last effect: an ignored replacement, a second
+-- delete or a replacement by the same element leaves it." (document 02, Note 8)
+abbrev pub ruled : List (List Call × List ℕ)
+ruled =
+    -- c, d, c: each had an effect
+    (byC 1 ∷ byD 2 ∷ byC 3 ∷ [], 3 ∷ [])
+    -- c, c: the same element
+    ∷ (byC 1 ∷ byC 2 ∷ [], 1 ∷ [])
+    -- delete, c, delete: the replacement is ignored, the second delete too
+    ∷ (deleteX 1 ∷ byC 2 ∷ deleteX 3 ∷ [], 1 ∷ [])
+    -- c, delete
+    ∷ (byC 1 ∷ deleteX 2 ∷ [], 2 ∷ [])
+    -- another editor: queues are not merged
+    ∷ (byC 1 ∷ furtherEditor ∷ byC 2 ∷ byD 3 ∷ [], 1 ∷ 3 ∷ [])
+    -- 4 does not merge
+    ∷ (callBy 1 4 1 (5 ∷ []) ∷ byC 2 ∷ [], 1 ∷ 2 ∷ [])
+    ∷ []
+
+-- the changed elements of an answer, with their rule numbers
+unfoldable pub changedBy : Answer Result → Answer (List ℕ × List ℕ)
+changedBy answer = answer >>= λ r. gives (r .changed, r .rules)
+
+-- each batch, its changed elements, and the number of the rule that put each in
+abbrev pub changedByRules : List (Told × Answer (List ℕ × List ℕ))
+changedByRules =
+    -- c after X by 4,095, d after X by 2: d stands before c
+    (onS (callBy 4095 1 1 (5 ∷ []) ∷ callBy 2 1 1 (7 ∷ []) ∷ []), gives (3 ∷ 4 ∷ [], 2 ∷ 4095 ∷ []))
+    -- X by many (c, d) by 6: both by 6
+    ∷ (onS (callBy 6 4 1 (5 ∷ 7 ∷ []) ∷ []), gives (1 ∷ 2 ∷ [], 6 ∷ 6 ∷ []))
+    -- X by R by 8, c after a by 9: the dependent change records nothing
+    ∷ (onMappedS (callBy 8 2 1 (8 ∷ []) ∷ callBy 9 1 2 (5 ∷ []) ∷ []), gives (1 ∷ [], 8 ∷ []))
+    -- a further editor's start with a number
+    ∷ (onS (callBy 1 6 0 [] ∷ []), refused 6)
     ∷ []
 
 -- ── The table ───────────────────────────────────────────────────────────────────────────────────────────────
@@ -415,10 +472,24 @@ pub examples : (answered marked ≡ told marked)
     × (map (findElement byDefault [] (inBytes withNotes)) (1 ∷ 2 ∷ 11 ∷ []) ≡ gives (some 2) ∷ gives none ∷ gives none ∷ [])
     × (lists (inBytes withNotes) ≡ gives (inLists withNotes))
     × (map (write (inLists printedCase)) (91 ∷ 90 ∷ []) ≡ gives (inBytes printedCase) ∷ refused 15 ∷ [])
-    × (map (λ l. write l 0) tried ≡ refused 15 ∷ refused 14 ∷ refused 14 ∷ refused 14 ∷ refused 14 ∷ [])
+    × (map (λ l. write l 0) tried ≡ refused 15 ∷ replicate 7 (refused 14))
     × (map (λ m. refusal (m .0)) longest ≡ map (λ m. m .1) longest)
 unfolding computed short inLists inBytes fatesOf refusal
 examples = (refl, refl, refl, refl, refl, refl, refl, refl, refl, refl, refl, refl)
+
+-- d after X by rule 2, with note 9 on d: the words of its result behind the sizes are kinds, measures, the changed element, its rule number, the note's number and element
+abbrev pub ruledNote : Told
+ruledNote = record { trees = S; calls = callBy 2 1 1 (7 ∷ []) ∷ []; mappings = []; notes = (7, 9) ∷ [] }
+
+abbrev ruledNoteWords : List ℕ
+ruledNoteWords = map label (preorder (root (X (a ∷ []) ∷ d ∷ b ∷ []))) ++ map measure (preorder (root (X (a ∷ []) ∷ d ∷ b ∷ []))) ++ (3 ∷ 2 ∷ 9 ∷ 3 ∷ [])
+
+-- Rule numbers: what is recorded has the number that is told, and so has each changed element; in the result's bytes they follow the changed elements.
+pub rules-told : (map (λ m. map (λ r. r .rule) (recorded (m .0))) ruled ≡ map (λ m. m .1) ruled)
+    × (map (λ m. changedBy (edit byDefault (inBytes (m .0)))) changedByRules ≡ map (λ m. m .1) changedByRules)
+    × (edited byDefault [] (inBytes ruledNote) 100 ≡ gives (written (5 ∷ 3 ∷ 1 ∷ 1 ∷ 0 ∷ 0 ∷ ruledNoteWords) ++ ascii "adb"))
+unfolding computed inLists inBytes changedBy
+rules-told = (refl, refl, refl)
 
 -- Each example of the account prints what is told of it; the last, of 18 bytes, is refused by 13 where there is room for 17.
 pub accounts-told : (map (λ m. accountPrinted byDefault (inBytes (m .0))) accounts ≡ map (λ m. ascii (m .1)) accounts)

@@ -30,9 +30,9 @@ unfoldable pub numberAt : Table → Path → Option ℕ
 numberAt F [] = none
 numberAt F (t ∷ p) = cond (eqb t 0) (descend F 0 p) none
 
--- "those left are sorted by text start, ties by time"
-unfoldable pub changedElements : Table → World → List ℕ
-changedElements F w = rising (λ e. (row F e) .start ∷ []) (pick (numberAt F) w.changed)
+-- "those left are sorted by text start, ties by time". Each with its rule number
+unfoldable pub changedElements : Table → World → List (ℕ × ℕ)
+changedElements F w = rising (λ m. (row F (m .0)) .start ∷ []) (pick (λ c. Option·map (λ e. (e, c .1)) (numberAt F (c .0))) w.changed)
 
 -- "Notes rise by number, then by queue place, then start, ties by time." Each with its element
 unfoldable pub noteElements : Table → World → List (Note × ℕ)
@@ -42,11 +42,12 @@ noteElements F w =
 -- ── The result ──────────────────────────────────────────────────────────────────────────────────────────────
 
 -- "The result: sizes (elements, text bytes, changed, notes, discarded changes, climb steps), kinds, measures, changed element numbers, note numbers,
--- note elements, text, array after array."
+-- note elements, text, array after array." "In the result an array of rule numbers follows the changed elements, one for each." (document 02, Note 8)
 pub record Result : Type 0 where
   pub kinds : List ℕ
   pub measures : List ℕ
   pub changed : List ℕ
+  pub rules : List ℕ
   pub numbers : List ℕ
   pub noted : List ℕ
   pub text : List ℕ
@@ -58,11 +59,13 @@ unfoldable pub result : List Planned → ℕ → World → Result
 result ps climbs w =
     let elements = flatMap preorder (newTree w) in
     let F = newTable w in
+    let changed = changedElements F w in
     let notes = noteElements F w in
     record {
       kinds = map label elements;
       measures = map measure elements;
-      changed = changedElements F w;
+      changed = map (λ m. m .0) changed;
+      rules = map (λ m. m .1) changed;
       numbers = map (λ m. m .0 .number) notes;
       noted = map (λ m. m .1) notes;
       text = flatMap text (newTree w);
@@ -76,7 +79,7 @@ sixSizes r = length r.kinds ∷ length r.text ∷ length r.changed ∷ length r.
 
 -- the result as bytes, "array after array"
 unfoldable pub encoded : Result → List ℕ
-encoded r = written (sixSizes r ++ r .kinds ++ r .measures ++ r .changed ++ r .numbers ++ r .noted) ++ r .text
+encoded r = written (sixSizes r ++ r .kinds ++ r .measures ++ r .changed ++ r .rules ++ r .numbers ++ r .noted) ++ r .text
 
 -- 13: "The result buffer is too short."
 unfoldable pub fitting : ℕ → Result → Answer Result

@@ -1,14 +1,14 @@
 -- Planning: sorting, refusal 8, and what becomes of each change.
 -- Assumes nothing.
 use mathlib.Core.Bool.{Bool, true, false, cond, not, _&&_}
-use mathlib.Core.List.{List, [], _∷_, zipWith}
+use mathlib.Core.List.{List, [], _∷_, map, zipWith}
 use mathlib.Core.Option.{Option, none, some}
 use Prim.Native.Nat.{ℕ, suc, _-_}
 use lib.ListN.{getD, set, replicate}
 use lib.Dec.{leb, ltb, eqb}
 use Rattle.definition.specs.Basics.{keep, first, numbered, rising}
 use Rattle.definition.specs.Elements.{Table, row, node?, root?, depth, tree}
-use Rattle.definition.specs.Recording.{firstChild, after, Change, insert, replace, delete, replaceWithMany, replaceAll}
+use Rattle.definition.specs.Recording.{Recorded, firstChild, after, Change, insert, replace, delete, replaceWithMany, replaceAll}
 
 -- ── Sorting ─────────────────────────────────────────────────────────────────────────────────────────────────
 
@@ -66,8 +66,8 @@ module _ (T : Table) where
   key c = from c ∷ parentDepth c ∷ rank c ∷ []
 
   -- "Changes are sorted, stably, by range start, then depth of target parent, then insert, run, replace"
-  unfoldable pub sorted : List Change → List Change
-  sorted cs = rising key cs
+  unfoldable pub sorted : List Recorded → List Recorded
+  sorted rs = rising (λ r. key r.change) rs
 
   -- ── Overlap ───────────────────────────────────────────────────────────────────────────────────────────────
 
@@ -127,10 +127,11 @@ unfoldable pub fate : List Region → Fate
 fate [] = own
 fate (r ∷ rs) = r .inner
 
--- a change and what becomes of it
+-- a change, what becomes of it, and its rule number
 pub record Planned : Type 0 where
   pub change : Change
   pub fate : Fate
+  pub rule : ℕ
 
 module _ (T : Table) where
   -- "Calls 2, 3 and 4 on a node, and every run, add a region."
@@ -171,9 +172,13 @@ module _ (T : Table) where
 
 -- ── Judged ──────────────────────────────────────────────────────────────────────────────────────────────────
 
+-- the changes without their rule numbers: no fate and no overlap depends on them
+unfoldable pub changesOf : List Recorded → List Change
+changesOf rs = map (λ r. r .change) rs
+
 -- changes with what becomes of each
-unfoldable pub withFates : List Change → List Fate → List Planned
-withFates cs fs = zipWith (λ c f. record { change = c; fate = f }) cs fs
+unfoldable pub withFates : List Recorded → List Fate → List Planned
+withFates rs fs = zipWith (λ r f. record { change = r .change; fate = f; rule = r .rule }) rs fs
 
 -- what is found of the changes before any is rewritten: two overlap, at the places j and k; or else what becomes of each
 pub data Judgement : Type 0 where

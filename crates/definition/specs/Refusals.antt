@@ -13,27 +13,33 @@ use Rattle.definition.specs.Elements.{Table, node?, root?, parent, child
 
 -- ── Calls ───────────────────────────────────────────────────────────────────────────────────────────────────
 
--- "A call word is operation + 256 × listed count."
-unfoldable pub callWord : ℕ → ℕ → ℕ
-callWord operation count = operation + 256 * count
+-- "A call word is operation + 256 × listed count." "Each call carries the number of the rule that queued it: bits 20 to 31 of the call word, 0 for none; the count
+-- narrows to bits 8 to 19." (document 02, Note 8)
+unfoldable pub callWord : ℕ → ℕ → ℕ → ℕ
+callWord operation count rule = operation + 256 * count + 1048576 * rule
 
 -- its operation
 unfoldable pub operationOf : ℕ → ℕ
 operationOf word = word % 256
 
--- its listed count
+-- its listed count: "bits 8 to 19"
 unfoldable pub countOf : ℕ → ℕ
-countOf word = word / 256
+countOf word = word / 256 % 4096
+
+-- its rule number: "bits 20 to 31"
+unfoldable pub ruleOf : ℕ → ℕ
+ruleOf word = word / 1048576
 
 -- a call as the batch has it
 pub record Call : Type 0 where
   pub operation : ℕ
   pub target : ℕ
   pub listed : List ℕ
+  pub rule : ℕ
 
 -- the call of a call word, with its target and the elements that it lists
 abbrev pub callOf : ℕ → ℕ → List ℕ → Call
-callOf word target listed = record { operation = operationOf word; target = target; listed = listed }
+callOf word target listed = record { operation = operationOf word; target = target; listed = listed; rule = ruleOf word }
 
 -- from call words with their targets, and the listed elements: each call takes its count of them; none if "the counts do not add up to L"
 unfoldable pub calls : List (ℕ × ℕ) → List ℕ → Option (List Call)
@@ -60,6 +66,10 @@ tooMany op n = ltb mostListed (cond (eqb op 5) (n - 1) n)
 unfoldable pub listsTooMany : Call → Bool
 listsTooMany c = tooMany c.operation (length c.listed)
 
+-- 6: "Operation 6 must carry 0, or line 6 applies." (document 02, Note 8)
+unfoldable pub ruledStart : ℕ → ℕ → Bool
+ruledStart op rule = eqb op 6 && not (eqb rule 0)
+
 -- two parents are one (none is a root's)
 unfoldable pub sameParent : Option ℕ → Option ℕ → Bool
 sameParent none none = true
@@ -84,13 +94,14 @@ module _ (T : Table) where
       || (eqb op 5 && wrongRun x y)
       || (eqb op 6 && not (eqb x 0))
 
-  -- 6, of one call: "an unknown operation, a wrong count, a number of E or more", or it is misplaced
+  -- 6, of one call: "an unknown operation, a wrong count, a number of E or more", or it is misplaced, or a further editor's start has a rule number
   unfoldable pub wrongCall : Call → Bool
   wrongCall c =
       ltb 6 c.operation
       || wrongCount c.operation (length c.listed)
       || any (λ e. leb (length T) e) (c .target ∷ c .listed)
       || misplaced c.operation c.target (headD c.listed 0)
+      || ruledStart c.operation c.rule
 
   -- 7, of one mapping (input and output): it "names no node or a root as output"
   unfoldable pub wrongMapping : ℕ × ℕ → Bool

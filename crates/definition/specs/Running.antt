@@ -37,9 +37,9 @@ order qs (suc n) owner = flatMap (λ q. order qs n (some (q .0)) ++ (q .1 ∷ []
 
 -- ── The current trees ───────────────────────────────────────────────────────────────────────────────────────
 
--- an element that is "recorded as changed": its path
+-- an element that is "recorded as changed": its path, and the rule number of the change that put it in (document 02, Note 8)
 abbrev pub Changed : Type 0
-Changed = Path
+Changed = Path × ℕ
 
 -- what the steps change
 pub record World : Type 0 where
@@ -118,8 +118,8 @@ placed q a [] = []
 placed q a (y ∷ ys) = (q ++ (a ∷ []), y) ∷ placed q (suc a) ys
 
 -- One splice: the run r gives way to what is yielded. "paths not strictly below the parent stay; child a to b−1 drops; child b or more becomes
--- child + n − (b − a)"; "Recorded changes and notes move alike." New notes stand behind the kept ones
-unfoldable pub spliced : Run → List Yield → Bool → World → World
+-- child + n − (b − a)"; "Recorded changes and notes move alike." New notes stand behind the kept ones. What goes in is recorded by the rule number told, or not
+unfoldable pub spliced : Run → List Yield → Option ℕ → World → World
 spliced r new recorded w =
     let move = adjust r.parent r.from r.to (length new) in
     let places = placed r.parent r.from new in
@@ -127,7 +127,7 @@ spliced r new recorded w =
       trees = splice r.parent r.from r.to (map (λ y. y .tree) new) w.trees;
       paths = map (λ o. bind o move) w.paths;
       notes = pick (λ n. Option·map (withPath n) (move n.path)) w.notes ++ flatMap (λ y. map (λ n. withPath n (y .0 ++ n .path)) (y .1 .notes)) places;
-      changed = pick move w.changed ++ cond recorded (map (λ y. y .0) places) [];
+      changed = pick (λ c. Option·map (λ p. (p, c .1)) (move (c .0))) w.changed ++ elim recorded [ none ↦ [] | some rule ↦ map (λ y. (y .0, rule)) places ];
     }
 
 -- 12: "all current trees together exceed 4,096 elements, 16,384 text bytes, or 1,024 tracked notes, or depth 64"
@@ -140,12 +140,16 @@ tooLarge w =
 unfoldable pub records : Table → Planned → Bool
 records T p = owned none p.fate && eqb (tree T (target p.change)) 0
 
+-- the number by which what it puts in is recorded, none if it is not
+unfoldable pub recordedBy : Table → Planned → Option ℕ
+recordedBy T p = cond (records T p) (some p.rule) none
+
 module _ (T : Table) (first : World) where
   -- one performed change. 11: "A step's target is gone."
   unfoldable pub step : World → Planned → Answer World
   step w p = do
     r ← orRefuse 11 (place T w p.change)
-    let next = spliced r (map (yield first w) (news p.change)) (records T p) w
+    let next = spliced r (map (yield first w) (news p.change)) (recordedBy T p) w
     _ ← refuse 12 (tooLarge next)
     gives next
 

@@ -1,14 +1,14 @@
 -- The batch, laid out from lists of trees, calls, mappings and notes, and read as such lists: document 02, Note 2; refusals 14 and 15.
 -- Assumes nothing.
 use mathlib.Core.Bool.{Bool, not, _||_}
-use mathlib.Core.List.{List, [], _∷_, _++_, map, zipWith}
+use mathlib.Core.List.{List, [], _∷_, _++_, map}
 use Prim.Native.Nat.{ℕ}
 use lib.ListN.{length}
 use lib.Dec.{leb, ltb, eqb}
 use Rattle.definition.specs.Basics.{Answer, gives, _>>=_, refuse, isRefused, any}
 use Rattle.definition.specs.Words.{written}
 use Rattle.definition.specs.Batch.{Sizes, Batch, beyond, batch}
-use Rattle.definition.specs.Refusals.{callWord, operationOf, countOf, accepted}
+use Rattle.definition.specs.Refusals.{callWord, operationOf, countOf, ruleOf, accepted}
 
 -- ── The batch laid out ──────────────────────────────────────────────────────────────────────────────────────
 
@@ -19,9 +19,10 @@ pub record Lists : Type 0 where
   pub kinds : List ℕ
   pub measures : List ℕ
   pub text : List ℕ
-  -- of each call its operation, how many elements it lists, and its target; the listed elements, call after call
+  -- of each call its operation, how many elements it lists, its rule number, and its target; the listed elements, call after call
   pub operations : List ℕ
   pub counts : List ℕ
+  pub rules : List ℕ
   pub targets : List ℕ
   pub listed : List ℕ
   -- of each mapping its input and its output; of each note its element and its number
@@ -47,8 +48,11 @@ unfoldable pub sevenSizes : Sizes → List ℕ
 sevenSizes s = s .trees ∷ s .elements ∷ s .text ∷ s .calls ∷ s .listed ∷ s .mappings ∷ s .notes ∷ []
 
 -- each call's word
-unfoldable pub callWords : List ℕ → List ℕ → List ℕ
-callWords operations counts = zipWith callWord operations counts
+unfoldable pub callWords : List ℕ → List ℕ → List ℕ → List ℕ
+callWords [] counts rules = []
+callWords (o ∷ operations) [] rules = []
+callWords (o ∷ operations) (n ∷ counts) [] = []
+callWords (o ∷ operations) (n ∷ counts) (r ∷ rules) = callWord o n r ∷ callWords operations counts rules
 
 -- "Then parallel arrays: kinds and measures (E each); call words and targets (C); the listed elements (L); mapping inputs and outputs (M);
 -- note elements and note numbers (A). The B text bytes, in element order, end it."
@@ -57,7 +61,7 @@ laidOut l =
     written (sevenSizes (sizesOf l))
     ++ (written l.kinds
     ++ (written l.measures
-    ++ (written (callWords l.operations l.counts)
+    ++ (written (callWords l.operations l.counts l.rules)
     ++ (written l.targets
     ++ (written l.listed
     ++ (written l.inputs
@@ -77,13 +81,15 @@ unfoldable pub outOfStep : Lists → Bool
 outOfStep l =
     differ l.kinds l.measures
     || differ l.operations l.counts
+    || differ l.operations l.rules
     || differ l.operations l.targets
     || differ l.inputs l.outputs
     || differ l.noted l.numbers
 
--- an operation or a count that its part of the call word cannot hold: laid out all the same, it would be read as another
+-- an operation, a count or a rule number that its part of the call word cannot hold: laid out all the same, it would be read as another.
+-- "The writer takes the numbers too, above 4,095 under 14." (Note 8)
 unfoldable pub unfitting : Lists → Bool
-unfitting l = any (leb 256) l.operations || any (leb 16777216) l.counts
+unfitting l = any (leb 256) l.operations || any (leb 4096) l.counts || any (leb 4096) l.rules
 
 -- wrong before anything is laid out
 unfoldable pub unlayable : Lists → Bool
@@ -111,6 +117,7 @@ listsOf b = record {
   text = b .text;
   operations = map operationOf b.calls;
   counts = map countOf b.calls;
+  rules = map ruleOf b.calls;
   targets = b .targets;
   listed = b .listed;
   inputs = b .inputs;
