@@ -28,7 +28,7 @@ countOf word = word / 256 % 4096
 
 -- its rule number: "bits 20 to 31"
 unfoldable pub ruleOf : ℕ → ℕ
-ruleOf word = word / 1048576
+ruleOf word = word / 1048576 % 4096
 
 -- a call as the batch has it
 pub record Call : Type 0 where

@@ -16,7 +16,7 @@ use Rattle.definition.specs.Basics.{gives, refuse, orRefuse}
 use Rattle.definition.specs.Elements.{Table, table, row, descend}
 use Rattle.definition.specs.Planning.{Planned}
 use Rattle.definition.specs.Rewriting.{Note}
-use Rattle.definition.specs.Running.{World, begin, present, withPath, notesAt, Yield, yieldAt, yield, news, Run, place, placed, spliced, tooLarge, records, step, steps}
+use Rattle.definition.specs.Running.{Changed, World, begin, present, withPath, notesAt, Yield, yieldAt, yield, news, Run, place, placed, spliced, tooLarge, recordedBy, step, steps}
 use Rattle.definition.specs.Refusals.{Accepted}
 use Rattle.definition.specs.Finishing.{newTree, newTable, numberAt}
 use Rattle.definition.specs.Answers.{Plan, performed, atFirst, ran}
@@ -93,7 +93,7 @@ placed-filled t q a (y ∷ ys) g at = ((here, All-map notes (y .notes) (g .0)), 
 -- every note held, and every element recorded as changed, is in the current trees
 pub record Holds (w : World) : Type 0 where
   pub notes : All (λ n. Leads w.trees n.path) w.notes
-  pub changed : All (Leads w.trees) w.changed
+  pub changed : All (λ c. Leads w.trees (c .0)) w.changed
 
 yieldAt-good : (w : World) (p : Path) → Holds w → Good (yieldAt w p)
 unfolding yieldAt notesAt withPath
@@ -117,11 +117,11 @@ yields-good : (first w : World) (es : List ℕ) → Holds first → Holds w → 
 yields-good first w [] h k = tt
 yields-good first w (e ∷ es) h k = (yield-good first w e h k, yields-good first w es h k)
 
-pub spliced-holds : (w : World) (r : Run) (new : List Yield) (rec : Bool) → Holds w → HasRun w.trees r.parent r.from r.to → All Good new → Holds (spliced r new rec w)
+pub spliced-holds : (w : World) (r : Run) (new : List Yield) (rec : Option ℕ) → Holds w → HasRun w.trees r.parent r.from r.to → All Good new → Holds (spliced r new rec w)
 unfolding spliced withPath
 spliced-holds w r new rec h run g = record {
   notes = All-append (λ (n : Note). Leads tree n.path) (pick (λ n. Option·map (withPath n) (moves n.path)) w.notes) (flatMap (λ y. map (λ n. withPath n (y .0 ++ n .path)) (y .1 .notes)) (placed r.parent r.from new)) keptNotes newNotes;
-  changed = All-append (Leads tree) (pick moves w.changed) (cond rec (map (λ y. y .0) (placed r.parent r.from new)) []) keptChanged (newChanged rec);
+  changed = All-append (λ (c : Changed). Leads tree (c .0)) (pick moved w.changed) (elim rec [ none ↦ [] | some n ↦ map (λ y. (y .0, n)) (placed r.parent r.from new) ]) keptChanged (newChanged rec);
 }
   where
     trees : List (Tree ℕ)
@@ -151,12 +151,18 @@ spliced-holds w r new rec h run g = record {
         (λ y k. All-over (λ n. withPath n (y .0 ++ n .path)) (λ n. Leads tree (y .0 ++ n .path)) (λ n. Leads tree n.path) (λ n l. l) (y .1 .notes) (k .1))
         (placed r.parent r.from new) filled
 
-    keptChanged : All (Leads tree) (pick moves w.changed)
-    keptChanged = All-pick moves (Leads w.trees) (Leads tree) (λ p q e l. kept p q l e) w.changed (h .changed)
+    moved : Changed → Option Changed
+    moved c = Option·map (λ p. (p, c .1)) (moves (c .0))
 
-    newChanged : (b : Bool) → All (Leads tree) (cond b (map (λ y. y .0) (placed r.parent r.from new)) [])
-    newChanged true = All-over (λ y. y .0) (Filled tree) (Leads tree) (λ y k. k .0) (placed r.parent r.from new) filled
-    newChanged false = tt
+    keptChanged : All (λ (c : Changed). Leads tree (c .0)) (pick moved w.changed)
+    keptChanged = All-pick moved (λ c. Leads w.trees (c .0)) (λ c. Leads tree (c .0)) one w.changed (h .changed)
+      where
+        one : (c d : Changed) → Option·map (λ p. (p, c .1)) (moves (c .0)) ≡ some d → Leads w.trees (c .0) → Leads tree (d .0)
+        one c d e l = let (q, a, b) = map-some (λ (p : Path). (p, c .1)) (moves (c .0)) e in rw (← b) (kept (c .0) q l a)
+
+    newChanged : (o : Option ℕ) → All (λ (c : Changed). Leads tree (c .0)) (elim o as (λ _. List Changed) [ none ↦ [] | some n ↦ map (λ y. (y .0, n)) (placed r.parent r.from new) ])
+    newChanged (some n) = All-over (λ y. (y .0, n)) (Filled tree) (λ (c : Changed). Leads tree (c .0)) (λ y k. k .0) (placed r.parent r.from new) filled
+    newChanged none = tt
 
 -- before the first step: notes stand where elements of the batch do
 pub begin-holds : (ts : List (Tree ℕ)) (notes : List Note) → All (λ n. (e : ℕ) × (e < length (table 0 0 ts)) × (n .path ≡ (row (table 0 0 ts) e) .path)) notes → Holds (begin ts (table 0 0 ts) notes)
@@ -173,9 +179,9 @@ module _ (ts : List (Tree ℕ)) (first : World) (f₀ : Worded first.trees) (h�
   unfolding step
   step-holds w next p f h c e =
       given (orRefuse 11 (place (table 0 0 ts) w p.change)) _ e λ r a e.
-      given (refuse 12 (tooLarge (spliced r (map (yield first w) (news p.change)) (records (table 0 0 ts) p) w))) _ e λ u b e.
+      given (refuse 12 (tooLarge (spliced r (map (yield first w) (news p.change)) (recordedBy (table 0 0 ts) p) w))) _ e λ u b e.
       let fits = place-fits ts w f p.change r (right-sits (table 0 0 ts) p.change c) (is-there 11 _ a) in
-      rw (← gives-inj e) (spliced-holds w r (map (yield first w) (news p.change)) (records (table 0 0 ts) p) h (fits .run) (yields-good first w (news p.change) h₀ h))
+      rw (← gives-inj e) (spliced-holds w r (map (yield first w) (news p.change)) (recordedBy (table 0 0 ts) p) h (fits .run) (yields-good first w (news p.change) h₀ h))
 
   pub steps-hold : (ps : List Planned) (w last : World) → Follows ts w → Holds w → All (λ p. Right (table 0 0 ts) p.change) ps → steps (table 0 0 ts) first w ps ≡ gives last → Holds last
   unfolding steps

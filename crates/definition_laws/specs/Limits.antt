@@ -19,10 +19,10 @@ use Rattle.definition.specs.Basics.{Answer, refused, gives, _>>=_, refuse, orRe
 use Rattle.definition.specs.Words.{bytes, written}
 use Rattle.definition.specs.Elements.{Table, table, row, tree}
 use Rattle.definition.specs.Choices.{Choices}
-use Rattle.definition.specs.Refusals.{Call, calls, countOf, operationOf, Accepted, accepted}
+use Rattle.definition.specs.Refusals.{Call, calls, countOf, operationOf, ruleOf, Accepted, accepted}
 use Rattle.definition.specs.Planning.{Planned, target, isDiscarded}
 use Rattle.definition.specs.Rewriting.{Note}
-use Rattle.definition.specs.Running.{World, begin, Yield, yield, Run, news, place, placed, spliced, tooLarge, records, step, steps}
+use Rattle.definition.specs.Running.{Changed, World, begin, Yield, yield, Run, news, place, placed, spliced, tooLarge, records, recordedBy, step, steps}
 use Rattle.definition.specs.Finishing.{newTree, newTable, numberAt, changedElements, noteElements, Result, result, sixSizes, encoded, fitting}
 use Rattle.definition.specs.Answers.{Plan, plan, performed, atFirst, ran, edit}
 use Rattle.definition_laws.specs.Basics.{flatMap-append, total-le}
@@ -44,11 +44,11 @@ unfolding written flatMap bytes
 written-length [] = refl
 written-length (w ∷ ws) = omega (arith, written-length ws)
 
--- a result has 24 bytes for its sizes, 8 for each element, 4 for each changed element, 8 for each note, and its text
-pub encoded-length : (r : Result) → length r.measures ≡ length r.kinds → length r.noted ≡ length r.numbers
-    → length (encoded r) ≡ 24 + 8 * length r.kinds + 4 * length r.changed + 8 * length r.numbers + length r.text
+-- a result has 24 bytes for its sizes, 8 for each element, 8 for each changed element, 8 for each note, and its text
+pub encoded-length : (r : Result) → length r.measures ≡ length r.kinds → length r.rules ≡ length r.changed → length r.noted ≡ length r.numbers
+    → length (encoded r) ≡ 24 + 8 * length r.kinds + 8 * length r.changed + 8 * length r.numbers + length r.text
 unfolding encoded sixSizes
-encoded-length r m n = simp (length-append, written-length) (omega arith)
+encoded-length r m c n = simp (length-append, written-length) (omega arith)
 
 zip-length : {A B : Type 0} (l : List A) (m : List B) → length (zip l m) ≤ length l
 unfolding zip
@@ -96,7 +96,7 @@ steps-small T first (p ∷ ps) w last s e =
     next-small : (next : World) → step T first w p ≡ gives next → Small next
     next-small next a =
         given (orRefuse 11 (place T w p.change)) _ a λ r b a.
-        given (refuse 12 (tooLarge (spliced r (map (yield first w) (news p.change)) (records T p) w))) _ a λ u c a.
+        given (refuse 12 (tooLarge (spliced r (map (yield first w) (news p.change)) (recordedBy T p) w))) _ a λ u c a.
         rw (← gives-inj a) (small _ (not-wrong 12 _ c))
 
 -- ── Changed elements ────────────────────────────────────────────────────────────────────────────────────────
@@ -117,20 +117,21 @@ placed-length q a (y ∷ ys) = ap suc (placed-length q (suc a) ys)
 
 -- a step records what it lists, if it records
 step-changed : (T : Table) (first w next : World) (p : Planned) → step T first w p ≡ gives next → length next.changed ≤ length w.changed + cond (records T p) (length (news p.change)) 0
-unfolding step spliced
+unfolding step spliced recordedBy
 step-changed T first w next p e =
     given (orRefuse 11 (place T w p.change)) _ e λ r b e.
-    given (refuse 12 (tooLarge (spliced r (map (yield first w) (news p.change)) (records T p) w))) _ e λ u c e.
+    given (refuse 12 (tooLarge (spliced r (map (yield first w) (news p.change)) (recordedBy T p) w))) _ e λ u c e.
     rw (← gives-inj e) (go r (map (yield first w) (news p.change)) (length-map (news p.change) (yield first w)) (records T p))
   where
-    go : (r : Run) (new : List Yield) → length new ≡ length (news p.change) → (b : Bool) → length ((spliced r new b w) .changed) ≤ length w.changed + cond b (length (news p.change)) 0
+    moved : Run → List Yield → Changed → Option Changed
+    moved r new c = Option·map (λ q. (q, c .1)) (adjust r.parent r.from r.to (length new) (c .0))
+
+    go : (r : Run) (new : List Yield) → length new ≡ length (news p.change) → (b : Bool) → length ((spliced r new (cond b (some p.rule) none) w) .changed) ≤ length w.changed + cond b (length (news p.change)) 0
     go r new z true =
-        let moves = adjust r.parent r.from r.to (length new) in
         let places = placed r.parent r.from new in
-        omega (arith, length-append (pick moves w.changed) (map (λ y. y .0) places), pick-length moves w.changed, length-map places (λ y. y .0), placed-length r.parent r.from new)
-    go r new z false =
-        let moves = adjust r.parent r.from r.to (length new) in
-        omega (arith, length-append (pick moves w.changed) [], pick-length moves w.changed)
+        let news : List Changed = map (λ y. (y .0, p .rule)) places in
+        omega (arith, length-append (pick (moved r new) w.changed) news, pick-length (moved r new) w.changed, length-map {B = Changed} places (λ y. (y .0, p .rule)), placed-length r.parent r.from new)
+    go r new z false = omega (arith, length-append (pick (moved r new) w.changed) [], pick-length (moved r new) w.changed)
 
 pub steps-changed : (T : Table) (first : World) (ps : List Planned) (w last : World) → steps T first w ps ≡ gives last
     → length last.changed ≤ length w.changed + total (records T) (λ p. length (news p.change)) ps
@@ -145,7 +146,7 @@ calls-listed [] [] cs e = rw (← some-inj e) (refl, refl)
 calls-listed [] (x ∷ l) cs e = none-some e
 calls-listed (c ∷ ws) l cs e = go (countOf (c .0)) (leb (countOf (c .0)) (length l)) refl e (calls-listed ws (drop (countOf (c .0)) l))
   where
-    go : (n : ℕ) (b : Bool) → leb n (length l) ≡ b → cond b (Option·map (λ r. record { operation = operationOf (c .0); target = c .1; listed = take n l } ∷ r) (calls ws (drop n l))) none ≡ some cs
+    go : (n : ℕ) (b : Bool) → leb n (length l) ≡ b → cond b (Option·map (λ r. record { operation = operationOf (c .0); target = c .1; listed = take n l; rule = ruleOf (c .0) } ∷ r) (calls ws (drop n l))) none ≡ some cs
         → ((ds : List Call) → calls ws (drop n l) ≡ some ds → (total (λ c. true) (λ c. length c.listed) ds ≡ length (drop n l)) × (length ds ≡ length ws))
         → (total (λ c. true) (λ c. length c.listed) cs ≡ length l) × (length cs ≡ suc (length ws))
     go n false h q ih = none-some q
@@ -164,6 +165,7 @@ pub record Within (r : Result) : Type 0 where
   pub measures : length r.measures ≡ length r.kinds
   pub text : length r.text ≤ 16384
   pub changed : length r.changed ≤ 1024
+  pub ruled : length r.rules ≡ length r.changed
   pub notes : length r.numbers ≤ 1024
   pub noted : length r.noted ≡ length r.numbers
   pub discarded : r .discarded ≤ 256
@@ -191,7 +193,9 @@ new-text w = omega (arith, part-length text 1 (list (children w.trees)), ap leng
 -- the lists of a result are no longer than what they are made of
 changed-length : (F : Table) (w : World) → length (changedElements F w) ≤ length w.changed
 unfolding changedElements
-changed-length F w = omega (arith, rising-length (λ e. (row F e) .start ∷ []) (pick (numberAt F) w.changed), pick-length (numberAt F) w.changed)
+changed-length F w =
+    let at : Changed → Option (ℕ × ℕ) = λ c. Option·map (λ e. (e, c .1)) (numberAt F (c .0)) in
+    omega (arith, rising-length (λ (m : ℕ × ℕ). (row F (m .0)) .start ∷ []) (pick at w.changed), pick-length at w.changed)
 
 notes-length : (F : Table) (w : World) → length (noteElements F w) ≤ length w.notes
 unfolding noteElements
@@ -204,11 +208,13 @@ unfolding result
 result-within ps climbs w s n c h =
     let els = flatMap preorder (newTree w) in
     let notes = noteElements (newTable w) w in
+    let changed = changedElements (newTable w) w in
     record {
       elements = omega (arith, length-map els label, new-elements w, s .elements);
       measures = length-map els measure ∙ sym (length-map els label);
       text = omega (arith, new-text w, s .text);
-      changed = omega (arith, changed-length (newTable w) w);
+      changed = omega (arith, length-map changed (λ m. m .0), changed-length (newTable w) w);
+      ruled = length-map changed (λ m. m .1) ∙ sym (length-map changed (λ m. m .0));
       notes = omega (arith, length-map notes (λ m. m .0 .number), notes-length (newTable w) w, s .notes);
       noted = length-map notes (λ m. m .1) ∙ sym (length-map notes (λ m. m .0 .number));
       discarded = omega (arith, keep-length (λ p. isDiscarded p.fate) ps);
@@ -287,11 +293,11 @@ edit-within h bytes r e =
 
 -- the most bytes that a result has
 abbrev pub mostBytes : ℕ
-mostBytes = 61464
+mostBytes = 65560
 
 -- An accepted answer has at most so many.
 pub encoded-within : (h : Choices) (bytes : List ℕ) (r : Result) → edit h bytes ≡ gives r → length (encoded r) ≤ mostBytes
-encoded-within h bytes r e = let w = edit-within h bytes r e in omega (arith, encoded-length r (w .measures) (w .noted), w .elements, w .changed, w .notes, w .text)
+encoded-within h bytes r e = let w = edit-within h bytes r e in omega (arith, encoded-length r (w .measures) (w .ruled) (w .noted), w .elements, w .changed, w .notes, w .text)
 
 -- With that much room the buffer is never too short.
 pub room-suffices : (h : Choices) (bytes : List ℕ) (room : ℕ) → mostBytes ≤ room → (edit h bytes >>= λ r. fitting room r) ≡ edit h bytes

@@ -3,22 +3,22 @@
 use mathlib.Core.Path.{_≡_, refl, sym, ap, _∙_}
 use mathlib.Core.Bool.{Bool, true, false, cond, not, _&&_}
 use mathlib.Core.List.{List, [], _∷_, map}
-use mathlib.Core.Option.{Option, none, some, Option·getD}
-use Prim.Native.Nat.{ℕ, zero, suc, _*_, _≤_, _<_}
+use mathlib.Core.Option.{Option, none, some, Option·map, Option·getD}
+use Prim.Native.Nat.{ℕ, zero, suc, _*_, _/_, _≤_, _<_}
 use native.Mathlib.Omega.{arith}
-use lib.Dec.{eqb}
-use lib.ListN.{length, length-map}
+use lib.Dec.{leb, eqb}
+use lib.ListN.{length, take, drop, length-map}
 use borrow.Author.Tests.{leb-false}
 use Rattle.orders.specs.Lists.{All, total}
-use Rattle.orders.specs.ListLaws.{bool-absurd, some-inj, none-some, All-map, All-over}
+use Rattle.orders.specs.ListLaws.{bool-absurd, some-inj, none-some, map-some, All-map, All-over}
 use Rattle.orders.specs.Tree.{Tree}
 use Rattle.definition.specs.Basics.{Answer, refused, gives, _>>=_, refuse, orRefuse, isSome}
 use Rattle.definition.specs.Choices.{Choices}
 use Rattle.definition.specs.Elements.{Table, table, row, node?, placeBelow, descend}
-use Rattle.definition.specs.Refusals.{Call, mostListed, listsTooMany, wrongCall, wrongMapping, wrongNote, Accepted}
-use Rattle.definition.specs.Recording.{Change, change, recorded}
+use Rattle.definition.specs.Refusals.{Call, callOf, countOf, ruleOf, calls, mostListed, listsTooMany, wrongCall, wrongMapping, wrongNote, Accepted}
+use Rattle.definition.specs.Recording.{Recorded, Change, change, recorded}
 use Rattle.definition.specs.EdgeRule.{planned}
-use Rattle.definition.specs.Planning.{Planned, sorted, overlap, Judgement, overlaps, fated}
+use Rattle.definition.specs.Planning.{Planned, changesOf, sorted, overlap, Judgement, overlaps, fated}
 use Rattle.definition.specs.Rewriting.{mapping, mappedOr, land, rewritten, nearest, isParent, noteFrom, settle, Note, settled}
 use Rattle.definition.specs.Running.{news, ranked}
 use Rattle.definition.specs.Answers.{judgeChanges, disjoint, Plan, rewriteChanges, plan, performed}
@@ -27,7 +27,7 @@ use Rattle.definition_laws.specs.Answers.{gives-inj, refused-gives, give
 use Rattle.definition_laws.specs.Kin.{descends-place}
 use Rattle.definition_laws.specs.Accepted.{Known}
 use Rattle.definition_laws.specs.Right.{Right, neither, none-passes, change-right, change-lists, change-few}
-use Rattle.definition_laws.specs.Stages.{lists, listsAll, recorded-all, recorded-total, sorted-all, sorted-total, planned-changes, judge-fated, RewroteAll, rewritten-all, order-all, ranked-all}
+use Rattle.definition_laws.specs.Stages.{lists, listsAll, recorded-all, recorded-total, sorted-all, sorted-total, planned-changes, planned-rules, judge-fated, RewroteAll, rewritten-all, order-all, ranked-all}
 
 -- ── Notes ───────────────────────────────────────────────────────────────────────────────────────────────────
 
@@ -139,38 +139,48 @@ pub plan-fated : (h : Choices) (a : Accepted) (ps : List Planned) → judgeChang
 unfolding plan disjoint _>>=_
 plan-fated h a ps e = rw (e, disjoint)
 
--- the changes of a batch as sorted, before they are rewritten
+-- what is recorded of a batch, sorted
+abbrev pub sortedChanges : Accepted → List Recorded
+sortedChanges a = sorted a.table (recorded a.calls)
+
+-- its changes as sorted, before they are rewritten
 abbrev pub changes : Accepted → List Change
-changes a = sorted a.table (recorded a.calls)
+changes a = changesOf (sortedChanges a)
 
 -- a plan's changes were judged so, and then rewritten
-pub plan-parts : (h : Choices) (a : Accepted) (p : Plan) → plan h a ≡ gives p → (overlap a.table (changes a) ≡ none) × (rewriteChanges a (planned h a.table (changes a)) ≡ gives p)
+pub plan-parts : (h : Choices) (a : Accepted) (p : Plan) → plan h a ≡ gives p → (overlap a.table (changes a) ≡ none) × (rewriteChanges a (planned h a.table (sortedChanges a)) ≡ gives p)
 unfolding plan judgeChanges
 plan-parts h a p e =
     given (disjoint (judgeChanges h a)) _ e λ ps x e.
-    let (apart, same) = judge-fated h a.table (changes a) ps (disjoint-fated (judgeChanges h a) ps x) in
+    let (apart, same) = judge-fated h a.table (sortedChanges a) ps (disjoint-fated (judgeChanges h a) ps x) in
     (apart, ap (rewriteChanges a) (sym same) ∙ e)
 
 module _ (a : Accepted) (k : Checked a) where
   pub changes-right : All (Right a.table) (changes a)
+  unfolding changesOf
   changes-right =
-      sorted-all a.table (Right a.table) (recorded a.calls)
-      (recorded-all (Right a.table) a.calls (All-map (λ c e h. change-right a.table c e h) a.calls (k .calls)))
+      All-over (λ r. r .change) (λ (r : Recorded). Right a.table r.change) (Right a.table) (λ r h. h) (sortedChanges a)
+      (sorted-all a.table (λ r. Right a.table r.change) (recorded a.calls)
+      (recorded-all (λ r. Right a.table r.change) a.calls (All-map (λ c e h. change-right a.table c e h) a.calls (k .calls))))
 
   changes-few : All (λ c. lists c ≤ mostListed) (changes a)
+  unfolding changesOf
   changes-few =
-      sorted-all a.table (λ c. lists c ≤ mostListed) (recorded a.calls)
-      (recorded-all (λ c. lists c ≤ mostListed) a.calls (All-map (λ c e h. change-few c e) a.calls (k .few)))
+      All-over (λ r. r .change) (λ (r : Recorded). lists r.change ≤ mostListed) (λ c. lists c ≤ mostListed) (λ r h. h) (sortedChanges a)
+      (sorted-all a.table (λ r. lists r.change ≤ mostListed) (recorded a.calls)
+      (recorded-all (λ r. lists r.change ≤ mostListed) a.calls (All-map (λ c e h. change-few c e) a.calls (k .few))))
 
   changes-listed : listsAll (changes a) ≤ total (λ c. true) (λ c. length c.listed) a.calls
+  unfolding changesOf
   changes-listed =
-      rw (sorted-total a.table (λ c. true) lists (recorded a.calls))
-      (recorded-total lists (λ c. length c.listed) a.calls (All-map (λ c e h. change-lists a.table c e) a.calls (k .calls)))
+      rw (← total-map (λ r. r .change) lists (sortedChanges a), sorted-total a.table (λ c. true) (λ r. lists r.change) (recorded a.calls))
+      (recorded-total (λ r. lists r.change) (λ c. length c.listed) a.calls (All-map (λ c e h. change-lists a.table c e) a.calls (k .calls)))
 
   changes-count : length (changes a) ≤ length a.calls
+  unfolding changesOf
   changes-count =
-      let one : total (λ c. true) (λ (c : Change). 1) (recorded a.calls) ≤ total (λ c. true) (λ (c : Call). 1) a.calls = recorded-total (λ c. 1) (λ c. 1) a.calls (All-map (λ c e h. omega arith) a.calls (k .calls)) in
-      omega (arith, total-length (changes a), sorted-total a.table (λ c. true) (λ c. 1) (recorded a.calls), one, total-length a.calls)
+      let one : total (λ c. true) (λ (c : Recorded). 1) (recorded a.calls) ≤ total (λ c. true) (λ (c : Call). 1) a.calls = recorded-total (λ c. 1) (λ c. 1) a.calls (All-map (λ c e h. omega arith) a.calls (k .calls)) in
+      omega (arith, length-map (sortedChanges a) (λ r. r .change), total-length (sortedChanges a), sorted-total a.table (λ c. true) (λ c. 1) (recorded a.calls), one, total-length a.calls)
 
   -- the changes that are judged are those that were sorted
   pub judged-known : (h : Choices) (ps : List Planned) → judgeChanges h a ≡ fated ps → Judging a ps
@@ -178,7 +188,7 @@ module _ (a : Accepted) (k : Checked a) where
   judged-known h ps e =
       let T = a .table in
       let cs = changes a in
-      let same : map (λ q. q .change) ps ≡ cs = ap (map (λ q. q .change)) ((judge-fated h T cs ps e) .1) ∙ planned-changes h T cs in
+      let same : map (λ q. q .change) ps ≡ cs = ap (map (λ q. q .change)) ((judge-fated h T (sortedChanges a) ps e) .1) ∙ planned-changes h T (sortedChanges a) in
       let long : length ps ≡ length cs = sym (length-map ps (λ q. q .change)) ∙ ap length same in
       let sum : total (λ q. true) (λ q. lists q.change) ps ≡ listsAll cs = total-map (λ q. q .change) lists ps ∙ ap listsAll same in
       record { right = map-All (Right T) (λ q. q .change) ps (rw same changes-right); few = map-All (λ c. lists c ≤ mostListed) (λ q. q .change) ps (rw same changes-few); count = omega (arith, changes-count); listed = omega (arith, changes-listed) }
@@ -229,6 +239,40 @@ module _ (a : Accepted) (k : Checked a) where
 -- lines 6, 16 and 7 have passed what is accepted
 pub checked : (bytes : List ℕ) (a : Accepted) → Known bytes a → Checked a
 checked bytes a k = record { table = k .table; calls = k .calls; few = k .few; mappings = k .mappings; notes = k .notes }
+
+-- ── Rule numbers ────────────────────────────────────────────────────────────────────────────────────────────
+
+-- "bits 20 to 31": a call's rule number has twelve bits
+pub calls-ruled : (ws : List (ℕ × ℕ)) (l : List ℕ) (cs : List Call) → calls ws l ≡ some cs → All (λ c. c .rule < 4096) cs
+unfolding calls ruleOf
+calls-ruled [] [] cs e = rw (← some-inj e) tt
+calls-ruled [] (x ∷ l) cs e = none-some e
+calls-ruled (c ∷ ws) l cs e = go (countOf (c .0)) (leb (countOf (c .0)) (length l)) e (calls-ruled ws (drop (countOf (c .0)) l))
+  where
+    go : (n : ℕ) (b : Bool) → cond b (Option·map (λ r. callOf (c .0) (c .1) (take n l) ∷ r) (calls ws (drop n l))) none ≡ some cs
+        → ((ds : List Call) → calls ws (drop n l) ≡ some ds → All (λ d. d .rule < 4096) ds) → All (λ d. d .rule < 4096) cs
+    go n false q ih = none-some q
+    go n true q ih = let (ds, a, b) = map-some _ (calls ws (drop n l)) q in rw (← b) (omega arith, ih ds a)
+
+-- so has that of each change of a plan, and of each that is performed
+pub plan-ruled : (h : Choices) (bytes : List ℕ) (a : Accepted) (p : Plan) → Known bytes a → plan h a ≡ gives p → All (λ q. q .rule < 4096) p.changes
+unfolding rewriteChanges
+plan-ruled h bytes a p k e =
+    let T = a .table in
+    let rs = sortedChanges a in
+    let small : All (λ r. r .rule < 4096) rs =
+    sorted-all T (λ r. r .rule < 4096) (recorded a.calls) (recorded-all (λ r. r .rule < 4096) a.calls (All-map (λ c s z. s) a.calls (calls-ruled _ _ a.calls (k .parted)))) in
+    given (rewritten T (mapping a.mappings) (planned h T rs)) _ ((plan-parts h a p e) .1) λ r y g.
+    given (settled T (mapping a.mappings) 0 a.notes) _ g λ notes z g.
+    rw (← gives-inj g)
+    (map-All (λ n. n < 4096) (λ q. q .rule) (r .0) (rw ((rewritten-all T (mapping a.mappings) (planned h T rs) r y) .rules, planned-rules h T rs) (All-over (λ r. r .rule) (λ r. r .rule < 4096) (λ n. n < 4096) (λ r s. s) rs small)))
+
+pub performed-ruled : (h : Choices) (bytes : List ℕ) (a : Accepted) (p : Plan) → Known bytes a → plan h a ≡ gives p → All (λ q. q .rule < 4096) (performed a p)
+unfolding performed
+performed-ruled h bytes a p k e =
+    order-all (λ q. q .rule < 4096) (ranked a.table p.changes) (length p.changes) none (ranked-all a.table (λ q. q .rule < 4096) p.changes (plan-ruled h bytes a p k e))
+
+-- ── What is performed ───────────────────────────────────────────────────────────────────────────────────────
 
 -- each performed change is one that line 6 would not refuse
 pub performed-right : (a : Accepted) (p : Plan) → Planning a p → All (λ q. Right a.table q.change) (performed a p)

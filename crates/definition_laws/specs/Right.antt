@@ -14,7 +14,7 @@ use Rattle.orders.specs.ListLaws.{bool-absurd, All-map}
 pub use Rattle.orders.specs.ListLaws.{either-false as neither, none-passes}
 use Rattle.definition.specs.Basics.{any, among}
 use Rattle.definition.specs.Elements.{Table, node?, root?, parent, child}
-use Rattle.definition.specs.Refusals.{Call, wrongCount, mostListed, tooMany, listsTooMany, sameParent, wrongRun, misplaced, wrongCall}
+use Rattle.definition.specs.Refusals.{Call, wrongCount, mostListed, tooMany, listsTooMany, sameParent, wrongRun, misplaced, ruledStart, wrongCall}
 use Rattle.definition.specs.Recording.{firstChild, after, Change, insert, replace, delete, replaceWithMany, replaceAll, run, change, call}
 use Rattle.definition.specs.Running.{news}
 
@@ -30,10 +30,12 @@ pub record Judged (T : Table) (c : Call) : Type 0 where
   pub byNode : (eqb c.operation 2 && root? T c.target && not (node? T (headD c.listed 0))) ≡ false
   pub run : (eqb c.operation 5 && wrongRun T c.target (headD c.listed 0)) ≡ false
   pub editor : (eqb c.operation 6 && not (eqb c.target 0)) ≡ false
+  pub unruled : ruledStart c.operation c.rule ≡ false
 
 pub judged : (T : Table) (c : Call) → wrongCall T c ≡ false → Judged T c
 unfolding wrongCall misplaced
 judged T c e =
+    let (e, n) = neither _ _ e in
     let (e, m) = neither _ _ e in
     let (e, b) = neither _ _ e in
     let (z, a) = neither _ _ e in
@@ -41,11 +43,11 @@ judged T c e =
     let (m, h) = neither _ _ m in
     let (m, g) = neither _ _ m in
     let (k, f) = neither _ _ m in
-    record { known = z; count = a; within = b; isNode = k; noRoot = f; byNode = g; run = h; editor = i }
+    record { known = z; count = a; within = b; isNode = k; noRoot = f; byNode = g; run = h; editor = i; unruled = n }
 
 pub unjudged : (T : Table) (c : Call) → Judged T c → wrongCall T c ≡ false
 unfolding wrongCall misplaced
-unjudged T c j = rw (j .known, j .count, j .within, j .isNode, j .noRoot, j .byNode, j .run, j .editor)
+unjudged T c j = rw (j .known, j .count, j .within, j .isNode, j .noRoot, j .byNode, j .run, j .editor, j .unruled)
 
 pub below-E : (T : Table) (l : List ℕ) → any (λ e. leb (length T) e) l ≡ false → All (λ e. e < length T) l
 below-E T l e = All-map (λ x h. leb-false (length T) x h) l (none-passes (λ x. leb (length T) x) l e)
@@ -120,26 +122,33 @@ module _ (T : Table) where
   -- ── From calls to changes ──
 
   -- a run of one is as right as the run that was asked for
-  one-right : (x y : ℕ) (l : List ℕ) → Judged T (record { operation = 5; target = x; listed = y ∷ l }) → Right T (replaceWithMany x l)
-  unfolding call among any wrongCount
-  one-right x y l j =
+  one-right : (x y : ℕ) (l : List ℕ) → {n : ℕ} → Judged T (record { operation = 5; target = x; listed = y ∷ l; rule = n }) → Right T (replaceWithMany x l)
+  unfolding call among any wrongCount ruledStart
+  one-right x y l {n} j =
       let (a, b) = neither (leb (length T) x) (leb (length T) y || any (λ e. leb (length T) e) l) (j .within) in
       let (b, c) = neither (leb (length T) y) (any (λ e. leb (length T) e) l) b in
-      unjudged T (record { operation = 4; target = x; listed = l })
-      (record { known = refl; count = refl; within = rw (a, c); isNode = refl; noRoot = j .noRoot; byNode = refl; run = refl; editor = refl })
+      unjudged T (record { operation = 4; target = x; listed = l; rule = 0 })
+      (record { known = refl; count = refl; within = rw (a, c); isNode = refl; noRoot = j .noRoot; byNode = refl; run = refl; editor = refl; unruled = refl })
+
+  -- a call of another operation than 6 is as right by any rule
+  any-rule : (op x : ℕ) (l : List ℕ) (n m : ℕ) → eqb op 6 ≡ false → Judged T (record { operation = op; target = x; listed = l; rule = n }) → wrongCall T (record { operation = op; target = x; listed = l; rule = m }) ≡ false
+  unfolding ruledStart
+  any-rule op x l n m h j =
+      unjudged T (record { operation = op; target = x; listed = l; rule = m })
+      (record { known = j .known; count = j .count; within = j .within; isNode = j .isNode; noRoot = j .noRoot; byNode = j .byNode; run = j .run; editor = j .editor; unruled = rw (h) refl })
 
   -- a change recorded for a call that is not refused
   pub change-right : (c : Call) → wrongCall T c ≡ false → eqb c.operation 6 ≡ false → Right T (change c)
   unfolding change call run headD among any wrongCount
-  change-right c e h = go c.operation c.target c.listed e (judged T c e) h
+  change-right c e h = let j = judged T c e in go c.operation c.target c.listed (any-rule c.operation c.target c.listed c.rule 0 h j) j h
     where
-      either : (x y : ℕ) (l : List ℕ) → wrongCall T (record { operation = 5; target = x; listed = y ∷ l }) ≡ false → Judged T (record { operation = 5; target = x; listed = y ∷ l })
+      either : (x y : ℕ) (l : List ℕ) {n : ℕ} → wrongCall T (record { operation = 5; target = x; listed = y ∷ l; rule = 0 }) ≡ false → Judged T (record { operation = 5; target = x; listed = y ∷ l; rule = n })
           → (b : Bool) → Right T (cond b (replaceWithMany x l) (replaceAll x y l))
       either x y l e j true = one-right x y l j
       either x y l e j false = e
 
-      go : (op x : ℕ) (l : List ℕ) → wrongCall T (record { operation = op; target = x; listed = l }) ≡ false → Judged T (record { operation = op; target = x; listed = l }) → eqb op 6 ≡ false
-          → Right T (change (record { operation = op; target = x; listed = l }))
+      go : (op x : ℕ) (l : List ℕ) {n : ℕ} → wrongCall T (record { operation = op; target = x; listed = l; rule = 0 }) ≡ false → Judged T (record { operation = op; target = x; listed = l; rule = n }) → eqb op 6 ≡ false
+          → Right T (change (record { operation = op; target = x; listed = l; rule = n }))
       go zero x l e j h = e
       go (suc zero) x l e j h = e
       go (suc (suc zero)) x [] e j h = bool-absurd refl (j .count)
@@ -156,7 +165,7 @@ module _ (T : Table) where
   -- it lists no more than the call
   pub change-lists : (c : Call) → wrongCall T c ≡ false → length (news (change c)) ≤ length c.listed
   unfolding change run headD news
-  change-lists c e = go c.operation c.target c.listed (judged T c e)
+  change-lists c e = go c.operation c.target c.listed c.rule (judged T c e)
     where
       either : (x y : ℕ) (l : List ℕ) (b : Bool) → length (news (cond b (replaceWithMany x (tail l)) (replaceAll x y (tail l)))) ≤ length l
       either x y [] true = omega arith
@@ -164,23 +173,23 @@ module _ (T : Table) where
       either x y (z ∷ l) true = omega arith
       either x y (z ∷ l) false = omega arith
 
-      other : (op x : ℕ) (l : List ℕ) → eqb op 0 ≡ false → eqb op 1 ≡ false → eqb op 2 ≡ false → eqb op 3 ≡ false → eqb op 4 ≡ false → length (news (change (record { operation = op; target = x; listed = l }))) ≤ length l
-      other op x l a b c d e = rw (a, b, c, d, e) (either x (headD l 0) l (eqb x (headD l 0)))
+      other : (op x : ℕ) (l : List ℕ) (n : ℕ) → eqb op 0 ≡ false → eqb op 1 ≡ false → eqb op 2 ≡ false → eqb op 3 ≡ false → eqb op 4 ≡ false → length (news (change (record { operation = op; target = x; listed = l; rule = n }))) ≤ length l
+      other op x l n a b c d e = rw (a, b, c, d, e) (either x (headD l 0) l (eqb x (headD l 0)))
 
-      go : (op x : ℕ) (l : List ℕ) → Judged T (record { operation = op; target = x; listed = l }) → length (news (change (record { operation = op; target = x; listed = l }))) ≤ length l
-      go zero x l j = omega arith
-      go (suc zero) x l j = omega arith
-      go (suc (suc zero)) x l j = omega (arith, count-one (length l) (j .count))
-      go (suc (suc (suc zero))) x l j = omega arith
-      go (suc (suc (suc (suc zero)))) x l j = omega arith
-      go (suc (suc (suc (suc (suc op))))) x l j =
+      go : (op x : ℕ) (l : List ℕ) (m : ℕ) → Judged T (record { operation = op; target = x; listed = l; rule = m }) → length (news (change (record { operation = op; target = x; listed = l; rule = m }))) ≤ length l
+      go zero x l m j = omega arith
+      go (suc zero) x l m j = omega arith
+      go (suc (suc zero)) x l m j = omega (arith, count-one (length l) (j .count))
+      go (suc (suc (suc zero))) x l m j = omega arith
+      go (suc (suc (suc (suc zero)))) x l m j = omega arith
+      go (suc (suc (suc (suc (suc op))))) x l m j =
           let n = suc (suc (suc (suc (suc op)))) in
-          other n x l (ne-eqb n 0 (omega arith)) (ne-eqb n 1 (omega arith)) (ne-eqb n 2 (omega arith)) (ne-eqb n 3 (omega arith)) (ne-eqb n 4 (omega arith))
+          other n x l m (ne-eqb n 0 (omega arith)) (ne-eqb n 1 (omega arith)) (ne-eqb n 2 (omega arith)) (ne-eqb n 3 (omega arith)) (ne-eqb n 4 (omega arith))
 
 -- a change lists no more than 41 elements, if 16 does not refuse its call
 pub change-few : (c : Call) → listsTooMany c ≡ false → length (news (change c)) ≤ mostListed
 unfolding listsTooMany tooMany change run headD news
-change-few c e = go c.operation c.target c.listed e
+change-few c e = go c.operation c.target c.listed c.rule e
   where
     few : (x y : ℕ) (l : List ℕ) (b : Bool) → length l - 1 ≤ mostListed → length (news (cond b (replaceWithMany x (tail l)) (replaceAll x y (tail l)))) ≤ mostListed
     few x y [] true h = omega arith
@@ -188,14 +197,14 @@ change-few c e = go c.operation c.target c.listed e
     few x y (z ∷ l) true h = omega arith
     few x y (z ∷ l) false h = omega arith
 
-    go : (op x : ℕ) (l : List ℕ) → tooMany op (length l) ≡ false → length (news (change (record { operation = op; target = x; listed = l }))) ≤ mostListed
-    go zero x l e = ltb-false mostListed (length l) e
-    go (suc zero) x l e = ltb-false mostListed (length l) e
-    go (suc (suc zero)) x l e = omega arith
-    go (suc (suc (suc zero))) x l e = omega arith
-    go (suc (suc (suc (suc zero)))) x l e = ltb-false mostListed (length l) e
-    go (suc (suc (suc (suc (suc zero))))) x l e = few x (headD l 0) l (eqb x (headD l 0)) (ltb-false mostListed (length l - 1) e)
-    go (suc (suc (suc (suc (suc (suc op)))))) x l e =
+    go : (op x : ℕ) (l : List ℕ) (m : ℕ) → tooMany op (length l) ≡ false → length (news (change (record { operation = op; target = x; listed = l; rule = m }))) ≤ mostListed
+    go zero x l m e = ltb-false mostListed (length l) e
+    go (suc zero) x l m e = ltb-false mostListed (length l) e
+    go (suc (suc zero)) x l m e = omega arith
+    go (suc (suc (suc zero))) x l m e = omega arith
+    go (suc (suc (suc (suc zero)))) x l m e = ltb-false mostListed (length l) e
+    go (suc (suc (suc (suc (suc zero))))) x l m e = few x (headD l 0) l (eqb x (headD l 0)) (ltb-false mostListed (length l - 1) e)
+    go (suc (suc (suc (suc (suc (suc op)))))) x l m e =
         let n = suc (suc (suc (suc (suc (suc op))))) in
         rw (ne-eqb n 0 (omega arith), ne-eqb n 1 (omega arith), ne-eqb n 2 (omega arith), ne-eqb n 3 (omega arith), ne-eqb n 4 (omega arith))
         (few x (headD l 0) l (eqb x (headD l 0)) (omega (arith, ltb-false mostListed (length l) (rw (ne-eqb n 5 (omega arith)) at e))))

@@ -17,7 +17,7 @@ use Rattle.definition.specs.Elements.{Table, table, isNode, noRow, row, node?, 
 use Rattle.definition.specs.Recording.{firstChild, after, Change, insert, replace, delete, replaceWithMany, replaceAll}
 use Rattle.definition.specs.Planning.{Planned}
 use Rattle.definition.specs.Rewriting.{Note}
-use Rattle.definition.specs.Running.{World, begin, present, Yield, yieldAt, yield, news, Run, fromTo, emptyAt, place, spliced, tooLarge, records, step, steps}
+use Rattle.definition.specs.Running.{World, begin, present, Yield, yieldAt, yield, news, Run, fromTo, emptyAt, place, spliced, tooLarge, recordedBy, step, steps}
 use Rattle.definition.specs.Refusals.{Accepted}
 use Rattle.definition.specs.Answers.{Plan, performed, atFirst, ran}
 use Rattle.definition_laws.specs.Basics.{All-append, All-take, All-drop, All-modify, getD-map}
@@ -282,7 +282,7 @@ roots-splice (j ∷ q) a b new (token w own) h k = refl
 roots-splice (j ∷ q) a b new (node w cs) h k = ap length (list-forest (modify j (λ c. splice q a b new c) (list cs))) ∙ length-modify (λ c. splice q a b new c) (list cs) j
 
 -- one splice done keeps what holds
-pub spliced-follows : (ts : List (Tree ℕ)) (w : World) (r : Run) (new : List Yield) (rec : Bool) → Follows ts w → HasRun w.trees r.parent r.from r.to → (r .parent ≡ [] → (r .to ≡ suc r.from) × (length new ≡ 1))
+pub spliced-follows : (ts : List (Tree ℕ)) (w : World) (r : Run) (new : List Yield) (rec : Option ℕ) → Follows ts w → HasRun w.trees r.parent r.from r.to → (r .parent ≡ [] → (r .to ≡ suc r.from) × (length new ≡ 1))
     → All Worded (map (λ y. y .tree) new) → Follows ts (spliced r new rec w)
 unfolding spliced
 spliced-follows ts w r new rec f h k n = record {
@@ -317,9 +317,9 @@ module _ (ts : List (Tree ℕ)) (first : World) (h : Worded first.trees) where
   unfolding step
   step-follows w next p f c e =
       given (orRefuse 11 (place (table 0 0 ts) w p.change)) _ e λ r a e.
-      given (refuse 12 (tooLarge (spliced r (map (yield first w) (news p.change)) (records (table 0 0 ts) p) w))) _ e λ u b e.
+      given (refuse 12 (tooLarge (spliced r (map (yield first w) (news p.change)) (recordedBy (table 0 0 ts) p) w))) _ e λ u b e.
       let fits = place-fits ts w f p.change r (right-sits (table 0 0 ts) p.change c) (is-there 11 _ a) in
-      rw (← gives-inj e) (spliced-follows ts w r (map (yield first w) (news p.change)) (records (table 0 0 ts) p) f (fits .run)
+      rw (← gives-inj e) (spliced-follows ts w r (map (yield first w) (news p.change)) (recordedBy (table 0 0 ts) p) f (fits .run)
       (λ z. let x = fits .roots z in (x .0, length-map (news p.change) (yield first w) ∙ x .1)) (yields-worded first w (news p.change) h (f .worded)))
 
   pub steps-follow : (ps : List Planned) (w last : World) → Follows ts w → All (λ p. Right (table 0 0 ts) p.change) ps → steps (table 0 0 ts) first w ps ≡ gives last → Follows ts last

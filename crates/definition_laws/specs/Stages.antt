@@ -16,8 +16,8 @@ use Rattle.definition.specs.Basics.{Answer, refused, gives, refuse, orRefuse, k
 use Rattle.definition.specs.Choices.{Choices}
 use Rattle.definition.specs.Elements.{Table, parent, child, placeBelow}
 use Rattle.definition.specs.Refusals.{Call, wrongCall}
-use Rattle.definition.specs.Recording.{Change, insert, replace, delete, replaceWithMany, replaceAll, change, call, merges, merged, merge, queued, Queues, recordCall, recorded}
-use Rattle.definition.specs.Planning.{Fate, own, dependent, discarded, Planned, Region, target, sorted, key, overlap, fatesFrom, fates, withFates, Judgement, overlaps, fated}
+use Rattle.definition.specs.Recording.{Recorded, Change, insert, replace, delete, replaceWithMany, replaceAll, change, call, merges, idle, merged, merge, queued, Queues, recordCall, recorded}
+use Rattle.definition.specs.Planning.{Fate, own, dependent, discarded, Planned, Region, target, sorted, key, overlap, fatesFrom, fates, changesOf, withFates, Judgement, overlaps, fated}
 use Rattle.definition.specs.EdgeRule.{fateAmong, fates1, fatesBy, planned, judge}
 use Rattle.definition.specs.Rewriting.{replacement, mappedOr, climb, trail, land, moved, retarget, rewriteInto, rewriteOne, rewriting, rewritten}
 use Rattle.definition.specs.Running.{news, owned, ranked, order}
@@ -40,116 +40,126 @@ total-nil : {A : Type 0} (p : A → Bool) (f : A → ℕ) → total p f [] ≡ 0
 unfolding total
 total-nil p f = refl
 
--- a queue after one more change: as many changes or one more, each of them there before or new
-module _ (P : Change → Type 0) where
-  merged-one : (c d : Change) → P c → P d → P (merged c d)
-  unfolding merged
-  merged-one c (delete y) h k = k
-  merged-one c (replace y z) h k = h
-  merged-one c (insert p y l) h k = h
-  merged-one c (replaceWithMany y l) h k = h
-  merged-one c (replaceAll y z l) h k = h
+-- what a call asks to be recorded
+abbrev pub asks : Call → Recorded
+asks c = record { change = change c; rule = c .rule }
 
-  merge-all : (x : ℕ) (c : Change) (q : List Change) → P c → All P q → All P (merge x c q)
+-- a queue after one more change: as many changes or one more, each of them there before or new
+module _ (P : Recorded → Type 0) where
+  merged-one : (c d : Recorded) → P c → P d → P (merged c d)
+  unfolding merged
+  merged-one c d h k = go (idle c.change d.change)
+    where
+      go : (b : Bool) → P (cond b d c)
+      go true = k
+      go false = h
+
+  merge-all : (x : ℕ) (c : Recorded) (q : List Recorded) → P c → All P q → All P (merge x c q)
   unfolding merge
   merge-all x c [] h k = (h, tt)
-  merge-all x c (d ∷ q) h k = go (merges x d) (merge-all x c q h (k .1))
+  merge-all x c (d ∷ q) h k = go (merges x d.change) (merge-all x c q h (k .1))
     where
       go : (b : Bool) → All P (merge x c q) → All P (cond b (merged c d ∷ q) (d ∷ merge x c q))
       go true r = (merged-one c d h (k .0), k .1)
       go false r = (k .0, r)
 
-  pub queued-all : (c : Change) (q : List Change) → P c → All P q → All P (queued c q)
+  pub queued-all : (c : Change) (n : ℕ) (q : List Recorded) → P (record { change = c; rule = n }) → All P q → All P (queued c n q)
   unfolding queued
-  queued-all (insert p x l) q h k = All-append P q (insert p x l ∷ []) k (h, tt)
-  queued-all (replace x y) q h k = merge-all x (replace x y) q h k
-  queued-all (delete x) q h k = merge-all x (delete x) q h k
-  queued-all (replaceWithMany x l) q h k = All-append P q (replaceWithMany x l ∷ []) k (h, tt)
-  queued-all (replaceAll x y l) q h k = All-append P q (replaceAll x y l ∷ []) k (h, tt)
+  queued-all (insert p x l) n q h k = All-append P q (record { change = insert p x l; rule = n } ∷ []) k (h, tt)
+  queued-all (replace x y) n q h k = merge-all x (record { change = replace x y; rule = n }) q h k
+  queued-all (delete x) n q h k = merge-all x (record { change = delete x; rule = n }) q h k
+  queued-all (replaceWithMany x l) n q h k = All-append P q (record { change = replaceWithMany x l; rule = n } ∷ []) k (h, tt)
+  queued-all (replaceAll x y l) n q h k = All-append P q (record { change = replaceAll x y l; rule = n } ∷ []) k (h, tt)
 
 -- of a number told of each change, a queue's sum grows by the new change's at most
-module _ (f : Change → ℕ) where
-  merged-total : (c d : Change) → f (merged c d) ≤ f d + f c
+module _ (f : Recorded → ℕ) where
+  merged-total : (c d : Recorded) → f (merged c d) ≤ f d + f c
   unfolding merged
-  merged-total c (delete y) = omega arith
-  merged-total c (replace y z) = omega arith
-  merged-total c (insert p y l) = omega arith
-  merged-total c (replaceWithMany y l) = omega arith
-  merged-total c (replaceAll y z l) = omega arith
+  merged-total c d = go (idle c.change d.change)
+    where
+      go : (b : Bool) → f (cond b d c) ≤ f d + f c
+      go true = omega arith
+      go false = omega arith
 
-  merge-total : (x : ℕ) (c : Change) (q : List Change) → total (λ d. true) f (merge x c q) ≤ total (λ d. true) f q + f c
+  merge-total : (x : ℕ) (c : Recorded) (q : List Recorded) → total (λ d. true) f (merge x c q) ≤ total (λ d. true) f q + f c
   unfolding merge total
   merge-total x c [] = omega arith
-  merge-total x c (d ∷ q) = go (merges x d) (merge-total x c q)
+  merge-total x c (d ∷ q) = go (merges x d.change) (merge-total x c q)
     where
       go : (b : Bool) → total (λ d. true) f (merge x c q) ≤ total (λ d. true) f q + f c → total (λ d. true) f (cond b (merged c d ∷ q) (d ∷ merge x c q)) ≤ f d + total (λ d. true) f q + f c
       go true r = omega (arith, merged-total c d)
       go false r = omega arith
 
-  pub queued-total : (c : Change) (q : List Change) → total (λ d. true) f (queued c q) ≤ total (λ d. true) f q + f c
+  pub queued-total : (c : Change) (n : ℕ) (q : List Recorded) → total (λ d. true) f (queued c n q) ≤ total (λ d. true) f q + f (record { change = c; rule = n })
   unfolding queued total
-  queued-total (insert p x l) q = omega (arith, total-append (λ d. true) f q (insert p x l ∷ []))
-  queued-total (replace x y) q = merge-total x (replace x y) q
-  queued-total (delete x) q = merge-total x (delete x) q
-  queued-total (replaceWithMany x l) q = omega (arith, total-append (λ d. true) f q (replaceWithMany x l ∷ []))
-  queued-total (replaceAll x y l) q = omega (arith, total-append (λ d. true) f q (replaceAll x y l ∷ []))
+  queued-total (insert p x l) n q = omega (arith, total-append (λ d. true) f q (record { change = insert p x l; rule = n } ∷ []))
+  queued-total (replace x y) n q = merge-total x (record { change = replace x y; rule = n }) q
+  queued-total (delete x) n q = merge-total x (record { change = delete x; rule = n }) q
+  queued-total (replaceWithMany x l) n q = omega (arith, total-append (λ d. true) f q (record { change = replaceWithMany x l; rule = n } ∷ []))
+  queued-total (replaceAll x y l) n q = omega (arith, total-append (λ d. true) f q (record { change = replaceAll x y l; rule = n } ∷ []))
 
 -- before the first call
 abbrev empty : Queues
 empty = record { joined = []; queue = [] }
 
 -- all changes that are recorded come from calls other than 6
-module _ (P : Change → Type 0) where
-  record-one : (q : Queues) (c : Call) → All P (q .joined) → All P (q .queue) → (eqb c.operation 6 ≡ false → P (change c)) → All P ((recordCall q c) .joined) × All P ((recordCall q c) .queue)
+module _ (P : Recorded → Type 0) where
+  record-one : (q : Queues) (c : Call) → All P (q .joined) → All P (q .queue) → (eqb c.operation 6 ≡ false → P (asks c)) → All P ((recordCall q c) .joined) × All P ((recordCall q c) .queue)
   unfolding recordCall
   record-one q c h k g = go (eqb c.operation 6) refl
     where
       go : (b : Bool) → eqb c.operation 6 ≡ b
-          → let r : Queues = cond b (record { joined = q .joined ++ q .queue; queue = [] }) (record { joined = q .joined; queue = queued (change c) q.queue }) in All P (r .joined) × All P (r .queue)
+          → let r : Queues = cond b (record { joined = q .joined ++ q .queue; queue = [] }) (record { joined = q .joined; queue = queued (change c) c.rule q.queue }) in All P (r .joined) × All P (r .queue)
       go true e = (All-append P (q .joined) (q .queue) h k, tt)
-      go false e = (h, queued-all P (change c) (q .queue) (g e) k)
+      go false e = (h, queued-all P (change c) c.rule (q .queue) (g e) k)
 
-  record-all : (q : Queues) (cs : List Call) → All P (q .joined) → All P (q .queue) → All (λ c. eqb c.operation 6 ≡ false → P (change c)) cs
+  record-all : (q : Queues) (cs : List Call) → All P (q .joined) → All P (q .queue) → All (λ c. eqb c.operation 6 ≡ false → P (asks c)) cs
       → All P ((foldl recordCall q cs) .joined) × All P ((foldl recordCall q cs) .queue)
   record-all q [] h k g = (h, k)
   record-all q (c ∷ cs) h k g = let r = record-one q c h k (g .0) in record-all (recordCall q c) cs (r .0) (r .1) (g .1)
 
-  pub recorded-all : (cs : List Call) → All (λ c. eqb c.operation 6 ≡ false → P (change c)) cs → All P (recorded cs)
+  pub recorded-all : (cs : List Call) → All (λ c. eqb c.operation 6 ≡ false → P (asks c)) cs → All P (recorded cs)
   unfolding recorded
   recorded-all cs g = let r = record-all empty cs tt tt g in All-append P ((foldl recordCall empty cs) .joined) ((foldl recordCall empty cs) .queue) (r .0) (r .1)
 
-module _ (f : Change → ℕ) (g : Call → ℕ) where
-  record-one-total : (q : Queues) (c : Call) → (eqb c.operation 6 ≡ false → f (change c) ≤ g c)
+module _ (f : Recorded → ℕ) (g : Call → ℕ) where
+  record-one-total : (q : Queues) (c : Call) → (eqb c.operation 6 ≡ false → f (asks c) ≤ g c)
       → total (λ d. true) f ((recordCall q c) .joined) + total (λ d. true) f ((recordCall q c) .queue) ≤ total (λ d. true) f (q .joined) + total (λ d. true) f (q .queue) + g c
   unfolding recordCall
   record-one-total q c h = go (eqb c.operation 6) refl
     where
       go : (b : Bool) → eqb c.operation 6 ≡ b
-          → let r : Queues = cond b (record { joined = q .joined ++ q .queue; queue = [] }) (record { joined = q .joined; queue = queued (change c) q.queue }) in
+          → let r : Queues = cond b (record { joined = q .joined ++ q .queue; queue = [] }) (record { joined = q .joined; queue = queued (change c) c.rule q.queue }) in
           total (λ d. true) f (r .joined) + total (λ d. true) f (r .queue) ≤ total (λ d. true) f (q .joined) + total (λ d. true) f (q .queue) + g c
       go true e = omega (arith, total-append (λ d. true) f (q .joined) (q .queue), total-nil (λ c. true) f)
-      go false e = omega (arith, queued-total f (change c) (q .queue), h e)
+      go false e = omega (arith, queued-total f (change c) c.rule (q .queue), h e)
 
-  record-total : (q : Queues) (cs : List Call) → All (λ c. eqb c.operation 6 ≡ false → f (change c) ≤ g c) cs
+  record-total : (q : Queues) (cs : List Call) → All (λ c. eqb c.operation 6 ≡ false → f (asks c) ≤ g c) cs
       → total (λ c. true) f ((foldl recordCall q cs) .joined) + total (λ c. true) f ((foldl recordCall q cs) .queue) ≤ total (λ c. true) f (q .joined) + total (λ c. true) f (q .queue) + total (λ c. true) g cs
   unfolding total
   record-total q [] h = omega arith
   record-total q (c ∷ cs) h = omega (arith, record-total (recordCall q c) cs (h .1), record-one-total q c (h .0))
 
-  pub recorded-total : (cs : List Call) → All (λ c. eqb c.operation 6 ≡ false → f (change c) ≤ g c) cs → total (λ c. true) f (recorded cs) ≤ total (λ c. true) g cs
+  pub recorded-total : (cs : List Call) → All (λ c. eqb c.operation 6 ≡ false → f (asks c) ≤ g c) cs → total (λ c. true) f (recorded cs) ≤ total (λ c. true) g cs
   unfolding recorded
   recorded-total cs h = omega (arith, total-append (λ c. true) f ((foldl recordCall empty cs) .joined) ((foldl recordCall empty cs) .queue), record-total empty cs h, total-nil (λ c. true) f)
 
 -- ── Planning ────────────────────────────────────────────────────────────────────────────────────────────────
 
 -- changes with fates, as many of each: both are kept
-pub withFates-changes : (cs : List Change) (fs : List Fate) → length fs ≡ length cs → map (λ p. p .change) (withFates cs fs) ≡ cs
-unfolding withFates zipWith
+pub withFates-changes : (rs : List Recorded) (fs : List Fate) → length fs ≡ length rs → map (λ p. p .change) (withFates rs fs) ≡ changesOf rs
+unfolding withFates changesOf zipWith
 withFates-changes [] fs e = refl
 withFates-changes (c ∷ cs) [] e = absurd (omega arith)
-withFates-changes (c ∷ cs) (f ∷ fs) e = ap {B = List Change} (λ r. c ∷ r) (withFates-changes cs fs (omega arith))
+withFates-changes (c ∷ cs) (f ∷ fs) e = ap {B = List Change} (λ r. c .change ∷ r) (withFates-changes cs fs (omega arith))
 
-pub withFates-fates : (cs : List Change) (fs : List Fate) → length fs ≡ length cs → map (λ p. p .fate) (withFates cs fs) ≡ fs
+pub withFates-rules : (rs : List Recorded) (fs : List Fate) → length fs ≡ length rs → map (λ p. p .rule) (withFates rs fs) ≡ map (λ r. r .rule) rs
+unfolding withFates zipWith
+withFates-rules [] fs e = refl
+withFates-rules (c ∷ cs) [] e = absurd (omega arith)
+withFates-rules (c ∷ cs) (f ∷ fs) e = ap {B = List ℕ} (λ r. c .rule ∷ r) (withFates-rules cs fs (omega arith))
+
+pub withFates-fates : (cs : List Recorded) (fs : List Fate) → length fs ≡ length cs → map (λ p. p .fate) (withFates cs fs) ≡ fs
 unfolding withFates zipWith
 withFates-fates [] [] e = refl
 withFates-fates [] (f ∷ fs) e = absurd (omega arith)
@@ -177,13 +187,13 @@ module _ (T : Table) where
   unfolding fates1
   fates1-length cs = length-map (numbered 0 cs) (fateAmong T (numbered 0 cs)) ∙ numbered-length 0 cs
 
-  pub sorted-all : (P : Change → Type 0) (cs : List Change) → All P cs → All P (sorted T cs)
+  pub sorted-all : (P : Recorded → Type 0) (rs : List Recorded) → All P rs → All P (sorted T rs)
   unfolding sorted rising
-  sorted-all P cs h = sort-all (λ x y. lower (key T x) (key T y)) P cs h
+  sorted-all P rs h = sort-all (λ (x y : Recorded). lower (key T x.change) (key T y.change)) P rs h
 
-  pub sorted-total : (p : Change → Bool) (f : Change → ℕ) (cs : List Change) → total p f (sorted T cs) ≡ total p f cs
+  pub sorted-total : (p : Recorded → Bool) (f : Recorded → ℕ) (rs : List Recorded) → total p f (sorted T rs) ≡ total p f rs
   unfolding sorted rising
-  sorted-total p f cs = sort-total (λ x y. lower (key T x) (key T y)) p f cs
+  sorted-total p f rs = sort-total (λ (x y : Recorded). lower (key T x.change) (key T y.change)) p f rs
 
 -- by whatever choice
 module _ (h : Choices) (T : Table) where
@@ -195,29 +205,37 @@ module _ (h : Choices) (T : Table) where
       go true = fates-length T cs
       go false = fates1-length T cs
 
-  -- planning keeps the changes, and gives each its fate
-  pub planned-changes : (cs : List Change) → map (λ p. p .change) (planned h T cs) ≡ cs
-  unfolding planned
-  planned-changes cs = withFates-changes cs (fatesBy h T cs) (fatesBy-length cs)
+  planned-long : (rs : List Recorded) → length (fatesBy h T (changesOf rs)) ≡ length rs
+  unfolding changesOf
+  planned-long rs = fatesBy-length (changesOf rs) ∙ length-map rs (λ r. r .change)
 
-  pub planned-fates : (cs : List Change) → map (λ p. p .fate) (planned h T cs) ≡ fatesBy h T cs
+  -- planning keeps the changes and their rule numbers, and gives each its fate
+  pub planned-changes : (rs : List Recorded) → map (λ p. p .change) (planned h T rs) ≡ changesOf rs
   unfolding planned
-  planned-fates cs = withFates-fates cs (fatesBy h T cs) (fatesBy-length cs)
+  planned-changes rs = withFates-changes rs (fatesBy h T (changesOf rs)) (planned-long rs)
+
+  pub planned-rules : (rs : List Recorded) → map (λ p. p .rule) (planned h T rs) ≡ map (λ r. r .rule) rs
+  unfolding planned
+  planned-rules rs = withFates-rules rs (fatesBy h T (changesOf rs)) (planned-long rs)
+
+  pub planned-fates : (rs : List Recorded) → map (λ p. p .fate) (planned h T rs) ≡ fatesBy h T (changesOf rs)
+  unfolding planned
+  planned-fates rs = withFates-fates rs (fatesBy h T (changesOf rs)) (planned-long rs)
 
   -- changes that overlap are judged so, and others are planned
-  pub judge-overlap : (cs : List Change) (j k : ℕ) → overlap T cs ≡ some (j, k) → judge h T cs ≡ overlaps j k
+  pub judge-overlap : (rs : List Recorded) (j k : ℕ) → overlap T (changesOf rs) ≡ some (j, k) → judge h T rs ≡ overlaps j k
   unfolding judge
-  judge-overlap cs j k e = rw (e, judge)
+  judge-overlap rs j k e = rw (e, judge)
 
-  pub judge-disjoint : (cs : List Change) → overlap T cs ≡ none → judge h T cs ≡ fated (planned h T cs)
+  pub judge-disjoint : (rs : List Recorded) → overlap T (changesOf rs) ≡ none → judge h T rs ≡ fated (planned h T rs)
   unfolding judge
-  judge-disjoint cs e = rw (e, judge)
+  judge-disjoint rs e = rw (e, judge)
 
-  pub judge-fated : (cs : List Change) (ps : List Planned) → judge h T cs ≡ fated ps → (overlap T cs ≡ none) × (ps ≡ planned h T cs)
+  pub judge-fated : (rs : List Recorded) (ps : List Planned) → judge h T rs ≡ fated ps → (overlap T (changesOf rs) ≡ none) × (ps ≡ planned h T rs)
   unfolding judge
-  judge-fated cs ps e = go (overlap T cs) refl e
+  judge-fated rs ps e = go (overlap T (changesOf rs)) refl e
     where
-      go : (o : Option (ℕ × ℕ)) → overlap T cs ≡ o → elim o as (λ _. Judgement) [ none ↦ fated (planned h T cs) | some p ↦ overlaps (p .0) (p .1) ] ≡ fated ps → (overlap T cs ≡ none) × (ps ≡ planned h T cs)
+      go : (o : Option (ℕ × ℕ)) → overlap T (changesOf rs) ≡ o → elim o as (λ _. Judgement) [ none ↦ fated (planned h T rs) | some p ↦ overlaps (p .0) (p .1) ] ≡ fated ps → (overlap T (changesOf rs) ≡ none) × (ps ≡ planned h T rs)
       go none g e = (g, cc)
       go (some p) g e = absurd (let z : _≡_ {A = ℕ} 0 1 = cc in omega arith)
 
@@ -306,24 +324,26 @@ module _ (T : Table) (mapped : ℕ → Option ℕ) where
       let d = retargeted (moved T mapped x r) (length T) (λ y k. moved-steps x r y k) c n a in
       rw (← gives-inj e) (record { listed = d .listed; right = λ h. not-wrong 9 (wrongCall T (call (n .0))) b; steps = d .steps })
 
-  -- changes rewritten, and all climb steps: each change keeps its fate and what it lists
+  -- changes rewritten, and all climb steps: each change keeps its fate, its rule number and what it lists
   pub record RewroteAll (ps : List Planned) (r : List Planned × ℕ) : Type 0 where
     pub fates : map (λ p. p .fate) (r .0) ≡ map (λ p. p .fate) ps
+    pub rules : map (λ p. p .rule) (r .0) ≡ map (λ p. p .rule) ps
     pub listed : map (λ p. news p.change) (r .0) ≡ map (λ p. news p.change) ps
     pub right : All (λ p. Right T p.change) ps → All (λ p. Right T p.change) (r .0)
     pub steps : r .1 ≤ 2 * length T * length ps
 
   rewrote-all : (cs : List Change) (ps : List Planned) (r : List Planned × ℕ) → rewriting T mapped cs ps ≡ gives r → RewroteAll ps r
   unfolding rewriting
-  rewrote-all cs [] r e = rw (← gives-inj e) (record { fates = refl; listed = refl; right = λ h. h; steps = omega arith })
+  rewrote-all cs [] r e = rw (← gives-inj e) (record { fates = refl; rules = refl; listed = refl; right = λ h. h; steps = omega arith })
   rewrote-all cs (p ∷ ps) r e =
       let (later, a, e) = both-given (rewriting T mapped cs ps) _ e in
       let (m, b, e) = both-given (rewriteOne T mapped cs p.fate p.change) _ e in
       go later (rewrote-all cs ps later a) m (rewrote cs p.fate p.change m b) (gives-inj e)
     where
-      go : (later : List Planned × ℕ) → RewroteAll ps later → (m : Change × ℕ) → Rewrote p.change m → (record { change = m .0; fate = p .fate } ∷ later .0, m .1 + later .1) ≡ r → RewroteAll (p ∷ ps) r
+      go : (later : List Planned × ℕ) → RewroteAll ps later → (m : Change × ℕ) → Rewrote p.change m → (record { change = m .0; fate = p .fate; rule = p .rule } ∷ later .0, m .1 + later .1) ≡ r → RewroteAll (p ∷ ps) r
       go later l m o z = rw (← z) (record {
         fates = ap {B = List Fate} (λ k. p .fate ∷ k) (l .fates);
+        rules = ap {B = List ℕ} (λ k. p .rule ∷ k) (l .rules);
         listed = rw (o .listed, l .listed);
         right = λ h. (o .right (h .0), l .right (h .1));
         steps = omega (arith, o .steps, l .steps);

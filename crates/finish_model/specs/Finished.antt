@@ -9,7 +9,7 @@ use Rattle.definition.specs.Basics.{rising}
 use Rattle.definition.specs.Finishing.{Result}
 use Rattle.rows_model.specs.Row.{Row, kind, measure, own, textLength}
 use Rattle.rows_model.specs.Place.{rowsAfter, subtree, inRun}
-use Rattle.run_model.specs.Store.{HeldNote, Store}
+use Rattle.run_model.specs.Store.{HeldNote, HeldChanged, Store, atRow}
 
 -- ── Tree 0 ──────────────────────────────────────────────────────────────────────────────────────────────────
 
@@ -32,9 +32,9 @@ startOf rs e = getD (starts 0 (firstTree rs)) e 0
 
 -- ── The result ──────────────────────────────────────────────────────────────────────────────────────────────
 
--- the changed elements of the new tree, by text start, ties by time
-unfoldable pub changedNumbers : Store → List ℕ
-changedNumbers s = rising (λ e. startOf s.rows e ∷ []) (pick (numberOf s.rows) s.changed)
+-- the changed elements of the new tree, by text start, ties by time; the number of each stands for its row
+unfoldable pub changedNumbers : Store → List HeldChanged
+changedNumbers s = rising (λ c. startOf s.rows c.row ∷ []) (pick (λ c. Option·map (atRow c) (numberOf s.rows c.row)) s.changed)
 
 -- the notes in the new tree by number, queue place and text start, ties by time; each with its element
 unfoldable pub noteNumbers : Store → List (HeldNote × ℕ)
@@ -46,7 +46,8 @@ unfoldable pub resultOf : ℕ → ℕ → Store → Result
 resultOf discarded climbs s = record {
   kinds = map kind (firstTree s.rows);
   measures = map measure (firstTree s.rows);
-  changed = changedNumbers s;
+  changed = map (λ c. c .row) (changedNumbers s);
+  rules = map (λ c. c .rule) (changedNumbers s);
   numbers = map (λ m. m .0 .number) (noteNumbers s);
   noted = map (λ m. m .1) (noteNumbers s);
   text = flatMap own (firstTree s.rows);

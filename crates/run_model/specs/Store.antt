@@ -13,7 +13,7 @@ use Rattle.definition.specs.Elements.{Table, root?, parent, depth, tree}
 use Rattle.definition.specs.Recording.{firstChild, after, Change, insert, replace, delete, replaceWithMany, replaceAll}
 use Rattle.definition.specs.Planning.{Planned}
 use Rattle.definition.specs.Rewriting.{Note}
-use Rattle.definition.specs.Running.{World, news, records}
+use Rattle.definition.specs.Running.{Changed, World, news, recordedBy}
 use Rattle.rows_model.specs.Row.{Row, rowsOf, bytes, height, treesIn}
 use Rattle.rows_model.specs.Place.{place, rowsAfter, childRow, between, subtree, spliceRows, markOf, movedMark, inRun}
 
@@ -25,9 +25,10 @@ pub record HeldNote : Type 0 where
   pub number : ℕ
   pub place : ℕ
 
--- a changed element: its row
-abbrev pub HeldChanged : Type 0
-HeldChanged = ℕ
+-- a changed element: its row, and the rule number of the change that put it in
+pub record HeldChanged : Type 0 where
+  pub row : ℕ
+  pub rule : ℕ
 
 pub record Store : Type 0 where
   -- all current trees, the root of all first
@@ -43,18 +44,30 @@ pub record Store : Type 0 where
 unfoldable pub heldNote : Tree ℕ → Note → HeldNote
 heldNote t n = record { row = place n.path t; number = n .number; place = n .place }
 
+-- a changed element of the definition by its row
+unfoldable pub heldChanged : Tree ℕ → Changed → HeldChanged
+heldChanged t c = record { row = place (c .0) t; rule = c .1 }
+
 -- what the definition holds, in rows
 unfoldable pub store : World → Store
 store w = record {
   rows = rowsOf w.trees;
   marks = map (markOf w.trees) w.paths;
   notes = map (heldNote w.trees) w.notes;
-  changed = map (λ p. place p w.trees) w.changed;
+  changed = map (heldChanged w.trees) w.changed;
 }
 
 -- the same note at another row
 unfoldable pub withRow : HeldNote → ℕ → HeldNote
 withRow n row = record { row = row; number = n .number; place = n .place }
+
+-- the same changed element at another row
+unfoldable pub atRow : HeldChanged → ℕ → HeldChanged
+atRow c row = record { row = row; rule = c .rule }
+
+-- what a change by this rule puts in at a row
+abbrev pub putIn : ℕ → ℕ → HeldChanged
+putIn rule row = record { row = row; rule = rule }
 
 -- a mark that is not 0
 abbrev pub there : ℕ → Option ℕ
@@ -144,8 +157,8 @@ placedParts at (y ∷ ys) = (at, y) ∷ placedParts (at + length y.rows) ys
 
 -- ── One step ────────────────────────────────────────────────────────────────────────────────────────────────
 
--- the rows of the gap give way to what is yielded; every mark, note and changed row moves by one rule
-unfoldable pub splicedStore : Gap → List Part → Bool → Store → Store
+-- the rows of the gap give way to what is yielded; every mark, note and changed row moves by one rule. What comes in is recorded by the rule number told, or not
+unfoldable pub splicedStore : Gap → List Part → Option ℕ → Store → Store
 splicedStore g new recorded s =
     let m = length (newRows new) in
     let move = shift g.from g.to m in
@@ -154,7 +167,7 @@ splicedStore g new recorded s =
       rows = spliceRows s.rows g.parent g.from g.to g.lost (newRows new) (length new);
       marks = map (movedMark g.from g.to m) s.marks;
       notes = pick (λ n. Option·map (withRow n) (move n.row)) s.notes ++ flatMap (λ y. map (λ n. withRow n (y .0 + n .row)) (y .1 .notes)) places;
-      changed = pick move s.changed ++ cond recorded (map (λ y. y .0) places) [];
+      changed = pick (λ c. Option·map (atRow c) (move c.row)) s.changed ++ elim recorded [ none ↦ [] | some rule ↦ map (λ y. putIn rule (y .0)) places ];
     }
 
 -- 12, told before the step by what it would make: elements (the root of all is none), text bytes, notes, and the depth of what comes in
@@ -167,7 +180,7 @@ unfoldable pub storeStep : Table → Store → Store → Planned → Answer Stor
 storeStep T first s p = do
   g ← orRefuse 11 (gap T s p.change)
   let new = map (partOf first s) (news p.change)
-  let next = splicedStore g new (records T p) s
+  let next = splicedStore g new (recordedBy T p) s
   _ ← refuse 12 (storeTooLarge (depthAbove T s p.change) new next)
   gives next
 
