@@ -18,7 +18,7 @@ use Rattle.definition.specs.Basics.{gives, keep}
 use Rattle.definition.specs.Choices.{Choices}
 use Rattle.definition.specs.Elements.{Table, table, row, tree}
 use Rattle.definition.specs.Refusals.{Accepted, accepted}
-use Rattle.definition.specs.Recording.{firstChild, after, Change, insert, replace, delete, replaceWithMany, replaceAll, change, recorded}
+use Rattle.definition.specs.Recording.{firstChild, after, Change, insert, replace, delete, replaceWithMany, replaceAll}
 use Rattle.definition.specs.Planning.{target, overlap, Fate, own, dependent, isDiscarded, nodeByNode, fates, Planned, Judgement, overlaps, fated}
 use Rattle.definition.specs.EdgeRule.{regionDepth, fates1, fatesBy, planned, judge}
 use Rattle.definition.specs.Rewriting.{mapping, rewritten, settled}
@@ -28,10 +28,10 @@ use Rattle.definition.specs.Answers.{judgeChanges, disjoint, rewriteChanges, Pl
 use Rattle.definition_laws.specs.Basics.{keep-yes, keep-no}
 use Rattle.definition_laws.specs.Answers.{given, gives-inj}
 use Rattle.definition_laws.specs.Kin.{path-leads, path-long, get-getD}
-use Rattle.definition_laws.specs.Right.{Right, Sits, right-sits, change-right}
+use Rattle.definition_laws.specs.Right.{Right, Sits, right-sits}
 use Rattle.definition_laws.specs.Accepted.{Known, accepts}
-use Rattle.definition_laws.specs.Stages.{planned-fates, judge-fated, sorted-all, recorded-all, rewritten-all, fates-length, fates1-length, fatesBy-0, fatesBy-1}
-use Rattle.definition_laws.specs.Plans.{disjoint-fated, checked, changes, changes-right}
+use Rattle.definition_laws.specs.Stages.{planned-fates, judge-fated, rewritten-all, fates-length, fates1-length, fatesBy-0, fatesBy-1}
+use Rattle.definition_laws.specs.Plans.{disjoint-fated, checked, sortedChanges, changes, changes-right}
 use Rattle.definition_edge.specs.Depths.{taken-deeper}
 use Rattle.definition_edge.specs.Fates.{FateAt, Says, owns, fates-true, numbered-get}
 use Rattle.account_laws.specs.Words.{at, named, treeOf, InTrees, fateAt, Contains, Owns, Owner, Overlap}
@@ -63,10 +63,7 @@ target-within T (replaceAll x y l) s = s .0
 
 -- "at most 16 trees": every change of an accepted batch is of one of the trees 0 to 15
 pub sorted-in-trees : (bytes : List ℕ) (a : Accepted) → accepted bytes ≡ gives a → InTrees a.table (changes a)
-sorted-in-trees bytes a e =
-    let k = accepts bytes a e in
-    sorted-all a.table (λ c. treeOf a.table c < 16) (recorded a.calls)
-    (recorded-all (λ c. treeOf a.table c < 16) a.calls (All-map (λ c w h. few k (change c) (change-right a.table c w h)) a.calls (k .calls)))
+sorted-in-trees bytes a e = let k = accepts bytes a e in All-map (λ c r. few k c r) (changes a) (changes-right a (checked bytes a k))
   where
     few : Known bytes a → (c : Change) → Right a.table c → treeOf a.table c < 16
     few k c r =
@@ -100,7 +97,7 @@ fates-accounted T cs h = record {
 -- what is judged without overlap has the definition's fates
 judged-fates : (h : Choices) (a : Accepted) (ps : List Planned) → judgeChanges h a ≡ fated ps → map (λ p. p .fate) ps ≡ fatesBy h a.table (changes a)
 unfolding judgeChanges
-judged-fates h a ps e = ap (map (λ p. p .fate)) ((judge-fated h a.table (changes a) ps e) .1) ∙ planned-fates h a.table (changes a)
+judged-fates h a ps e = ap (map (λ p. p .fate)) ((judge-fated h a.table (sortedChanges a) ps e) .1) ∙ planned-fates h a.table (sortedChanges a)
 
 -- WHAT IS SAID OF EACH CHANGE IS TRUE, by rule 0
 pub account-true : (h : Choices) (bytes : List ℕ) (a : Accepted) (ps : List Planned) → h .edge ≡ 0 → accepted bytes ≡ gives a → judgeChanges h a ≡ fated ps → Accounted a.table (changes a) (map (λ p. p .fate) ps)
@@ -122,7 +119,7 @@ judged-overlap : (h : Choices) (a : Accepted) (j k : ℕ) → judgeChanges h a �
 unfolding judgeChanges judge
 judged-overlap h a j k e = go (overlap a.table (changes a)) refl e
   where
-    go : (o : Option (ℕ × ℕ)) → overlap a.table (changes a) ≡ o → elim o as (λ _. Judgement) [ none ↦ fated (planned h a.table (changes a)) | some p ↦ overlaps (p .0) (p .1) ] ≡ overlaps j k → overlap a.table (changes a) ≡ some (j, k)
+    go : (o : Option (ℕ × ℕ)) → overlap a.table (changes a) ≡ o → elim o as (λ _. Judgement) [ none ↦ fated (planned h a.table (sortedChanges a)) | some p ↦ overlaps (p .0) (p .1) ] ≡ overlaps j k → overlap a.table (changes a) ≡ some (j, k)
     go none g e = absurd (let z : _≡_ {A = ℕ} 0 1 = cc in omega arith)
     go (some p) g e =
         let x : p .0 ≡ j = cc in
@@ -136,7 +133,7 @@ overlap-told h a j k e = let o = judged-overlap h a j k e in (overlap-true a.tab
 -- what is judged without overlap has no pair that overlaps
 pub disjoint-told : (h : Choices) (a : Accepted) (ps : List Planned) → judgeChanges h a ≡ fated ps → (j k : ℕ) → ¬ Overlap a.table (changes a) j k
 unfolding judgeChanges
-disjoint-told h a ps e j k = overlap-none a.table (changes a) .0 ((judge-fated h a.table (changes a) ps e) .0) j k
+disjoint-told h a ps e j k = overlap-none a.table (changes a) .0 ((judge-fated h a.table (sortedChanges a) ps e) .0) j k
 
 -- ── The edit itself ─────────────────────────────────────────────────────────────────────────────────────────
 

@@ -248,7 +248,7 @@ ranked-places T g ps ks e = ap (falling (λ (q : ℕ × Planned). key T (q .1 .c
 
 -- where there is no change
 abbrev pub nothing : Planned
-nothing = record { change = delete 0; fate = own }
+nothing = record { change = delete 0; fate = own; rule = 0 }
 
 -- what becomes of the change at place i
 abbrev pub fateOf : List Planned → ℕ → Fate

@@ -16,7 +16,7 @@ use Rattle.definition.specs.Basics.{gives}
 use Rattle.definition.specs.Elements.{Row, table, row, noRow, malformed}
 use Rattle.definition.specs.Planning.{Planned}
 use Rattle.definition.specs.Rewriting.{Note}
-use Rattle.definition.specs.Running.{World, begin, present, Yield, yieldAt, yield, news, Run, spliced, records, step, steps}
+use Rattle.definition.specs.Running.{World, begin, present, Yield, yieldAt, yield, news, Run, spliced, recordedBy, step, steps}
 use Rattle.definition_laws.specs.Answers.{gives-inj, given}
 use Rattle.definition_laws.specs.Spelling.{Worded}
 use Rattle.definition_laws.specs.Rows.{Element, rowOf, element, row-element, table-kinds}
@@ -67,7 +67,7 @@ yields-formed : (first w : World) (es : List ℕ) → Formed first.trees → For
 yields-formed first w [] h k = tt
 yields-formed first w (e ∷ es) h k = (yield-formed first w e h k, yields-formed first w es h k)
 
-spliced-formed : (w : World) (r : Run) (new : List Yield) (recorded : Bool) → HasRun w.trees r.parent r.from r.to → All Formed (map (λ y. y .tree) new) → Formed w.trees → Formed ((spliced r new recorded w) .trees)
+spliced-formed : (w : World) (r : Run) (new : List Yield) (recorded : Option ℕ) → HasRun w.trees r.parent r.from r.to → All Formed (map (λ y. y .tree) new) → Formed w.trees → Formed ((spliced r new recorded w) .trees)
 unfolding spliced
 spliced-formed w r new recorded run n h = formed-splice r.parent r.from r.to (map (λ y. y .tree) new) w.trees run n h
 
@@ -82,7 +82,7 @@ module _ (ts : List (Tree ℕ)) (first : World) (f₀ : Worded first.trees) (m�
       let d = performs (table 0 0 ts) first w next p a in
       let fits = place-fits ts w (k .follows) p.change (d .run) (right-sits (table 0 0 ts) p.change (c .0)) (d .there) in
       steps-formed ps next last ((step-kept ts first f₀ w next p k (c .0) a) .0)
-      (subst (λ (z : World). Formed z.trees) (d .leaves) (spliced-formed w (d .run) (map (yield first w) (news p.change)) (records (table 0 0 ts) p) (fits .run) (yields-formed first w (news p.change) m₀ t) t)) (c .1) e
+      (subst (λ (z : World). Formed z.trees) (d .leaves) (spliced-formed w (d .run) (map (yield first w) (news p.change)) (recordedBy (table 0 0 ts) p) (fits .run) (yields-formed first w (news p.change) m₀ t) t)) (c .1) e
 
 -- the batch's trees
 pub top-formed : (ts : List (Tree ℕ)) → All (λ k. malformed k ≡ false) (map label (flatMap preorder ts)) → Formed (top ts)

@@ -20,7 +20,7 @@ use Rattle.definition.specs.Writing.{differ}
 use Rattle.definition.specs.Planning.{Planned}
 use Rattle.definition.specs.Rewriting.{Note}
 use Rattle.definition.specs.Running.{World}
-use Rattle.definition.specs.Finishing.{newTree, newTable, numberAt, changedElements, result}
+use Rattle.definition.specs.Finishing.{newTree, newTable, numberAt, result}
 use Rattle.definition.specs.Answers.{Plan, plan, performed, ran, edit}
 use Rattle.definition_laws.specs.Basics.{zip-map}
 use Rattle.definition_laws.specs.Answers.{gives-inj, given}
@@ -28,7 +28,7 @@ use Rattle.definition_laws.specs.Spelling.{Worded, WordedAll, spells-read}
 use Rattle.definition_laws.specs.Running.{top}
 use Rattle.definition_laws.specs.Held.{Leads, number-found}
 use Rattle.definition_laws.specs.Limits.{edit-within, ran-known}
-use Rattle.definition_account.specs.Words.{changedPaths, keepsRoot, noDependentIn0}
+use Rattle.definition_account.specs.Words.{changedPaths, changedIn, keepsRoot, noDependentIn0}
 use Rattle.definition_account.specs.Changed.{changed-lead, changed-numbers}
 use Rattle.definition_account.specs.Account.{Performed, ran-performed}
 use Rattle.check_laws.specs.Check.{Flat, Claims, tooBig, unequal, alone, namesNone, accepts, checked}
@@ -99,7 +99,7 @@ module _ (ts : List (Tree ℕ)) (notes : List Note) (ps : List Planned) (w : Wor
       go (d ∷ ds) l w b z = node-alike d c (w .0) x (b .0) (sym (root-kind d []) ∙ (z ∙ (ap (λ (us : List (Tree ℕ)). (row (table 0 0 us) 0) .kind) e ∙ root-kind c [])))
 
   -- a changed element is one of the new tree
-  changed-within : All (λ n. n < length (newTable w)) (changedElements (newTable w) w)
+  changed-within : All (λ n. n < length (newTable w)) (changedIn (newTable w) w)
   unfolding numberAt
   changed-within = All-perm (λ n. n < length (newTable w)) (changed-numbers (newTable w) w) (All-pick (numberAt (newTable w)) (Leads w.trees) (λ n. n < length (newTable w)) one (changedPaths w) (changed-lead w (held ts notes ps w h)))
     where
@@ -131,14 +131,14 @@ module _ (ts : List (Tree ℕ)) (notes : List Note) (ps : List Planned) (w : Wor
       let (p, a, b) = mem-map (λ (p : ℕ × ℕ). p .0) (ownPairs ts w) x m in
       lt-leb (length (firstTable ts)) x (omega (arith, in-pair ts notes ps w h p a .old)))
 
-  new-named : any (leb (length (newTable w))) (map (λ p. p .1) (ownPairs ts w) ++ changedElements (newTable w) w) ≡ false
-  new-named = none-append (leb (length (newTable w))) (map (λ p. p .1) (ownPairs ts w)) (changedElements (newTable w) w)
+  new-named : any (leb (length (newTable w))) (map (λ p. p .1) (ownPairs ts w) ++ changedIn (newTable w) w) ≡ false
+  new-named = none-append (leb (length (newTable w))) (map (λ p. p .1) (ownPairs ts w)) (changedIn (newTable w) w)
       (none-any (leb (length (newTable w))) (map (λ p. p .1) (ownPairs ts w)) (λ n m.
       let (p, a, b) = mem-map (λ (p : ℕ × ℕ). p .1) (ownPairs ts w) n m in
       lt-leb (length (newTable w)) n (omega (arith, in-new ts notes ps w h (p .0) (p .1) (in-pair ts notes ps w h p a)))))
-      (none-any (leb (length (newTable w))) (changedElements (newTable w) w) (λ n m. lt-leb (length (newTable w)) n (All-mem (λ n. n < length (newTable w)) (changedElements (newTable w) w) n changed-within m)))
+      (none-any (leb (length (newTable w))) (changedIn (newTable w) w) (λ n m. lt-leb (length (newTable w)) n (All-mem (λ n. n < length (newTable w)) (changedIn (newTable w) w) n changed-within m)))
 
-  own-names : (any (leb (length (table 0 0 (oldTree ts)))) (map (λ p. p .0) (ownPairs ts w)) || any (leb (length (table 0 0 (newTree w)))) (map (λ p. p .1) (ownPairs ts w) ++ changedElements (newTable w) w)) ≡ false
+  own-names : (any (leb (length (table 0 0 (oldTree ts)))) (map (λ p. p .0) (ownPairs ts w)) || any (leb (length (table 0 0 (newTree w)))) (map (λ p. p .1) (ownPairs ts w) ++ changedIn (newTable w) w)) ≡ false
   unfolding oldTree newTable
   own-names = neither (any (leb (length (table 0 0 (oldTree ts)))) (map (λ p. p .0) (ownPairs ts w))) _ own-named new-named
     where
@@ -167,7 +167,7 @@ same-length l m e = rw (eq-eqb (length l) (length m) e)
 -- by the stages of a batch
 pub own-claims-accepted : (h : Choices) (bytes : List ℕ) (a : Accepted) (p : Plan) (w : World) → accepted bytes ≡ gives a → plan h a ≡ gives p → ran a p ≡ gives w
     → keepsRoot a.table (performed a p) ≡ true → noDependentIn0 a.table (performed a p) ≡ true → checked (ownClaims a w (result p.changes p.climbs w)) ≡ gives true
-unfolding ownClaims result edit _>>=_ flatOf unequal namesNone
+unfolding ownClaims result changedIn edit _>>=_ flatOf unequal namesNone
 own-claims-accepted h bytes a p w x y e r d =
     let R = ran-known h bytes a p w x y e in
     let K = R .known in
@@ -201,7 +201,7 @@ own-claims-accepted h bytes a p w x y e r d =
       new = new-spelled ts p.notes ps w H k (K .begins) formed some-tree (R .small .depth);
       named = own-names ts p.notes ps w H;
     })
-    ∙ ap {B = Answer Bool} gives (ap (λ (Q : List (ℕ × ℕ)). accepts (oldTree ts) (newTree w) Q (changedElements (newTable w) w)) (own-zipped P) ∙ own-accepts ts p.notes ps w H some-old roots owners)
+    ∙ ap {B = Answer Bool} gives (ap (λ (Q : List (ℕ × ℕ)). accepts (oldTree ts) (newTree w) Q (changedIn (newTable w) w)) (own-zipped P) ∙ own-accepts ts p.notes ps w H some-old roots owners)
 
 -- THE THEOREM: "Our own output, with the surviving paths as pairs, must be accepted if the root was not replaced and no dependent change ended in tree 0."
 pub own-accepted : (h : Choices) (bytes : List ℕ) (c : Claims) → ownOutput h bytes ≡ gives c → plainRun h bytes ≡ gives true → checked c ≡ gives true

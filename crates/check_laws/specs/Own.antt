@@ -21,12 +21,12 @@ use Rattle.definition.specs.Refusals.{sameParent}
 use Rattle.definition.specs.Planning.{Planned}
 use Rattle.definition.specs.Rewriting.{Note}
 use Rattle.definition.specs.Running.{World, begin, present}
-use Rattle.definition.specs.Finishing.{newTree, newTable, changedElements}
+use Rattle.definition.specs.Finishing.{newTree, newTable}
 use Rattle.definition_laws.specs.Spelling.{Worded, forest-worded}
 use Rattle.definition_laws.specs.Kin.{path-leads, path-long, path-tells, depth-path, IsRoot, IsParent, Kin, root, below, kin, parent-is}
 use Rattle.definition_laws.specs.Running.{worded-resolve, follows-begin, present-kind, present-depth, Under, present-under, present-order}
 use Rattle.definition_laws.specs.Held.{Holds, begin-holds, steps-hold}
-use Rattle.definition_account.specs.Words.{wentTo, changedOver, oldElements, is?, oldAt, OneOf, changed, old, EachOneOf, keepsRoot, noDependentIn0}
+use Rattle.definition_account.specs.Words.{changedIn, wentTo, changedOver, oldElements, is?, oldAt, OneOf, changed, old, EachOneOf, keepsRoot, noDependentIn0}
 use Rattle.definition_account.specs.Run.{Kept, first-present, first-kept, steps-kept, present-within, present-once}
 use Rattle.definition_account.specs.Numbers.{went-path, path-went}
 use Rattle.definition_account.specs.Account.{Performed, performed-apart-in-new, each-one-of, nowhere-if-deleted}
@@ -327,28 +327,28 @@ module _ (ts : List (Tree ℕ)) (notes : List Note) (ps : List Planned) (w : Wor
           by (t ∷ q) y i l = let t0 : t ≡ 0 = ap (λ (s : Path). headD s 0) (sym y) ∙ z in within-first ts x q l (y ∙ ap {B = Path} (λ (j : ℕ). j ∷ q) t0)
 
   module _ (each : EachOneOf T w) where
-    accounted : (n : ℕ) → n < length F → justOne (isPaired (oldTree ts) (newTree w) P n) (isCovered (oldTree ts) (newTree w) P (changedElements F w) n) ≡ true
+    accounted : (n : ℕ) → n < length F → justOne (isPaired (oldTree ts) (newTree w) P n) (isCovered (oldTree ts) (newTree w) P (changedIn F w) n) ≡ true
     unfolding justOne isPaired isCovered among changedOver newTable isSome
     accounted n l = go (any (eqb n) (map (λ p. p .1) P)) refl
       where
-        go : (b : Bool) → any (eqb n) (map (λ p. p .1) P) ≡ b → justOne b (any (λ c. isSome (placeBelow F c n)) (changedElements F w)) ≡ true
+        go : (b : Bool) → any (eqb n) (map (λ p. p .1) P) ≡ b → justOne b (any (λ c. isSome (placeBelow F c n)) (changedIn F w)) ≡ true
         go true e =
             let (y, a, b) = any-mem (eqb n) (map (λ p. p .1) P) e in
             let (p, c, d) = mem-map (λ (p : ℕ × ℕ). p .1) P y a in
             let k = in-pair p c in
             let went : wentTo w (p .0) ≡ some n = k .went ∙ ap {B = Option ℕ} some (d ∙ sym (eqb-true n y b)) in
-            rw (none-any (λ c. isSome (placeBelow F c n)) (changedElements F w) (λ c m. ap isSome (All-mem (λ c. placeBelow F c n ≡ none) (changedElements F w) c (performed-apart-in-new ts notes ps w h .bare (p .0) n went) m)))
+            rw (none-any (λ c. isSome (placeBelow F c n)) (changedIn F w) (λ c m. ap isSome (All-mem (λ c. placeBelow F c n ≡ none) (changedIn F w) c (performed-apart-in-new ts notes ps w h .bare (p .0) n went) m)))
         go false e = by (changedOver w n) (oldAt T w n) refl refl (each n l)
           where
-            by : (i j : ℕ) → changedOver w n ≡ i → oldAt T w n ≡ j → OneOf i j → any (λ c. isSome (placeBelow F c n)) (changedElements F w) ≡ true
-            by i j a b changed = count-any (λ c. isSome (placeBelow F c n)) (changedElements F w) a
+            by : (i j : ℕ) → changedOver w n ≡ i → oldAt T w n ≡ j → OneOf i j → any (λ c. isSome (placeBelow F c n)) (changedIn F w) ≡ true
+            by i j a b changed = count-any (λ c. isSome (placeBelow F c n)) (changedIn F w) a
             by i j a b old =
                 let (x, k) = counted-pair n b in
                 bool-absurd (mem-any (eqb n) (map (λ p. p .1) P) n (map-mem (λ (p : ℕ × ℕ). p .1) P (x, n) (pair-in x n k)) (eq-eqb n n refl)) e
 
-    pub own-6 : allAccounted (oldTree ts) (newTree w) P (changedElements F w) ≡ true
+    pub own-6 : allAccounted (oldTree ts) (newTree w) P (changedIn F w) ≡ true
     unfolding allAccounted newTable
-    own-6 = every-number (λ n. justOne (isPaired (oldTree ts) (newTree w) P n) (isCovered (oldTree ts) (newTree w) P (changedElements F w) n)) F accounted
+    own-6 = every-number (λ n. justOne (isPaired (oldTree ts) (newTree w) P n) (isCovered (oldTree ts) (newTree w) P (changedIn F w) n)) F accounted
 
   -- ── The condition ──
 
@@ -388,6 +388,6 @@ module _ (ts : List (Tree ℕ)) (notes : List Note) (ps : List Planned) (w : Wor
           record { old = l; went = e ∙ ap {B = Option ℕ} some (new-zero n i (y ∙ alone q long)) }
 
   -- ALL SIX: "Our own output .. must be accepted if the root was not replaced and no dependent change ended in tree 0"
-  pub own-accepts : 0 < length O → keepsRoot T ps ≡ true → noDependentIn0 T ps ≡ true → accepts (oldTree ts) (newTree w) P (changedElements F w) ≡ true
+  pub own-accepts : 0 < length O → keepsRoot T ps ≡ true → noDependentIn0 T ps ≡ true → accepts (oldTree ts) (newTree w) P (changedIn F w) ≡ true
   unfolding accepts
   own-accepts l r d = let k = roots-stay l r in rw (own-1 k, own-2, own-3, own-4 k, own-5, own-6 (each-one-of ts notes ps w h d))

@@ -20,7 +20,7 @@ use Rattle.definition.specs.Performed.{splices}
 use Rattle.definition.specs.Computing.{computed}
 use Rattle.definition.specs.Examples.{Told, inLists, inBytes, nodeOf, tokenOf, call}
 use Rattle.definition_demand.specs.Aims.{replacesRoot}
-use Rattle.definition_account.specs.Words.{wentTo, count, changedOver, oldElements, is?, oldAt, dependentIn0, keepsRoot, noDependentIn0}
+use Rattle.definition_account.specs.Words.{wentTo, count, changedIn, changedOver, oldElements, is?, oldAt, dependentIn0, keepsRoot, noDependentIn0}
 
 -- calls on root(X(a), Y(Z(b))) beside trees W(c) and R(V(d)), X mapped to an element: X is 1, a 2, Y 3, Z 4, b 5; W is 6, c 7; R 8, V 9, d 10
 abbrev onXY : ℕ → List Call → Told
@@ -65,5 +65,5 @@ shown bytes = do
 pub shows : (shown (inBytes dependentInR) ≡ gives ((true, true), (0, 1) ∷ (1, 0) ∷ (1, 0) ∷ (1, 0) ∷ (1, 0) ∷ (0, 1) ∷ [], (true, false) ∷ (false, true) ∷ (false, true) ∷ (true, false) ∷ (false, true) ∷ (false, true) ∷ []))
     × (shown (inBytes dependentInY) ≡ gives ((true, false), (0, 1) ∷ (1, 0) ∷ (1, 0) ∷ (1, 0) ∷ (1, 0) ∷ (0, 1) ∷ (0, 1) ∷ (0, 1) ∷ (0, 0) ∷ [], (true, false) ∷ (false, true) ∷ (false, true) ∷ (true, false) ∷ (true, false) ∷ (true, false) ∷ []))
     × (shown (inBytes rootReplaced) ≡ gives ((false, true), (1, 0) ∷ (1, 0) ∷ [], (false, false) ∷ (false, false) ∷ (false, false) ∷ (false, false) ∷ (false, false) ∷ (false, false) ∷ []))
-unfolding computed inLists inBytes shown replacesRoot Lists.total Check.enters? wentTo count changedOver oldElements is? oldAt dependentIn0 keepsRoot noDependentIn0
+unfolding computed inLists inBytes shown replacesRoot Lists.total Check.enters? wentTo count changedIn changedOver oldElements is? oldAt dependentIn0 keepsRoot noDependentIn0
 shows = (refl, refl, refl)

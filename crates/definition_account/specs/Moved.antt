@@ -17,7 +17,7 @@ use Rattle.definition.specs.Basics.{gives}
 use Rattle.definition.specs.Elements.{Table, table, row, tree}
 use Rattle.definition.specs.Planning.{Planned}
 use Rattle.definition.specs.Rewriting.{Note}
-use Rattle.definition.specs.Running.{World, begin, present, yield, news, Run, place, records, step, steps}
+use Rattle.definition.specs.Running.{World, begin, present, yield, news, Run, place, recordedBy, step, steps}
 use Rattle.definition.specs.Performed.{met}
 use Rattle.definition_laws.specs.Answers.{gives-inj, given}
 use Rattle.definition_laws.specs.Spelling.{Worded}
@@ -64,7 +64,7 @@ elsewhere-stays r n e h = go r.parent refl h
 step-moves : (T : Table) (first w next : World) (p : Planned) (d : Performs T first w next p) (x : ℕ) → present next x ≡ bind (present w x) (λ s. adjust (d .run .parent) (d .run .from) (d .run .to) (length (news p.change)) s)
 step-moves T first w next p d x =
     let r : Run = d .run in
-    ap (λ (z : World). present z x) (sym (d .leaves)) ∙ (present-spliced w r (map (yield first w) (news p.change)) (records T p) x
+    ap (λ (z : World). present z x) (sym (d .leaves)) ∙ (present-spliced w r (map (yield first w) (news p.change)) (recordedBy T p) x
     ∙ ap (λ (m : ℕ). bind (present w x) (λ s. adjust r.parent r.from r.to m s)) (length-map (news p.change) (yield first w)))
 
 -- so the row of moves begins with that step, also if it goes elsewhere

@@ -12,12 +12,12 @@ use Rattle.orders.specs.Lists.{All}
 use Rattle.orders.specs.ListLaws.{some-inj, none-some, map-some, All-map}
 use Rattle.orders.specs.Tree.{Tree, Path, adjust, front, last}
 use Rattle.orders.specs.TreeLaws.{front-child, adjust-root}
-use Rattle.definition.specs.Basics.{Answer, refused, gives, refuse, orRefuse}
+use Rattle.definition.specs.Basics.{Answer, refused, gives, refuse, orRefuse, isSome}
 use Rattle.definition.specs.Elements.{Table, table, row, noRow, root?, tree}
 use Rattle.definition.specs.Recording.{firstChild, after, Change, insert, replace, delete, replaceWithMany, replaceAll}
 use Rattle.definition.specs.Planning.{Planned, target}
 use Rattle.definition.specs.Rewriting.{Note}
-use Rattle.definition.specs.Running.{World, begin, present, Yield, yield, news, Run, fromTo, emptyAt, place, spliced, tooLarge, records, step, steps}
+use Rattle.definition.specs.Running.{World, begin, present, Yield, yield, news, Run, fromTo, emptyAt, place, spliced, tooLarge, records, recordedBy, step, steps}
 use Rattle.definition.specs.Performed.{met}
 use Rattle.definition_laws.specs.Basics.{getD-map}
 use Rattle.definition_laws.specs.Answers.{gives-inj, given, is-there, bound}
@@ -40,6 +40,10 @@ Home T w = (x : ℕ) (p : Path) → present w x ≡ some p → (q : Path) × (p 
 abbrev pub Recorded : Table → Planned → Type 0
 Recorded T p = tree T (target p.change) ≡ 0 → records T p ≡ true
 
+pub recorded-some : (T : Table) (p : Planned) → records T p ≡ true → isSome (recordedBy T p) ≡ true
+unfolding recordedBy isSome
+recorded-some T p e = rw e refl
+
 some-within : {A : Type 0} (l : List (Option A)) (x : ℕ) (a : A) → getD l x none ≡ some a → x < length l
 some-within [] x a e = none-some e
 some-within (y ∷ l) zero a e = omega arith
@@ -49,13 +53,13 @@ some-within (y ∷ l) (suc x) a e = omega (arith, some-within l x a e)
 pub record Performs (T : Table) (first w next : World) (p : Planned) : Type 0 where
   pub run : Run
   pub there : place T w p.change ≡ some run
-  pub leaves : spliced run (map (yield first w) (news p.change)) (records T p) w ≡ next
+  pub leaves : spliced run (map (yield first w) (news p.change)) (recordedBy T p) w ≡ next
 
 pub performs : (T : Table) (first w next : World) (p : Planned) → step T first w p ≡ gives next → Performs T first w next p
 unfolding step
 performs T first w next p e =
     given (orRefuse 11 (place T w p.change)) _ e λ r a e.
-    given (refuse 12 (tooLarge (spliced r (map (yield first w) (news p.change)) (records T p) w))) _ e λ u b e.
+    given (refuse 12 (tooLarge (spliced r (map (yield first w) (news p.change)) (recordedBy T p) w))) _ e λ u b e.
     record { run = r; there = is-there 11 _ a; leaves = gives-inj e }
 
 module _ (ts : List (Tree ℕ)) where
@@ -155,7 +159,7 @@ module _ (ts : List (Tree ℕ)) where
       was-home o [] g m = absurd (let z : [] ≡ 0 ∷ g = some-inj (sym (adjust-root r.from r.to (length new) r.parent) ∙ m) in omega (arith, ap length z))
       was-home o (i ∷ e) g m = let (u, z) = stays-home o i e (0 ∷ g) m in (e, ap (λ (j : ℕ). j ∷ e) (sym (head-eq-of-cons-eq z)))
 
-      home-next : Goes w c r → (recorded : Bool) → Home T (spliced r new recorded w)
+      home-next : Goes w c r → (recorded : Option ℕ) → Home T (spliced r new recorded w)
       home-next o recorded x p e =
           let (s, a, b) = was-before w r new recorded x p e in
           let (q, y) = k .home x s a in
@@ -184,11 +188,11 @@ module _ (ts : List (Tree ℕ)) where
         let o = goes w k p.change r s (d .there) in (
           record {
             follows = step-follows ts first f₀ w next p (k .follows) c e;
-            home = subst (Home T) (d .leaves) (home-next w k p.change r new n o (records T p));
-            apart = subst ChangedApart (d .leaves) (spliced-apart w r new (records T p) (at-element w k p.change r new n o) (k .apart));
+            home = subst (Home T) (d .leaves) (home-next w k p.change r new n o (recordedBy T p));
+            apart = subst ChangedApart (d .leaves) (spliced-apart w r new (recordedBy T p) (at-element w k p.change r new n o) (k .apart));
           },
-          λ h f. subst Full (d .leaves) (spliced-full w r new (records T p) ((place-fits ts w (k .follows) p.change r s (d .there)) .run) (was-home w k p.change r new n o)
-              (λ i s g z l. h (comes-home w k p.change r new n o i s g z l)) f),
+          λ h f. subst Full (d .leaves) (spliced-full w r new (recordedBy T p) ((place-fits ts w (k .follows) p.change r s (d .there)) .run) (was-home w k p.change r new n o)
+              (λ i s g z l. recorded-some T p (h (comes-home w k p.change r new n o i s g z l))) f),
         )
 
     -- ── All steps ──

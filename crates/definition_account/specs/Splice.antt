@@ -12,6 +12,7 @@ use Rattle.orders.specs.Lists.{All, Pairs, pick}
 use Rattle.orders.specs.ListLaws.{bind-some, get-lt, mem-pick, All-map₂, All-pick, Pairs-pick}
 use Rattle.orders.specs.Tree.{Path, resolve, adjust, HasRun, front, last}
 use Rattle.orders.specs.TreeLaws.{front-same, last-same, front-last, Origin, kept, came, splice-origin}
+use Rattle.definition.specs.Basics.{isSome}
 use Rattle.definition.specs.Running.{World, present, Yield, Run, placed, spliced}
 use Rattle.definition_laws.specs.Basics.{All-append}
 use Rattle.definition_laws.specs.Moves.{Keeps, adjust-keeps}
@@ -73,7 +74,7 @@ getD-over f d (y ∷ l) (suc x) = getD-over f d l x
 
 -- ── One splice ──────────────────────────────────────────────────────────────────────────────────────────────
 
-module _ (w : World) (r : Run) (new : List Yield) (recorded : Bool) where
+module _ (w : World) (r : Run) (new : List Yield) (recorded : Option ℕ) where
   abbrev moves : Path → Option Path
   moves p = adjust r.parent r.from r.to (length new) p
 
@@ -111,10 +112,10 @@ module _ (w : World) (r : Run) (new : List Yield) (recorded : Bool) where
 
   -- the paths of what goes in and is recorded
   abbrev come : List Path
-  come = cond recorded (filled r.parent r.from new) []
+  come = cond (isSome recorded) (filled r.parent r.from new) []
 
   come-all : (Q : Path → Type 0) → ((i : ℕ) → i < length new → Q (r .parent ++ ((r .from + i) ∷ []))) → All Q come
-  come-all Q f = all-if Q recorded (filled r.parent r.from new) (filled-all Q r.parent r.from new f)
+  come-all Q f = all-if Q (isSome recorded) (filled r.parent r.from new) (filled-all Q r.parent r.from new f)
 
   -- of each changed element then: of those that stay, and of those that come
   all-changed : (P Q : Path → Type 0) → ((c c′ : Path) → moves c ≡ some c′ → P c → Q c′) → All P (changedPaths w) → ((i : ℕ) → i < length new → Q (r .parent ++ ((r .from + i) ∷ []))) → All Q (changedPaths next)
@@ -148,7 +149,7 @@ module _ (w : World) (r : Run) (new : List Yield) (recorded : Bool) where
       long = all-changed (λ c. 0 < length c) (λ c. 0 < length c) (λ c c′ e l. omega (arith, moving .size c c′ e)) (k .long) (λ i h. omega (arith, length-append r.parent ((r .from + i) ∷ [])));
       aside =
           subst (Pairs Aside) (sym (spliced-changed w r new recorded))
-          (pairs-append Aside (pick moves (changedPaths w)) come (Pairs-pick moves Aside Aside stays-aside (changedPaths w) (k .aside)) (pairs-if Aside recorded (filled r.parent r.from new) (filled-aside r.parent r.from new))
+          (pairs-append Aside (pick moves (changedPaths w)) come (Pairs-pick moves Aside Aside stays-aside (changedPaths w) (k .aside)) (pairs-if Aside (isSome recorded) (filled r.parent r.from new) (filled-aside r.parent r.from new))
           (All-pick moves (λ c. (0 < length c) × Bare w c) (λ c′. All (Aside c′) come) new-aside (changedPaths w) (All-map₂ (λ c l b. (l, b)) (changedPaths w) (k .long) (k .bare))));
       bare = all-changed (Bare w) (Bare next) stays-bare (k .bare) new-bare;
     }
@@ -163,7 +164,7 @@ module _ (w : World) (r : Run) (new : List Yield) (recorded : Bool) where
       inr (record { by = c′; one = subst (List·Memᴰ c′) (sym (spliced-changed w r new recorded)) (Memᴰ·append-left come (mem-pick moves (changedPaths w) (c .by) c′ (c .one) x)); under = (t, y) })
 
   -- what comes in is, if it is recorded
-  comes-accounted : recorded ≡ true → (i : ℕ) (s p : Path) → i < length new → p ≡ r .parent ++ ((r .from + i) ∷ s) → Covered next p
+  comes-accounted : isSome recorded ≡ true → (i : ℕ) (s p : Path) → i < length new → p ≡ r .parent ++ ((r .from + i) ∷ s) → Covered next p
   comes-accounted e i s p h z = record {
     by = r .parent ++ ((r .from + i) ∷ []);
     one = subst (List·Memᴰ (r .parent ++ ((r .from + i) ∷ []))) (sym (spliced-changed w r new recorded)) (Memᴰ·append-right (pick moves (changedPaths w)) (rw e (filled-one r.parent r.from new i h)));
@@ -172,7 +173,7 @@ module _ (w : World) (r : Run) (new : List Yield) (recorded : Bool) where
 
   -- If no path comes into tree 0 from another, and what comes into it is recorded, tree 0 stays accounted for.
   pub spliced-full : HasRun w.trees r.parent r.from r.to → ((s g : Path) → moves s ≡ some (0 ∷ g) → (q : Path) × (s ≡ 0 ∷ q))
-      → ((i : ℕ) (s g : Path) → 0 ∷ g ≡ r .parent ++ ((r .from + i) ∷ s) → i < length new → recorded ≡ true) → Full w → Full next
+      → ((i : ℕ) (s g : Path) → 0 ∷ g ≡ r .parent ++ ((r .from + i) ∷ s) → i < length new → isSome recorded ≡ true) → Full w → Full next
   unfolding spliced
   spliced-full run home put f g v e = at (splice-origin r.from r.to (map (λ y. y .tree) new) r.parent w.trees (0 ∷ g) v run e)
     where

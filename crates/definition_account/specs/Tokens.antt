@@ -14,7 +14,7 @@ use Rattle.definition.specs.Basics.{gives}
 use Rattle.definition.specs.Elements.{table}
 use Rattle.definition.specs.Planning.{Planned}
 use Rattle.definition.specs.Rewriting.{Note}
-use Rattle.definition.specs.Running.{World, begin, present, Yield, yield, news, Run, spliced, records, step, steps}
+use Rattle.definition.specs.Running.{World, begin, present, Yield, yield, news, Run, spliced, recordedBy, step, steps}
 use Rattle.definition_laws.specs.Answers.{gives-inj, given}
 use Rattle.definition_laws.specs.Spelling.{Worded}
 use Rattle.definition_laws.specs.Right.{Right, right-sits}
@@ -33,7 +33,7 @@ token-same a b new none k own = refl
 token-same a b new (some []) k own = refl
 token-same a b new (some (i ∷ q)) k own = refl
 
-spliced-tokens : (first w : World) (r : Run) (new : List Yield) (recorded : Bool) → HasRun w.trees r.parent r.from r.to → TokensStay first w → TokensStay first (spliced r new recorded w)
+spliced-tokens : (first w : World) (r : Run) (new : List Yield) (recorded : Option ℕ) → HasRun w.trees r.parent r.from r.to → TokensStay first w → TokensStay first (spliced r new recorded w)
 unfolding spliced
 spliced-tokens first w r new recorded run t x s p k own a b e =
     let (q, c, d) = was-before w r new recorded x p e in
@@ -50,7 +50,7 @@ module _ (ts : List (Tree ℕ)) (first : World) (f₀ : Worded first.trees) wher
       let d = performs (table 0 0 ts) first w next p a in
       let fits = place-fits ts w (k .follows) p.change (d .run) (right-sits (table 0 0 ts) p.change (c .0)) (d .there) in
       steps-tokens ps next last ((step-kept ts first f₀ w next p k (c .0) a) .0)
-      (subst (TokensStay first) (d .leaves) (spliced-tokens first w (d .run) (map (yield first w) (news p.change)) (records (table 0 0 ts) p) (fits .run) t)) (c .1) e
+      (subst (TokensStay first) (d .leaves) (spliced-tokens first w (d .run) (map (yield first w) (news p.change)) (recordedBy (table 0 0 ts) p) (fits .run) t)) (c .1) e
 
 -- of any performed changes
 pub performed-tokens : (ts : List (Tree ℕ)) (notes : List Note) (ps : List Planned) (w : World) → Performed ts notes ps w → TokensStay (begin ts (table 0 0 ts) notes) w

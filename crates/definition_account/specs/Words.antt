@@ -22,7 +22,11 @@ use Rattle.definition_demand.specs.Aims.{replacesRoot}
 
 -- the paths of the changed elements, in the order of time
 unfoldable pub changedPaths : World → List Path
-changedPaths w = w .changed
+changedPaths w = map (λ c. c .0) w.changed
+
+-- the numbers of the changed elements in the new tree, in the result's order
+unfoldable pub changedIn : Table → World → List ℕ
+changedIn F w = map (λ m. m .0) (changedElements F w)
 
 -- p is c, or below it
 abbrev pub Under : Path → Path → Type 0
@@ -68,9 +72,9 @@ wentTo w x = bind (present w x) (numberAt (newTable w))
 -- the same in the words of the result: by the array of changed elements
 pub record ChangedApartInNew (w : World) : Type 0 where
   -- none of them is at or below another
-  pub aside : Pairs (λ c d. (placeBelow (newTable w) c d ≡ none) × (placeBelow (newTable w) d c ≡ none)) (changedElements (newTable w) w)
+  pub aside : Pairs (λ c d. (placeBelow (newTable w) c d ≡ none) × (placeBelow (newTable w) d c ≡ none)) (changedIn (newTable w) w)
   -- where an element of the batch went is at or below none
-  pub bare : (x n : ℕ) → wentTo w x ≡ some n → All (λ c. placeBelow (newTable w) c n ≡ none) (changedElements (newTable w) w)
+  pub bare : (x n : ℕ) → wentTo w x ≡ some n → All (λ c. placeBelow (newTable w) c n ≡ none) (changedIn (newTable w) w)
   -- two elements of the batch never go to one place
   pub once : (x y n : ℕ) → wentTo w x ≡ some n → wentTo w y ≡ some n → x ≡ y
 
@@ -82,7 +86,7 @@ count p l = total p (λ x. 1) l
 
 -- how many changed elements the element n of the new tree "lies at or below"
 unfoldable pub changedOver : World → ℕ → ℕ
-changedOver w n = count (λ c. isSome (placeBelow (newTable w) c n)) (changedElements (newTable w) w)
+changedOver w n = count (λ c. isSome (placeBelow (newTable w) c n)) (changedIn (newTable w) w)
 
 -- the old elements: those of tree 0
 unfoldable pub oldElements : Table → List ℕ

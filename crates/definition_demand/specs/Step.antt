@@ -17,7 +17,7 @@ use Rattle.definition.specs.Basics.{gives, refuse, orRefuse}
 use Rattle.definition.specs.Elements.{Table, table}
 use Rattle.definition.specs.Planning.{Planned}
 use Rattle.definition.specs.Rewriting.{Note}
-use Rattle.definition.specs.Running.{World, begin, Yield, yield, news, Run, fromTo, emptyAt, place, spliced, tooLarge, records, step}
+use Rattle.definition.specs.Running.{World, begin, Yield, yield, news, Run, fromTo, emptyAt, place, spliced, tooLarge, recordedBy, step}
 use Rattle.definition.specs.Performed.{inTree0, toSplice, yields, told}
 use Rattle.definition_laws.specs.Answers.{gives-inj, given, is-there, bound}
 use Rattle.definition_laws.specs.Right.{Sits}
@@ -135,25 +135,25 @@ module _ (ts : List (Tree ℕ)) (notes : List Note) where
     abbrev new : List Yield
     new = map (yield first w) (news p.change)
 
-    there : (r : Run) (i : ℕ) (q : Path) → r .parent ≡ suc i ∷ q → Tree0 T (spliced r new (records T p) w) now
-    there r i q x = subst (λ (u : Path). Tree0 T (spliced (record { parent = u; from = r .from; to = r .to }) new (records T p) w) now) (sym x) (in-other T w now h new (records T p) i q r.from r.to)
+    there : (r : Run) (i : ℕ) (q : Path) → r .parent ≡ suc i ∷ q → Tree0 T (spliced r new (recordedBy T p) w) now
+    there r i q x = subst (λ (u : Path). Tree0 T (spliced (record { parent = u; from = r .from; to = r .to }) new (recordedBy T p) w) now) (sym x) (in-other T w now h new (recordedBy T p) i q r.from r.to)
 
     -- by where the change aims
     by-aim : (r : Run) (a : Aim) → AtRoot T p.change a → replacesRoot T p.change ≡ false → told T first (w, p) ≡ bind (aimed a (λ p. some p)) (λ r. bind (inTree0 r) (λ s. some (s, yields T first (w, p))))
-        → aimed a (h .move) ≡ some r → Stepped T first now (w, p) (spliced r new (records T p) w)
+        → aimed a (h .move) ≡ some r → Stepped T first now (w, p) (spliced r new (recordedBy T p) w)
     unfolding aimed inTree0 bind yields toSplice
     by-aim r (root zero) o k t e = bool-absurd (o .1 refl) k
-    by-aim r (root (suc i)) o k t e = rw (← some-inj e) (apart t (other-root T w now h new (records T p) i (length-map (news p.change) (yield first w) ∙ o .0)))
+    by-aim r (root (suc i)) o k t e = rw (← some-inj e) (apart t (other-root T w now h new (recordedBy T p) i (length-map (news p.change) (yield first w) ∙ o .0)))
     by-aim r (within (suc i) b) o k t e =
         let (q, x) = aimed-other T w now h i b r e in
         apart (told-within w p (suc i) b t ∙ ap (λ o. bind o (λ s. some (s, yields T first (w, p)))) (not-tree0 i _ _ _)) (there r i q x)
     by-aim r (within zero b) o k t e = done b (told-within w p 0 b t) one
       where
-        here : (n : ℕ) (s : Tree.Run) → r ≡ fromTop s → Tree0 T (spliced r new (records T p) w) (performAt s (aimSplice n b (yields T first (w, p))) now)
-        here n s x = rw x (in-tree0 T w now h new (records T p) (s .parent) (s .from) (s .to) (aimSplice n b (yields T first (w, p))) (yielded w (news p.change)))
+        here : (n : ℕ) (s : Tree.Run) → r ≡ fromTop s → Tree0 T (spliced r new (recordedBy T p) w) (performAt s (aimSplice n b (yields T first (w, p))) now)
+        here n s x = rw x (in-tree0 T w now h new (recordedBy T p) (s .parent) (s .from) (s .to) (aimSplice n b (yields T first (w, p))) (yielded w (news p.change)))
 
         one : (n : ℕ) → (s : Tree.Run) × (runByTarget (now .path) (aimSplice n b (yields T first (w, p))) (aimTarget n b (yields T first (w, p))) ≡ some s)
-            × Tree0 T (spliced r new (records T p) w) (performAt s (aimSplice n b (yields T first (w, p))) now)
+            × Tree0 T (spliced r new (recordedBy T p) w) (performAt s (aimSplice n b (yields T first (w, p))) now)
         one n =
             let (s, x, y) = aimed-here T w now h n (yields T first (w, p)) b r e in
             (s, y, here n s x)
@@ -163,6 +163,6 @@ module _ (ts : List (Tree ℕ)) (notes : List Note) where
   unfolding step
   stepped w next p now h s k e =
       given (orRefuse 11 (place T w p.change)) _ e λ r x e.
-      given (refuse 12 (tooLarge (spliced r (map (yield first w) (news p.change)) (records T p) w))) _ e λ u y e.
+      given (refuse 12 (tooLarge (spliced r (map (yield first w) (news p.change)) (recordedBy T p) w))) _ e λ u y e.
       let a = aims ts p.change s in
       rw (← gives-inj e) (by-aim w p now h r (a .aim) (a .roots) k (told-aimed w p a) (sym (a .goes w (h .move) (h .paths)) ∙ is-there 11 _ x))

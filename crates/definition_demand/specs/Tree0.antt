@@ -81,7 +81,7 @@ unfolding bind
 bind-stay none = refl
 bind-stay (some p) = refl
 
-module _ (T : Table) (w : World) (now : State ℕ) (h : Tree0 T w now) (new : List Yield) (rec : Bool) where
+module _ (T : Table) (w : World) (now : State ℕ) (h : Tree0 T w now) (new : List Yield) (rec : Option ℕ) where
   -- one splice, by what it does to tree 0, to its paths and to those of other trees
   moved : (r : Run) (next : State ℕ) (ds : Trees ℕ) → splice r.parent r.from r.to (map (λ y. y .tree) new) w.trees ≡ node (h .kind) (cons (next .tree) ds)
       → (f : Path → Option Path) → ((p : Path) → adjust r.parent r.from r.to (length new) (0 ∷ p) ≡ Option·map (λ q. 0 ∷ q) (f p)) → ((e : Path) → bind (now .path e) f ≡ next .path e)

@@ -19,8 +19,8 @@ use Rattle.orders.specs.Target.{Rising}
 use Rattle.definition.specs.Basics.{gives, numbered}
 use Rattle.definition.specs.Elements.{Table, table, row, tree, child}
 use Rattle.definition.specs.Refusals.{Accepted, accepted}
-use Rattle.definition.specs.Recording.{firstChild, after, Change, insert, replace, delete, replaceWithMany, replaceAll}
-use Rattle.definition.specs.Planning.{Fate, own, dependent, discarded, Planned, target}
+use Rattle.definition.specs.Recording.{Recorded, firstChild, after, Change, insert, replace, delete, replaceWithMany, replaceAll}
+use Rattle.definition.specs.Planning.{Fate, own, dependent, discarded, Planned, changesOf, target}
 use Rattle.definition.specs.Rewriting.{Note}
 use Rattle.definition.specs.EdgeRule.{parentOrRoot, targetParent, ofRoot, takes, fates1}
 use Rattle.definition.specs.Running.{World, Run, begin, place, owned, steps}
@@ -189,13 +189,13 @@ table-pairs old notes cs ps w T [] t q = absurd (nil≢cons t)
 table-pairs old notes cs ps w T (c ∷ others) t q = rw q (λ a b f e r d. performed-pairs c others notes cs ps w a b f e r d)
 
 -- A BATCH PLANNED BY RULE 1 whose run is not refused: if it does not replace the root and has no dependent change ending in tree 0, its splices are apart
-pub apart-by-rule-1 : (bytes : List ℕ) (a : Accepted) → accepted bytes ≡ gives a → (cs : List Change) → All (Right a.table) cs → (p : Plan) → planned1 a cs ≡ gives p → (w : World) → ran a p ≡ gives w
+pub apart-by-rule-1 : (bytes : List ℕ) (a : Accepted) → accepted bytes ≡ gives a → (rs : List Recorded) → All (Right a.table) (changesOf rs) → (p : Plan) → planned1 a rs ≡ gives p → (w : World) → ran a p ≡ gives w
     → keepsRoot a.table (performed a p) ≡ true → noDependentIn0 a.table (performed a p) ≡ true → (old : Tree ℕ) × ApartIn old a p
 unfolding ran splices atFirst keepsRoot
-apart-by-rule-1 bytes a x cs h p y w e r d =
+apart-by-rule-1 bytes a x rs h p y w e r d =
     let k = accepts bytes a x in
     let (old, t, z) = zeroth a.trees (omega (arith, k .limits .some-tree, k .roots)) in
-    let right = performed-right a cs (fates1 a.table cs) p y h in
-    let pairs = table-pairs old p.notes cs (performed a p) w a.table a.trees t (k .table) (k .spells .worded) right (performed-free a cs p y) e r d in
+    let right = performed-right a rs (fates1 a.table (changesOf rs)) p y h in
+    let pairs = table-pairs old p.notes (changesOf rs) (performed a p) w a.table a.trees t (k .table) (k .spells .worded) right (performed-free a rs p y) e r d in
     let placed = splices-placed a p old z (k .table) (k .spells .worded) right in
     (old, record { tree0 = t; apart = record { fits = placed .fits; apart = pairs }; unreplaced = none-passes (λ q. replacesRoot a.table q.change) (performed a p) (not-true _ r) })

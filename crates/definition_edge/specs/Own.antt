@@ -13,8 +13,8 @@ use Rattle.orders.specs.ListLaws.{bool-absurd, some-inj, none-some, All-mem, Al
 use Rattle.definition.specs.Basics.{Answer, gives, keep, numbered, falling}
 use Rattle.definition.specs.Elements.{Table}
 use Rattle.definition.specs.Refusals.{Accepted}
-use Rattle.definition.specs.Recording.{Change}
-use Rattle.definition.specs.Planning.{Fate, own, dependent, discarded, isDiscarded, nodeByNode, inner, Planned, key, withFates}
+use Rattle.definition.specs.Recording.{Recorded, Change}
+use Rattle.definition.specs.Planning.{Fate, own, dependent, discarded, isDiscarded, nodeByNode, inner, Planned, key, changesOf, withFates}
 use Rattle.definition.specs.Rewriting.{mapping, rewriteOne, rewriting, rewritten, settled}
 use Rattle.definition.specs.EdgeRule.{takes, regionDepth, regionOf, fateIn, fateWithin, fateAmong, fates1}
 use Rattle.definition.specs.Running.{owned, ranked, order}
@@ -53,15 +53,18 @@ module _ (T : Table) (cs : List Change) where
       go f none z e = region-none T all ((numbered-rising 0 cs) .1) q z
       go f (some r) z e = not-own (not (isDiscarded (f r)) && nodeByNode T (r .1)) (r .0) e
 
-  -- changes with their fates
-  zipped : (F : Change → Type 0) (fate : ℕ × Change → Fate) (n : ℕ) (l : List Change) → All (λ q. fate q ≡ own → F (q .1)) (numbered n l) → All (λ q. q .fate ≡ own → F q.change) (withFates l (map fate (numbered n l)))
-  unfolding withFates zipWith numbered
-  zipped F fate n [] h = tt
-  zipped F fate n (c ∷ l) h = (h .0, zipped F fate (suc n) l (h .1))
+-- changes with their fates
+zipped : (F : Change → Type 0) (fate : ℕ × Change → Fate) (n : ℕ) (l : List Recorded) → All (λ q. fate q ≡ own → F (q .1)) (numbered n (changesOf l)) → All (λ q. q .fate ≡ own → F q.change) (withFates l (map fate (numbered n (changesOf l))))
+unfolding changesOf withFates zipWith numbered
+zipped F fate n [] h = tt
+zipped F fate n (c ∷ l) h = (h .0, zipped F fate (suc n) l (h .1))
 
-  pub planned-free : All (OwnFree T cs) (withFates cs (fates1 T cs))
-  unfolding fates1
-  planned-free = zipped (Free T cs) (fateAmong T all) 0 cs (mem-All (λ q. fateAmong T all q ≡ own → Free T cs (q .1)) all (λ q m e. record { place = q .0; one = m; free = own-taken q e }))
+pub planned-free : (T : Table) (rs : List Recorded) → All (OwnFree T (changesOf rs)) (withFates rs (fates1 T (changesOf rs)))
+unfolding fates1
+planned-free T rs =
+    let cs = changesOf rs in
+    let all = numbered 0 cs in
+    zipped (Free T cs) (fateAmong T all) 0 rs (mem-All (λ q. fateAmong T all q ≡ own → Free T cs (q .1)) all (λ q m e. record { place = q .0; one = m; free = own-taken T cs q e }))
 
 -- ── Rewriting ───────────────────────────────────────────────────────────────────────────────────────────────
 
@@ -83,20 +86,20 @@ module _ (T : Table) (mapped : ℕ → Option ℕ) (F : Change → Type 0) where
 -- ── What is performed ───────────────────────────────────────────────────────────────────────────────────────
 
 -- the plan of these changes with these fates
-abbrev pub plannedBy : Accepted → List Change → List Fate → Answer Plan
-plannedBy a cs fs = rewriteChanges a (withFates cs fs)
+abbrev pub plannedBy : Accepted → List Recorded → List Fate → Answer Plan
+plannedBy a rs fs = rewriteChanges a (withFates rs fs)
 
 -- the plan of these changes by edge rule 1
-abbrev pub planned1 : Accepted → List Change → Answer Plan
-planned1 a cs = plannedBy a cs (fates1 a.table cs)
+abbrev pub planned1 : Accepted → List Recorded → Answer Plan
+planned1 a rs = plannedBy a rs (fates1 a.table (changesOf rs))
 
-with-fates : (P : Change → Type 0) (cs : List Change) (fs : List Fate) → All P cs → All (λ q. P q.change) (withFates cs fs)
-unfolding withFates zipWith
+with-fates : (P : Change → Type 0) (rs : List Recorded) (fs : List Fate) → All P (changesOf rs) → All (λ q. P q.change) (withFates rs fs)
+unfolding changesOf withFates zipWith
 with-fates P [] fs h = tt
 with-fates P (c ∷ cs) [] h = tt
 with-fates P (c ∷ cs) (f ∷ fs) h = (h .0, with-fates P cs fs (h .1))
 
-module _ (a : Accepted) (cs : List Change) (fs : List Fate) (p : Plan) (e : plannedBy a cs fs ≡ gives p) where
+module _ (a : Accepted) (cs : List Recorded) (fs : List Fate) (p : Plan) (e : plannedBy a cs fs ≡ gives p) where
   -- what each rewritten change has, each performed one has
   performed-all : (P : Planned → Type 0) → ((r : List Planned × ℕ) → rewritten a.table (mapping a.mappings) (withFates cs fs) ≡ gives r → All P (r .0)) → All P (performed a p)
   unfolding performed rewriteChanges
@@ -106,20 +109,21 @@ module _ (a : Accepted) (cs : List Change) (fs : List Fate) (p : Plan) (e : plan
       rw (← gives-inj e) (order-all P (ranked a.table (r .0)) (length (r .0)) none (ranked-all a.table P (r .0) (f r y)))
 
   -- whatever the fates
-  pub performed-right : All (Right a.table) cs → All (λ q. Right a.table q.change) (performed a p)
+  pub performed-right : All (Right a.table) (changesOf cs) → All (λ q. Right a.table q.change) (performed a p)
   performed-right h = performed-all (λ q. Right a.table q.change) (λ r y. (rewritten-all a.table (mapping a.mappings) (withFates cs fs) r y) .right (with-fates (Right a.table) cs fs h))
 
-pub performed-free : (a : Accepted) (cs : List Change) (p : Plan) → planned1 a cs ≡ gives p → All (OwnFree a.table cs) (performed a p)
+pub performed-free : (a : Accepted) (rs : List Recorded) (p : Plan) → planned1 a rs ≡ gives p → All (OwnFree a.table (changesOf rs)) (performed a p)
 unfolding rewritten
-performed-free a cs p e =
-    let ps = withFates cs (fates1 a.table cs) in
-    performed-all a cs (fates1 a.table cs) p e (OwnFree a.table cs) (λ r y. all-stay a.table (mapping a.mappings) (Free a.table cs) (map (λ q. q .change) ps) ps r y (planned-free a.table cs))
+performed-free a rs p e =
+    let cs = changesOf rs in
+    let ps = withFates rs (fates1 a.table cs) in
+    performed-all a rs (fates1 a.table cs) p e (OwnFree a.table cs) (λ r y. all-stay a.table (mapping a.mappings) (Free a.table cs) (map (λ q. q .change) ps) ps r y (planned-free a.table rs))
 
 -- ── Every own change is performed ───────────────────────────────────────────────────────────────────────────
 
 -- a change without an owner
-abbrev pub alone : Change → Planned
-alone c = record { change = c; fate = own }
+abbrev pub alone : Recorded → Planned
+alone c = record { change = c .change; fate = own; rule = c .rule }
 
 module _ {A : Type 0} where
   perm-mem : {l m : List A} → List·Permᴰ l m → (x : A) → List·Memᴰ x l → List·Memᴰ x m
@@ -143,14 +147,14 @@ mem-flatMap {B = B} f (z ∷ l) x y m n = go (List·Memᴰ·cases-cons m) (λ m.
     go (inl e) k = let m : List·Memᴰ y (f z) = rw (← e) n in Memᴰ·append-left (flatMap f l) m
     go (inr m) k = Memᴰ·append-right (f z) (k m)
 
-mem-fates : (cs : List Change) (fs : List Fate) (i : ℕ) (c : Change) (f : Fate) → getElem? cs i ≡ some c → getElem? fs i ≡ some f → List·Memᴰ (record { change = c; fate = f }) (withFates cs fs)
+mem-fates : (cs : List Recorded) (fs : List Fate) (i : ℕ) (c : Recorded) (f : Fate) → getElem? cs i ≡ some c → getElem? fs i ≡ some f → List·Memᴰ (record { change = c .change; fate = f; rule = c .rule }) (withFates cs fs)
 unfolding withFates zipWith
 mem-fates [] fs i c f e z = none-some e
 mem-fates (d ∷ cs) [] i c f e z = none-some z
-mem-fates (d ∷ cs) (g ∷ fs) zero c f e z = let same : _≡_ {A = Planned} (record { change = c; fate = f }) (record { change = d; fate = g }) = rw (some-inj e, some-inj z) in List·Memᴰ·head same
+mem-fates (d ∷ cs) (g ∷ fs) zero c f e z = let same : _≡_ {A = Planned} (record { change = c .change; fate = f; rule = c .rule }) (record { change = d .change; fate = g; rule = d .rule }) = rw (some-inj e, some-inj z) in List·Memᴰ·head same
 mem-fates (d ∷ cs) (g ∷ fs) (suc i) c f e z = List·Memᴰ·tail (mem-fates cs fs i c f e z)
 
-module _ (T : Table) (mapped : ℕ → Option ℕ) (c : Change) where
+module _ (T : Table) (mapped : ℕ → Option ℕ) (c : Recorded) where
   mem-stays : (cs : List Change) (ps : List Planned) (r : List Planned × ℕ) → rewriting T mapped cs ps ≡ gives r → List·Memᴰ (alone c) ps → List·Memᴰ (alone c) (r .0)
   unfolding rewriting rewriteOne
   mem-stays cs [] r e m = absurd (List·Memᴰ·not-nil m)
@@ -160,10 +164,10 @@ module _ (T : Table) (mapped : ℕ → Option ℕ) (c : Change) where
       rw (← gives-inj e) (go later n b (List·Memᴰ·cases-cons m) (λ m. mem-stays cs ps later a m))
     where
       go : (later : List Planned × ℕ) (n : Change × ℕ) → rewriteOne T mapped cs p.fate p.change ≡ gives n → (alone c ≡ p) ⊎ List·Memᴰ (alone c) ps → (List·Memᴰ (alone c) ps → List·Memᴰ (alone c) (later .0))
-          → List·Memᴰ (alone c) (record { change = n .0; fate = p .fate } ∷ later .0)
+          → List·Memᴰ (alone c) (record { change = n .0; fate = p .fate; rule = p .rule } ∷ later .0)
       go later n b (inl z) k =
-          let same : (c, 0) ≡ n = gives-inj (ap (λ (p : Planned). rewriteOne T mapped cs p.fate p.change) z ∙ b) in
-          let is : alone c ≡ record { change = n .0; fate = p .fate } = rw (← same, ← z) in
+          let same : (c .change, 0) ≡ n = gives-inj (ap (λ (p : Planned). rewriteOne T mapped cs p.fate p.change) z ∙ b) in
+          let is : alone c ≡ record { change = n .0; fate = p .fate; rule = p .rule } = rw (← same, ← z) in
           List·Memᴰ·head is
       go later n b (inr m) k = List·Memᴰ·tail (k m)
 
@@ -175,12 +179,12 @@ module _ (T : Table) (mapped : ℕ → Option ℕ) (c : Change) where
       (mem-keep (λ (q : ℕ × Planned). owned none (q .1 .fate)) qs (i, alone c) m refl) (Memᴰ·append-right (order qs n (some i)) (List·Memᴰ·head refl))
 
 -- a change that the account calls own is performed, as it was recorded
-pub own-performed : (a : Accepted) (cs : List Change) (p : Plan) → planned1 a cs ≡ gives p → (i : ℕ) (c : Change) → getElem? cs i ≡ some c → getElem? (fates1 a.table cs) i ≡ some own → List·Memᴰ (alone c) (performed a p)
+pub own-performed : (a : Accepted) (cs : List Recorded) (p : Plan) → planned1 a cs ≡ gives p → (i : ℕ) (c : Recorded) → getElem? cs i ≡ some c → getElem? (fates1 a.table (changesOf cs)) i ≡ some own → List·Memᴰ (alone c) (performed a p)
 unfolding performed rewriteChanges rewritten ranked falling
 own-performed a cs p e i c x y =
     let T = a .table in
-    let ps = withFates cs (fates1 T cs) in
-    let m = mem-fates cs (fates1 T cs) i c own x y in
+    let ps = withFates cs (fates1 T (changesOf cs)) in
+    let m = mem-fates cs (fates1 T (changesOf cs)) i c own x y in
     given (rewritten T (mapping a.mappings) ps) _ e λ r z e.
     given (settled T (mapping a.mappings) 0 a.notes) _ e λ notes u e.
     let k = mem-stays T (mapping a.mappings) c (map (λ q. q .change) ps) ps r z m in

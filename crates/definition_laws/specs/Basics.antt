@@ -2,7 +2,7 @@
 -- Assumes nothing.
 use mathlib.Core.Path.{_≡_, refl, sym, ap, _∙_}
 use mathlib.Core.Bool.{Bool, true, false, cond}
-use mathlib.Core.Option.{none, some}
+use mathlib.Core.Option.{Option, none, some, Option·map}
 use mathlib.Core.List.{List, [], _∷_, _++_, map, flatMap, zip, append-assoc}
 use Prim.Native.Nat.{ℕ, zero, suc, _+_, _≤_, _<_}
 use native.Mathlib.Omega.{arith}
@@ -180,3 +180,16 @@ first-passes {A} p (y ∷ l) x e = go (p y) refl e (first-passes p l x)
     go : (b : Bool) → p y ≡ b → cond b (some y) (first p l) ≡ some x → (first p l ≡ some x → p x ≡ true) → p x ≡ true
     go true h q k = rw (some-inj q) at h
     go false h q k = k q
+
+-- what is picked of pairs by their first parts, each second part kept, is picked of the first parts
+pub pick-firsts : {X Y : Type 0} (g : X → Option Y) (l : List (X × ℕ)) → map (λ (d : Y × ℕ). d .0) (pick (λ c. Option·map (λ y. (y, c .1)) (g (c .0))) l) ≡ pick g (map (λ (c : X × ℕ). c .0) l)
+unfolding pick
+pick-firsts g [] = refl
+pick-firsts {X} {Y} g (c ∷ l) = go (g (c .0)) (pick-firsts g l)
+  where
+    kept : List (Y × ℕ)
+    kept = pick (λ c. Option·map (λ y. (y, c .1)) (g (c .0))) l
+
+    go : (o : Option Y) → map (λ (d : Y × ℕ). d .0) kept ≡ pick g (map (λ (c : X × ℕ). c .0) l) → map (λ (d : Y × ℕ). d .0) (more (Option·map (λ y. (y, c .1)) o) kept) ≡ more o (pick g (map (λ (c : X × ℕ). c .0) l))
+    go none r = r
+    go (some y) r = ap {B = List Y} (λ m. y ∷ m) r

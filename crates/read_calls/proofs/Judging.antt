@@ -1,4 +1,4 @@
--- Each answer of `count_fits` and `call_fits`, from the tests that led there.
+-- Each answer of `word_fits` and `call_fits`, from the tests that led there.
 -- Assumes nothing.
 use mathlib.Core.Bool.{Bool, true, false, not, _&&_, _||_}
 use mathlib.Core.List.{List, [], _∷_}
@@ -12,11 +12,11 @@ use Rattle.orders.specs.ListLaws.{lt-or-le}
 use mathlib.Core.Logic.{⊎-elim}
 use Rattle.definition.specs.Basics.{any, among}
 use Rattle.definition.specs.Elements.{Table, isNode}
-use Rattle.definition.specs.Refusals.{wrongCount, sameParent, wrongRun, misplaced}
+use Rattle.definition.specs.Refusals.{wrongCount, ruledStart, sameParent, wrongRun, misplaced}
 use Rattle.read_element_table.specs.View.{view}
 use Rattle.read_element_table.specs.Wellformed.{Wellformed}
 use Rattle.read_element_table.specs.Told.{elementOf, node-told, parent-told, root-told, child-told}
-use Rattle.read_calls.specs.Fits.{countFits, callFits, runFits}
+use Rattle.read_calls.specs.Fits.{wordFits, callFits, runFits}
 
 -- ── Tests ───────────────────────────────────────────────────────────────────────────────────────────────────
 
@@ -39,28 +39,32 @@ above-zero : (k : ℕ) → ltb 0 k ≡ not (eqb k 0)
 above-zero zero = refl
 above-zero (suc k) = rw (lt-ltb 0 (suc k) (omega arith), eqb·suc-zero k)
 
--- ── The count ───────────────────────────────────────────────────────────────────────────────────────────────
+-- ── The call word ───────────────────────────────────────────────────────────────────────────────────────────
 
-module _ (op k : ℕ) where
-  pub count-one : op ≡ 2 → eqb k 1 ≡ countFits op k
-  unfolding countFits wrongCount among any
-  count-one h = rw h (rw (or-false, twice))
+module _ (op k n : ℕ) where
+  pub count-one : op ≡ 2 → eqb k 1 ≡ wordFits op k n
+  unfolding wordFits wrongCount ruledStart among any
+  count-one h = rw h (simp (or-false, twice))
 
-  pub count-none-3 : op ≡ 3 → eqb k 0 ≡ countFits op k
-  unfolding countFits wrongCount among any
-  count-none-3 h = rw h (rw (above-zero k, or-false, or-false, twice))
+  pub count-none : op ≡ 3 → eqb k 0 ≡ wordFits op k n
+  unfolding wordFits wrongCount ruledStart among any
+  count-none h = rw h (simp (above-zero k, or-false, twice))
 
-  pub count-some : op ≡ 5 → ltb 0 k ≡ countFits op k
-  unfolding countFits wrongCount among any
-  count-some h = rw h (above-zero k)
+  pub count-some : op ≡ 5 → ltb 0 k ≡ wordFits op k n
+  unfolding wordFits wrongCount ruledStart among any
+  count-some h = rw h (simp (above-zero k, or-false))
 
-  pub count-none-6 : op ≡ 6 → eqb k 0 ≡ countFits op k
-  unfolding countFits wrongCount among any
-  count-none-6 h = rw h (rw (above-zero k, or-false, or-false, twice))
+  pub start-alone : op ≡ 6 → k ≡ 0 → eqb n 0 ≡ wordFits op k n
+  unfolding wordFits wrongCount ruledStart among any
+  start-alone h z = rw (h, z) (simp twice)
 
-  pub count-any : (op ≡ 2 → ⊥) → (op ≡ 3 → ⊥) → (op ≡ 5 → ⊥) → (op ≡ 6 → ⊥) → leb op 6 ≡ countFits op k
-  unfolding countFits wrongCount among any
-  count-any a b c d = rw (ne-eqb op 2 a, ne-eqb op 3 b, ne-eqb op 5 c, ne-eqb op 6 d, or-false (ltb 6 op), not-less 6 op)
+  pub start-lists : op ≡ 6 → (k ≡ 0 → ⊥) → false ≡ wordFits op k n
+  unfolding wordFits wrongCount ruledStart among any
+  start-lists h z = rw (h, above-zero k, ne-eqb k 0 z)
+
+  pub count-any : (op ≡ 2 → ⊥) → (op ≡ 3 → ⊥) → (op ≡ 5 → ⊥) → (op ≡ 6 → ⊥) → leb op 6 ≡ wordFits op k n
+  unfolding wordFits wrongCount ruledStart among any
+  count-any a b c d = rw (ne-eqb op 2 a, ne-eqb op 3 b, ne-eqb op 5 c, ne-eqb op 6 d, or-false (ltb 6 op), or-false (ltb 6 op), not-less 6 op)
 
 -- ── The place ───────────────────────────────────────────────────────────────────────────────────────────────
 

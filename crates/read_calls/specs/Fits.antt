@@ -1,4 +1,4 @@
--- Line 6 of one call, in two parts: the operation with its count, and where the call stands. Numbers of E or more are judged where they are read.
+-- Line 6 of one call, in two parts: what its call word says, and where the call stands. Numbers of E or more are judged where they are read.
 -- Assumes nothing.
 use mathlib.Core.Bool.{Bool, true, false, not, _&&_, _||_}
 use mathlib.Core.List.{List, [], _∷_, headD}
@@ -11,13 +11,13 @@ use Rattle.orders.specs.Lists.{All}
 use Rattle.orders.specs.ListLaws.{bool-absurd}
 use Rattle.definition.specs.Basics.{any}
 use Rattle.definition.specs.Elements.{Table}
-use Rattle.definition.specs.Refusals.{Call, wrongCount, misplaced, wrongCall}
+use Rattle.definition.specs.Refusals.{Call, wrongCount, ruledStart, misplaced, wrongCall}
 use Rattle.read_element_table.specs.View.{view}
 use Rattle.read_element_table.specs.Told.{length-view}
 
--- the operation is known, and may list so many elements
-unfoldable pub countFits : ℕ → ℕ → Bool
-countFits op count = not (ltb 6 op || wrongCount op count)
+-- the operation is known, may list so many elements, and may carry the rule number
+unfoldable pub wordFits : ℕ → ℕ → ℕ → Bool
+wordFits op count rule = not (ltb 6 op || wrongCount op count || ruledStart op rule)
 
 -- a call of the operation op with target x and first listed element y stands where it may
 unfoldable pub callFits : Table → ℕ → ℕ → ℕ → Bool
@@ -30,21 +30,21 @@ unfolding any
 none-beyond n [] h = refl
 none-beyond n (e ∷ l) h = rw (lt-leb n e (h .0), none-beyond n l (h .1))
 
-twice : (a : Bool) → a ≡ not (not a)
-twice true = refl
-twice false = refl
+parts : (a b c d e : Bool) → c ≡ false → (a || b || c || d || e) ≡ not (not (a || b || e) && not d)
+parts true b c d e q = refl
+parts false true c d e q = refl
+parts false false true d e q = bool-absurd refl q
+parts false false false true true q = refl
+parts false false false true false q = refl
+parts false false false false true q = refl
+parts false false false false false q = refl
 
-parts : (a b c d : Bool) → c ≡ false → (a || b || c || d) ≡ not (not (a || b) && not d)
-parts true b c d q = refl
-parts false true c d q = refl
-parts false false true d q = bool-absurd refl q
-parts false false false d q = twice d
-
-pub judged : (n : ℕ) (w r : List ℕ) (c : Call) → All (λ e. e < n) (c .target ∷ c .listed) → wrongCall (view n w r) c ≡ not (countFits (c .operation) (length (c .listed)) && callFits (view n w r) (c .operation) (c .target) (headD (c .listed) 0))
-unfolding wrongCall countFits callFits
+pub judged : (n : ℕ) (w r : List ℕ) (c : Call) → All (λ e. e < n) (c .target ∷ c .listed)
+    → wrongCall (view n w r) c ≡ not (wordFits (c .operation) (length (c .listed)) (c .rule) && callFits (view n w r) (c .operation) (c .target) (headD (c .listed) 0))
+unfolding wrongCall wordFits callFits
 judged n w r c h =
     let T : Table = view n w r in
-    parts (ltb 6 (c .operation)) (wrongCount (c .operation) (length (c .listed))) (any (λ e. leb (length T) e) (c .target ∷ c .listed)) (misplaced T (c .operation) (c .target) (headD (c .listed) 0))
+    parts (ltb 6 (c .operation)) (wrongCount (c .operation) (length (c .listed))) (any (λ e. leb (length T) e) (c .target ∷ c .listed)) (misplaced T (c .operation) (c .target) (headD (c .listed) 0)) (ruledStart (c .operation) (c .rule))
     (rw (length-view n w r) (none-beyond n (c .target ∷ c .listed) h))
 
 -- ── By the words ────────────────────────────────────────────────────────────────────────────────────────────

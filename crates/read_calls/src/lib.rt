@@ -6,17 +6,24 @@ ghost use lib.ListN.{length, getD, drop};
 ghost use lib.Dec.{eqb};
 ghost use Rattle.definition.specs.Words.{words as wordsOf};
 ghost use Rattle.definition.specs.Elements.{isNode};
-ghost use Rattle.definition.specs.Refusals.{operationOf, countOf};
+ghost use Rattle.definition.specs.Refusals.{operationOf, countOf, ruleOf};
 ghost use Rattle.read_element_table.specs.View.{view};
 ghost use Rattle.read_element_table.specs.Wellformed.{Wellformed};
 ghost use Rattle.read_element_table.specs.Told.{childCount};
-ghost use Rattle.read_calls.specs.Fits.{countFits, callFits, runFits};
+ghost use Rattle.read_calls.specs.Fits.{wordFits, callFits, runFits};
 use read_element_table::CHILD;
 use read_element_table::PARENT;
 use read_element_table::child_count;
 use read_element_table::entry;
 use read_element_table::is_node;
 use read_element_table::is_root;
+
+// Above its operation a call word has the listed count, which is below this.
+pub const COUNTS: usize = 4096;
+// Above the count it has the rule number, which counts this and is below `RULES`.
+pub const RULE: usize = 1048576;
+
+pub const RULES: usize = 4096;
 
 // The operation of a call word.
 pub fn operation_of(word: usize) -> usize
@@ -29,7 +36,14 @@ pub fn operation_of(word: usize) -> usize
 pub fn count_of(word: usize) -> usize
     ensures { λ r. ⌜ r ≡ countOf word ⌝ }
 {
-    word / read_layout::OPERATIONS
+    word / read_layout::OPERATIONS % COUNTS
+}
+
+// The number of the rule that queued a call, by its word.
+pub fn rule_of(word: usize) -> usize
+    ensures { λ r. ⌜ r ≡ ruleOf word ⌝ }
+{
+    word / RULE % RULES
 }
 
 // The first of the `count` listed elements that stand at `from` in a batch, 0 if there is none.
@@ -54,9 +68,9 @@ pub fn run_fits(table: &[u32], x: usize, y: usize) -> bool
     false
 }
 
-// Whether the operation is known and may list `count` elements.
-pub fn count_fits(operation: usize, count: usize) -> bool
-    ensures { λ r. ⌜ r ≡ countFits operation count ⌝ }
+// Whether a call word names a known operation, which may list `count` elements and carry the rule number `rule`.
+pub fn word_fits(operation: usize, count: usize, rule: usize) -> bool
+    ensures { λ r. ⌜ r ≡ wordFits operation count rule ⌝ }
 {
     if operation == 2 {
         return count == 1;
@@ -68,7 +82,10 @@ pub fn count_fits(operation: usize, count: usize) -> bool
         return 0 < count;
     }
     if operation == 6 {
-        return count == 0;
+        if count == 0 {
+            return rule == 0;
+        }
+        return false;
     }
     operation <= 6
 }

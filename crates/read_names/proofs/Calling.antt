@@ -1,6 +1,6 @@
 -- Lines 6 and 16: each answer, from the tests that led there.
 -- Assumes nothing.
-use mathlib.Core.Path.{_≡_, sym, _∙_}
+use mathlib.Core.Path.{_≡_, refl, sym, _∙_}
 use mathlib.Core.Bool.{Bool, true, false, not, _&&_, _||_}
 use mathlib.Core.List.{List, [], _∷_, headD, zip}
 use mathlib.Core.Logic.{inl, inr}
@@ -14,14 +14,14 @@ use Rattle.orders.specs.Lists.{All}
 use Rattle.orders.specs.ListLaws.{lt-or-le, All-map}
 use Rattle.definition.specs.Basics.{any}
 use Rattle.definition.specs.Words.{word, words}
-use Rattle.definition.specs.Refusals.{operationOf, countOf, callOf, wrongCount, mostListed, tooMany, wrongCall}
+use Rattle.definition.specs.Refusals.{operationOf, countOf, ruleOf, callOf, wrongCount, ruledStart, mostListed, tooMany, wrongCall}
 use Rattle.words.specs.Bytes.{length-words, take-words, drop-words}
 use Rattle.definition.specs.Elements.{Table}
 use Rattle.read_element_table.specs.View.{view}
 use Rattle.read_spelling.specs.Spelling.{elementsAt}
 use Rattle.read_spelling.specs.Stack.{elementsFrom, elements-all, elements-none, elements-more}
 use Rattle.read_element_table.specs.Told.{length-view}
-use Rattle.read_calls.specs.Fits.{countFits, callFits, judged}
+use Rattle.read_calls.specs.Fits.{wordFits, callFits, judged}
 use Rattle.definition_laws.specs.Right.{neither, none-passes}
 use Rattle.read_layout.specs.Truth.{or-true, twice}
 use Rattle.read_names.specs.Called.{callsFit, wordTooMany, fit-end, fit-more}
@@ -36,18 +36,27 @@ unfolding headD
 head-below n [] p h = p
 head-below n (e ∷ l) p h = h .0
 
-pub known-operation : (op k : ℕ) (t : Bool) → t ≡ countFits op k → not t ≡ false → op ≤ 6
-unfolding countFits
-known-operation op k t g q = ltb-false 6 op (neither (ltb 6 op) (wrongCount op k) (not-true _ (sym g ∙ not-false t q)) .0)
+pub known-operation : (op k rule : ℕ) (t : Bool) → t ≡ wordFits op k rule → not t ≡ false → op ≤ 6
+unfolding wordFits
+known-operation op k rule t g q =
+    let (known, _) = neither (ltb 6 op || wrongCount op k) (ruledStart op rule) (not-true _ (sym g ∙ not-false t q)) in
+    ltb-false 6 op (neither (ltb 6 op) (wrongCount op k) known .0)
 
 pub first-below : (n x y : ℕ) (l : List ℕ) (u : Bool) → x < n → u ≡ not (any (leb n) l) → not u ≡ false → y ≡ headD l 0 → y < n
 first-below n x y l u h g q d = rw d (head-below n l (omega arith) (all-below n l (not-true _ (sym g ∙ not-false u q))))
 
 module _ (n : ℕ) (w r : List ℕ) (word x : ℕ) (m : List ℕ) (k : ℕ) (e : k ≡ countOf word) where
-  module _ (op : ℕ) (f : op ≡ operationOf word) (t : Bool) (g : t ≡ countFits op k) where
-    pub wrong-count : not t ≡ true → false ≡ not (wrongCall (view n w r) (callOf word x (words (countOf word) m)))
-    unfolding wrongCall countFits
-    wrong-count q = rw (length-words (countOf word) m, ← e, ← f, not-false (ltb 6 op || wrongCount op k) (sym g ∙ not-true t q))
+  module _ (op : ℕ) (f : op ≡ operationOf word) (rule : ℕ) (i : rule ≡ ruleOf word) (t : Bool) (g : t ≡ wordFits op k rule) where
+    pub wrong-word : not t ≡ true → false ≡ not (wrongCall (view n w r) (callOf word x (words (countOf word) m)))
+    unfolding wrongCall wordFits
+    wrong-word q =
+        rw (length-words (countOf word) m, ← e, ← f, ← i)
+        (one-wrong (ltb 6 op) (wrongCount op k) _ _ (ruledStart op rule) (not-false (ltb 6 op || wrongCount op k || ruledStart op rule) (sym g ∙ not-true t q)))
+      where
+        one-wrong : (a b c d e : Bool) → (a || b || e) ≡ true → false ≡ not (a || b || c || d || e)
+        one-wrong true b c d e h = refl
+        one-wrong false true c d e h = refl
+        one-wrong false false c d e h = rw (h, or-true (c || d))
 
   pub wrong-target : n ≤ x → false ≡ not (wrongCall (view n w r) (callOf word x (words (countOf word) m)))
   unfolding wrongCall any
@@ -58,12 +67,12 @@ module _ (n : ℕ) (w r : List ℕ) (word x : ℕ) (m : List ℕ) (k : ℕ) (e :
     unfolding wrongCall any
     wrong-listed q = rw (length-view n w r, ← e, not-false (any (leb n) (words k m)) (sym g ∙ not-true u q), or-true, or-true)
 
-    pub call-judged : (op : ℕ) → op ≡ operationOf word → (t : Bool) → t ≡ countFits op k → not t ≡ false → x < n → not u ≡ false → (y : ℕ) → y ≡ headD (words k m) 0 → (v : Bool) → v ≡ callFits (view n w r) op x y
+    pub call-judged : (op : ℕ) → op ≡ operationOf word → (rule : ℕ) → rule ≡ ruleOf word → (t : Bool) → t ≡ wordFits op k rule → not t ≡ false → x < n → not u ≡ false → (y : ℕ) → y ≡ headD (words k m) 0 → (v : Bool) → v ≡ callFits (view n w r) op x y
         → v ≡ not (wrongCall (view n w r) (callOf word x (words (countOf word) m)))
-    call-judged op f t a b h q y d v z =
+    call-judged op f rule i t a b h q y d v z =
         let s = all-below n (words k m) (not-true _ (sym g ∙ not-false u q)) in
         let j = judged n w r (callOf word x (words k m)) (h, s) in
-        rw (← e, j, ← f, ← d, length-words k m, ← a, not-false t b) (z ∙ sym (twice _))
+        rw (← e, j, ← f, ← i, ← d, length-words k m, ← a, not-false t b) (z ∙ sym (twice _))
 
 -- ── How many it lists ───────────────────────────────────────────────────────────────────────────────────────
 

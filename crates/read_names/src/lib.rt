@@ -47,7 +47,8 @@ fn call_stands(
 {
     let operation = read_calls::operation_of(word);
     let count = read_calls::count_of(word);
-    if !read_calls::count_fits(operation, count) {
+    let rule = read_calls::rule_of(word);
+    if !read_calls::word_fits(operation, count, rule) {
         return false;
     }
     if n <= target {

@@ -11,7 +11,7 @@ use Rattle.definition.specs.Answers.{plan, performed, ran}
 use Rattle.definition.specs.Computing.{computed}
 use Rattle.definition.specs.Examples.{Told, inLists, inBytes, nodeOf, tokenOf, call, printedCase}
 use Rattle.definition_demand.specs.Aims.{replacesRoot}
-use Rattle.definition_account.specs.Words.{keepsRoot}
+use Rattle.definition_account.specs.Words.{changedIn, keepsRoot}
 use Rattle.share_laws.specs.Root.{ownRoots}
 use Rattle.share_laws.specs.Share.{liesIn, liesInOne, bytesIn, newText, rewrittenBytes, thousandths, shareIn, share, shared}
 
@@ -52,12 +52,12 @@ shares =
     ∷ []
 
 pub shares-told : map (λ e. shared byDefault [] (inBytes (e .0))) shares ≡ map (λ e. e .1) shares
-unfolding computed inLists inBytes liesIn liesInOne bytesIn newText rewrittenBytes thousandths shareIn share shared
+unfolding computed inLists inBytes liesIn liesInOne bytesIn newText changedIn rewrittenBytes thousandths shareIn share shared
 shares-told = refl
 
 -- 17 comes before 1, and 1 before all else: a work slice of 3 words that needs 4
 pub refusals-first : (shared (record { edge = 2 }) ((3, 4) ∷ []) [] ≡ refused 17) × (shared byDefault ((3, 4) ∷ []) [] ≡ refused 1) × (shared byDefault ((4, 4) ∷ []) [] ≡ refused 2)
-unfolding computed inLists inBytes liesIn liesInOne bytesIn newText rewrittenBytes thousandths shareIn share shared
+unfolding computed inLists inBytes liesIn liesInOne bytesIn newText changedIn rewrittenBytes thousandths shareIn share shared
 refusals-first = (refl, refl, refl)
 
 -- Two editors replace an empty root, the first by itself: the second one's change is a dependent that ends at the root of tree 0, and `ownRoots` is false. Such a root has no text, so the share is 0 and 0.
@@ -78,5 +78,5 @@ rootIn bytes = do
   gives (keepsRoot a.table (performed a p), ownRoots a.table (performed a p), shareIn w)
 
 pub root-twice : rootIn (inBytes emptyRoot) ≡ gives (false, false, (0, 0))
-unfolding computed inLists inBytes liesIn liesInOne bytesIn newText rewrittenBytes thousandths shareIn rootIn replacesRoot keepsRoot ownRoots
+unfolding computed inLists inBytes liesIn liesInOne bytesIn newText changedIn rewrittenBytes thousandths shareIn rootIn replacesRoot keepsRoot ownRoots
 root-twice = refl

@@ -20,6 +20,7 @@ use Rattle.definition.specs.Answers.{Plan, plan, performed, atFirst, ran, edit,
 use Rattle.definition_laws.specs.Answers.{gives-inj, given}
 use Rattle.definition_laws.specs.Limits.{Small, keep-length, steps-changed, ran-known}
 use Rattle.definition_laws.specs.Stages.{numbered-length}
+use Rattle.definition_account.specs.Words.{changedIn}
 use Rattle.share_laws.specs.Share.{liesInOne, bytesIn, newText, rewrittenBytes, thousandths, shareIn, share, shared}
 use Rattle.share_laws.specs.Sum.{hits-none}
 
@@ -59,14 +60,14 @@ thousandths-empty part = refl
 -- no more bytes are rewritten than there are
 pub rewritten-within : (w : World) → length (rewrittenBytes w) ≤ length (newText w)
 unfolding rewrittenBytes bytesIn
-rewritten-within w = omega (arith, keep-length (λ b. liesInOne (newTable w) (changedElements (newTable w) w) (b .0)) (numbered 0 (newText w)), numbered-length 0 (newText w))
+rewritten-within w = omega (arith, keep-length (λ b. liesInOne (newTable w) (changedIn (newTable w) w) (b .0)) (numbered 0 (newText w)), numbered-length 0 (newText w))
 
 -- THE BOUNDS
 pub share-exact : (w : World) → Exact (length (rewrittenBytes w)) (length (newText w))
 share-exact w = thousandths-exact (length (rewrittenBytes w)) (length (newText w)) (rewritten-within w)
 
 -- nothing changed gives 0 and 0
-pub share-nothing : (w : World) → changedElements (newTable w) w ≡ [] → shareIn w ≡ (0, 0)
+pub share-nothing : (w : World) → changedIn (newTable w) w ≡ [] → shareIn w ≡ (0, 0)
 unfolding shareIn rewrittenBytes bytesIn liesInOne any
 share-nothing w e = ap (λ (n : ℕ). thousandths n (length (newText w))) (ap (λ (l : List ℕ). length (bytesIn (newTable w) l (newText w))) e ∙ hits-none (λ i. false) (λ i. refl) 0 (newText w)) ∙ thousandths-nothing (length (newText w))
 
@@ -132,7 +133,7 @@ pub record OfEdit (h : Choices) (bytes : List ℕ) (s : ℕ × ℕ) : Type 0 whe
   pub share : thousandths (length (bytesIn (table 0 0 tree) (result .changed) (result .text))) (length (result .text)) ≡ s
 
 pub share-of-edit : (h : Choices) (bytes : List ℕ) (s : ℕ × ℕ) → share h bytes ≡ gives s → OfEdit h bytes s
-unfolding edit result newText newTable shareIn rewrittenBytes _>>=_
+unfolding edit result newText newTable shareIn rewrittenBytes changedIn _>>=_
 share-of-edit h bytes s e =
     let (a, p, w, x, y, z, q) = share-ran h bytes s e in
     record { result = result p.changes p.climbs w; edited = rw (x, y, z); tree = newTree w; kinds = refl; measures = refl; text = refl; share = q }
@@ -144,12 +145,12 @@ ran-fits h bytes a p w x y z = share-fits w ((ran-known h bytes a p w x y z) .sm
 -- nothing put into tree 0 and recorded, as by deletions alone: 0 and 0
 pub ran-nothing : (h : Choices) (bytes : List ℕ) (a : Accepted) (p : Plan) (w : World) → accepted bytes ≡ gives a → plan h a ≡ gives p → ran a p ≡ gives w
     → total (records a.table) (λ q. length (news q.change)) (performed a p) ≡ 0 → shareIn w ≡ (0, 0)
-unfolding ran atFirst begin changedElements rising sortBy pick
+unfolding ran atFirst begin changedIn changedElements rising sortBy pick
 ran-nothing h bytes a p w x y z e =
     share-nothing w (none-in w.changed (omega (arith, steps-changed a.table (atFirst a p) (performed a p) (atFirst a p) w z)) refl)
   where
-    none-in : (l : List Changed) → length l ≤ 0 → w .changed ≡ l → changedElements (newTable w) w ≡ []
-    none-in [] k e = ap (λ (l : List Changed). rising (λ e. (row (newTable w) e) .start ∷ []) (pick (numberAt (newTable w)) l)) e
+    none-in : (l : List Changed) → length l ≤ 0 → w .changed ≡ l → changedIn (newTable w) w ≡ []
+    none-in [] k e = rw e
     none-in (c ∷ l) k e = absurd (omega arith)
 
 -- the number of a refusal, or none

@@ -4,7 +4,7 @@ use mathlib.Core.Path.{_≡_, refl, sym, ap, ap₂, _∙_, subst}
 use mathlib.Core.Bool.{Bool, true, false, cond, not, _&&_}
 use mathlib.Core.List.{List, [], _∷_, _++_, map, flatMap, append-nil, List·Permᴰ, List·Memᴰ, List·Memᴰ·head, Memᴰ·append-left, Memᴰ·append-right}
 use mathlib.Core.Logic.{inl, inr}
-use mathlib.Core.Option.{none, some, Option·map, bind}
+use mathlib.Core.Option.{Option, none, some, Option·map, bind}
 use Prim.Native.Nat.{ℕ, zero, suc, _+_, _≤_, _<_}
 use native.Mathlib.Omega.{arith}
 use lib.Dec.{eqb}
@@ -14,15 +14,15 @@ use Rattle.orders.specs.Lists.{All, any, pick}
 use Rattle.orders.specs.ListLaws.{bool-absurd, both-true, either-true, some-inj, mem-pick, mem-any, any-mem, any-perm, none-passes, passes-none, All-map, zone-before}
 use Rattle.orders.specs.Tree.{Tree, node, token, list, children, Path, adjust, front, last, text}
 use Rattle.orders.specs.TreeLaws.{front-child, adjust-root}
-use Rattle.definition.specs.Basics.{gives, keep, numbered}
+use Rattle.definition.specs.Basics.{gives, isSome, keep, numbered}
 use Rattle.definition.specs.Choices.{Choices}
 use Rattle.definition.specs.Elements.{Table, table, row, rows, root?, tree, descend}
 use Rattle.definition.specs.Refusals.{Accepted, accepted}
 use Rattle.definition.specs.Recording.{Change, insert, replace, delete, replaceWithMany, replaceAll}
 use Rattle.definition.specs.Planning.{Planned, target}
 use Rattle.definition.specs.Rewriting.{Note}
-use Rattle.definition.specs.Running.{World, begin, Yield, yield, news, Run, fromTo, emptyAt, place, placed, spliced, owned, records, step, steps}
-use Rattle.definition.specs.Finishing.{newTree, newTable, numberAt, changedElements}
+use Rattle.definition.specs.Running.{World, begin, Yield, yield, news, Run, fromTo, emptyAt, place, placed, spliced, owned, records, recordedBy, step, steps}
+use Rattle.definition.specs.Finishing.{newTree, newTable, numberAt}
 use Rattle.definition.specs.Answers.{Plan, plan, performed, ran}
 use Rattle.definition_laws.specs.Answers.{gives-inj, given, bound}
 use Rattle.definition_laws.specs.Kin.{root-is}
@@ -31,9 +31,9 @@ use Rattle.definition_laws.specs.Spelling.{Worded}
 use Rattle.definition_laws.specs.Right.{Right, Sits, right-sits}
 use Rattle.definition_laws.specs.Running.{Follows, follows-begin, step-follows}
 use Rattle.definition_demand.specs.Aims.{Aim, within, root, atFirst, behind, over, aimed, replacesRoot, AtRoot, aims}
-use Rattle.definition_account.specs.Words.{changedPaths, keepsRoot, dependentIn0, noDependentIn0}
+use Rattle.definition_account.specs.Words.{changedPaths, changedIn, keepsRoot, dependentIn0, noDependentIn0}
 use Rattle.definition_account.specs.Changed.{filled, spliced-changed, changed-numbers}
-use Rattle.definition_account.specs.Run.{performs}
+use Rattle.definition_account.specs.Run.{performs, recorded-some}
 use Rattle.definition_account.specs.Account.{Performed, ran-performed}
 use Rattle.share_laws.specs.Share.{liesIn, liesInOne, bytesIn, newText, rewrittenBytes, thousandths, shareIn}
 use Rattle.share_laws.specs.Sum.{hits-cons}
@@ -71,8 +71,8 @@ pub share-root : (w : World) → RootChanged w → 0 < length (newText w) → sh
 unfolding shareIn rewrittenBytes newText newTable newTree numberAt descend
 share-root w m h =
     let F = newTable w in
-    let in-numbers = mem-perm 0 (pick (numberAt F) (changedPaths w)) (changedElements F w) (changed-numbers F w) (mem-pick (numberAt F) (changedPaths w) (0 ∷ []) 0 m refl) in
-    ap (λ (n : ℕ). thousandths n (length (newText w))) (all-first (list (children w.trees)) (changedElements F w) in-numbers) ∙ thousandths-all (length (newText w)) h
+    let in-numbers = mem-perm 0 (pick (numberAt F) (changedPaths w)) (changedIn F w) (changed-numbers F w) (mem-pick (numberAt F) (changedPaths w) (0 ∷ []) 0 m refl) in
+    ap (λ (n : ℕ). thousandths n (length (newText w))) (all-first (list (children w.trees)) (changedIn F w) in-numbers) ∙ thousandths-all (length (newText w)) h
 
 -- ── Where a change goes ─────────────────────────────────────────────────────────────────────────────────────
 
@@ -133,7 +133,7 @@ module _ (ts : List (Tree ℕ)) where
   -- ── One splice ──
 
   -- what is put in as tree 0, and recorded
-  put : (w : World) (r : Run) (new : List Yield) (rec : Bool) → r .parent ≡ [] → r .from ≡ 0 → length new ≡ 1 → rec ≡ true → RootChanged (spliced r new rec w)
+  put : (w : World) (r : Run) (new : List Yield) (rec : Option ℕ) → r .parent ≡ [] → r .from ≡ 0 → length new ≡ 1 → isSome rec ≡ true → RootChanged (spliced r new rec w)
   unfolding placed
   put w r new rec a b n e = subst (List·Memᴰ (0 ∷ [])) (sym (spliced-changed w r new rec)) (Memᴰ·append-right (pick (adjust r.parent r.from r.to (length new)) (changedPaths w)) (rw (e, a, b) (go new n)))
     where
@@ -142,10 +142,10 @@ module _ (ts : List (Tree ℕ)) where
       go (y ∷ ys) n = List·Memᴰ·head refl
 
   -- what is there already
-  stay : (w : World) (r : Run) (new : List Yield) (rec : Bool) → RootChanged w → adjust r.parent r.from r.to (length new) (0 ∷ []) ≡ some (0 ∷ []) → RootChanged (spliced r new rec w)
+  stay : (w : World) (r : Run) (new : List Yield) (rec : Option ℕ) → RootChanged w → adjust r.parent r.from r.to (length new) (0 ∷ []) ≡ some (0 ∷ []) → RootChanged (spliced r new rec w)
   stay w r new rec m e =
       subst (List·Memᴰ (0 ∷ [])) (sym (spliced-changed w r new rec))
-      (Memᴰ·append-left (cond rec (filled r.parent r.from new) []) (mem-pick (adjust r.parent r.from r.to (length new)) (changedPaths w) (0 ∷ []) (0 ∷ []) m e))
+      (Memᴰ·append-left (cond (isSome rec) (filled r.parent r.from new) []) (mem-pick (adjust r.parent r.from r.to (length new)) (changedPaths w) (0 ∷ []) (0 ∷ []) m e))
 
   stay-inside : (j a b n : ℕ) (q : Path) → adjust (j ∷ q) a b n (0 ∷ []) ≡ some (0 ∷ [])
   unfolding adjust
@@ -173,20 +173,20 @@ module _ (ts : List (Tree ℕ)) where
         let new = map (yield first w) (news p.change) in
         subst RootChanged (d .leaves) (go (d .run) new (length-map (news p.change) (yield first w)) (goes w f p.change (d .run) (right-sits T p.change c) (d .there)))
       where
-        go : (r : Run) (new : List Yield) → length new ≡ length (news p.change) → Goes T p.change r → RootChanged (spliced r new (records T p) w)
-        go r new n (inside j q z) = stay w r new (records T p) m (ap (λ (u : Path). adjust u r.from r.to (length new) (0 ∷ [])) z ∙ stay-inside j r.from r.to (length new) q)
+        go : (r : Run) (new : List Yield) → length new ≡ length (news p.change) → Goes T p.change r → RootChanged (spliced r new (recordedBy T p) w)
+        go r new n (inside j q z) = stay w r new (recordedBy T p) m (ap (λ (u : Path). adjust u r.from r.to (length new) (0 ∷ [])) z ∙ stay-inside j r.from r.to (length new) q)
         go r new n (whole z l o) = by r.from refl
           where
-            by : (a : ℕ) → r .from ≡ a → RootChanged (spliced r new (records T p) w)
-            by zero y = put w r new (records T p) z y (n ∙ l) (h (o y))
-            by (suc t) y = stay w r new (records T p) m (ap₂ (λ (u : Path) (a : ℕ). adjust u a r.to (length new) (0 ∷ [])) z y ∙ stay-before t r.to (length new))
+            by : (a : ℕ) → r .from ≡ a → RootChanged (spliced r new (recordedBy T p) w)
+            by zero y = put w r new (recordedBy T p) z y (n ∙ l) (recorded-some T p (h (o y)))
+            by (suc t) y = stay w r new (recordedBy T p) m (ap₂ (λ (u : Path) (a : ℕ). adjust u a r.to (length new) (0 ∷ [])) z y ∙ stay-before t r.to (length new))
 
     -- a root that is replaced is changed
     step-puts : (w next : World) (p : Planned) → Follows ts w → Right T p.change → Records p → replacesRoot T p.change ≡ true → step T first w p ≡ gives next → RootChanged next
     step-puts w next p f c h o e =
         let d = performs T first w next p e in
         let (z, y, l) = goes-root w f p.change (d .run) (right-sits T p.change c) o (d .there) in
-        subst RootChanged (d .leaves) (put w (d .run) (map (yield first w) (news p.change)) (records T p) z y (length-map (news p.change) (yield first w) ∙ l) (h o))
+        subst RootChanged (d .leaves) (put w (d .run) (map (yield first w) (news p.change)) (recordedBy T p) z y (length-map (news p.change) (yield first w) ∙ l) (recorded-some T p (h o)))
 
     steps-stay : (ps : List Planned) (w last : World) → Follows ts w → All (λ p. Right T p.change) ps → All Records ps → RootChanged w → steps T first w ps ≡ gives last → RootChanged last
     unfolding steps

@@ -11,8 +11,9 @@ use Rattle.definition.specs.Choices.{Choices}
 use Rattle.definition.specs.Elements.{Row, Table, row}
 use Rattle.definition.specs.Refusals.{accepted}
 use Rattle.definition.specs.Running.{World}
-use Rattle.definition.specs.Finishing.{newTree, newTable, changedElements}
+use Rattle.definition.specs.Finishing.{newTree, newTable}
 use Rattle.definition.specs.Answers.{plan, ran, withChoices}
+use Rattle.definition_account.specs.Words.{changedIn}
 
 -- the byte at position i of a tree's text lies in the element of this row: not before its start, and before its end
 unfoldable pub liesIn : ℕ → Row → Bool
@@ -32,7 +33,7 @@ newText w = flatMap text (newTree w)
 
 -- "the bytes of the new tree that lie in at least one changed element"
 unfoldable pub rewrittenBytes : World → List (ℕ × ℕ)
-rewrittenBytes w = bytesIn (newTable w) (changedElements (newTable w) w) (newText w)
+rewrittenBytes w = bytesIn (newTable w) (changedIn (newTable w) w) (newText w)
 
 -- "times 1,000, divided by all its bytes: whole quotient and exact remainder. An empty text gives 0 and 0."
 unfoldable pub thousandths : ℕ → ℕ → ℕ × ℕ

@@ -18,9 +18,9 @@ use Rattle.definition.specs.Choices.{Choices}
 use Rattle.definition.specs.Elements.{Row, Table, table, row, noRow, placeBelow}
 use Rattle.definition.specs.Refusals.{Accepted, accepted}
 use Rattle.definition.specs.Running.{World}
-use Rattle.definition.specs.Finishing.{newTree, newTable, numberAt, changedElements}
+use Rattle.definition.specs.Finishing.{newTree, newTable, numberAt}
 use Rattle.definition.specs.Answers.{Plan, plan, ran}
-use Rattle.definition_account.specs.Words.{changedPaths, ChangedApartInNew}
+use Rattle.definition_account.specs.Words.{changedPaths, changedIn, ChangedApartInNew}
 use Rattle.definition_account.specs.Changed.{changed-numbers}
 use Rattle.definition_account.specs.Account.{ran-apart}
 use Rattle.share_laws.specs.Share.{liesIn, liesInOne, bytesIn, newText, rewrittenBytes}
@@ -136,9 +136,9 @@ sum-first (c ∷ cs) l h = ap (λ (b : List ℕ). length (bytesIn (table 0 0 (c 
 
 module _ (w : World) (h : ChangedApartInNew w) where
   -- THE SUM LAW of what any steps left
-  pub sum-law : length (rewrittenBytes w) ≡ textLengths (newTable w) (changedElements (newTable w) w)
+  pub sum-law : length (rewrittenBytes w) ≡ textLengths (newTable w) (changedIn (newTable w) w)
   unfolding rewrittenBytes newText newTable newTree
-  sum-law = sum-first (list (children w.trees)) (changedElements (newTable w) w) (h .aside)
+  sum-law = sum-first (list (children w.trees)) (changedIn (newTable w) w) (h .aside)
 
   -- the same in the order of time, as the changed elements stand before they are sorted
   pub sum-in-time : length (rewrittenBytes w) ≡ textLengths (newTable w) (pick (numberAt (newTable w)) (changedPaths w))
@@ -147,5 +147,5 @@ module _ (w : World) (h : ChangedApartInNew w) where
 
 -- of a batch, whatever the choices
 pub ran-sum : (h : Choices) (bytes : List ℕ) (a : Accepted) (p : Plan) (w : World) → accepted bytes ≡ gives a → plan h a ≡ gives p → ran a p ≡ gives w
-    → length (rewrittenBytes w) ≡ textLengths (newTable w) (changedElements (newTable w) w)
+    → length (rewrittenBytes w) ≡ textLengths (newTable w) (changedIn (newTable w) w)
 ran-sum h bytes a p w x y z = sum-law w ((ran-apart h bytes a p w x y z) .1)

@@ -14,13 +14,13 @@ use Rattle.orders.specs.ListLaws.{either-false}
 use Rattle.definition.specs.Basics.{Answer, refused, gives, _>>=_, refuse, isRefused, any}
 use Rattle.definition.specs.Words.{words, written}
 use Rattle.definition.specs.Batch.{Sizes, Batch, sizes, beyond, whole, arrays, batch}
-use Rattle.definition.specs.Refusals.{operationOf, countOf, Accepted, accepted}
+use Rattle.definition.specs.Refusals.{operationOf, countOf, ruleOf, Accepted, accepted}
 use Rattle.definition.specs.Writing.{Lists, sizesOf, sevenSizes, callWords, laidOut, differ, outOfStep, unfitting, unlayable, wrongLists, write, listsOf, lists}
 use Rattle.definition_laws.specs.Answers.{gives-inj, given, not-wrong}
 use Rattle.definition_laws.specs.Accepted.{Limited, limited, Sized, batch-sized}
 use Rattle.words.specs.Bytes.{Words, Bytes, drop-bytes, words-small, length-written, words-written}
 use Rattle.write_laws.specs.Arrays.{parted, behind, taken, joined, parted-joined, behind-joined, rejoined, joined-parted}
-use Rattle.write_laws.specs.CallWords.{Below, none-over, over-none, length-calls, operations-read, counts-read, calls-small, calls-again, operations-small, counts-small}
+use Rattle.write_laws.specs.CallWords.{Below, none-over, over-none, length-calls, calls-read, calls-small, calls-again, operations-small, counts-small, rules-small}
 
 -- the lists of words are made of words
 abbrev pub Worded : Lists → Type 0
@@ -50,7 +50,7 @@ batchOf trees ls text = record {
 
 -- the arrays that are laid out
 arraysOf : Lists → List (List ℕ)
-arraysOf l = l .kinds ∷ l .measures ∷ callWords l.operations l.counts ∷ l .targets ∷ l .listed ∷ l .inputs ∷ l .outputs ∷ l .noted ∷ l .numbers ∷ []
+arraysOf l = l .kinds ∷ l .measures ∷ callWords l.operations l.counts l.rules ∷ l .targets ∷ l .listed ∷ l .inputs ∷ l .outputs ∷ l .noted ∷ l .numbers ∷ []
 
 arrays-parted : (s : Sizes) (b : List ℕ) → arrays s b ≡ batchOf s.trees (parted (counts s) (drop 28 b)) (behind (counts s) (drop 28 b))
 unfolding arrays batchOf parted behind counts
@@ -83,6 +83,7 @@ pub record InStep (l : Lists) : Type 0 where
   pub limits : Limited (sizesOf l)
   pub measures : length l.kinds ≡ length l.measures
   pub counts : length l.operations ≡ length l.counts
+  pub rules : length l.operations ≡ length l.rules
   pub targets : length l.operations ≡ length l.targets
   pub outputs : length l.inputs ≡ length l.outputs
   pub numbers : length l.noted ≡ length l.numbers
@@ -91,7 +92,8 @@ pub record InStep (l : Lists) : Type 0 where
 pub record Layable (l : Lists) : Type 0 where
   pub step : InStep l
   pub operations : Below 256 l.operations
-  pub few : Below 16777216 l.counts
+  pub few : Below 4096 l.counts
+  pub ruled : Below 4096 l.rules
 
 same-length : (l m : List ℕ) → differ l m ≡ false → length l ≡ length m
 unfolding differ
@@ -109,24 +111,28 @@ not-refused (gives a) e = (a, refl)
 pub layable : (l : Lists) → unlayable l ≡ false → Layable l
 unfolding unlayable outOfStep unfitting
 layable l e =
-    let (e, fits) = either-false _ (any (leb 256) l.operations || any (leb 16777216) l.counts) e in
+    let (e, fits) = either-false _ (any (leb 256) l.operations || any (leb 4096) l.counts || any (leb 4096) l.rules) e in
     let (step, within) = either-false _ (beyond (sizesOf l)) e in
     let (step, numbers) = either-false _ (differ l.noted l.numbers) step in
     let (step, outputs) = either-false _ (differ l.inputs l.outputs) step in
     let (step, targets) = either-false _ (differ l.operations l.targets) step in
+    let (step, rules) = either-false _ (differ l.operations l.rules) step in
     let (measures, counts) = either-false (differ l.kinds l.measures) (differ l.operations l.counts) step in
-    let (operations, few) = either-false (any (leb 256) l.operations) (any (leb 16777216) l.counts) fits in
+    let (fits, ruled) = either-false _ (any (leb 4096) l.rules) fits in
+    let (operations, few) = either-false (any (leb 256) l.operations) (any (leb 4096) l.counts) fits in
     record {
       step = record {
         limits = limited (sizesOf l) within;
         measures = same-length l.kinds l.measures measures;
         counts = same-length l.operations l.counts counts;
+        rules = same-length l.operations l.rules rules;
         targets = same-length l.operations l.targets targets;
         outputs = same-length l.inputs l.outputs outputs;
         numbers = same-length l.noted l.numbers numbers;
       };
       operations = none-over 256 l.operations (omega arith) operations;
-      few = none-over 16777216 l.counts (omega arith) few;
+      few = none-over 4096 l.counts (omega arith) few;
+      ruled = none-over 4096 l.rules (omega arith) ruled;
     }
 
 -- ── What is laid out is read ────────────────────────────────────────────────────────────────────────────────
@@ -149,7 +155,7 @@ module _ (l : Lists) (y : Layable l) where
 
   counts-told : counts (sizesOf l) ≡ map length (arraysOf l)
   unfolding counts sizesOf arraysOf
-  counts-told = rw (length-calls l.operations l.counts (y .step .counts), ← y .step .measures, ← y .step .targets, ← y .step .outputs, ← y .step .numbers) refl
+  counts-told = rw (length-calls l.operations l.counts l.rules (y .step .counts) (y .step .rules), ← y .step .measures, ← y .step .targets, ← y .step .outputs, ← y .step .numbers) refl
 
   front-passed : drop 28 (laidOut l) ≡ joined (arraysOf l) l.text
   unfolding sevenSizes
@@ -157,7 +163,7 @@ module _ (l : Lists) (y : Layable l) where
 
   arrays-worded : Worded l → All Words (arraysOf l)
   unfolding arraysOf
-  arrays-worded w = (w .0, (w .1 .0, (calls-small l.operations l.counts (y .operations) (y .few), w .1 .1)))
+  arrays-worded w = (w .0, (w .1 .0, (calls-small l.operations l.counts l.rules (y .operations) (y .few) (y .ruled), w .1 .1)))
 
   -- the arrays that are read are those that were laid out
   laid-arrays : Worded l → arrays (sizes (laidOut l)) (laidOut l) ≡ batchOf l.trees (arraysOf l) l.text
@@ -168,7 +174,7 @@ module _ (l : Lists) (y : Layable l) where
   -- and tell the same lists
   told-lists : listsOf (batchOf l.trees (arraysOf l) l.text) ≡ l
   unfolding listsOf batchOf arraysOf
-  told-lists = rw (operations-read l.operations l.counts (y .step .counts) (y .operations), counts-read l.operations l.counts (y .step .counts) (y .operations)) refl
+  told-lists = let c = calls-read l.operations l.counts l.rules (y .step .counts) (y .step .rules) (y .operations) (y .few) (y .ruled) in rw (c .operations, c .counts, c .rules) refl
 
 -- what lines 2 to 4 give
 batch-given : (b : List ℕ) (B : Batch) → batch b ≡ gives B → (arrays (sizes b) b ≡ B) × (length b ≡ whole (sizes b)) × (beyond (sizes b) ≡ false)
@@ -204,9 +210,17 @@ module _ (b : List ℕ) (h : Bytes b) (q : length b ≡ whole (sizes b)) (z : Si
   unfolding sizesOf listsOf
   sizes-again = same-sizes (z .trees) (z .kinds) (z .text) (length-map ((arrays (sizes b) b) .calls) operationOf ∙ z .calls) (z .listed) (z .inputs) (z .noted)
 
+  calls-words : Words ((arrays (sizes b) b) .calls)
+  unfolding arrays
+  calls-words =
+      let s = sizes b in
+      let k = drop 28 b in
+      let m = drop (4 * s.elements) k in
+      words-small s.calls (drop (4 * s.elements) m) (drop-bytes (4 * s.elements) m (drop-bytes (4 * s.elements) k (drop-bytes 28 b h)))
+
   arrays-again : arraysOf (listsOf (arrays (sizes b) b)) ≡ parted (counts (sizes b)) (drop 28 b)
   unfolding arraysOf listsOf arrays parted counts
-  arrays-again = rw (calls-again ((arrays (sizes b) b) .calls)) refl
+  arrays-again = rw (calls-again ((arrays (sizes b) b) .calls) calls-words) refl
 
   text-again : (listsOf (arrays (sizes b) b)) .text ≡ behind (counts (sizes b)) (drop 28 b)
   unfolding listsOf arrays behind counts
@@ -221,14 +235,6 @@ module _ (b : List ℕ) (h : Bytes b) (q : length b ≡ whole (sizes b)) (z : Si
       let front = joined-parted (counts (sizes b)) (drop 28 b) (omega (arith, long, length-drop 28 b)) (drop-bytes 28 b h) in
       rw (laid-joined (listsOf (arrays (sizes b) b)), sizes-again, ← seven b, arrays-again, text-again, front) (rejoined 7 b (omega (arith, long)) h)
 
-  calls-words : Words ((arrays (sizes b) b) .calls)
-  unfolding arrays
-  calls-words =
-      let s = sizes b in
-      let k = drop 28 b in
-      let m = drop (4 * s.elements) k in
-      words-small s.calls (drop (4 * s.elements) m) (drop-bytes (4 * s.elements) m (drop-bytes (4 * s.elements) k (drop-bytes 28 b h)))
-
   -- what is read is not wrong
   read-right : beyond (sizes b) ≡ false → {a : Accepted} → accepted b ≡ gives a → wrongLists (listsOf (arrays (sizes b) b)) ≡ false
   unfolding wrongLists unlayable outOfStep unfitting listsOf isRefused
@@ -236,14 +242,17 @@ module _ (b : List ℕ) (h : Bytes b) (q : length b ≡ whole (sizes b)) (z : Si
       let B = arrays (sizes b) b in
       let operations = length-map B.calls operationOf ∙ z .calls in
       let counts = length-map B.calls countOf ∙ z .calls in
+      let rules = length-map B.calls ruleOf ∙ z .calls in
       rw (
         in-step B.kinds B.measures (z .kinds ∙ sym (z .measures)),
         in-step (map operationOf B.calls) (map countOf B.calls) (operations ∙ sym counts),
+        in-step (map operationOf B.calls) (map ruleOf B.calls) (operations ∙ sym rules),
         in-step (map operationOf B.calls) B.targets (operations ∙ sym (z .targets)),
         in-step B.inputs B.outputs (z .inputs ∙ sym (z .outputs)),
         in-step B.noted B.numbers (z .noted ∙ sym (z .numbers)),
         over-none 256 (map operationOf B.calls) (operations-small B.calls),
-        over-none 16777216 (map countOf B.calls) (counts-small B.calls calls-words),
+        over-none 4096 (map countOf B.calls) (counts-small B.calls),
+        over-none 4096 (map ruleOf B.calls) (rules-small B.calls),
         sizes-again,
         small,
         again,

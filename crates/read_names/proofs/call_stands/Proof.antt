@@ -1,7 +1,7 @@
 -- `call_stands` meets its contract: one law for each way out.
 -- Assumes nothing.
 use borrow.Author.Needs.{needs}
-use Rattle.read_names.proofs.Calling.{wrong-count, wrong-target, wrong-listed, known-operation, first-below, call-judged}
+use Rattle.read_names.proofs.Calling.{wrong-word, wrong-target, wrong-listed, known-operation, first-below, call-judged}
 use Rattle.read_names.proofs.call_stands.Statement.{statement}
 use Rattle.read_names.proofs.call_stands.Tie as tie
 
@@ -11,11 +11,14 @@ operation-of-requires c κs = search needs
 count-of-requires : tie.Need-count-of-requires
 count-of-requires c κs = search needs
 
-count-fits-requires : tie.Need-count-fits-requires
-count-fits-requires c κs = search needs
+rule-of-requires : tie.Need-rule-of-requires
+rule-of-requires c κs = search needs
+
+word-fits-requires : tie.Need-word-fits-requires
+word-fits-requires c κs = search needs
 
 returns : tie.Need-returns
-returns c = search (wrong-count, needs)
+returns c = search (wrong-word, needs)
 
 returns-2 : tie.Need-returns-2
 returns-2 c = search (wrong-target, needs)
@@ -43,7 +46,8 @@ call-stands-spec =
     (tie.spec
     operation-of-requires
     count-of-requires
-    count-fits-requires
+    rule-of-requires
+    word-fits-requires
     returns
     returns-2
     all-below-requires
