@@ -19,7 +19,7 @@ pub record End : Type 0 where
   pub planned : Plan
   pub world : World
 
--- what a batch comes to, or its refusal out of 2 to 12
+-- what a batch comes to, or its refusal out of 2 to 12 and 16
 unfoldable pub ending : Choices → List ℕ → Answer End
 ending h b = do
   a ← accepted b

@@ -200,7 +200,7 @@ fn refused_first(
     0
 }
 
-// From a batch to what its run leaves, or the first refusal out of 17 and 1 to 12.
+// From a batch to what its run leaves, or the first refusal out of 17, 1 to 12 and 16.
 pub fn perform(
     choices: Choices,
     b: &[u8],

@@ -9,6 +9,7 @@ ghost use Rattle.definition.specs.Basics.{refused, gives};
 ghost use Rattle.result_laws.specs.Decoded.{told, decoded};
 ghost use Rattle.edit_print.specs.Printable.{Fits, Printable};
 ghost use Rattle.edit_print.specs.Lines.{Put, spaced, lineOf, pairsAt, changedLine, noteLine};
+use result_laws::ARRAYS;
 
 // One byte is written at `at`.
 fn put(out: &mut [u8], at: usize, byte: u8) -> usize
@@ -190,7 +191,7 @@ fn put_tree(out: &mut [u8], at: usize, b: &[u8], n: usize, from: usize, t: usize
     requires { ⌜ (24 + 8 * n ≤ from) × (from + t ≤ length (now b)) × (at + 24 * n + (2 * t + 6) ≤ length (now out)) ⌝ }
     ensures { λ r. ⌜ Put (now (out .entry)) at (flatMap elementLine (pairsAt (now (b .entry)) 24 n) ++ textLine (take t (drop from (now (b .entry))))) (now (out .exit)) r ⌝ }
 {
-    let to = put_elements(out, at, b, 24, n);
+    let to = put_elements(out, at, b, ARRAYS, n);
     let end = from + t;
     put_text(out, to, &b[from..end])
 }
@@ -219,8 +220,8 @@ fn put_result(
     ensures { λ r. ⌜ Put (now (out .entry)) 0 (print (gives (told (now (b .entry)) n t c m discarded climbs))) (now (out .exit)) r ⌝ }
 {
     let sized = put_line(out, 0, b"ok", &[n, t, c, m, discarded, climbs]);
-    let treed = put_tree(out, sized, b, n, 24 + 8 * n + 4 * c + 8 * m, t);
-    put_found(out, treed, b, 24 + 8 * n, c, m)
+    let treed = put_tree(out, sized, b, n, ARRAYS + 8 * n + 4 * c + 8 * m, t);
+    put_found(out, treed, b, ARRAYS + 8 * n, c, m)
 }
 
 // What is printed of the result whose bytes are `b` is written at the front.
@@ -228,12 +229,12 @@ pub fn print_result(out: &mut [u8], b: &[u8]) -> usize
     requires { ⌜ Printable (now b) (length (now out)) ⌝ }
     ensures { λ r. ⌜ Put (now (out .entry)) 0 (print (gives (decoded (now (b .entry))))) (now (out .exit)) r ⌝ }
 {
-    let n = words::read_word(b, 0);
-    let t = words::read_word(b, 4);
-    let c = words::read_word(b, 8);
-    let m = words::read_word(b, 12);
-    let discarded = words::read_word(b, 16);
-    let climbs = words::read_word(b, 20);
+    let n = words::read_word(b, result_laws::ELEMENTS);
+    let t = words::read_word(b, result_laws::TEXT);
+    let c = words::read_word(b, result_laws::CHANGED);
+    let m = words::read_word(b, result_laws::NOTES);
+    let discarded = words::read_word(b, result_laws::DISCARDED);
+    let climbs = words::read_word(b, result_laws::CLIMBS);
     put_result(out, b, n, t, c, m, discarded, climbs)
 }
 

@@ -5,17 +5,15 @@ use mathlib.Core.List.{List, [], _∷_, _++_, headD, append-nil, append-assoc}
 use Prim.Native.Nat.{ℕ, suc, _+_, _-_, _*_, _^_, _≤_, _<_}
 use native.Mathlib.Omega.{arith}
 use lib.ListN.{length, getD, set, take, drop, length-set, length-drop, drop-of-length-le}
-use lib.Seq.{drop-cons, getD-set-same, drop-set-lt, take-all}
+use lib.Seq.{drop-cons, getD-set-same, drop-set-lt, take-all, length-take-le}
 use Rattle.orders.specs.Tree.{Path}
 use Rattle.definition.specs.Elements.{row, tree}
 use Rattle.read_element_table.specs.View.{field, pathTo, rowAt, view}
 use Rattle.read_element_table.specs.Wellformed.{Lines}
 use Rattle.read_element_table.specs.Told.{row-view, parent-below, deep}
-use Rattle.rows_syntax_node.specs.Promises.{Part}
 use Rattle.rows_path.specs.Promises.{Resolves}
 use Rattle.rows_path.specs.declared.Resolved.{Resolved}
 use Rattle.rows_path.specs.declared.Resolved.the-variants.{At, Nothing}
-use Rattle.finish_arrays.specs.NewTree.{tree-long}
 use Rattle.finish_find.specs.OldStart.{TreesTold, PathFrom, old-resolved}
 
 -- ── The path of an element ──────────────────────────────────────────────────────────────────────────────────
@@ -110,14 +108,18 @@ module _ {n : ℕ} {w : List ℕ} {k : ℕ} {a : List ℕ} {at from p : ℕ} (v 
 
 -- ── What resolving it gives ─────────────────────────────────────────────────────────────────────────────────
 
--- tree 0 is no longer than all trees
-pub first-short : {n : ℕ} {t s part : List ℕ} → TreesTold n t s → Part s (n + 1) 1 part → length part < 3 * 2 ^ 16
-first-short v p = omega (arith, tree-long p (omega (arith, v .formed .long)) (omega arith), v .formed .lines .few)
+module _ {n : ℕ} {t s : List ℕ} (v : TreesTold n t s) {k : ℕ} (h : (k < n) × (tree (view n t s) k ≡ 0)) where
+  -- tree 0 ends within the rows
+  pub first-ends : {a : ℕ} → (a ≡ getD t (8 * 0 + 6) 0) × (a < 2 ^ 32) → 3 * (a + 1) ≤ length s
+  first-ends e = omega (arith, v .formed .long, v .formed .ends 0 (omega (arith, h .0)))
 
-module _ {n : ℕ} {t s : List ℕ} (v : TreesTold n t s) {k : ℕ} (h : (k < n) × (tree (view n t s) k ≡ 0)) {path : List ℕ} {r : ℕ} (f : PathFrom n t k path r) {part : List ℕ} (p : Part s (n + 1) 1 part)
-    {x : Resolved} (q : Resolves part (take (64 - r) (drop r path)) x) where
+  pub first-short : {a : ℕ} → (a ≡ getD t (8 * 0 + 6) 0) × (a < 2 ^ 32) → length (take (3 * (a + 1) - 3) (drop 3 s)) < 3 * 2 ^ 16
+  first-short {a} e = omega (arith, length-take-le (3 * (a + 1) - 3) (drop 3 s) (omega (arith, length-drop 3 s, first-ends e)), v .formed .ends 0 (omega (arith, h .0)), v .formed .lines .few)
+
+module _ {n : ℕ} {t s : List ℕ} (v : TreesTold n t s) {k : ℕ} (h : (k < n) × (tree (view n t s) k ≡ 0)) {path : List ℕ} {r : ℕ} (f : PathFrom n t k path r)
+    {a : ℕ} (z : (a ≡ getD t (8 * 0 + 6) 0) × (a < 2 ^ 32)) {x : Resolved} (q : Resolves (take (3 * (a + 1) - 3) (drop 3 s)) (take (64 - r) (drop r path)) x) where
   told : (i : ℕ) × (x ≡ At i ((row (view n t s) k) .start))
-  told = old-resolved v (h .0) (h .1) f p (rw (take-all (64 - r) (drop r path) (omega (arith, f .long, length-drop r path))) at q)
+  told = old-resolved v (h .0) (h .1) f (rw (z .0, take-all (64 - r) (drop r path) (omega (arith, f .long, length-drop r path))) at q)
 
   pub start-there : (i start : ℕ) → x ≡ At i start → start ≡ (row (view n t s) k) .start
   start-there i start y = let (j, g) = told in cc

@@ -11,8 +11,10 @@ ghost use Rattle.finish_model.specs.Finished.{firstTree};
 ghost use Rattle.finish_model.specs.Alike.{alikeWords, findRow};
 ghost use Rattle.finish_find.specs.Found.{found};
 ghost use Rattle.finish_find.specs.OldStart.{TreesTold, PathFrom};
+use read_element_table::AFTER;
 use read_element_table::CHILD;
 use read_element_table::PARENT;
+use read_element_table::WORDS;
 use read_element_table::entry;
 use rows_path::Resolved;
 use rows_path::resolve;
@@ -35,7 +37,7 @@ fn path_in_tree(table: &[u32], n: usize, k: usize, path: &mut [u32; 64]) -> usiz
     let mut parent = entry(table, k, PARENT);
     while parent != 0 {
         from -= 1;
-        path[from] = table[8 * at + CHILD];
+        path[from] = table[WORDS * at + CHILD];
         at = parent - 1;
         parent = entry(table, at, PARENT);
     }
@@ -50,8 +52,9 @@ pub fn old_start(table: &[u32], source: &[u32], n: usize, k: usize) -> usize
 {
     let mut path = [0u32; 64];
     let from = path_in_tree(table, n, k, &mut path);
-    let tree = subtree(source, n + 1, 1);
-    match resolve(tree, &path[from..]) {
+    let end = entry(table, 0, AFTER);
+    let to = ROW_WORDS * (end + 1);
+    match resolve(&source[ROW_WORDS..to], &path[from..]) {
         Resolved::At(_, start) => start,
         // Its own path leads to it.
         Resolved::Nothing => 0,

@@ -25,7 +25,7 @@ fn entry(table: &[u32], e: usize, k: usize) -> usize
     requires { ⌜ (e < 2 ^ 32) × (k < 8) ⌝ }
     ensures { λ r. ⌜ (r ≡ getD (now (table .entry)) (8 * e + k) 0) × (r < 2 ^ 32) ⌝ }
 {
-    word_at(table, 8 * e + k)
+    word_at(table, read_element_table::WORDS * e + k)
 }
 
 // The parent of `x`; of a root, the root.

@@ -53,13 +53,13 @@ outcome a p = record {
   climbs = p .climbs;
 }
 
--- what the first stage finds of a batch, or its refusal out of 2 to 7
+-- what the first stage finds of a batch, or its refusal out of 2 to 7 and 16
 unfoldable pub judging : Choices → List ℕ → Answer Judgement
 judging h b = do
   a ← accepted b
   gives (judgeChanges h a)
 
--- THE PLAN of a batch, or its refusal out of 2 to 10
+-- THE PLAN of a batch, or its refusal out of 2 to 10 and 16
 unfoldable pub planning : Choices → List ℕ → Answer Outcome
 planning h b = do
   a ← accepted b

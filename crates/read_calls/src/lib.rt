@@ -18,13 +18,6 @@ use read_element_table::entry;
 use read_element_table::is_node;
 use read_element_table::is_root;
 
-// Above its operation a call word has the listed count, which is below this.
-pub const COUNTS: usize = 4096;
-// Above the count it has the rule number, which counts this and is below `RULES`.
-pub const RULE: usize = 1048576;
-
-pub const RULES: usize = 4096;
-
 // The operation of a call word.
 pub fn operation_of(word: usize) -> usize
     ensures { λ r. ⌜ r ≡ operationOf word ⌝ }
@@ -36,14 +29,14 @@ pub fn operation_of(word: usize) -> usize
 pub fn count_of(word: usize) -> usize
     ensures { λ r. ⌜ r ≡ countOf word ⌝ }
 {
-    word / read_layout::OPERATIONS % COUNTS
+    word / read_layout::OPERATIONS % read_layout::COUNTS
 }
 
 // The number of the rule that queued a call, by its word.
 pub fn rule_of(word: usize) -> usize
     ensures { λ r. ⌜ r ≡ ruleOf word ⌝ }
 {
-    word / RULE % RULES
+    word / read_layout::RULE % read_layout::RULES
 }
 
 // The first of the `count` listed elements that stand at `from` in a batch, 0 if there is none.

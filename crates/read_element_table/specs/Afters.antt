@@ -3,15 +3,15 @@
 use mathlib.Core.Path.{_≡_, sym, ap, _∙_}
 use mathlib.Core.List.{List, [], _∷_, _++_, append-assoc}
 use mathlib.Core.Option.{some}
-use Prim.Native.Nat.{ℕ, zero, suc, _+_, _*_, _<_}
+use Prim.Native.Nat.{ℕ, zero, suc, _+_, _*_, _≤_, _<_}
 use native.Mathlib.Numerals.{add-one}
 use native.Mathlib.Omega.{arith}
 use lib.ListN.{length, take, drop, getElem?}
 use Rattle.orders.specs.ListLaws.{some-inj, none-some, map-some, bind-some}
 use Rattle.orders.specs.Tree.{Tree, Trees, node, token, nil, cons, list, forest, Path, elements, elementsOf, text, children}
 use Rattle.definition.specs.Elements.{table}
-use Rattle.definition_laws.specs.Rows.{Element, before, childOf, elementAt, rootOf, element}
-use Rattle.definition_laws.specs.Kin.{child-is, Stands, stands}
+use Rattle.definition_laws.specs.Rows.{Element, before, childOf, elementAt, rootOf, element, reach-tree}
+use Rattle.definition_laws.specs.Kin.{child-is, element-below, Stands, element-stands, stands, stands-within}
 use Rattle.definition_laws.specs.Intervals.{after, after-stands}
 use Rattle.read_element_table.specs.View.{field}
 use Rattle.read_element_table.specs.FillingLaws.{wordsOf, wordsBelow, wordsAll}
@@ -85,3 +85,14 @@ module _ (ws : List ℕ) where
           let top : WordsAt ws (x .tree) (x .number) = rw (← z) (root-words ts t c 0 0 0 r (elementsOf (forest (take t ts))) h f (omega arith)) in
           let w = element-words p x (s .here) top q in
           ap (field ws rs 6) (sym (s .number)) ∙ (after-word ws rs (s .here .tree) (s .here .number) (w .o) (w .p) (w .c) (w .d) (w .s) (w .t) (w .rest) (w .at) ∙ (ap (λ (k : ℕ). k + elements (s .here .tree)) (s .number) ∙ sym (after-stands ts e s)))
+
+-- the subtree of an element ends where all elements do, or before
+pub after-within : (ts : List (Tree ℕ)) (e : ℕ) → e < length (table 0 0 ts) → after ts e ≤ length (table 0 0 ts)
+after-within ts e b = let s = stands ts e b in rw (after-stands ts e s) (go s (elements (s .here .tree)) (omega arith))
+  where
+    go : (s : Stands ts e) (m : ℕ) → m ≤ elements (s .here .tree) → e + m ≤ length (table 0 0 ts)
+    go s zero q = omega arith
+    go s (suc m) q =
+        let r = reach-tree (s .here .tree) (s .here) m (omega arith) in
+        let at = element-below ts (s .here .path) (s .here) (r .path) (s .at) ∙ r .at in
+        omega (arith, stands-within ts (r .found .number) (element-stands ts (s .here .path ++ r .path) (r .found) at), r .number, s .number)

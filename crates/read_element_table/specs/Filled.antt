@@ -32,7 +32,7 @@ use Rattle.read_element_table.specs.ViewLaws.{told-all}
 use Rattle.read_element_table.specs.Wellformed.{Wellformed}
 use Rattle.read_element_table.specs.SourceRows.{rows-told as source-told}
 use Rattle.read_element_table.specs.Sound.{hop, Sound, sound-all}
-use Rattle.read_element_table.specs.Afters.{afters}
+use Rattle.read_element_table.specs.Afters.{afters, after-within}
 
 -- the elements of a batch, each with kind word and measure
 unfoldable pub elementsIn : Batch → List (ℕ × ℕ)
@@ -138,18 +138,29 @@ module _ (b : Batch) (ts : List (Tree ℕ)) (h : spelled b ≡ some ts) where
           rw (take-all (8 * n) w (omega (arith, length-table)), take-all (3 * (n + 1)) (sourceOf (b .trees) (elementsIn b)) (omega (arith, length-source (b .trees) (elementsIn b), count)))
           (sound-all (w ++ r) (b .trees) (elementsIn b) z n ts (s .worded) (passed .1) 0 0 0 r [] (rw spelled-words) (rw (append-nil, s .elements)) refl (omega (arith, spelled-count)) e (omega arith) (omega (arith, spelled-count)))
 
-      -- word 6 is the element after the subtree, so siblings bound what is below them
+      -- word 6 is the element after the subtree
+      behind : (e : ℕ) → e < length (b .kinds) → getD ws (8 * e + 6) 0 ≡ after ts e
+      unfolding ws rs field
+      behind e q =
+          let n : ℕ = length (b .kinds) in
+          let w : List ℕ = tableOf (b .trees) (elementsIn b) in
+          let long : length (table 0 0 ts) ≡ n = table-length ts 0 0 ∙ spelled-count in
+          let words : ws ≡ wordsAll ts 0 0 0 ++ drop (0 + 8 * n) t₀ = rw (take-all (8 * n) w (omega (arith, length-table)), spelled-words) in
+          afters ws rs ts (drop (0 + 8 * n) t₀) words e (omega arith)
+
+      end : (e : ℕ) → e < length (b .kinds) → getD ws (8 * e + 6) 0 ≤ length (b .kinds)
+      end e q =
+          let long : length (table 0 0 ts) ≡ length (b .kinds) = table-length ts 0 0 ∙ spelled-count in
+          omega (arith, behind e q, after-within ts e (omega arith))
+
+      -- so siblings bound what is below them
       between : (x y e : ℕ) → x < length (b .kinds) → y < length (b .kinds) → e < length (b .kinds)
           → parent (view (length (b .kinds)) ws rs) x ≡ parent (view (length (b .kinds)) ws rs) y → child (view (length (b .kinds)) ws rs) x ≤ child (view (length (b .kinds)) ws rs) y
           → atOrBelow (view (length (b .kinds)) ws rs) x y e ≡ (leb x e && ltb e (getD ws (8 * y + 6) 0))
       unfolding ws rs field
       between x y e qx qy qe =
-          let n : ℕ = length (b .kinds) in
-          let w : List ℕ = tableOf (b .trees) (elementsIn b) in
-          let long : length (table 0 0 ts) ≡ n = table-length ts 0 0 ∙ spelled-count in
-          let words : ws ≡ wordsAll ts 0 0 0 ++ drop (0 + 8 * n) t₀ = rw (take-all (8 * n) w (omega (arith, length-table)), spelled-words) in
-          let last : getD ws (8 * y + 6) 0 ≡ after ts y = afters ws rs ts (drop (0 + 8 * n) t₀) words y (omega arith) in
-          rw (filled-view t₀ s₀, last)
+          let long : length (table 0 0 ts) ≡ length (b .kinds) = table-length ts 0 0 ∙ spelled-count in
+          rw (filled-view t₀ s₀, behind y qy)
           (λ p c. interval ts (record { first = omega arith; last = omega arith; parent = p; order = c }) e (omega arith))
 
       pub filled-wellformed : length (b .kinds) ≤ 2048 → 8 * length (b .kinds) ≤ length t₀ → 3 * (length (b .kinds) + 1) ≤ length s₀
@@ -172,6 +183,7 @@ module _ (b : Batch) (ts : List (Tree ℕ)) (h : spelled b ≡ some ts) where
             long = omega (arith, length-paste s₀ 0 x (3 * (n + 1)) (omega arith) (omega (arith, length-source (b .trees) (elementsIn b), count)));
             children = λ e q. sound e q .children;
             interval = λ x y e qx qy qe p c. between x y e qx qy qe p c;
+            ends = λ e q. end e q;
           }
 
 -- ── What a caller of the fill has ───────────────────────────────────────────────────────────────────────────

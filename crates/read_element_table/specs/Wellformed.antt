@@ -34,3 +34,5 @@ pub record Wellformed (n : ℕ) (table source : List ℕ) : Type 0 where
   -- word 8 y + 6 is the element after the subtree of y: what is at or below the siblings x to y stands from x on, before it
   pub interval : (x y e : ℕ) → x < n → y < n → e < n → parent (view n table source) x ≡ parent (view n table source) y → child (view n table source) x ≤ child (view n table source) y
       → atOrBelow (view n table source) x y e ≡ (leb x e && ltb e (getD table (8 * y + 6) 0))
+  -- it is an element or the end
+  pub ends : (e : ℕ) → e < n → getD table (8 * e + 6) 0 ≤ n

@@ -10,6 +10,12 @@ ghost use Rattle.read_layout.specs.Layout.{sizesOf, layoutOf, Limits, la
 pub const ARRAYS: usize = 28;
 // A call word is its operation, which is below this, and this for each element that the call lists.
 pub const OPERATIONS: usize = 256;
+// The listed count is below this.
+pub const COUNTS: usize = 4096;
+// And this for each of its rule number, which is below `RULES`.
+pub const RULE: usize = 1048576;
+
+pub const RULES: usize = 4096;
 
 // The seven sizes of a batch.
 pub struct Sizes {

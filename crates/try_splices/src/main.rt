@@ -2,6 +2,7 @@
 // their numbers.
 // The old tree is root(X(a, b), Y(c), d), with one-letter tokens: rows 0 to 6.
 use splices_list::Outcome;
+use splices_model::SPLICE_WORDS;
 use words::copy_in;
 use words::word;
 
@@ -213,15 +214,15 @@ fn place(list: &[u32], o: usize, out: &mut [u32], k: usize) {
     if 1000 <= k {
         return;
     }
-    let from = 6 * o;
-    let to = from + 6;
+    let from = SPLICE_WORDS * o;
+    let to = from + SPLICE_WORDS;
     if list.len() < to {
         return;
     }
-    if out.len() < 6 * k + 6 {
+    if out.len() < SPLICE_WORDS * k + SPLICE_WORDS {
         return;
     }
-    copy_in(out, 6 * k, &list[from..to]);
+    copy_in(out, SPLICE_WORDS * k, &list[from..to]);
 }
 
 // Which splice of the list comes as number `k` in the order from `at` on; 1000 past the end.
@@ -262,7 +263,7 @@ fn run(
         return Outcome::Refused(0);
     }
     copy_in(rows, 0, &OLD);
-    let end = 6 * c;
+    let end = SPLICE_WORDS * c;
     splices_list::splice_all(rows, marks, &splices[0..end], &PREPARED)
 }
 

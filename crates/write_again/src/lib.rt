@@ -6,14 +6,16 @@ ghost use Prim.Native.Nat.{_+_, _*_, _≤_};
 ghost use lib.ListN.{length};
 ghost use Rattle.write_again.specs.Counted.{wordCount, Worded};
 
-// Each call word as its operation and its count.
-fn part_words(words: &[u32], operations: &mut [u32], counts: &mut [u32])
-    requires { ⌜ (length (now words) ≤ length (now operations)) × (length (now words) ≤ length (now counts)) ⌝ }
+// Each call word as its operation, its count and its rule number.
+fn part_words(words: &[u32], operations: &mut [u32], counts: &mut [u32], rules: &mut [u32])
+    requires { ⌜ (length (now words) ≤ length (now operations)) × (length (now words) ≤ length (now counts)) × (length (now words) ≤ length (now rules)) ⌝ }
 {
     let mut i = 0;
     while i < words.len() {
-        operations[i] = words[i] % 256;
-        counts[i] = words[i] / 256;
+        let word = words::word(words, i);
+        operations[i] = read_calls::operation_of(word) as u32;
+        counts[i] = read_calls::count_of(word) as u32;
+        rules[i] = read_calls::rule_of(word) as u32;
         i += 1;
     }
 }
@@ -27,6 +29,7 @@ fn write_notes(
     text: &[u8],
     operations: &[u32],
     counts: &[u32],
+    rules: &[u32],
     targets: &[u32],
     listed: &[u32],
     inputs: &[u32],
@@ -49,6 +52,7 @@ fn write_notes(
         text,
         operations,
         counts,
+        rules,
         targets,
         listed,
         inputs,
@@ -70,6 +74,7 @@ fn write_names(
     text: &[u8],
     operations: &[u32],
     counts: &[u32],
+    rules: &[u32],
     targets: &[u32],
     list: &[u32],
     at: usize,
@@ -88,6 +93,7 @@ fn write_names(
         text,
         operations,
         counts,
+        rules,
         targets,
         &list[at..inputs],
         &list[inputs..outputs],
@@ -115,7 +121,8 @@ fn write_calls(
     let listed = targets + n;
     let mut operations = [0u32; 16384];
     let mut counts = [0u32; 16384];
-    part_words(&list[at..targets], &mut operations, &mut counts);
+    let mut rules = [0u32; 16384];
+    part_words(&list[at..targets], &mut operations, &mut counts, &mut rules);
     write_names(
         z,
         kinds,
@@ -123,6 +130,7 @@ fn write_calls(
         text,
         &operations[..n],
         &counts[..n],
+        &rules[..n],
         &list[targets..listed],
         list,
         listed,

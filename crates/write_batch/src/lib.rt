@@ -69,6 +69,7 @@ fn write_lists(
     text: &[u8],
     operations: &[u32],
     counts: &[u32],
+    rules: &[u32],
     targets: &[u32],
     listed: &[u32],
     inputs: &[u32],
@@ -80,7 +81,7 @@ fn write_lists(
     table: &mut [u32],
     source: &mut [u32],
 ) -> Written
-    ensures { λ r. ⌜ Told (wrote (now (page .entry) ∷ now (table .entry) ∷ now (source .entry) ∷ []) (listsIn trees (now (kinds .entry)) (now (measures .entry)) (now (text .entry)) (now (operations .entry)) (now (counts .entry)) (now (targets .entry)) (now (listed .entry)) (now (inputs .entry)) (now (outputs .entry)) (now (noted .entry)) (now (numbers .entry))) (length (now (destination .entry)))) (now (destination .entry)) (answerOf r) (now (destination .exit)) ⌝ }
+    ensures { λ r. ⌜ Told (wrote (now (page .entry) ∷ now (table .entry) ∷ now (source .entry) ∷ []) (listsIn trees (now (kinds .entry)) (now (measures .entry)) (now (text .entry)) (now (operations .entry)) (now (counts .entry)) (now (rules .entry)) (now (targets .entry)) (now (listed .entry)) (now (inputs .entry)) (now (outputs .entry)) (now (noted .entry)) (now (numbers .entry))) (length (now (destination .entry)))) (now (destination .entry)) (answerOf r) (now (destination .exit)) ⌝ }
 {
     if too_short(page, table, source) {
         return Written::Refused(1);
@@ -92,6 +93,7 @@ fn write_lists(
         text,
         operations,
         counts,
+        rules,
         targets,
         listed,
         inputs,
@@ -110,6 +112,7 @@ fn write_lists(
         text,
         operations,
         counts,
+        rules,
         targets,
         listed,
         inputs,
@@ -129,6 +132,7 @@ pub fn write_batch(
     text: &[u8],
     operations: &[u32],
     counts: &[u32],
+    rules: &[u32],
     targets: &[u32],
     listed: &[u32],
     inputs: &[u32],
@@ -140,7 +144,7 @@ pub fn write_batch(
     table: &mut [u32],
     source: &mut [u32],
 ) -> Written
-    ensures { λ r. ⌜ Writes (listsIn trees (now (kinds .entry)) (now (measures .entry)) (now (text .entry)) (now (operations .entry)) (now (counts .entry)) (now (targets .entry)) (now (listed .entry)) (now (inputs .entry)) (now (outputs .entry)) (now (noted .entry)) (now (numbers .entry))) (now (destination .entry)) (now (draft .entry) ∷ now (table .entry) ∷ now (source .entry) ∷ []) (answerOf r) (now (destination .exit)) (now (draft .exit) ∷ now (table .exit) ∷ now (source .exit) ∷ []) ⌝ }
+    ensures { λ r. ⌜ Writes (listsIn trees (now (kinds .entry)) (now (measures .entry)) (now (text .entry)) (now (operations .entry)) (now (counts .entry)) (now (rules .entry)) (now (targets .entry)) (now (listed .entry)) (now (inputs .entry)) (now (outputs .entry)) (now (noted .entry)) (now (numbers .entry))) (now (destination .entry)) (now (draft .entry) ∷ now (table .entry) ∷ now (source .entry) ∷ []) (answerOf r) (now (destination .exit)) (now (draft .exit) ∷ now (table .exit) ∷ now (source .exit) ∷ []) ⌝ }
 {
     let written = write_lists(
         trees,
@@ -149,6 +153,7 @@ pub fn write_batch(
         text,
         operations,
         counts,
+        rules,
         targets,
         listed,
         inputs,

@@ -18,9 +18,9 @@ use Rattle.write_layout.specs.Laying.{uneven}
 
 -- ── Lists in step ───────────────────────────────────────────────────────────────────────────────────────────
 
-module _ (kinds measures operations counts targets inputs outputs noted numbers : ℕ) where
+module _ (kinds measures operations counts rules targets inputs outputs noted numbers : ℕ) where
   abbrev Told : Bool → Type 0
-  Told r = r ≡ not (uneven kinds measures operations counts targets inputs outputs noted numbers)
+  Told r = r ≡ not (uneven kinds measures operations counts rules targets inputs outputs noted numbers)
 
   pub measures-off : (kinds ≡ measures → ⊥) → Told false
   unfolding uneven
@@ -30,6 +30,10 @@ module _ (kinds measures operations counts targets inputs outputs noted numbers 
   unfolding uneven
   counts-off h = rw (ne-eqb operations counts h, or-true)
 
+  pub rules-off : (operations ≡ rules → ⊥) → Told false
+  unfolding uneven
+  rules-off h = rw (ne-eqb operations rules h, or-true)
+
   pub targets-off : (operations ≡ targets → ⊥) → Told false
   unfolding uneven
   targets-off h = rw (ne-eqb operations targets h, or-true)
@@ -38,9 +42,9 @@ module _ (kinds measures operations counts targets inputs outputs noted numbers 
   unfolding uneven
   outputs-off h = rw (ne-eqb inputs outputs h, or-true)
 
-  pub numbers-last : kinds ≡ measures → operations ≡ counts → operations ≡ targets → inputs ≡ outputs → Told (eqb noted numbers)
+  pub numbers-last : kinds ≡ measures → operations ≡ counts → operations ≡ rules → operations ≡ targets → inputs ≡ outputs → Told (eqb noted numbers)
   unfolding uneven
-  numbers-last a b c d = rw (eq-eqb kinds measures a, eq-eqb operations counts b, eq-eqb operations targets c, eq-eqb inputs outputs d) (go (eqb noted numbers))
+  numbers-last a b r c d = rw (eq-eqb kinds measures a, eq-eqb operations counts b, eq-eqb operations rules r, eq-eqb operations targets c, eq-eqb inputs outputs d) (go (eqb noted numbers))
     where
       go : (t : Bool) → t ≡ not (not t)
       go true = refl
@@ -69,19 +73,23 @@ module _ {k : ℕ} {s : List ℕ} {i : ℕ} (v : Passing k s i) where
   unfolding any
   passing-done h = rw (v .same, drop-of-length-le s {i = i} h) refl
 
--- ── Both parts of a call word ───────────────────────────────────────────────────────────────────────────────
+-- ── The parts of a call word ───────────────────────────────────────────────────────────────────────────────
 
-module _ (a b t : Bool) (e : t ≡ not a) where
-  pub first-wrong : not t ≡ true → false ≡ not (a || b)
+module _ (a b d t : Bool) (e : t ≡ not a) where
+  pub first-wrong : not t ≡ true → false ≡ not (a || b || d)
   first-wrong h = rw (not-false a (sym e ∙ not-true t h)) refl
 
-  pub second-tells : not t ≡ false → (u : Bool) → u ≡ not b → u ≡ not (a || b)
-  second-tells h u f = rw (not-true a (sym e ∙ not-false t h)) f
+  module _ (h : not t ≡ false) (u : Bool) (f : u ≡ not b) where
+    pub second-wrong : not u ≡ true → false ≡ not (a || b || d)
+    second-wrong k = rw (not-true a (sym e ∙ not-false t h), not-false b (sym f ∙ not-true u k)) refl
+
+    pub third-tells : not u ≡ false → (v : Bool) → v ≡ not d → v ≡ not (a || b || d)
+    third-tells k v g = rw (not-true a (sym e ∙ not-false t h), not-true b (sym f ∙ not-false u k)) g
 
 -- ── All tests ───────────────────────────────────────────────────────────────────────────────────────────────
 
 module _ (l : Lists) (t : Bool)
-    (e : t ≡ not (uneven (length l.kinds) (length l.measures) (length l.operations) (length l.counts) (length l.targets) (length l.inputs) (length l.outputs) (length l.noted) (length l.numbers))) where
+    (e : t ≡ not (uneven (length l.kinds) (length l.measures) (length l.operations) (length l.counts) (length l.rules) (length l.targets) (length l.inputs) (length l.outputs) (length l.noted) (length l.numbers))) where
   pub off-step : not t ≡ true → false ≡ not (unlayable l)
   unfolding unlayable outOfStep differ uneven
   off-step h = rw (not-false (outOfStep l) (sym e ∙ not-true t h)) refl
@@ -92,6 +100,6 @@ module _ (l : Lists) (t : Bool)
     unfolding unlayable outOfStep differ uneven sizesOf
     out-of-limits k = rw (not-true (outOfStep l) (sym e ∙ not-false t h), not-false (beyond (sizesOf l)) (sym f ∙ not-true u k)) refl
 
-    pub parts-tell : not u ≡ false → (w : Bool) → w ≡ not (any (leb 256) l.operations || any (leb 16777216) l.counts) → w ≡ not (unlayable l)
+    pub parts-tell : not u ≡ false → (w : Bool) → w ≡ not (any (leb 256) l.operations || any (leb 4096) l.counts || any (leb 4096) l.rules) → w ≡ not (unlayable l)
     unfolding unlayable outOfStep differ uneven sizesOf unfitting
     parts-tell k w g = rw (not-true (outOfStep l) (sym e ∙ not-false t h), not-true (beyond (sizesOf l)) (sym f ∙ not-false u k)) g

@@ -1,7 +1,7 @@
 -- What is laid out, array behind array.
 -- Assumes nothing.
 use mathlib.Core.Path.{_≡_, refl, sym, ap, _∙_}
-use mathlib.Core.List.{List, [], _∷_, _++_, zipWith, append-nil, append-assoc}
+use mathlib.Core.List.{List, [], _∷_, _++_, append-nil, append-assoc}
 use Prim.Native.Nat.{ℕ, zero, suc, _+_, _*_, _≤_, _<_}
 use native.Mathlib.Nat.{add-zero}
 use native.Mathlib.Numerals.{add-one}
@@ -32,38 +32,39 @@ room-next s t p h l = omega (arith, p .ends, length-written s)
 -- ── The call words ──────────────────────────────────────────────────────────────────────────────────────────
 
 -- the first i call words stand behind the first `at` bytes
-pub record Calling (d : List ℕ) (at : ℕ) (os ns e : List ℕ) (i : ℕ) : Type 0 where
+pub record Calling (d : List ℕ) (at : ℕ) (os ns rs e : List ℕ) (i : ℕ) : Type 0 where
   pub inside : i ≤ length os
   pub long : length e ≡ length d
-  pub begun : Appended d at (written (take i (callWords os ns))) e (at + 4 * i)
+  pub begun : Appended d at (written (take i (callWords os ns rs))) e (at + 4 * i)
 
-getD-calls : (os ns : List ℕ) (i : ℕ) → i < length os → i < length ns → getD (callWords os ns) i 0 ≡ callWord (getD os i 0) (getD ns i 0)
-unfolding callWords zipWith
-getD-calls [] ns i h k = absurd (omega arith)
-getD-calls (o ∷ os) [] i h k = absurd (omega arith)
-getD-calls (o ∷ os) (n ∷ ns) zero h k = refl
-getD-calls (o ∷ os) (n ∷ ns) (suc i) h k = getD-calls os ns i (omega arith) (omega arith)
+getD-calls : (os ns rs : List ℕ) (i : ℕ) → i < length os → i < length ns → i < length rs → getD (callWords os ns rs) i 0 ≡ callWord (getD os i 0) (getD ns i 0) (getD rs i 0)
+unfolding callWords
+getD-calls [] ns rs i h k l = absurd (omega arith)
+getD-calls (o ∷ os) [] rs i h k l = absurd (omega arith)
+getD-calls (o ∷ os) (n ∷ ns) [] i h k l = absurd (omega arith)
+getD-calls (o ∷ os) (n ∷ ns) (r ∷ rs) zero h k l = refl
+getD-calls (o ∷ os) (n ∷ ns) (r ∷ rs) (suc i) h k l = getD-calls os ns rs i (omega arith) (omega arith) (omega arith)
 
 one-written : (w : ℕ) → written (w ∷ []) ≡ bytes w
 unfolding written mathlib.Core.List.flatMap
 one-written w = append-nil (bytes w)
 
-pub calling-start : (d : List ℕ) (at : ℕ) (os ns : List ℕ) → Calling d at os ns d 0
+pub calling-start : (d : List ℕ) (at : ℕ) (os ns rs : List ℕ) → Calling d at os ns rs d 0
 unfolding written mathlib.Core.List.flatMap
-calling-start d at os ns = record { inside = omega arith; long = refl; begun = record { ends = refl; stands = ap (λ (k : ℕ). take k d) (add-zero at) ∙ sym (append-nil (take at d)) } }
+calling-start d at os ns rs = record { inside = omega arith; long = refl; begun = record { ends = refl; stands = ap (λ (k : ℕ). take k d) (add-zero at) ∙ sym (append-nil (take at d)) } }
 
-module _ {d : List ℕ} {at : ℕ} {os ns e : List ℕ} {i : ℕ} (v : Calling d at os ns e i) (q : length os ≡ length ns) where
-  pub calling-next : {f : List ℕ} {w : ℕ} → i < length os → at + 4 * length os ≤ length d → w ≡ callWord (getD os i 0) (getD ns i 0) → length f ≡ length e → f ≡ paste e (at + 4 * i) (bytes w) 4
-      → Calling d at os ns f (i + 1)
+module _ {d : List ℕ} {at : ℕ} {os ns rs e : List ℕ} {i : ℕ} (v : Calling d at os ns rs e i) (q : (length os ≡ length ns) × (length os ≡ length rs)) where
+  pub calling-next : {f : List ℕ} {w : ℕ} → i < length os → at + 4 * length os ≤ length d → w ≡ callWord (getD os i 0) (getD ns i 0) (getD rs i 0) → length f ≡ length e → f ≡ paste e (at + 4 * i) (bytes w) 4
+      → Calling d at os ns rs f (i + 1)
   calling-next {f} {w} h k g m p =
-      let n = length-calls os ns q in
+      let n = length-calls os ns rs (q .0) (q .1) in
       let one : Appended e (at + 4 * i) (bytes w) f (at + 4 * (i + 1)) = appended (omega (arith, v .long)) (sym (length-bytes w)) p (omega arith) in
-      let more : written (take (i + 1) (callWords os ns)) ≡ written (take i (callWords os ns)) ++ bytes w =
-      rw (add-one i, take-suc (callWords os ns) i 0 (omega arith), getD-calls os ns i h (omega arith), ← g, ← one-written w) (written-append (take i (callWords os ns)) (w ∷ [])) in
+      let more : written (take (i + 1) (callWords os ns rs)) ≡ written (take i (callWords os ns rs)) ++ bytes w =
+      rw (add-one i, take-suc (callWords os ns rs) i 0 (omega arith), getD-calls os ns rs i h (omega (arith, q .0)) (omega (arith, q .1)), ← g, ← one-written w) (written-append (take i (callWords os ns rs)) (w ∷ [])) in
       record { inside = omega arith; long = m ∙ v .long; begun = rw more (appended-on (v .begun) one) }
 
-  pub calling-done : length os ≤ i → Appended d at (written (callWords os ns)) e (at + 4 * i)
-  calling-done h = let z = v .begun in rw (take-all i (callWords os ns) (omega (arith, length-calls os ns q))) at z
+  pub calling-done : length os ≤ i → Appended d at (written (callWords os ns rs)) e (at + 4 * i)
+  calling-done h = let z = v .begun in rw (take-all i (callWords os ns rs) (omega (arith, length-calls os ns rs (q .0) (q .1)))) at z
 
 -- ── A batch ─────────────────────────────────────────────────────────────────────────────────────────────────
 
@@ -76,9 +77,9 @@ pub room-two : (s t u v : List ℕ) {d e : List ℕ} {at r : ℕ} → Appended d
 room-two s t u v p h l = omega (arith, p .ends, length-two s t)
 
 -- and behind the call words
-pub room-targets : (os ns t u : List ℕ) {d e : List ℕ} {at r : ℕ} → length os ≡ length ns → Appended d at (written (callWords os ns)) e r → at + 4 * length os + 4 * length t + 4 * length u ≤ length d → length e ≡ length d
+pub room-targets : (os ns rs t u : List ℕ) {d e : List ℕ} {at r : ℕ} → (length os ≡ length ns) × (length os ≡ length rs) → Appended d at (written (callWords os ns rs)) e r → at + 4 * length os + 4 * length t + 4 * length u ≤ length d → length e ≡ length d
     → r + 4 * length t + 4 * length u ≤ length e
-room-targets os ns t u q p h l = omega (arith, p .ends, length-written (callWords os ns), length-calls os ns q)
+room-targets os ns rs t u q p h l = omega (arith, p .ends, length-written (callWords os ns rs), length-calls os ns rs (q .0) (q .1))
 
 -- the sizes of lists, as the code has them
 abbrev told : Lists → Sizes
@@ -92,7 +93,7 @@ told l = record {
   notes = length l.noted;
 }
 
-laid-out : (l : Lists) → written (sevenSizes (read.sizesOf (told l))) ++ ((written l.kinds ++ written l.measures) ++ ((written (callWords l.operations l.counts) ++ (written l.targets ++ written l.listed)) ++ (((written l.inputs ++ written l.outputs) ++ (written l.noted ++ written l.numbers)) ++ l .text))) ≡ laidOut l
+laid-out : (l : Lists) → written (sevenSizes (read.sizesOf (told l))) ++ ((written l.kinds ++ written l.measures) ++ ((written (callWords l.operations l.counts l.rules) ++ (written l.targets ++ written l.listed)) ++ (((written l.inputs ++ written l.outputs) ++ (written l.noted ++ written l.numbers)) ++ l .text))) ≡ laidOut l
 unfolding laidOut sizesOf
 laid-out l = simp append-assoc
 
@@ -125,9 +126,9 @@ module _ (l : Lists) (y : InStep l) where
       pub room-queue : r₂ + 4 * length l.operations + 4 * length l.targets + 4 * length l.listed ≤ length d₂
       room-queue = omega (arith, trees-end, in-limits .calls, in-limits .listed, y .targets)
 
-      module _ {d₃ : List ℕ} {r₃ : ℕ} (p₃ : Appended d₂ r₂ (written (callWords l.operations l.counts) ++ (written l.targets ++ written l.listed)) d₃ r₃) (e₃ : length d₃ ≡ length d₂) where
-        queue-long : length (written (callWords l.operations l.counts) ++ (written l.targets ++ written l.listed)) ≤ 6144
-        queue-long = rw (length-append, length-two l.targets l.listed, length-written, length-calls l.operations l.counts (y .counts)) (omega (arith, in-limits .calls, in-limits .listed, y .targets))
+      module _ {d₃ : List ℕ} {r₃ : ℕ} (p₃ : Appended d₂ r₂ (written (callWords l.operations l.counts l.rules) ++ (written l.targets ++ written l.listed)) d₃ r₃) (e₃ : length d₃ ≡ length d₂) where
+        queue-long : length (written (callWords l.operations l.counts l.rules) ++ (written l.targets ++ written l.listed)) ≤ 6144
+        queue-long = rw (length-append, length-two l.targets l.listed, length-written, length-calls l.operations l.counts l.rules (y .counts) (y .rules)) (omega (arith, in-limits .calls, in-limits .listed, y .targets))
 
         queue-end : r₃ ≤ 22556
         queue-end = omega (arith, trees-end, p₃ .ends, queue-long)

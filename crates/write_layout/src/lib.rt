@@ -21,18 +21,22 @@ fn in_step(
     measures: usize,
     operations: usize,
     counts: usize,
+    rules: usize,
     targets: usize,
     inputs: usize,
     outputs: usize,
     noted: usize,
     numbers: usize,
 ) -> bool
-    ensures { λ r. ⌜ r ≡ not (uneven kinds measures operations counts targets inputs outputs noted numbers) ⌝ }
+    ensures { λ r. ⌜ r ≡ not (uneven kinds measures operations counts rules targets inputs outputs noted numbers) ⌝ }
 {
     if kinds != measures {
         return false;
     }
     if operations != counts {
+        return false;
+    }
+    if operations != rules {
         return false;
     }
     if operations != targets {
@@ -58,14 +62,17 @@ fn all_below(s: &[u32], limit: usize) -> bool
     true
 }
 
-// Whether each operation and each count fits its part of a call word.
-fn parts_fit(operations: &[u32], counts: &[u32]) -> bool
-    ensures { λ r. ⌜ r ≡ not (any (leb 256) (now (operations .entry)) || any (leb 16777216) (now (counts .entry))) ⌝ }
+// Whether each operation, each count and each rule number fits its part of a call word.
+fn parts_fit(operations: &[u32], counts: &[u32], rules: &[u32]) -> bool
+    ensures { λ r. ⌜ r ≡ not (any (leb 256) (now (operations .entry)) || any (leb 4096) (now (counts .entry)) || any (leb 4096) (now (rules .entry))) ⌝ }
 {
     if !all_below(operations, read_layout::OPERATIONS) {
         return false;
     }
-    all_below(counts, 16777216)
+    if !all_below(counts, read_layout::COUNTS) {
+        return false;
+    }
+    all_below(rules, read_layout::RULES)
 }
 
 // Whether lists can be laid out. No sum of lengths is made.
@@ -76,6 +83,7 @@ pub fn can_be_laid(
     text: &[u8],
     operations: &[u32],
     counts: &[u32],
+    rules: &[u32],
     targets: &[u32],
     listed: &[u32],
     inputs: &[u32],
@@ -83,13 +91,14 @@ pub fn can_be_laid(
     noted: &[u32],
     numbers: &[u32],
 ) -> bool
-    ensures { λ r. ⌜ r ≡ not (unlayable (listsIn trees (now (kinds .entry)) (now (measures .entry)) (now (text .entry)) (now (operations .entry)) (now (counts .entry)) (now (targets .entry)) (now (listed .entry)) (now (inputs .entry)) (now (outputs .entry)) (now (noted .entry)) (now (numbers .entry)))) ⌝ }
+    ensures { λ r. ⌜ r ≡ not (unlayable (listsIn trees (now (kinds .entry)) (now (measures .entry)) (now (text .entry)) (now (operations .entry)) (now (counts .entry)) (now (rules .entry)) (now (targets .entry)) (now (listed .entry)) (now (inputs .entry)) (now (outputs .entry)) (now (noted .entry)) (now (numbers .entry)))) ⌝ }
 {
     let step = in_step(
         kinds.len(),
         measures.len(),
         operations.len(),
         counts.len(),
+        rules.len(),
         targets.len(),
         inputs.len(),
         outputs.len(),
@@ -111,7 +120,7 @@ pub fn can_be_laid(
     if !read_layout::within_limits(s) {
         return false;
     }
-    parts_fit(operations, counts)
+    parts_fit(operations, counts, rules)
 }
 
 // The bytes of the words `s` go behind the first `at` bytes; how many there are then.
@@ -151,22 +160,30 @@ fn append_sizes(draft: &mut [u8], s: Sizes) -> usize
 }
 
 // The word of call `i`.
-fn call_word(operations: &[u32], counts: &[u32], i: usize) -> usize
-    requires { ⌜ (i < length (now operations)) × (i < length (now counts)) ⌝ }
-    ensures { λ r. ⌜ r ≡ callWord (getD (now (operations .entry)) i 0) (getD (now (counts .entry)) i 0) ⌝ }
+fn call_word(operations: &[u32], counts: &[u32], rules: &[u32], i: usize) -> usize
+    requires { ⌜ (i < length (now operations)) × (i < length (now counts)) × (i < length (now rules)) ⌝ }
+    ensures { λ r. ⌜ r ≡ callWord (getD (now (operations .entry)) i 0) (getD (now (counts .entry)) i 0) (getD (now (rules .entry)) i 0) ⌝ }
 {
-    words::word(operations, i) + read_layout::OPERATIONS * words::word(counts, i)
+    words::word(operations, i)
+        + read_layout::OPERATIONS * words::word(counts, i)
+        + read_layout::RULE * words::word(rules, i)
 }
 
 // The call words, behind the first `at` bytes.
-fn append_calls(draft: &mut [u8], at: usize, operations: &[u32], counts: &[u32]) -> usize
-    requires { ⌜ length (now operations) ≡ length (now counts) ⌝ }
+fn append_calls(
+    draft: &mut [u8],
+    at: usize,
+    operations: &[u32],
+    counts: &[u32],
+    rules: &[u32],
+) -> usize
+    requires { ⌜ (length (now operations) ≡ length (now counts)) × (length (now operations) ≡ length (now rules)) ⌝ }
     requires { ⌜ at + 4 * length (now operations) ≤ length (now draft) ⌝ }
-    ensures { λ r. ⌜ Appended (now (draft .entry)) at (written (callWords (now (operations .entry)) (now (counts .entry)))) (now (draft .exit)) r ⌝ }
+    ensures { λ r. ⌜ Appended (now (draft .entry)) at (written (callWords (now (operations .entry)) (now (counts .entry)) (now (rules .entry)))) (now (draft .exit)) r ⌝ }
 {
     let mut i = 0;
     while i < operations.len() {
-        words::write_word(draft, at + 4 * i, call_word(operations, counts, i));
+        words::write_word(draft, at + 4 * i, call_word(operations, counts, rules, i));
         i += 1;
     }
     at + 4 * i
@@ -178,14 +195,15 @@ fn append_queue(
     at: usize,
     operations: &[u32],
     counts: &[u32],
+    rules: &[u32],
     targets: &[u32],
     listed: &[u32],
 ) -> usize
-    requires { ⌜ length (now operations) ≡ length (now counts) ⌝ }
+    requires { ⌜ (length (now operations) ≡ length (now counts)) × (length (now operations) ≡ length (now rules)) ⌝ }
     requires { ⌜ at + 4 * length (now operations) + 4 * length (now targets) + 4 * length (now listed) ≤ length (now draft) ⌝ }
-    ensures { λ r. ⌜ Appended (now (draft .entry)) at (written (callWords (now (operations .entry)) (now (counts .entry))) ++ (written (now (targets .entry)) ++ written (now (listed .entry)))) (now (draft .exit)) r ⌝ }
+    ensures { λ r. ⌜ Appended (now (draft .entry)) at (written (callWords (now (operations .entry)) (now (counts .entry)) (now (rules .entry))) ++ (written (now (targets .entry)) ++ written (now (listed .entry)))) (now (draft .exit)) r ⌝ }
 {
-    let next = append_calls(draft, at, operations, counts);
+    let next = append_calls(draft, at, operations, counts, rules);
     append_two(draft, next, targets, listed)
 }
 
@@ -223,6 +241,7 @@ pub fn lay_out(
     text: &[u8],
     operations: &[u32],
     counts: &[u32],
+    rules: &[u32],
     targets: &[u32],
     listed: &[u32],
     inputs: &[u32],
@@ -230,9 +249,9 @@ pub fn lay_out(
     noted: &[u32],
     numbers: &[u32],
 ) -> usize
-    requires { ⌜ InStep (listsIn trees (now kinds) (now measures) (now text) (now operations) (now counts) (now targets) (now listed) (now inputs) (now outputs) (now noted) (now numbers)) ⌝ }
+    requires { ⌜ InStep (listsIn trees (now kinds) (now measures) (now text) (now operations) (now counts) (now rules) (now targets) (now listed) (now inputs) (now outputs) (now noted) (now numbers)) ⌝ }
     requires { ⌜ 49180 ≤ length (now draft) ⌝ }
-    ensures { λ r. ⌜ Appended (now (draft .entry)) 0 (laidOut (listsIn trees (now (kinds .entry)) (now (measures .entry)) (now (text .entry)) (now (operations .entry)) (now (counts .entry)) (now (targets .entry)) (now (listed .entry)) (now (inputs .entry)) (now (outputs .entry)) (now (noted .entry)) (now (numbers .entry)))) (now (draft .exit)) r ⌝ }
+    ensures { λ r. ⌜ Appended (now (draft .entry)) 0 (laidOut (listsIn trees (now (kinds .entry)) (now (measures .entry)) (now (text .entry)) (now (operations .entry)) (now (counts .entry)) (now (rules .entry)) (now (targets .entry)) (now (listed .entry)) (now (inputs .entry)) (now (outputs .entry)) (now (noted .entry)) (now (numbers .entry)))) (now (draft .exit)) r ⌝ }
 {
     let s = Sizes {
         trees,
@@ -245,7 +264,7 @@ pub fn lay_out(
     };
     let trees_at = append_sizes(draft, s);
     let calls_at = append_two(draft, trees_at, kinds, measures);
-    let names_at = append_queue(draft, calls_at, operations, counts, targets, listed);
+    let names_at = append_queue(draft, calls_at, operations, counts, rules, targets, listed);
     let text_at = append_names(draft, names_at, inputs, outputs, noted, numbers);
     append_text(draft, text_at, text)
 }

@@ -1,4 +1,4 @@
--- `perform` meets its contract: 1, 2 to 7, or the plan and its run.
+-- `perform` meets its contract: 17, 1, 2 to 7 with 16, or the plan and its run.
 -- Assumes nothing.
 use mathlib.Core.Path.{refl}
 use native.Mathlib.Omega.{arith}

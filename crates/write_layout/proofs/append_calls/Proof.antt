@@ -8,10 +8,10 @@ use Rattle.write_layout.proofs.append_calls.Statement.{statement}
 use Rattle.write_layout.proofs.append_calls.Tie as tie
 
 abbrev Inv-loop : tie.InvT-loop
-Inv-loop draft₀ at operations counts i₀ draft i = Calling draft₀ at operations counts draft i
+Inv-loop draft₀ at operations counts rules i₀ draft i = Calling draft₀ at operations counts rules draft i
 
 abbrev μ-loop : tie.MeasureT-loop
-μ-loop draft₀ at operations counts i₀ draft i = length operations - i
+μ-loop draft₀ at operations counts rules i₀ draft i = length operations - i
 
 loop-holds : tie.Need-loop-holds Inv-loop μ-loop
 loop-holds c = search (calling-start, needs)
@@ -35,7 +35,7 @@ loop-less : tie.Need-loop-less Inv-loop μ-loop
 loop-less c = search needs
 
 loop-again : tie.Need-loop-again Inv-loop μ-loop
-loop-again c = calling-next (c .before .before .before .before .before .before .loop .inv) (c .before .before .before .before .before .before .before .before .before .before .pre .0) (c .before .before .before .before .before .loop-test .taken) (c .before .before .before .before .before .before .before .before .before .before .pre .1) (c .before .before .before .call-word .ensures) (c .before .draft .given) (c .before .before .write-word .ensures)
+loop-again c = calling-next (c .before .before .before .before .before .before .loop .inv) (c .before .before .before .before .before .before .before .before .before .before .before .pre .0) (c .before .before .before .before .before .loop-test .taken) (c .before .before .before .before .before .before .before .before .before .before .before .pre .1) (c .before .before .before .call-word .ensures) (c .before .draft .given) (c .before .before .write-word .ensures)
 
 mul-result : tie.Need-mul-result Inv-loop μ-loop
 mul-result c = search needs
