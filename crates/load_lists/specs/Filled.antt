@@ -1,10 +1,20 @@
--- What the lists of calls and of notes hold once they are filled.
+-- What the lists of trees, calls and notes hold once they are filled.
 -- Assumes nothing.
 use mathlib.Core.Path.{_≡_}
 use mathlib.Core.List.{List, map, flatMap}
 use Prim.Native.Nat.{ℕ, _≤_}
 use lib.ListN.{length, take}
-use Rattle.load_laws.specs.Load.{along, calls, noted}
+use Rattle.load_laws.specs.Load.{elements, kindAt, measureAt, byteAt, along, calls, noted}
+
+-- the lists of the trees
+pub record TreesFilled (ks ms bs : List ℕ) : Type 0 where
+  pub kinds : ks ≡ along kindAt 0 elements
+  pub measures : ms ≡ along measureAt 0 elements
+  pub text : bs ≡ along byteAt 0 660
+
+pub trees-filled : (ks ms bs ks₀ ms₀ bs₀ : List ℕ) → (792 ≡ length ks₀) × (792 ≡ length ms₀) × (660 ≡ length bs₀)
+    → ks ≡ along kindAt 0 (length ks₀) → ms ≡ along measureAt 0 (length ms₀) → bs ≡ along byteAt 0 (length bs₀) → TreesFilled ks ms bs
+trees-filled ks ms bs ks₀ ms₀ bs₀ (a, b, c) k m t = record { kinds = rw a k; measures = rw b m; text = rw c t }
 
 -- the lists of the calls of a starting number; r elements are listed
 pub record Filled (start : ℕ) (os ns rs ts ls : List ℕ) (r : ℕ) : Type 0 where

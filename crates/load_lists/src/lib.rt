@@ -7,10 +7,10 @@ use load_draws::next;
 ghost use mathlib.Core.Path.{_≡_};
 ghost use Prim.Native.Nat.{_<_, _≤_};
 ghost use lib.ListN.{length};
-ghost use Rattle.load_laws.specs.Load.{after, along, kindAt, measureAt, byteAt, noted as notedOf};
+ghost use Rattle.load_laws.specs.Load.{after, along, kindAt, measureAt, byteAt};
 ghost use Rattle.load_draws.specs.Called.{Called};
 ghost use Rattle.load_lists.specs.Numbered.{numbered as numberedOf, passed as passedOf};
-ghost use Rattle.load_lists.specs.Filled.{Filled, NotesFilled};
+ghost use Rattle.load_lists.specs.Filled.{TreesFilled, Filled, NotesFilled};
 
 // How many elements tree 0 has; the root of tree 1, of tree 2, and the copy of a block in it.
 const OF_TREE_0: usize = 769;
@@ -94,7 +94,7 @@ fn byte_at(t: usize) -> u8
 }
 
 // The kind words of as many elements as there is room for.
-pub fn fill_kinds(kinds: &mut [u32])
+fn fill_kinds(kinds: &mut [u32])
     ensures { λ _. ⌜ now (kinds .exit) ≡ along kindAt 0 (length (now (kinds .entry))) ⌝ }
 {
     let mut i = 0;
@@ -105,7 +105,7 @@ pub fn fill_kinds(kinds: &mut [u32])
 }
 
 // Their measures.
-pub fn fill_measures(measures: &mut [u32])
+fn fill_measures(measures: &mut [u32])
     ensures { λ _. ⌜ now (measures .exit) ≡ along measureAt 0 (length (now (measures .entry))) ⌝ }
 {
     let mut i = 0;
@@ -116,7 +116,7 @@ pub fn fill_measures(measures: &mut [u32])
 }
 
 // As many bytes of the text.
-pub fn fill_text(text: &mut [u8])
+fn fill_text(text: &mut [u8])
     requires { ⌜ length (now text) ≤ 660 ⌝ }
     ensures { λ _. ⌜ now (text .exit) ≡ along byteAt 0 (length (now (text .entry))) ⌝ }
 {
@@ -125,6 +125,16 @@ pub fn fill_text(text: &mut [u8])
         text[i] = byte_at(i);
         i += 1;
     }
+}
+
+// The three trees.
+pub fn fill_trees(kinds: &mut [u32], measures: &mut [u32], text: &mut [u8])
+    requires { ⌜ (792 ≡ length (now kinds)) × (792 ≡ length (now measures)) × (660 ≡ length (now text)) ⌝ }
+    ensures { λ _. ⌜ TreesFilled (now (kinds .exit)) (now (measures .exit)) (now (text .exit)) ⌝ }
+{
+    fill_kinds(kinds);
+    fill_measures(measures);
+    fill_text(text);
 }
 
 // Call i, from what the generator holds before it.

@@ -1,6 +1,5 @@
 -- `block` meets its contract.
 -- Assumes nothing.
-use Prim.Native.Nat.{_-_}
 use Rattle.load_laws.specs.Load.{block}
 use borrow.Author.Needs.{needs}
 use Rattle.load_draws.proofs.block.Statement.{statement}

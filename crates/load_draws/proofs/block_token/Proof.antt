@@ -1,6 +1,5 @@
 -- `block_token` meets its contract.
 -- Assumes nothing.
-use Prim.Native.Nat.{_-_}
 use Rattle.load_laws.specs.Load.{blockToken}
 use borrow.Author.Needs.{needs}
 use Rattle.load_draws.proofs.block_token.Statement.{statement}

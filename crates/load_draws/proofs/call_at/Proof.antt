@@ -1,6 +1,5 @@
 -- `call_at` meets its contract.
 -- Assumes nothing.
-use Prim.Native.Nat.{_-_}
 use Rattle.load_draws.proofs.Ways.{at-low, at-editor, at-high, at-own}
 use borrow.Author.Needs.{needs}
 use Rattle.load_draws.proofs.call_at.Statement.{statement}

@@ -1,6 +1,5 @@
 -- `donor` meets its contract.
 -- Assumes nothing.
-use Prim.Native.Nat.{_-_}
 use Rattle.load_laws.specs.Load.{donor}
 use borrow.Author.Needs.{needs}
 use Rattle.load_draws.proofs.donor.Statement.{statement}

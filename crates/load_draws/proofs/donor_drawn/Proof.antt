@@ -1,6 +1,5 @@
 -- `donor_drawn` meets its contract.
 -- Assumes nothing.
-use Prim.Native.Nat.{_-_}
 use Rattle.load_laws.specs.Load.{donorDrawn}
 use borrow.Author.Needs.{needs}
 use Rattle.load_draws.proofs.donor_drawn.Statement.{statement}

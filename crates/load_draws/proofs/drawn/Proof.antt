@@ -1,7 +1,6 @@
 -- `drawn` meets its contract.
 -- Assumes nothing.
 use mathlib.Core.Path.{refl}
-use Prim.Native.Nat.{_-_}
 use Rattle.load_laws.specs.Load.{drawn}
 use borrow.Author.Needs.{needs}
 use Rattle.load_draws.proofs.drawn.Statement.{statement}

@@ -1,6 +1,5 @@
 -- `first_call` meets its contract.
 -- Assumes nothing.
-use Prim.Native.Nat.{_-_}
 use Rattle.load_draws.proofs.Ways.{first-0, first-1, first-2}
 use borrow.Author.Needs.{needs}
 use Rattle.load_draws.proofs.first_call.Statement.{statement}

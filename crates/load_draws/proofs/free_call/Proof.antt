@@ -1,6 +1,5 @@
 -- `free_call` meets its contract.
 -- Assumes nothing.
-use Prim.Native.Nat.{_-_}
 use Rattle.load_draws.proofs.Ways.{free-0, free-1, free-3, free-4, free-6, free-7, free-else}
 use borrow.Author.Needs.{needs}
 use Rattle.load_draws.proofs.free_call.Statement.{statement}

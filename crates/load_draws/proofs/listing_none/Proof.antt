@@ -3,7 +3,6 @@
 use Rattle.load_draws.specs.Called.{callOf}
 use native.Mathlib.Omega.{arith}
 use mathlib.Core.Path.{refl}
-use Prim.Native.Nat.{_-_}
 use Rattle.load_draws.proofs.listing_none.Statement.{statement}
 use Rattle.load_draws.proofs.listing_none.Tie as tie
 

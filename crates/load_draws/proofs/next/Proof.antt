@@ -1,6 +1,5 @@
 -- `next` meets its contract.
 -- Assumes nothing.
-use Prim.Native.Nat.{_-_}
 use Rattle.load_laws.specs.Load.{next}
 use borrow.Author.Needs.{needs}
 use Rattle.load_draws.proofs.next.Statement.{statement}

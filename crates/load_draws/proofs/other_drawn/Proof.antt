@@ -1,6 +1,5 @@
 -- `other_drawn` meets its contract.
 -- Assumes nothing.
-use Prim.Native.Nat.{_-_}
 use Rattle.load_laws.specs.Load.{otherDrawn}
 use borrow.Author.Needs.{needs}
 use Rattle.load_draws.proofs.other_drawn.Statement.{statement}

@@ -1,6 +1,5 @@
 -- `own_call` meets its contract.
 -- Assumes nothing.
-use Prim.Native.Nat.{_-_}
 use Rattle.load_draws.proofs.Ways.{own-0, own-1}
 use borrow.Author.Needs.{needs}
 use Rattle.load_draws.proofs.own_call.Statement.{statement}

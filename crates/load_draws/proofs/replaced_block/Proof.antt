@@ -1,6 +1,5 @@
 -- `replaced_block` meets its contract.
 -- Assumes nothing.
-use Prim.Native.Nat.{_-_}
 use Rattle.load_laws.specs.Load.{replaced}
 use borrow.Author.Needs.{needs}
 use Rattle.load_draws.proofs.replaced_block.Statement.{statement}

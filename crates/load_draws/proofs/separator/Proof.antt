@@ -1,6 +1,5 @@
 -- `separator` meets its contract.
 -- Assumes nothing.
-use Prim.Native.Nat.{_-_}
 use Rattle.load_laws.specs.Load.{separator}
 use borrow.Author.Needs.{needs}
 use Rattle.load_draws.proofs.separator.Statement.{statement}

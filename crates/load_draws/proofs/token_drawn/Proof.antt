@@ -1,6 +1,5 @@
 -- `token_drawn` meets its contract.
 -- Assumes nothing.
-use Prim.Native.Nat.{_-_}
 use Rattle.load_laws.specs.Load.{tokenDrawn}
 use borrow.Author.Needs.{needs}
 use Rattle.load_draws.proofs.token_drawn.Statement.{statement}

@@ -1,6 +1,5 @@
 -- `byte_at` meets its contract, way by way.
 -- Assumes nothing.
-use Prim.Native.Nat.{_-_}
 use Rattle.load_lists.proofs.Ways.{byte-separator, byte-token, byte-donor, byte-copy}
 use borrow.Author.Needs.{needs}
 use Rattle.load_lists.proofs.byte_at.Statement.{statement}

@@ -1,6 +1,5 @@
 -- `kind_at` meets its contract, way by way.
 -- Assumes nothing.
-use Prim.Native.Nat.{_-_}
 use Rattle.load_lists.proofs.Ways.{kind-root, kind-separator, kind-block, kind-token, kind-donors, kind-donor, kind-replacement, kind-copy, kind-else}
 use borrow.Author.Needs.{needs}
 use Rattle.load_lists.proofs.kind_at.Statement.{statement}

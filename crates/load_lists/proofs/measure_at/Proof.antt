@@ -1,6 +1,5 @@
 -- `measure_at` meets its contract, way by way.
 -- Assumes nothing.
-use Prim.Native.Nat.{_-_}
 use Rattle.load_lists.proofs.Ways.{measure-root, measure-block, measure-token, measure-donors, measure-donor, measure-copy, measure-else}
 use borrow.Author.Needs.{needs}
 use Rattle.load_lists.proofs.measure_at.Statement.{statement}

@@ -1,6 +1,5 @@
 -- `numbered` meets its contract: by draw 1, or by two draws.
 -- Assumes nothing.
-use Prim.Native.Nat.{_-_}
 use Rattle.load_lists.proofs.Ways.{draw-low, numbered-first, numbered-later}
 use borrow.Author.Needs.{needs}
 use Rattle.load_lists.proofs.numbered.Statement.{statement}

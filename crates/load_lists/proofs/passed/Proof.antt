@@ -1,6 +1,5 @@
 -- `passed` meets its contract, way by way.
 -- Assumes nothing.
-use Prim.Native.Nat.{_-_}
 use Rattle.load_lists.proofs.Ways.{passed-none, passed-one, passed-two}
 use borrow.Author.Needs.{needs}
 use Rattle.load_lists.proofs.passed.Statement.{statement}
