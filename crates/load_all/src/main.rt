@@ -1,7 +1,6 @@
 // Edits the loads of 0 to 255, as the edit program does without arguments, and counts those that are accepted.
 use choices::Choices;
 use edit_algo::Answer;
-ghost use lib.ListN.{length};
 ghost use Prim.Native.Nat.{_≤_};
 
 // How many loads are edited.

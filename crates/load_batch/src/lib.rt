@@ -1,10 +1,7 @@
 // A load that anyone can repeat (document 02, Note 12): the batch of a starting number, as the writer lays it out.
 use write_batch::Written;
-ghost use mathlib.Core.Path.{_≡_};
 ghost use mathlib.Core.List.{_∷_, []};
-ghost use Rattle.load_laws.specs.Load.{drawn, block, replaced, copy, along, noted as notedOf};
 ghost use Rattle.promises.specs.Writing.{Writes};
-ghost use Rattle.write_layout.specs.Laying.{listsIn};
 ghost use Rattle.write_batch.specs.Handing.{answerOf};
 ghost use Rattle.load_batch.specs.Loads.{Loads};
 ghost use Rattle.load_batch.specs.Lists.{withNotes, withCalls};

@@ -1,13 +1,13 @@
 -- Which call is chosen, from the tests that led there.
 -- Assumes nothing.
-use mathlib.Core.Path.{_≡_, refl}
+use mathlib.Core.Path.{_≡_}
 use mathlib.Core.Bool.{Bool, true, false}
 use mathlib.Core.List.{[], _∷_}
 use Prim.Native.Nat.{ℕ, _+_, _/_, _%_, _≤_, _<_}
 use native.Mathlib.Omega.{arith}
 use lib.ListN.{getD}
-use borrow.Author.Tests.{eq-eqb, ne-eqb, lt-ltb, le-ltb}
-use Rattle.load_laws.specs.Load.{separator, block, blockToken, donor, replacement, call, ruleDrawn, replaced, tokenDrawn, donorDrawn, otherDrawn, firstCalls, freeCall, ownCall, furtherEditor, callAt}
+use borrow.Author.Tests.{ne-eqb, lt-ltb, le-ltb}
+use Rattle.load_laws.specs.Load.{separator, block, blockToken, donor, call, ruleDrawn, replaced, tokenDrawn, donorDrawn, otherDrawn, firstCalls, freeCall, ownCall, furtherEditor, callAt}
 use Rattle.load_laws.specs.Draws.{none}
 use Rattle.load_draws.specs.declared.DrawnCall.{DrawnCall}
 use Rattle.load_draws.specs.Called.{Called}

@@ -1,7 +1,7 @@
 // The draws of a starting number, and the call that they choose (document 02, Note 12; docs/LOAD.md).
 ghost use mathlib.Core.Path.{_≡_};
 ghost use mathlib.Core.List.{_∷_, []};
-ghost use Prim.Native.Nat.{_≤_, _<_};
+ghost use Prim.Native.Nat.{_<_};
 ghost use lib.ListN.{getD};
 ghost use Rattle.load_laws.specs.Load.{next as nextOf, drawn as drawnOf, separator as separatorOf, block as blockOf, blockToken, donor as donorOf, call, replaced, tokenDrawn, donorDrawn, otherDrawn, firstCalls, freeCall, ownCall, callAt};
 ghost use Rattle.load_laws.specs.Draws.{none};

@@ -6,7 +6,7 @@ use mathlib.Core.Bool.{false}
 use mathlib.Core.List as List
 use mathlib.Core.List.{List, [], _∷_, _++_, map, flatMap, zip}
 use mathlib.Core.Option.{some}
-use Prim.Native.Nat.{ℕ, zero, suc, _+_, _*_, _/_, _%_, _≤_, _<_}
+use Prim.Native.Nat.{ℕ, zero, suc, _+_, _*_, _%_, _≤_, _<_}
 use native.Mathlib.Omega.{arith}
 use lib.ListN.{length, length-append, length-map}
 use lib.Seq.{take-at, drop-at}
@@ -18,7 +18,7 @@ use Rattle.definition.specs.Basics.{refused, gives, _>>=_, refuse, orRefuse, is
 use Rattle.definition.specs.Batch.{beyond, whole}
 use Rattle.definition.specs.Elements.{table}
 use Rattle.definition.specs.Refusals as Refusals
-use Rattle.definition.specs.Refusals.{Call, callWord, operationOf, countOf, ruleOf, listsTooMany, wrongCall, wrongMapping, wrongNote, Accepted, accepted}
+use Rattle.definition.specs.Refusals.{Call, listsTooMany, wrongCall, wrongMapping, wrongNote, Accepted, accepted}
 use Rattle.definition.specs.Writing.{sizesOf, callWords, laidOut, wrongLists, write}
 use Rattle.definition_laws.specs.Basics.{All-append}
 use Rattle.definition_laws.specs.Accepted.{limited}

@@ -14,7 +14,7 @@ use Rattle.orders.specs.Lists.{All}
 use Rattle.definition.specs.Basics.{any}
 use Rattle.definition.specs.Elements.{Table, node?, parent}
 use Rattle.definition.specs.Refusals.{Call, sameParent, Accepted}
-use Rattle.load_laws.specs.Load.{next, drawn, separator, block, blockToken, call, ruleDrawn, replaced, tokenDrawn, firstCalls, freeCall, ownCall, callAt, callsFrom, calls}
+use Rattle.load_laws.specs.Load.{next, drawn, block, blockToken, call, ruleDrawn, replaced, tokenDrawn, firstCalls, freeCall, ownCall, callAt, callsFrom, calls}
 use Rattle.load_laws.specs.Trees.{T, group-told}
 use Rattle.load_laws.specs.Calls.{by, token-few, replaced-low, from-all, calls-many}
 use Rattle.load_laws.specs.Good.{taken}

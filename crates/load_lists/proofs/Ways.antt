@@ -4,7 +4,7 @@ use mathlib.Core.Path.{_≡_, refl}
 use Prim.Native.Nat.{ℕ, _+_, _-_, _/_, _%_, _≤_, _<_}
 use native.Mathlib.Omega.{arith}
 use lib.ListN.{getD}
-use borrow.Author.Tests.{eq-eqb, ne-eqb, lt-ltb, le-ltb}
+use borrow.Author.Tests.{ne-eqb, lt-ltb, le-ltb}
 use Rattle.load_laws.specs.Load.{next, drawn, kindAt, measureAt, byteAt, firstCalls, callAt}
 use Rattle.load_laws.specs.Draws.{none}
 use Rattle.load_laws.specs.Calls.{drawn-low}

@@ -1,12 +1,12 @@
 -- Call i of a load, from what the generator holds before it: calls 0, 1 and 2 share one draw, each further call takes two.
 -- Assumes nothing.
-use mathlib.Core.Path.{_≡_, refl, ap, _∙_}
+use mathlib.Core.Path.{_≡_, refl}
 use mathlib.Core.Bool.{cond}
 use Prim.Native.Nat.{ℕ, zero, suc, _+_, _-_, _*_, _≤_, _<_}
 use native.Mathlib.Omega.{arith}
 use lib.Dec.{ltb, eqb}
 use lib.ListN.{getD}
-use borrow.Author.Tests.{lt-ltb, le-ltb, ne-eqb}
+use borrow.Author.Tests.{le-ltb, ne-eqb}
 use Rattle.definition.specs.Refusals.{Call}
 use Rattle.load_laws.specs.Load.{next, drawn, after, draw, firstCalls, callAt, calls}
 use Rattle.load_laws.specs.Draws.{none, call-drawn}

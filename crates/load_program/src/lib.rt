@@ -1,7 +1,7 @@
 // The load program: writes the batch of a starting number, its argument, to standard output (document 02, Note 12).
 use write_batch::Written;
 ghost use mathlib.Core.Path.{_≡_};
-ghost use Prim.Native.Nat.{_^_, _<_, _≤_};
+ghost use Prim.Native.Nat.{_<_, _≤_};
 ghost use lib.ListN.{length};
 ghost use Rattle.definition.specs.Writing.{laidOut};
 ghost use Rattle.load_laws.specs.Load.{load};
