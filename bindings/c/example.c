@@ -23,6 +23,7 @@ static int64_t build(void)
     static const uint32_t measures[] = {2, 1, 1, 1, 1};               /* children of a node, text bytes of a token */
     static const uint8_t text[] = {'a', 'b', 'c'};
     static const uint32_t operation[] = {1}, count[] = {1}, target[] = {1}, listed[] = {4};    /* insert one element, 4, after element 1 */
+    static const uint32_t rule[] = {0};                               /* queued by no rule */
     static const uint32_t noted[] = {4}, number[] = {9};              /* note 9 on element 4 */
     const syntax_lists lists = {
         .trees = 2,
@@ -31,6 +32,7 @@ static int64_t build(void)
         .text = text, .text_length = COUNT(text),
         .operations = operation, .operations_length = COUNT(operation),
         .counts = count, .counts_length = COUNT(count),
+        .rules = rule, .rules_length = COUNT(rule),
         .targets = target, .targets_length = COUNT(target),
         .listed = listed, .listed_length = COUNT(listed),
         .noted = noted, .noted_length = COUNT(noted),
@@ -43,7 +45,7 @@ static void print(void)
 {
     uint32_t elements = word(0), bytes = word(1), changed = word(2), notes = word(3);
     size_t measures = 6 + (size_t)elements, at = measures + elements;
-    const uint8_t *text = result + 4 * (at + changed + 2 * (size_t)notes);
+    const uint8_t *text = result + 4 * (at + 2 * (size_t)changed + 2 * (size_t)notes);
 
     printf("ok %" PRIu32 " %" PRIu32 " %" PRIu32 " %" PRIu32 " %" PRIu32 " %" PRIu32 "\n", elements, bytes, changed, notes, word(4), word(5));
     for (uint32_t i = 0; i < elements; i++)
@@ -53,9 +55,9 @@ static void print(void)
         printf("%02x", text[i]);
     printf("\n");
     for (uint32_t i = 0; i < changed; i++)
-        printf("changed %" PRIu32 "\n", word(at + i));
+        printf("changed %" PRIu32 " %" PRIu32 "\n", word(at + i), word(at + changed + i));
     for (uint32_t i = 0; i < notes; i++)
-        printf("note %" PRIu32 " %" PRIu32 "\n", word(at + changed + i), word(at + changed + notes + i));
+        printf("note %" PRIu32 " %" PRIu32 "\n", word(at + 2 * changed + i), word(at + 2 * changed + notes + i));
 }
 
 int main(void)

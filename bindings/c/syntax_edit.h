@@ -2,8 +2,9 @@
  *
  * A batch is bytes as document 01 lays them out: seven sizes (trees, elements, text bytes, calls, listed elements, mappings, notes), then kinds,
  * measures, call words, targets, listed elements, mapping inputs and outputs, note elements and numbers (32-bit little-endian words), then the text.
- * An answer is six sizes (elements, text bytes, changed, notes, discarded changes, climb steps), kinds, measures, changed elements, note numbers,
- * note elements, text. An account is text: what becomes of each change.
+ * A call word is its operation, 256 times how many elements it lists, and 1,048,576 times the number of the rule that queued it (0 for none; SYNTAX_CALL_WORD).
+ * An answer is six sizes (elements, text bytes, changed, notes, discarded changes, climb steps), kinds, measures, changed elements, the rule numbers by which
+ * they were put in, note numbers, note elements, text. An account is text: what becomes of each change.
  *
  * Who owns what: the caller owns every buffer. Nothing is allocated and nothing is kept after a call returns. A call has no precondition but that lent
  * buffers do not overlap and that each has the length that is passed with it, whatever the batch and the work memory hold.
@@ -28,7 +29,7 @@ extern "C" {
 enum {
     SYNTAX_TABLE = 16384,
     SYNTAX_SOURCE = 6147,
-    SYNTAX_CHANGES = 3328,
+    SYNTAX_CHANGES = 3584,
     SYNTAX_NOTES = 3072,
     SYNTAX_INCOMING = 3072,
     SYNTAX_CHANGED = 1024,
@@ -38,10 +39,17 @@ enum {
 };
 
 /* The most bytes of an answer, and of an account: a result buffer of this length is never too short. */
-enum { SYNTAX_MOST_ANSWER = 61464, SYNTAX_MOST_ACCOUNT = 8192 };
+enum { SYNTAX_MOST_ANSWER = 65560, SYNTAX_MOST_ACCOUNT = 8192 };
 
 /* The writer's work slices: a draft of this many bytes, SYNTAX_TABLE words and SYNTAX_SOURCE words. No batch is longer than the draft. */
 enum { SYNTAX_DRAFT = 49180, SYNTAX_MOST_BATCH = 49180 };
+
+/* A rule number is at most this. A further editor's start (operation 6) has 0. */
+enum { SYNTAX_MOST_RULE = 4095 };
+
+/* A call's word, and the rule number in one. */
+#define SYNTAX_CALL_WORD(operation, count, rule) ((uint32_t)(operation) + 256u * (uint32_t)(count) + 1048576u * (uint32_t)(rule))
+#define SYNTAX_RULE_OF(word) ((uint32_t)(word) / 1048576u)
 
 /* What syntax_find_element answers if there is no such element. */
 enum { SYNTAX_NONE = -1000 };
@@ -67,7 +75,7 @@ enum {
     SYNTAX_GONE = 11,           /* a step's target is gone */
     SYNTAX_LARGE = 12,          /* the trees outgrow their limits */
     SYNTAX_SHORT_RESULT = 13,   /* the result buffer is too short */
-    SYNTAX_LISTS = 14,          /* lists in step differ in length, or the lists make a batch that 3 to 7 or 16 would refuse */
+    SYNTAX_LISTS = 14,          /* lists in step differ in length, an operation, a count or a rule number does not fit the call word, or the lists make a batch that 3 to 7 or 16 would refuse */
     SYNTAX_SHORT_DESTINATION = 15,  /* the destination is too short, checked after 14 */
     SYNTAX_LISTED = 16,         /* a call lists more than 41 elements, a run's end not counted; checked right after 6 */
     SYNTAX_EDGE = 17            /* an edge rule other than 0 or 1; checked before 1 */
@@ -128,6 +136,7 @@ int64_t syntax_write(
     const uint8_t *text, size_t text_length,
     const uint32_t *operations, size_t operations_length,
     const uint32_t *counts, size_t counts_length,
+    const uint32_t *rules, size_t rules_length,
     const uint32_t *targets, size_t targets_length,
     const uint32_t *listed, size_t listed_length,
     const uint32_t *inputs, size_t inputs_length,
@@ -139,7 +148,7 @@ int64_t syntax_write(
     uint32_t *table, size_t table_length,
     uint32_t *source, size_t source_length);
 
-/* All work memory, 233 KiB in nine slices; static or on the heap, and one for each thread that edits at the same time. It need not be cleared. */
+/* All work memory, 234 KiB in nine slices; static or on the heap, and one for each thread that edits at the same time. It need not be cleared. */
 typedef struct syntax_work {
     uint32_t table[SYNTAX_TABLE];
     uint32_t source[SYNTAX_SOURCE];
@@ -175,7 +184,7 @@ static inline int64_t syntax_account_with(syntax_work *w, uint64_t edge, const u
 }
 
 /* The lists of a batch. The elements of all trees stand in preorder, tree after tree; a call lists elements of its own, and those of all calls stand one
- * after another. Lists in step: kinds and measures; operations, counts and targets; inputs and outputs; noted and numbers. */
+ * after another. Lists in step: kinds and measures; operations, counts, rules and targets; inputs and outputs; noted and numbers. */
 typedef struct syntax_lists {
     size_t trees;
     const uint32_t *kinds;          /* of an element: its kind, a node's with bit 31 */
@@ -188,6 +197,8 @@ typedef struct syntax_lists {
     size_t operations_length;
     const uint32_t *counts;         /* of a call: how many elements it lists */
     size_t counts_length;
+    const uint32_t *rules;          /* of a call: the number of the rule that queued it, 0 for none */
+    size_t rules_length;
     const uint32_t *targets;        /* of a call */
     size_t targets_length;
     const uint32_t *listed;
@@ -213,7 +224,7 @@ typedef struct syntax_writer_work {
 static inline int64_t syntax_write_with(syntax_writer_work *w, const syntax_lists *l, uint8_t *destination, size_t destination_length)
 {
     return syntax_write(l->trees, l->kinds, l->kinds_length, l->measures, l->measures_length, l->text, l->text_length, l->operations,
-        l->operations_length, l->counts, l->counts_length, l->targets, l->targets_length, l->listed, l->listed_length, l->inputs, l->inputs_length,
+        l->operations_length, l->counts, l->counts_length, l->rules, l->rules_length, l->targets, l->targets_length, l->listed, l->listed_length, l->inputs, l->inputs_length,
         l->outputs, l->outputs_length, l->noted, l->noted_length, l->numbers, l->numbers_length, destination, destination_length, w->draft,
         SYNTAX_DRAFT, w->table, SYNTAX_TABLE, w->source, SYNTAX_SOURCE);
 }

@@ -103,7 +103,7 @@ impl Fire {
         assert!(result.guards_stand(), "a byte beside the result is written");
         assert!(work.iter().all(Buffer::guards_stand), "a word beside a work slice is written");
         assert!(work.iter().all(|it| it.held().iter().all(|&it| it == 0)), "a work slice is not zeros");
-        assert!((-17..=61_464).contains(&answer) && answer != 0, "no answer: {answer}");
+        assert!((-17..=65_560).contains(&answer) && answer != 0, "no answer: {answer}");
         assert_eq!(choices.edge > 1, answer == -17, "a wrong edge rule, and it alone, is refused by 17");
         assert_eq!(short && choices.edge <= 1, answer == -1, "a short work slice, and it alone, is refused by 1");
         let length = usize::try_from(answer).unwrap_or(0);

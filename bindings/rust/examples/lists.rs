@@ -1,7 +1,7 @@
 //! Writes lists through the static library's writer, for oracle/lists:   lists < requests
 //!
 //! All numbers are 32-bit little-endian words. A request is: how many trees (64 bits), a seed, the lengths of the destination, the draft, the table and the
-//! source, then the eleven lists in the call's order, each with its length in front (the text in bytes, the others in words). Before the call the
+//! source, then the twelve lists in the call's order, each with its length in front (the text in bytes, the others in words). Before the call the
 //! destination holds bytes that count up from the seed, and the work slices hold numbers drawn from it, none of them 0.
 //! The answer is what the call returned (64 bits), how many bytes and words of the work slices are not 0, and the whole destination.
 
@@ -63,7 +63,7 @@ fn answer(trees: usize, input: &mut impl Read, output: &mut impl Write) -> io::R
     let mut it = Request(input);
     let [seed, room, draft, table, source] = [it.word()?, it.word()?, it.word()?, it.word()?, it.word()?];
     let (kinds, measures, text) = (it.list()?, it.list()?, it.text()?);
-    let [operations, counts, targets, listed] = [it.list()?, it.list()?, it.list()?, it.list()?];
+    let [operations, counts, rules, targets, listed] = [it.list()?, it.list()?, it.list()?, it.list()?, it.list()?];
     let [inputs, outputs, noted, numbers] = [it.list()?, it.list()?, it.list()?, it.list()?];
     let mut destination = (0..room).map(|at| seed.wrapping_add(at) as u8).collect::<Vec<_>>();
     let mut garbage = Garbage(seed);
@@ -75,6 +75,7 @@ fn answer(trees: usize, input: &mut impl Read, output: &mut impl Write) -> io::R
         text: &text,
         operations: &operations,
         counts: &counts,
+        rules: &rules,
         targets: &targets,
         listed: &listed,
         inputs: &inputs,

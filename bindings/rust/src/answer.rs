@@ -9,6 +9,7 @@ pub struct Answer<'a> {
     kinds: &'a [u8],
     measures: &'a [u8],
     changed: &'a [u8],
+    rules: &'a [u8],
     numbers: &'a [u8],
     noted: &'a [u8],
     text: &'a [u8],
@@ -63,8 +64,9 @@ impl<'a> Answer<'a> {
         };
         let [elements, text, changed, notes, ..] = sizes;
         let (kinds, measures) = (array(elements)?, array(elements)?);
-        let (changed, numbers, noted) = (array(changed)?, array(notes)?, array(notes)?);
-        let answer = Answer { sizes, kinds, measures, changed, numbers, noted, text: rest };
+        let (changed, rules) = (array(changed)?, array(changed)?);
+        let (numbers, noted) = (array(notes)?, array(notes)?);
+        let answer = Answer { sizes, kinds, measures, changed, rules, numbers, noted, text: rest };
         let tokens = words(kinds).zip(words(measures)).filter(|it| it.0 & NODE == 0);
         let shared = tokens.map(|it| u64::from(it.1)).sum::<u64>();
         (rest.len() == text as usize && shared == u64::from(text)).then_some(answer)
@@ -87,6 +89,11 @@ impl<'a> Answer<'a> {
     /// The numbers of the changed elements, by text start.
     pub fn changed(&self) -> impl ExactSizeIterator<Item = u32> + use<'a> {
         words(self.changed)
+    }
+
+    /// Of each changed element the number of the rule that put it in, 0 for none; in the same order.
+    pub fn rules(&self) -> impl ExactSizeIterator<Item = u32> + use<'a> {
+        words(self.rules)
     }
 
     /// The notes, by number, queue place and text start.
@@ -122,7 +129,7 @@ impl fmt::Display for Answer<'_> {
         f.write_str(if b == 0 { "text" } else { "text " })?;
         self.text.iter().try_for_each(|it| write!(f, "{it:02x}"))?;
         f.write_str("\n")?;
-        self.changed().try_for_each(|it| writeln!(f, "changed {it}"))?;
+        self.changed().zip(self.rules()).try_for_each(|(element, rule)| writeln!(f, "changed {element} {rule}"))?;
         self.notes().try_for_each(|it| writeln!(f, "note {} {}", it.number, it.element))
     }
 }

@@ -49,12 +49,14 @@ pub struct BatchBuilder {
     text: Vec<u8>,
     operations: Vec<u32>,
     counts: Vec<u32>,
+    rules: Vec<u32>,
     targets: Vec<u32>,
     listed: Vec<u32>,
     inputs: Vec<u32>,
     outputs: Vec<u32>,
     noted: Vec<u32>,
     numbers: Vec<u32>,
+    rule: u32,
     open: Vec<usize>,
     fault: Option<Unfit>,
 }
@@ -98,6 +100,20 @@ impl BatchBuilder {
         word(self.kinds.len() - 1)
     }
 
+    /// The calls that follow are queued by the rule of this number, 0 for none. One above 4,095 is refused when the batch is laid out.
+    pub fn rule(&mut self, number: u32) -> &mut BatchBuilder {
+        self.rule = number;
+        self
+    }
+
+    /// The calls that `calls` makes are queued by the rule of this number; those after them by the one before.
+    pub fn by_rule<T>(&mut self, number: u32, calls: impl FnOnce(&mut BatchBuilder) -> T) -> T {
+        let before = std::mem::replace(&mut self.rule, number);
+        let answer = calls(self);
+        self.rule = before;
+        answer
+    }
+
     /// Call 0: the listed elements become the parent's first children.
     pub fn insert_first(&mut self, parent: u32, listed: &[u32]) {
         self.call(0, parent, listed);
@@ -128,14 +144,15 @@ impl BatchBuilder {
         self.call(5, first, &[&[last], listed].concat());
     }
 
-    /// Call 6: the calls that follow are a further editor's.
+    /// Call 6: the calls that follow are a further editor's. It has no rule number.
     pub fn next_editor(&mut self) {
-        self.call(6, 0, &[]);
+        self.by_rule(0, |it| it.call(6, 0, &[]));
     }
 
     fn call(&mut self, operation: u32, target: u32, listed: &[u32]) {
         self.operations.push(operation);
         self.counts.push(word(listed.len()));
+        self.rules.push(self.rule);
         self.targets.push(target);
         self.listed.extend_from_slice(listed);
     }
@@ -160,6 +177,7 @@ impl BatchBuilder {
             text: &self.text,
             operations: &self.operations,
             counts: &self.counts,
+            rules: &self.rules,
             targets: &self.targets,
             listed: &self.listed,
             inputs: &self.inputs,

@@ -7,7 +7,7 @@
 use crate::Choices;
 
 /// The lengths in words that the work slices need, in the order in which they are lent.
-pub const LENGTHS: [usize; 9] = [16_384, 6_147, 3_328, 3_072, 3_072, 1_024, 2_048, 12_291, 12_288];
+pub const LENGTHS: [usize; 9] = [16_384, 6_147, 3_584, 3_072, 3_072, 1_024, 2_048, 12_291, 12_288];
 
 /// The length in bytes of the writer's draft, which is also the most bytes of a batch. Its table and its source are the editor's first two.
 pub const DRAFT: usize = 49_180;
@@ -37,7 +37,7 @@ impl Work {
     }
 }
 
-/// The lists of a batch: elements of all trees in preorder, tree after tree; of each call its operation, how many elements it lists, and its target; the
+/// The lists of a batch: elements of all trees in preorder, tree after tree; of each call its operation, how many elements it lists, its rule number, and its target; the
 /// listed elements, call after call; of each mapping its input and its output; of each note its element and its number.
 #[derive(Clone, Copy, Debug, Default)]
 pub struct Lists<'a> {
@@ -47,6 +47,7 @@ pub struct Lists<'a> {
     pub text: &'a [u8],
     pub operations: &'a [u32],
     pub counts: &'a [u32],
+    pub rules: &'a [u32],
     pub targets: &'a [u32],
     pub listed: &'a [u32],
     pub inputs: &'a [u32],
@@ -140,6 +141,7 @@ mod library {
             text: *const u8, text_length: usize,
             operations: *const u32, operations_length: usize,
             counts: *const u32, counts_length: usize,
+            rules: *const u32, rules_length: usize,
             targets: *const u32, targets_length: usize,
             listed: *const u32, listed_length: usize,
             inputs: *const u32, inputs_length: usize,
@@ -236,6 +238,7 @@ pub fn write(lists: Lists<'_>, destination: &mut [u8], work: WriterSlices<'_>) -
             lists.text.as_ptr(), lists.text.len(),
             lists.operations.as_ptr(), lists.operations.len(),
             lists.counts.as_ptr(), lists.counts.len(),
+            lists.rules.as_ptr(), lists.rules.len(),
             lists.targets.as_ptr(), lists.targets.len(),
             lists.listed.as_ptr(), lists.listed.len(),
             lists.inputs.as_ptr(), lists.inputs.len(),

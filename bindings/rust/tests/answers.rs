@@ -62,7 +62,7 @@ fn the_printed_case() {
     assert_eq!(batch.bytes().len(), 91);
     let mut editor = Editor::new();
     let answer = editor.edit(&batch).expect("it is accepted");
-    assert_eq!(answer.to_string(), "ok 4 3 1 1 0 0\nn 1 3\nt 2 1\nt 4 1\nt 3 1\ntext 616362\nchanged 2\nnote 9 2\n");
+    assert_eq!(answer.to_string(), "ok 4 3 1 1 0 0\nn 1 3\nt 2 1\nt 4 1\nt 3 1\ntext 616362\nchanged 2 0\nnote 9 2\n");
     let elements = answer.elements().collect::<Vec<_>>();
     assert_eq!(elements[0], Element::Node { kind: 1, children: 3 });
     assert_eq!(elements[2], Element::Token { kind: 4, text: b"c" });

@@ -26,7 +26,7 @@ fn an_answer_leaves_the_rest_of_the_result() {
         let mut memory = work(|_, least| least);
         let mut result = vec![0xa5; 65_536];
         let length = raw::edit(RULE_0, batch, &mut result, lent(&mut memory));
-        assert!((24..=61_464).contains(&length));
+        assert!((24..=65_560).contains(&length));
         assert!(result[length as usize..].iter().all(|&it| it == 0xa5));
         assert_zeros(&memory);
 
@@ -129,6 +129,7 @@ const LISTS: raw::Lists<'static> = raw::Lists {
     text: b"abc",
     operations: &[1],
     counts: &[1],
+    rules: &[7],
     targets: &[1],
     listed: &[4],
     inputs: &[],
@@ -180,11 +181,13 @@ fn a_refused_write_leaves_the_destination() {
     for lists in [
         raw::Lists { measures: &[2, 1, 1, 1], ..LISTS },
         raw::Lists { counts: &[], ..LISTS },
+        raw::Lists { rules: &[], ..LISTS },
         raw::Lists { targets: &[1, 1], ..LISTS },
         raw::Lists { outputs: &[0], ..LISTS },
         raw::Lists { numbers: &[], ..LISTS },
         raw::Lists { operations: &[257], counts: &[0], listed: &[4], ..LISTS },
-        raw::Lists { counts: &[1 << 24 | 1], ..LISTS },
+        raw::Lists { counts: &[1 << 12 | 1], ..LISTS },
+        raw::Lists { rules: &[4_096], ..LISTS },
         raw::Lists { trees: 1 << 32 | 2, ..LISTS },
         raw::Lists { text: &[0; 16_385], ..LISTS },
         raw::Lists { trees: 3, ..LISTS },

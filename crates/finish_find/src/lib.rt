@@ -6,7 +6,7 @@ ghost use lib.ListN.{length};
 ghost use Rattle.definition.specs.Elements.{row, tree as treeOf};
 ghost use Rattle.read_element_table.specs.View.{view};
 ghost use Rattle.read_element_table.specs.Wellformed.{Lines};
-ghost use Rattle.rows_model.specs.Row.{triples, firstRows};
+ghost use Rattle.rows_model.specs.Row.{firstRows};
 ghost use Rattle.finish_model.specs.Finished.{firstTree};
 ghost use Rattle.finish_model.specs.Alike.{alikeWords, findRow};
 ghost use Rattle.finish_find.specs.Found.{found};
@@ -19,8 +19,7 @@ use read_element_table::entry;
 use rows_path::Resolved;
 use rows_path::resolve;
 use rows_syntax_node::ROW_WORDS;
-use rows_syntax_node::TEXT;
-use rows_syntax_node::subtree;
+use rows_syntax_node::child_count;
 use rows_syntax_node::text_length;
 use words::word;
 
@@ -81,29 +80,26 @@ fn is_alike(kind: usize, start: usize, other: usize, sum: usize) -> bool
     sum == start
 }
 
-// The number of the first node of a tree with this kind word and text start.
-fn find_alike(tree: &[u32], kind: usize, start: usize) -> Found
-    requires { ⌜ length (now tree) < 3 * 2 ^ 16 ⌝ }
-    ensures { λ r. ⌜ ((text : List ℕ) → r ≡ found (findRow (triples text (now (tree .entry))) kind start)) ⌝ }
-{
-    let mut sum = 0;
-    let mut i = 0;
-    while ROW_WORDS * i + TEXT < tree.len() {
-        let other = word(tree, ROW_WORDS * i);
-        if is_alike(kind, start, other, sum) {
-            return Found::At(i);
-        }
-        sum += text_length(tree, i);
-        i += 1;
-    }
-    Found::Nothing
-}
-
-// The same in tree 0, from the rows of all trees and the row of its root.
+// The number of the first node of tree 0 with this kind word and text start, from the rows of all trees and the row of its root. The tree ends where no
+// element is owed: each row is one owed less, and a node's row owes its children.
 pub fn find_in_tree(rows: &[u32], n: usize, root: usize, kind: usize, start: usize) -> Found
     requires { ⌜ (3 * n ≤ length (now rows)) × (1 ≤ n) × (n < 2 ^ 16) × (root ≡ 1) ⌝ }
     ensures { λ r. ⌜ ((text : List ℕ) → r ≡ found (findRow (firstTree (firstRows text n (now (rows .entry)))) kind start)) ⌝ }
 {
-    let tree = subtree(rows, n, root);
-    find_alike(tree, kind, start)
+    let mut sum = 0;
+    let mut owed = 1;
+    let mut i = root;
+    while 0 < owed {
+        if n <= i {
+            return Found::Nothing;
+        }
+        let other = word(rows, ROW_WORDS * i);
+        if is_alike(kind, start, other, sum) {
+            return Found::At(i - root);
+        }
+        owed = owed - 1 + child_count(rows, i);
+        sum += text_length(rows, i);
+        i += 1;
+    }
+    Found::Nothing
 }

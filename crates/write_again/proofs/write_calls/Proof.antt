@@ -1,4 +1,4 @@
--- `write_calls` is safe and ends: as many operations and counts are lent as there are calls.
+-- `write_calls` is safe and ends: as many operations, counts and rule numbers are lent as there are calls.
 -- Assumes nothing.
 use lib.Seq.{length-take-le}
 use mathlib.Core.Path.{sym}
@@ -30,6 +30,9 @@ slice-aggregate-part-words c = search needs
 slice-aggregate-part-words-2 : tie.Need-slice-aggregate-part-words-2
 slice-aggregate-part-words-2 c = search needs
 
+slice-aggregate-part-words-3 : tie.Need-slice-aggregate-part-words-3
+slice-aggregate-part-words-3 c = search needs
+
 part-words-requires : tie.Need-part-words-requires
 part-words-requires c κs = search needs
 
@@ -44,6 +47,12 @@ array-share-prefix-counts c = search needs
 
 slice-aggregate-write-names-2 : tie.Need-slice-aggregate-write-names-2
 slice-aggregate-write-names-2 c = sym (length-take-le _ _ (array-share-prefix-counts (c .before)))
+
+array-share-prefix-rules : tie.Need-array-share-prefix-rules
+array-share-prefix-rules c = search needs
+
+slice-aggregate-write-names-3 : tie.Need-slice-aggregate-write-names-3
+slice-aggregate-write-names-3 c = sym (length-take-le _ _ (array-share-prefix-rules (c .before)))
 
 mul-write-names : tie.Need-mul-write-names
 mul-write-names c = search needs
@@ -78,11 +87,14 @@ write-calls-spec =
     part-part-words-end
     slice-aggregate-part-words
     slice-aggregate-part-words-2
+    slice-aggregate-part-words-3
     part-words-requires
     array-share-prefix-operations
     slice-aggregate-write-names
     array-share-prefix-counts
     slice-aggregate-write-names-2
+    array-share-prefix-rules
+    slice-aggregate-write-names-3
     mul-write-names
     sub-write-names
     part-write-names-start
