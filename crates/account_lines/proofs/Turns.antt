@@ -75,7 +75,7 @@ module _ {w : List ℕ} {c : ℕ} {d l : List ℕ} {to i : ℕ} (v : Putting w c
   pub fates-room : i < c → to + 32 ≤ length l
   fates-room h = omega (arith, end-within, v .room, v .long)
 
-  pub fates-next : {fate owner : ℕ} {l′ : List ℕ} {to′ : ℕ} → i < c → fate ≡ getD (drop (13 * i) w) 11 0 → owner ≡ getD (drop (13 * i) w) 12 0 → length l′ ≡ length l
+  pub fates-next : {fate owner : ℕ} {l′ : List ℕ} {to′ : ℕ} → i < c → fate ≡ getD (drop (14 * i) w) 11 0 → owner ≡ getD (drop (14 * i) w) 12 0 → length l′ ≡ length l
       → Put l to (fateLine (i, fateIn fate owner)) l′ to′ → Putting w c d l′ to′ (i + 1)
   fates-next {fate} {owner} {l′} {to′} h e f m q =
       let same : fateLines (fatesTo w (i + 1)) ≡ fateLines (fatesTo w i) ++ fateLine (i, fateIn fate owner) = rw (add-one i, e, f, ← fate-in w i) (rows-more w i) in

@@ -29,7 +29,7 @@ unfoldable pub fateIn : ℕ → ℕ → Fate
 fateIn fate owner = cond (eqb fate 0) own (cond (eqb fate 1) (dependent owner) (discarded owner))
 
 -- that is the fate of the row
-pub fate-in : (w : List ℕ) (i : ℕ) → rowFate (rowAt w i) ≡ fateIn (getD (drop (13 * i) w) 11 0) (getD (drop (13 * i) w) 12 0)
+pub fate-in : (w : List ℕ) (i : ℕ) → rowFate (rowAt w i) ≡ fateIn (getD (drop (14 * i) w) 11 0) (getD (drop (14 * i) w) 12 0)
 unfolding rowFate rowAt rowOf fateIn
 fate-in w i = refl
 

@@ -52,7 +52,7 @@ front-long read b h = sym (length-take-le read b h)
 
 -- ── From what is promised ───────────────────────────────────────────────────────────────────────────────────
 
--- where no work slice is too short and there is room for every account, 1 and 13 do not come
+-- where no work slice is too short and there is room for every account, 1 does not come, and 13 only where the edit program's buffer could not hold the result
 accounted-whole : (h : Choices) (work : List (ℕ × ℕ)) (b : List ℕ) (room : ℕ) → tooShort work ≡ false → room ≡ mostText → accounted h work b room ≡ recount h b
 unfolding accounted _>>=_
 accounted-whole h work b room s m = go (chosen h) refl

@@ -23,16 +23,18 @@ use Rattle.read_element_table.specs.View.{view}
 use Rattle.read_element_table.specs.Wellformed.{Wellformed}
 use Rattle.rows_model.specs.Row.{firstRows}
 use Rattle.run_annotations.specs.Notes.{notesOf}
+use Rattle.run_annotations.specs.Changed.{changedIn}
 use Rattle.run_tree_store.specs.Stored.{stored}
 use Rattle.finish_model.specs.Finished.{resultOf, firstTree}
 use Rattle.finish_model.specs.Alike.{findRow}
 use Rattle.finish_find.specs.Found.{found as foundBy}
 use Rattle.finish_find.specs.declared.Found.{Found}
 use Rattle.finish_find.specs.declared.Found.the-variants.{At, Nothing}
+use Rattle.finish_result.specs.Weighed.{Weighs}
 use Rattle.finish_result.specs.Answered.{lengthOf, Answered}
 use Rattle.finish_result.specs.declared.Finished.{Finished}
 use Rattle.finish_result.specs.declared.Finished.the-variants.{Short, Bytes}
-use Rattle.edit_perform.specs.AtEnd.{AtEnd, Told}
+use Rattle.edit_perform.specs.AtEnd.{AtEnd, Told, Recounted}
 use Rattle.edit_perform.specs.declared.Ended.{Ended}
 use Rattle.edit_perform.specs.declared.Performed.{Performed}
 use Rattle.edit_perform.specs.declared.Performed.the-variants.{Refused as Stopped, Overlap, Done}
@@ -42,7 +44,7 @@ use Rattle.promises.specs.declared.Job.{Job}
 use Rattle.promises.specs.declared.Job.the-variants.{Edit, Find, Account}
 use Rattle.promises.specs.declared.Outcome.{Outcome}
 use Rattle.promises.specs.declared.Outcome.the-variants.{Refused, Bytes as Written, Nothing as NoElement, At as Stands}
-use Rattle.edit_answer.specs.AtEnd.{RowsAtEnd, answered-edit, oldNode, none-there, no-node, node-there, old-tree, no-old-node, old-node, unless, unless-refused, unless-done, unless-overlap, overlapTold, overlap-answers, fates-answer, ToAnswer}
+use Rattle.edit_answer.specs.AtEnd.{RowsAtEnd, answered-edit, oldNode, none-there, no-node, node-there, old-tree, no-old-node, old-node, unless, unless-refused, unless-done, unless-overlap, overlapTold, overlap-answers, account-13, fates-answer, ToAnswer}
 
 -- what is behind a place, as a part is told
 pub whole-rest : (k : ℕ) (b : List ℕ) → take (length b - k) (drop k b) ≡ drop k b
@@ -51,7 +53,7 @@ whole-rest k b = take-all (length b - k) (drop k b) (omega (arith, length-drop k
 -- ── The result's bytes ──────────────────────────────────────────────────────────────────────────────────────
 
 module _ {h : Choices} {b rows notes changed : List ℕ} {d : Ended} (v : AtEnd h b rows notes changed d) (held out : List ℕ) (a : Finished) (text : List ℕ) (t : text ≡ drop (d .text) b)
-    (f : (marks : List ℕ) → Answered held (resultOf (d .discarded) (d .climbs) (stored text (d .rows) rows marks (notesOf (d .notes) notes) (take (d .changed) changed))) out a) where
+    (f : (marks : List ℕ) → Answered held (resultOf (d .discarded) (d .climbs) (stored text (d .rows) rows marks (notesOf (d .notes) notes) (changedIn (d .changed) changed))) out a) where
   answered : Tells (reached h Edit b (length held)) held (ofLength (lengthOf a)) out
   answered = answered-edit v a (λ marks. rw (← t) (f marks))
 
@@ -85,14 +87,15 @@ pub tells-overlap : {h : Choices} {b t s changes rows notes changed starts : Lis
 tells-overlap {h} {b} {j = j} {k = k} {held = held} {out = out} {r = r} job v e q =
     rw (unless-overlap e (reached h job b (length held))) (subst (λ (w : basics.Answer (Outcome × List ℕ)). Tells w held r out) (overlap-answers h job b j k (length held) (v .overlaps j k e)) q)
 
--- the account tells the fates
-pub tells-account : {h : Choices} {b t s changes rows notes changed starts : List ℕ} {p : Performed} {d : Ended} {held out : List ℕ} {r : Outcome} → ToAnswer h b t s changes rows notes changed starts p → p ≡ Done d
-    → Tells (tellIn (length held) (fateLines (map rowFate (changeRows (d .recorded) changes)))) held r out → Tells (reached h Account b (length held)) held r out
-tells-account {d = d} {held = held} {out = out} {r = r} v e q = subst (λ (w : basics.Answer (Outcome × List ℕ)). Tells w held r out) (fates-answer (length held) (v .recounts d e)) q
+-- the account: 13 where the edit program's buffer could not hold the result, or the fates
+module _ {h : Choices} {b changes rows notes changed : List ℕ} {d : Ended} (v : AtEnd h b rows notes changed d × Recounted h b changes d) (held text : List ℕ) (t : text ≡ drop (d .text) b) {size : ℕ}
+    (w : Weighs text (d .rows) rows (notesOf (d .notes) notes) (changedIn (d .changed) changed) size) where
+  pub account-refused : 65536 < size → Tells (reached h Account b (length held)) held (Refused 13) held
+  unfolding outcome written leftIn
+  account-refused l = rw (account-13 (v .0) (v .1) (rw t at w) (length held) l) (record { answer = refl; result = refl })
 
--- of at most 256 changes
-pub few-recorded : {h : Choices} {b t s changes rows notes changed starts : List ℕ} {p : Performed} {d : Ended} → ToAnswer h b t s changes rows notes changed starts p → p ≡ Done d → d .recorded ≤ 256
-few-recorded {d = d} v e = (v .recounts d e) .few
+  pub account-told : {out : List ℕ} {r : Outcome} → size ≤ 65536 → Tells (tellIn (length held) (fateLines (map rowFate (changeRows (d .recorded) changes)))) held r out → Tells (reached h Account b (length held)) held r out
+  account-told {out} {r} l q = subst (λ (x : basics.Answer (Outcome × List ℕ)). Tells x held r out) (fates-answer (v .0) (v .1) (rw t at w) (length held) l) q
 
 -- a job that is refused by 8 leaves the result slice as it was
 tells-8 : (job : Job) (j k room : ℕ) (held : List ℕ) → overlapTold job j k room ≡ basics.refused 8 → Tells (overlapTold job j k room) held (Refused 8) held

@@ -7,16 +7,18 @@ use mathlib.Core.Option.{none, some}
 use Prim.Native.Nat.{ℕ, zero, suc, _+_, _*_, _≤_, _<_}
 use native.Mathlib.Nat.{zero-add}
 use native.Mathlib.Omega.{arith}
-use lib.ListN.{length, drop, take, getD}
+use lib.ListN.{length, drop, getD}
 use lib.Dec.{eqb}
 use lib.Seq.{take-all}
-use borrow.Author.Tests.{eqb-true}
+use borrow.Author.Tests.{eqb-true, lt-ltb, le-ltb}
 use Rattle.orders.specs.ListLaws.{bool-absurd}
-use Rattle.definition.specs.Basics.{Answer, refused, gives, _>>=_}
+use Rattle.definition.specs.Basics.{Answer, refused, gives, _>>=_, refuse}
 use Rattle.definition.specs.Choices.{Choices}
 use Rattle.definition.specs.Elements.{Table, isNode, node?, tree, row, noRow}
 use Rattle.definition.specs.Refusals.{Accepted, accepted}
 use Rattle.definition.specs.Answers.{plan, ran}
+use Rattle.definition.specs.Finishing.{fitting, encoded}
+use Rattle.definition.specs.Printed.{programRoom}
 use Rattle.definition.specs.Account.{fateLines, overlapLine}
 use Rattle.definition_laws.specs.Accepted.{accepts}
 use Rattle.definition_laws.specs.Answers.{gives-inj, given}
@@ -30,10 +32,13 @@ use Rattle.rows_model.specs.Row.{firstRows, rowsOf}
 use Rattle.run_model.specs.Store as model
 use Rattle.run_model.specs.Store.{store}
 use Rattle.run_annotations.specs.Notes.{notesOf}
+use Rattle.run_annotations.specs.Changed.{changedIn}
 use Rattle.run_tree_store.specs.Stored.{stored}
 use Rattle.finish_model.specs.Finished.{resultOf, firstTree}
 use Rattle.finish_model.specs.Alike.{findRow, find-in}
 use Rattle.finish_find.specs.OldStart.{TreesTold}
+use Rattle.finish_model.specs.Result.{result-rows}
+use Rattle.finish_result.specs.Weighed.{Weighs}
 use Rattle.finish_result.specs.Answered.{lengthOf, fitted, overFront, Answered, answered-result}
 use Rattle.finish_result.specs.declared.Finished.{Finished}
 use Rattle.edit_perform.specs.Ending.{End, ending, resultAt, edit-ending, foundAt, found-ending}
@@ -60,7 +65,7 @@ left-over held (gives bytes) = rw (take-all (length bytes) bytes (omega arith), 
 
 module _ {h : Choices} {b rows notes changed held out : List ℕ} {d : Ended} (v : AtEnd h b rows notes changed d) (a : Finished) where
   -- what is answered from what the run leaves is the edit's answer
-  pub answered-edit : ((marks : List ℕ) → Answered held (resultOf (d .discarded) (d .climbs) (stored (drop (d .text) b) (d .rows) rows marks (notesOf (d .notes) notes) (take (d .changed) changed))) out a)
+  pub answered-edit : ((marks : List ℕ) → Answered held (resultOf (d .discarded) (d .climbs) (stored (drop (d .text) b) (d .rows) rows marks (notesOf (d .notes) notes) (changedIn (d .changed) changed))) out a)
       → Tells (reached h Edit b (length held)) held (ofLength (lengthOf a)) out
   unfolding resultAt reached
   answered-edit f =
@@ -189,10 +194,27 @@ overlap-answers h Edit b j k room o = sym (rw (edit-ending h b, o .refused8) ref
 overlap-answers h (Find n) b j k room o = sym (rw (found-ending h b n, o .refused8) refl)
 overlap-answers h Account b j k room o = sym (rw (o .text) refl)
 
--- the fates in the rows are the account
-pub fates-answer : {h : Choices} {b changes : List ℕ} {d : Ended} (room : ℕ) → Recounted h b changes d → tellIn room (fateLines (map rowFate (changeRows (d .recorded) changes))) ≡ reached h Account b room
-unfolding reached recounted _>>=_
-fates-answer room v = sym (rw (v .text) refl)
+-- ── The account ─────────────────────────────────────────────────────────────────────────────────────────────
+
+module _ {h : Choices} {b changes rows notes changed : List ℕ} {d : Ended} (v : AtEnd h b rows notes changed d) (w : Recounted h b changes d) {size : ℕ}
+    (q : Weighs (drop (d .text) b) (d .rows) rows (notesOf (d .notes) notes) (changedIn (d .changed) changed) size) where
+  -- the size that is told is that of the edit's result
+  result-weighs : size ≡ length (encoded (resultAt (v .end)))
+  unfolding resultAt
+  result-weighs =
+      q .bytes (d .discarded) (d .climbs) (v .marks)
+      ∙ (rw (v .discarded, v .climbs, ← v .held) refl
+      ∙ ap (λ r. length (encoded r)) (result-rows (v .end .planned .changes) (v .end .planned .climbs) (v .end .world) (v .holds)))
+
+  -- so that the account is 13
+  pub account-13 : (room : ℕ) → programRoom < size → reached h Account b room ≡ refused 13
+  unfolding reached recounted fitting refuse _>>=_
+  account-13 room l = rw (w .text (v .end) (v .ends), lt-ltb programRoom (length (encoded (resultAt (v .end)))) (omega (arith, result-weighs))) refl
+
+  -- or the fates in the rows
+  pub fates-answer : (room : ℕ) → size ≤ programRoom → tellIn room (fateLines (map rowFate (changeRows (d .recorded) changes))) ≡ reached h Account b room
+  unfolding reached recounted fitting refuse _>>=_
+  fates-answer room l = sym (rw (w .text (v .end) (v .ends), le-ltb programRoom (length (encoded (resultAt (v .end)))) (omega (arith, result-weighs))) refl)
 
 -- where the run has ended, every job can be answered
 pub record ToAnswer (h : Choices) (b t s changes rows notes changed starts : List ℕ) (p : Performed) : Type 0 where

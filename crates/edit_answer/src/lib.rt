@@ -12,11 +12,14 @@ ghost use lib.ListN.{length};
 ghost use Rattle.choices.specs.Meant.{meant};
 ghost use Rattle.read_element_table.specs.View.{view};
 ghost use Rattle.read_element_table.specs.Wellformed.{Wellformed};
-ghost use Rattle.edit_perform.specs.AtEnd.{AtEnd, Told};
+ghost use Rattle.edit_perform.specs.AtEnd.{AtEnd, Told, Recounted};
 ghost use Rattle.promises.specs.Promises.{found};
 ghost use Rattle.promises.specs.Serving.{reached, ofPlace, Tells};
 ghost use Rattle.promises.specs.declared.Job.the-variants as asked;
 ghost use Rattle.edit_answer.specs.AtEnd.{RowsAtEnd, oldNode, overlapTold, unless, ToAnswer};
+
+// How many bytes the edit program's result buffer has.
+const PROGRAM_ROOM: usize = 65536;
 
 // The result's bytes from what the run of the batch leaves, or 13. `starts` is for where each element's text starts.
 fn write_answer(
@@ -95,6 +98,38 @@ fn find_from(
     }
 }
 
+// The account from what the run of the batch leaves, or 13: where the edit program's buffer could not hold the result, or where this one cannot hold the account.
+fn account_from(
+    choices: Choices,
+    batch: &[u8],
+    d: Ended,
+    changes: &[u32],
+    rows: &[u32],
+    notes: &[u32],
+    changed: &[u32],
+    result: &mut [u8],
+) -> Outcome
+    requires { ⌜ AtEnd (meant choices) (now batch) (now rows) (now notes) (now changed) d × Recounted (meant choices) (now batch) (now changes) d ⌝ }
+    ensures { λ r. ⌜ Tells (reached (meant choices) asked.Account (now (batch .entry)) (length (now (result .entry)))) (now (result .entry)) r (now (result .exit)) ⌝ }
+{
+    let from = d.text;
+    let text = &batch[from..];
+    let size = finish_result::result_size(
+        rows,
+        d.rows,
+        d.root,
+        notes,
+        d.notes,
+        changed,
+        d.changed,
+        text,
+    );
+    if PROGRAM_ROOM < size {
+        return Outcome::Refused(13);
+    }
+    account_lines::tell_fates(changes, d.recorded, result)
+}
+
 // What the job answers where the changes at the places `j` and `k` overlap: the account tells them, every other job is refused by 8.
 fn overlapping(job: Job, j: usize, k: usize, result: &mut [u8]) -> Outcome
     ensures { λ r. ⌜ Tells (overlapTold job j k (length (now (result .entry)))) (now (result .entry)) r (now (result .exit)) ⌝ }
@@ -130,7 +165,9 @@ pub fn answer(
         Performed::Done(d) => match job {
             Job::Edit => write_answer(choices, batch, d, rows, notes, changed, starts, result),
             Job::Find(k) => find_from(choices, batch, d, table, source, rows, k),
-            Job::Account => account_lines::tell_fates(changes, d.recorded, result),
+            Job::Account => {
+                account_from(choices, batch, d, changes, rows, notes, changed, result)
+            }
         },
     }
 }

@@ -15,15 +15,15 @@ use Rattle.edit_numbers.specs.Negated.{neg-told, pos-told}
 use Rattle.edit_numbers.specs.ReturnedBatch.{Few, lengthNumber}
 
 module _ (a : Outcome) (n : ℕ) where
-  pub small-refused : a ≡ Refused n → Small a → n ≤ 65536
+  pub small-refused : a ≡ Refused n → Small a → n ≤ 131072
   unfolding Small
   small-refused e h = subst Small e h
 
-  pub small-bytes : a ≡ Bytes n → Small a → n ≤ 65536
+  pub small-bytes : a ≡ Bytes n → Small a → n ≤ 131072
   unfolding Small
   small-bytes e h = subst Small e h
 
-  pub small-at : a ≡ At n → Small a → n ≤ 65536
+  pub small-at : a ≡ At n → Small a → n ≤ 131072
   unfolding Small
   small-at e h = subst Small e h
 
@@ -45,11 +45,11 @@ tells-nothing a e = rw e refl
 
 -- what the writer tells
 module _ (a : Written) (n : ℕ) where
-  pub few-refused : a ≡ Unwritten n → Few (answerOf a) → n ≤ 65536
+  pub few-refused : a ≡ Unwritten n → Few (answerOf a) → n ≤ 131072
   unfolding Few answerOf
   few-refused e h = subst (λ (w : Written). Few (answerOf w)) e h
 
-  pub few-bytes : a ≡ Laid n → Few (answerOf a) → n ≤ 65536
+  pub few-bytes : a ≡ Laid n → Few (answerOf a) → n ≤ 131072
   unfolding Few answerOf
   few-bytes e h = subst (λ (w : Written). Few (answerOf w)) e h
 

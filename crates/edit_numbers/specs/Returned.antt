@@ -62,7 +62,7 @@ pub record ReturnsAccount (h : Choices) (b held : List ℕ) (work : List (List �
 -- ── From what is served ─────────────────────────────────────────────────────────────────────────────────────
 
 -- what tells the length of a text is small, if the text is and its refusal is
-bytes-small : (o : Answer (List ℕ)) → By editNumbers o → ((bytes : List ℕ) → o ≡ gives bytes → length bytes ≤ 65536) → Small (ofLength (o >>= λ bytes. gives (length bytes)))
+bytes-small : (o : Answer (List ℕ)) → By editNumbers o → ((bytes : List ℕ) → o ≡ gives bytes → length bytes ≤ 131072) → Small (ofLength (o >>= λ bytes. gives (length bytes)))
 unfolding Small ofLength _>>=_ any
 bytes-small (refused n) h k = omega (arith, (by-number {A = List ℕ} editNumbers 1 17 n (refused n) refl h refl) .1)
 bytes-small (gives bytes) h k = k bytes refl

@@ -47,8 +47,8 @@ lengthNumber (gives n) = pos n
 
 -- what is told is small
 unfoldable pub Few : Answer ℕ → Type 0
-Few (refused n) = n ≤ 65536
-Few (gives n) = n ≤ 65536
+Few (refused n) = n ≤ 131072
+Few (gives n) = n ≤ 131072
 
 -- the number is read back as it was written
 pub length-read : (a : Answer ℕ) → Few a → toZ w64 (ofZ w64 (lengthNumber a)) ≡ lengthNumber a
@@ -63,7 +63,7 @@ laid-short : (l : Lists) → InStep l → length (laidOut l) ≤ 49180
 unfolding laidOut sevenSizes sizesOf
 laid-short l y =
     simp (length-append, length-written)
-    (omega (arith, length-calls l.operations l.counts (y .counts), y .measures, y .targets, y .outputs, y .numbers, y .limits .elements, y .limits .text, y .limits .calls, y .limits .listed, y .limits .mappings, y .limits .notes))
+    (omega (arith, length-calls l.operations l.counts l.rules (y .counts) (y .rules), y .measures, y .targets, y .outputs, y .numbers, y .limits .elements, y .limits .text, y .limits .calls, y .limits .listed, y .limits .mappings, y .limits .notes))
 
 -- A batch that is written has at most 49,180 bytes.
 pub wrote-short : (work : List (List ℕ)) (l : Lists) (room : ℕ) (b : List ℕ) → wrote work l room ≡ gives b → length b ≤ 49180

@@ -19,10 +19,10 @@ numberOf (At n) = pos n
 
 -- what an outcome tells is small
 unfoldable pub Small : Outcome → Type 0
-Small (Refused n) = n ≤ 65536
-Small (Bytes n) = n ≤ 65536
+Small (Refused n) = n ≤ 131072
+Small (Bytes n) = n ≤ 131072
 Small Nothing = Unit {0}
-Small (At n) = n ≤ 65536
+Small (At n) = n ≤ 131072
 
 -- the number is read back as it was written
 pub number-read : (o : Outcome) → Small o → toZ w64 (ofZ w64 (numberOf o)) ≡ numberOf o

@@ -10,7 +10,7 @@ ghost use Rattle.edit_numbers.specs.ReturnedBatch.{Few, lengthNumber};
 
 // A refusal's number, with a minus.
 fn negative(n: usize) -> i64
-    requires { ⌜ n ≤ 65536 ⌝ }
+    requires { ⌜ n ≤ 131072 ⌝ }
     ensures { λ r. ⌜ r ≡ negℤ (pos n) ⌝ }
 {
     let m = n as i64;
@@ -19,7 +19,7 @@ fn negative(n: usize) -> i64
 
 // A length or an element's number.
 fn positive(n: usize) -> i64
-    requires { ⌜ n ≤ 65536 ⌝ }
+    requires { ⌜ n ≤ 131072 ⌝ }
     ensures { λ r. ⌜ r ≡ pos n ⌝ }
 {
     n as i64

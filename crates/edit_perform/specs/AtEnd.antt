@@ -6,11 +6,13 @@ use mathlib.Core.List.{List, map}
 use Prim.Native.Nat.{ℕ, _+_, _*_, _^_, _≤_, _<_}
 use lib.ListN.{length, take, drop}
 use Rattle.orders.specs.Tree.{node, forest}
-use Rattle.definition.specs.Basics.{Answer, refused, gives, keep}
+use Rattle.definition.specs.Basics.{Answer, refused, gives, _>>=_, keep}
 use Rattle.definition.specs.Choices.{Choices, chosen}
 use Rattle.definition.specs.Planning.{isDiscarded}
 use Rattle.definition.specs.Refusals.{Accepted, accepted}
 use Rattle.definition.specs.Answers.{tooShort, withChoices}
+use Rattle.definition.specs.Finishing.{fitting}
+use Rattle.definition.specs.Printed.{programRoom}
 use Rattle.definition.specs.Account.{fateLines, overlapLine, account}
 use Rattle.definition_laws.specs.Held.{Holds}
 use Rattle.read_element_table.specs.View.{view}
@@ -20,10 +22,11 @@ use Rattle.plan_sort.specs.Rows.{rowFate}
 use Rattle.rows_model.specs.Row.{firstRows, rowsOf as treeRows, bytes}
 use Rattle.rows_model.specs.Place.{markOf}
 use Rattle.run_annotations.specs.Notes.{notesOf}
+use Rattle.run_annotations.specs.Changed.{changedIn}
 use Rattle.run_model.specs.Store.{store}
 use Rattle.run_tree_store.specs.Stored.{stored}
 use Rattle.promises.specs.Slices.{needed, lengths}
-use Rattle.edit_perform.specs.Ending.{End, ending}
+use Rattle.edit_perform.specs.Ending.{End, ending, resultAt}
 use Rattle.edit_perform.specs.declared.Ended.{Ended}
 use Rattle.edit_perform.specs.declared.Performed.{Performed}
 use Rattle.edit_perform.specs.declared.Performed.the-variants.{Refused, Overlap, Done}
@@ -35,7 +38,7 @@ pub record AtEnd (h : Choices) (b rows notes changed : List ℕ) (d : Ended) : T
   pub holds : Holds (end .world)
   -- the current trees, the notes and the changed elements, by their rows
   pub marks : List ℕ
-  pub held : store (end .world) ≡ stored (drop (d .text) b) (d .rows) rows marks (notesOf (d .notes) notes) (take (d .changed) changed)
+  pub held : store (end .world) ≡ stored (drop (d .text) b) (d .rows) rows marks (notesOf (d .notes) notes) (changedIn (d .changed) changed)
   pub discarded : d .discarded ≡ length (keep (λ p. isDiscarded (p .fate)) (end .planned .changes))
   pub climbs : d .climbs ≡ end .planned .climbs
   -- and nothing is larger than its slice
@@ -69,10 +72,10 @@ pub record Marked (h : Choices) (b marks : List ℕ) (d : Ended) : Type 0 where
   pub long : d .elements ≤ length marks
   pub told : take (d .elements) marks ≡ map (markOf (end .world .trees)) (end .world .paths)
 
--- the words hold what became of each recorded change of the batch b
+-- the words hold what became of each recorded change of the batch b: the account, unless the edit program's buffer cannot hold the result
 pub record Recounted (h : Choices) (b changes : List ℕ) (d : Ended) : Type 0 where
   pub few : d .recorded ≤ 256
-  pub text : account h b ≡ gives (fateLines (map rowFate (rowsOf (d .recorded) changes)))
+  pub text : (e : End) → ending h b ≡ gives e → account h b ≡ (fitting programRoom (resultAt e) >>= λ r. gives (fateLines (map rowFate (rowsOf (d .recorded) changes))))
 
 -- the changes j and k of the batch b overlap
 pub record Overlapped (h : Choices) (b : List ℕ) (j k : ℕ) : Type 0 where

@@ -16,13 +16,14 @@ use Rattle.definition.specs.Running.{World, begin, news, records}
 use Rattle.orders.specs.Lists.{total}
 use Rattle.definition.specs.Answers.{Plan, plan, atFirst, performed, ran}
 use Rattle.definition.specs.Refusals.{mostListed, Accepted, accepted}
+use Rattle.definition.specs.Finishing.{fitting}
+use Rattle.definition.specs.Printed.{programRoom}
 use Rattle.definition.specs.Account.{fateLines, account}
 use Rattle.definition_laws.specs.Answers.{gives-inj, refused-gives}
 use Rattle.definition_laws.specs.Basics.{map-All}
-use Rattle.definition_laws.specs.Plans.{performed-right, performed-few}
+use Rattle.definition_laws.specs.Plans.{performed-right, performed-few, performed-ruled}
 use Rattle.definition_laws.specs.Right.{Right}
 use Rattle.definition_laws.specs.Limits.{performed-records, ran-changed, ran-known}
-use Rattle.rows_model.specs.Place.{place}
 use Rattle.read_element_table.specs.View.{view}
 use Rattle.plan_mapping.specs.Mapped.{wordsAt}
 use Rattle.record_changes.specs.ChangeRow.{rowsOf}
@@ -32,8 +33,9 @@ use Rattle.record_rewritten.specs.Stated.{changeOf, planOf}
 use Rattle.plan_rewrite.specs.Kept.{Kept}
 use Rattle.read_layout.specs.declared.Layout.{Layout}
 use Rattle.read_batch.specs.Leaving.{Leaves}
+use Rattle.run_annotations.specs.Changed.{length-changedIn}
 use Rattle.run_prepare.specs.Parts.{notesIn, notes-part}
-use Rattle.run_model.specs.Store.{Store, store, storeSteps}
+use Rattle.run_model.specs.Store.{heldChanged, Store, store, storeSteps}
 use Rattle.run_model.specs.Step.{inRows, ran-store}
 use Rattle.run_tree_store.specs.Stored.{stored, storedFirst}
 use Rattle.plan_model.specs.Ready.{listedIn, leaves-ready, ready-facts}
@@ -51,9 +53,9 @@ use Rattle.run_execute.specs.Standing.{Begun, first-told, Standing}
 use Rattle.run_execute.specs.Opening.{rows-some, rows-few, notes-few, bytes-few}
 use Rattle.run_execute.specs.Stepping.{Performs}
 use Rattle.run_execute.specs.Running.{plansIn, listsAll, lists-total, Ran, marks-many}
-use Rattle.edit_perform.specs.Ending.{ending}
+use Rattle.edit_perform.specs.Ending.{End, ending, resultAt}
 use Rattle.edit_perform.specs.Beginning.{known, planned, begun}
-use Rattle.edit_perform.specs.Accounting.{linesOf, planned-account}
+use Rattle.edit_perform.specs.Accounting.{toldOf, planned-account}
 use Rattle.edit_perform.specs.AtEnd.{AtEnd, Marked, Recounted}
 use Rattle.edit_perform.specs.declared.Ended.{Ended}
 
@@ -99,8 +101,17 @@ module _ {h : Choices} {b : List ℕ} {l : Layout} {t₀ s₀ t s : List ℕ} (v
   -- lines 6 and 16 would refuse none of them
   pub all-perform : All (λ k. Performs E (view E t s) listed (rowAt changes k)) ks
   unfolding wordsAt plansIn planOf
-  all-perform = All-map₂ (λ k low (r : Right (view E t s) (changeOf listed (rowAt changes k)) × (length (news (changeOf listed (rowAt changes k))) ≤ mostListed)). record { kept = rows-each (Kept E (view E t s) listed) (c .changes) changes (P .within .kept) k low; right = r .0; few = r .1 }) ks (P .within .low) (All-map₂ (λ k r f. (r, f)) ks rights fews)
+  all-perform =
+      All-map₂
+      (λ k low (r : Right (view E t s) (changeOf listed (rowAt changes k)) × (length (news (changeOf listed (rowAt changes k))) ≤ mostListed) × ((rowAt changes k) .rule < 4096)).
+      record { kept = rows-each (Kept E (view E t s) listed) (c .changes) changes (P .within .kept) k low; right = r .0; few = r .1; ruled = r .2 })
+      ks (P .within .low) (All-map₂ (λ k r (f : (length (news (changeOf listed (rowAt changes k))) ≤ mostListed) × ((rowAt changes k) .rule < 4096)). (r, f .0, f .1)) ks rights (All-map₂ (λ k f g. (f, g)) ks fews rules))
     where
+      rules : All (λ k. (rowAt changes k) .rule < 4096) ks
+      rules =
+          map-All (λ q. q .rule < 4096) (λ k. planOf listed (rowAt changes k)) ks
+          (subst (λ (ps : List Planned). All (λ q. q .rule < 4096) ps) (sym runs-told) (performed-ruled h b a p (known v) (m .plan)))
+
       fews : All (λ k. length (news (changeOf listed (rowAt changes k))) ≤ mostListed) ks
       fews =
           map-All (λ q. length (news (q .change)) ≤ mostListed) (λ k. planOf listed (rowAt changes k)) ks
@@ -151,7 +162,7 @@ module _ {h : Choices} {b : List ℕ} {l : Layout} {t₀ s₀ t s : List ℕ} (v
     ended-by o e = rw (v .accepted, m .plan, e) refl
 
     -- and so is the account
-    accounted-by : account h b ≡ (ran a p >>= λ w. gives (linesOf (p .changes)))
+    accounted-by : account h b ≡ (ran a p >>= λ w. toldOf p w)
     accounted-by = planned-account h b a (v .accepted) (P .found .changes) (judged-accepted h b a (v .accepted) (P .found .judged)) p (m .plan)
 
     -- refused at the same step
@@ -162,7 +173,7 @@ module _ {h : Choices} {b : List ℕ} {l : Layout} {t₀ s₀ t s : List ℕ} (v
         go : (o : Answer World) → ran a p ≡ o → refused k ≡ inRows o → (ending h b ≡ refused k) × (account h b ≡ refused k)
         go (refused n) i j =
             let same : n ≡ k = cc in
-            (ended-by (refused n) i ∙ ap refused same, accounted-by ∙ (ap (λ (o : Answer World). o >>= λ w. gives (linesOf (p .changes))) i ∙ ap refused same))
+            (ended-by (refused n) i ∙ ap refused same, accounted-by ∙ (ap (λ (o : Answer World). o >>= λ w. toldOf p w) i ∙ ap refused same))
         go (gives w) i j = refused-gives j
 
     -- or what is held at the end is the definition's
@@ -204,7 +215,7 @@ module _ {h : Choices} {b : List ℕ} {l : Layout} {t₀ s₀ t s : List ℕ} (v
           where
             changed-few : (w : World) → heldIn text r rows marks notes changed ≡ store w → ran a p ≡ gives w → r .changed ≤ 1024
             changed-few w same i =
-                omega (arith, length-take-le (r .changed) changed (S .held), ap (λ (y : Store). length (y .changed)) same, length-map (w .changed) (λ q. place q (w .trees)), ran-changed b a p w (known v) (planned v h p (m .plan)) i)
+                omega (arith, length-changedIn (r .changed) changed (S .held), ap (λ (y : Store). length (y .changed)) same, length-map (w .changed) (heldChanged (w .trees)), ran-changed b a p w (known v) (planned v h p (m .plan)) i)
 
     -- and the marks are where the elements stand
     pub run-marked : (r : TreeState) → x ≡ Done r → (d : Ended) → d .elements ≡ E → Marked h b marks d
@@ -227,12 +238,19 @@ module _ {h : Choices} {b : List ℕ} {l : Layout} {t₀ s₀ t s : List ℕ} (v
 
     -- so that the account is told by them
     pub run-recounted : (r : TreeState) → x ≡ Done r → (d : Ended) → d .recorded ≡ c .changes → Recounted h b changes d
-    unfolding executedIn _>>=_
+    unfolding executedIn resultAt _>>=_
     run-recounted r e d q = go (ran a p) refl (sym (ap (executedIn text rows marks notes changed) e) ∙ ran-told)
       where
         go : (o : Answer World) → ran a p ≡ o → gives (heldIn text r rows marks notes changed) ≡ inRows o → Recounted h b changes d
         go (refused n) i j = refused-gives (sym j)
         go (gives w) i j = record {
           few = omega (arith, P .within .few);
-          text = accounted-by ∙ (ap (λ (o : Answer World). o >>= λ w. gives (linesOf (p .changes))) i ∙ ap (λ (fs : List Fate). gives (fateLines fs)) (sym (ap (λ (n : ℕ). map rowFate (rowsOf n changes)) q ∙ fates-told)));
+          text = λ y z.
+              let last : End = record { batch = a; planned = p; world = w } in
+              let same : last ≡ y = gives-inj (sym (ended-by (gives w) i) ∙ z) in
+              let fates : map (λ f. f .fate) (p .changes) ≡ map rowFate (rowsOf (d .recorded) changes) = sym (ap (λ (n : ℕ). map rowFate (rowsOf n changes)) q ∙ fates-told) in
+              accounted-by
+              ∙ (ap (λ (o : Answer World). o >>= λ w. toldOf p w) i
+              ∙ (ap (λ (fs : List Fate). fitting programRoom (resultAt last) >>= λ r. gives (fateLines fs)) fates
+              ∙ ap (λ (e : End). fitting programRoom (resultAt e) >>= λ r. gives (fateLines (map rowFate (rowsOf (d .recorded) changes)))) same));
         }

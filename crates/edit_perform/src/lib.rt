@@ -22,7 +22,7 @@ ghost use Rattle.plan_edit.specs.declared.Planned.the-variants.{Made};
 ghost use Rattle.edit_perform.specs.Beginning.{LaidOut};
 ghost use Rattle.edit_perform.specs.AtEnd.{Performs, PerformsWith};
 
-// What a run leaves: where the batch's text starts, how many elements it has, how many changes are recorded, where the root of tree 0 stands, the rows, notes and changed rows that are held, and two numbers of the result.
+// What a run leaves: where the batch's text starts, how many elements it has, how many changes are recorded, where the root of tree 0 stands, the rows, notes and changed elements that are held, and two numbers of the result.
 pub struct Ended {
     pub text: usize,
     pub elements: usize,
@@ -120,7 +120,7 @@ fn plan_and_run(
     prepared: &mut [u32],
 ) -> Performed
     requires { ⌜ LaidOut (now b) l (now table) (now source) ⌝ }
-    requires { ⌜ (6147 ≤ length (now source)) × (3328 ≤ length (now changes)) ⌝ }
+    requires { ⌜ (6147 ≤ length (now source)) × (3584 ≤ length (now changes)) ⌝ }
     requires { ⌜ (2048 ≤ length (now marks)) × (3072 ≤ length (now notes)) × (3072 ≤ length (now incoming)) × (1024 ≤ length (now changed)) × (12291 ≤ length (now rows)) × (12288 ≤ length (now prepared)) ⌝ }
     ensures { λ r. ⌜ Performs (meant choices) (now (b .entry)) (now (table .entry)) (now (source .entry)) (now (changes .exit)) (now (rows .exit)) (now (notes .exit)) (now (changed .exit)) (now (marks .exit)) r ⌝ }
 {

@@ -169,9 +169,9 @@ module _ {d : List ℕ} {at : ℕ} (kind measure : ℕ) {l : List ℕ} {to : ℕ
 
 -- ── Arrays of the result ────────────────────────────────────────────────────────────────────────────────────
 
-pub changed-put : {d : List ℕ} {at : ℕ} (e : ℕ) {l : List ℕ} {to : ℕ} → Put d at (lineOf (99 ∷ 104 ∷ 97 ∷ 110 ∷ 103 ∷ 101 ∷ 100 ∷ []) (e ∷ [])) l to → Put d at (changedLine e) l to
+pub changed-put : {d : List ℕ} {at : ℕ} (e r : ℕ) {l : List ℕ} {to : ℕ} → Put d at (lineOf (99 ∷ 104 ∷ 97 ∷ 110 ∷ 103 ∷ 101 ∷ 100 ∷ []) (e ∷ r ∷ [])) l to → Put d at (changedLine (e, r)) l to
 unfolding changedLine line lineOf ascii spaced
-changed-put e p = p
+changed-put e r p = p
 
 pub note-put : {d : List ℕ} {at : ℕ} (m e : ℕ) {l : List ℕ} {to : ℕ} → Put d at (lineOf (110 ∷ 111 ∷ 116 ∷ 101 ∷ []) (m ∷ e ∷ [])) l to → Put d at (noteLine (m, e)) l to
 unfolding noteLine line lineOf ascii spaced
@@ -194,24 +194,6 @@ module _ (f : ℕ × ℕ → List ℕ) (k : ℕ) (s : (e : ℕ × ℕ) → lengt
     pub pairs-done : n ≤ i → Put d at (flatMap f (pairsAt b from n)) l to
     pairs-done h = putting-done f k (pairsAt b from n) v (rw (pairs-length b from n) h)
 
--- the n words of one
-module _ (b : List ℕ) (from n : ℕ) where
-  pub words-start : (d : List ℕ) (at : ℕ) → at + 19 * n ≤ length d → Putting changedLine 19 (words n (drop from b)) d at d at 0
-  words-start d at h = putting-start changedLine 19 (words n (drop from b)) d at (rw (length-words n (drop from b)) h)
-
-  module _ {d : List ℕ} {at : ℕ} {l : List ℕ} {to i : ℕ} (v : Putting changedLine 19 (words n (drop from b)) d at l to i) where
-    pub words-room : i < n → to + 19 ≤ length l
-    words-room h = putting-room changedLine 19 (words n (drop from b)) v (rw (length-words n (drop from b)) h)
-
-    pub words-next : {x : ℕ} {l′ : List ℕ} {to′ : ℕ} → i < n → x ≡ word (drop (from + 4 * i) b) → length l′ ≡ length l → Put l to (changedLine x) l′ to′
-        → Putting changedLine 19 (words n (drop from b)) d at l′ to′ (i + 1)
-    words-next {x} h p m w =
-        let e : x ≡ getD (words n (drop from b)) i 0 = p ∙ sym (getD-words n (drop from b) i h ∙ ap word (drop-drop (4 * i) from b)) in
-        putting-next changedLine 19 (words n (drop from b)) v 0 x (rw (length-words n (drop from b)) h) e (changed-length x) m w
-
-    pub words-done : n ≤ i → Put d at (flatMap changedLine (words n (drop from b))) l to
-    words-done h = putting-done changedLine 19 (words n (drop from b)) v (rw (length-words n (drop from b)) h)
-
 -- ── The parts of a result ───────────────────────────────────────────────────────────────────────────────────
 
 part-length : (t from : ℕ) (b : List ℕ) → length (take t (drop from b)) ≤ t
@@ -221,8 +203,8 @@ module _ {d : List ℕ} {at : ℕ} {l : List ℕ} {to : ℕ} where
   elements-end : (b : List ℕ) (from n : ℕ) → Put d at (flatMap elementLine (pairsAt b from n)) l to → to ≤ at + 24 * n
   elements-end b from n p = omega (arith, p .end, texts-length elementLine 24 element-length (pairsAt b from n), ap (λ x. 24 * x) (pairs-length b from n))
 
-  changed-end : (b : List ℕ) (from n : ℕ) → Put d at (flatMap changedLine (words n (drop from b))) l to → to ≤ at + 19 * n
-  changed-end b from n p = omega (arith, p .end, texts-length changedLine 19 changed-length (words n (drop from b)), ap (λ x. 19 * x) (length-words n (drop from b)))
+  changed-end : (b : List ℕ) (from n : ℕ) → Put d at (flatMap changedLine (pairsAt b from n)) l to → to ≤ at + 30 * n
+  changed-end b from n p = omega (arith, p .end, texts-length changedLine 30 changed-length (pairsAt b from n), ap (λ x. 30 * x) (pairs-length b from n))
 
   -- behind the elements there is room for the text, a part of the bytes from `from` on
   pub tree-room : (b : List ℕ) (n from t : ℕ) → at + 24 * n + (2 * t + 6) ≤ length d → from + t ≤ length b → length l ≡ length d → Put d at (flatMap elementLine (pairsAt b 24 n)) l to
@@ -237,11 +219,11 @@ module _ {d : List ℕ} {at : ℕ} {l : List ℕ} {to : ℕ} where
       let e : from + t - from ≡ t = omega arith in
       put-more p (rw e at q) (omega (arith, elements-end b 24 n p))
 
-  pub found-room : (b : List ℕ) (from c m : ℕ) → at + 19 * c + 27 * m ≤ length d → length l ≡ length d → Put d at (flatMap changedLine (words c (drop from b))) l to → to + 27 * m ≤ length l
+  pub found-room : (b : List ℕ) (from c m : ℕ) → at + 30 * c + 27 * m ≤ length d → length l ≡ length d → Put d at (flatMap changedLine (pairsAt b from c)) l to → to + 27 * m ≤ length l
   found-room b from c m h e p = omega (arith, changed-end b from c p)
 
-  pub found-put : (b : List ℕ) (from c m : ℕ) {s l′ : List ℕ} {to′ : ℕ} → at + 19 * c + 27 * m ≤ length d → Put d at (flatMap changedLine (words c (drop from b))) l to → Put l to s l′ to′
-      → Put d at (flatMap changedLine (words c (drop from b)) ++ s) l′ to′
+  pub found-put : (b : List ℕ) (from c m : ℕ) {s l′ : List ℕ} {to′ : ℕ} → at + 30 * c + 27 * m ≤ length d → Put d at (flatMap changedLine (pairsAt b from c)) l to → Put l to s l′ to′
+      → Put d at (flatMap changedLine (pairsAt b from c) ++ s) l′ to′
   found-put b from c m h p q = put-more p q (omega (arith, changed-end b from c p))
 
 -- ── The whole of it ─────────────────────────────────────────────────────────────────────────────────────────
@@ -254,17 +236,17 @@ regroup : (a b c d e : List ℕ) → a ++ b ++ c ++ d ++ e ≡ a ++ (b ++ c) ++ 
 regroup a b c d e = simp append-assoc
 
 -- what is printed of a result, in the parts that are written
-told-printed : (b : List ℕ) (n t c m x y : ℕ) → 24 + 8 * n + 4 * c + 8 * m + t ≤ length b
+told-printed : (b : List ℕ) (n t c m x y : ℕ) → 24 + 8 * n + 8 * c + 8 * m + t ≤ length b
     → print (gives (told b n t c m x y)) ≡ lineOf (111 ∷ 107 ∷ []) (n ∷ t ∷ c ∷ m ∷ x ∷ y ∷ [])
-    ++ (flatMap elementLine (pairsAt b 24 n) ++ textLine (take t (drop (24 + 8 * n + 4 * c + 8 * m) b)))
-    ++ (flatMap changedLine (words c (drop (24 + 8 * n) b)) ++ flatMap noteLine (pairsAt b (24 + 8 * n + 4 * c) m))
+    ++ (flatMap elementLine (pairsAt b 24 n) ++ textLine (take t (drop (24 + 8 * n + 8 * c + 8 * m) b)))
+    ++ (flatMap changedLine (pairsAt b (24 + 8 * n) c) ++ flatMap noteLine (pairsAt b (24 + 8 * n + 8 * c) m))
 unfolding print told sixSizes pairsAt changedLine noteLine line lineOf ascii spaced
 told-printed b n t c m x y h =
-    let from = 24 + 8 * n + 4 * c + 8 * m in
+    let from = 24 + 8 * n + 8 * c + 8 * m in
     let k : length (take t (drop from b)) ≡ t = length-take-le t (drop from b) (omega (arith, length-drop from b)) in
-    rw (length-words n (drop 24 b), length-words c (drop (24 + 8 * n) b), length-words m (drop (24 + 8 * n + 4 * c) b), k)
-    (regroup (lineOf (111 ∷ 107 ∷ []) (n ∷ t ∷ c ∷ m ∷ x ∷ y ∷ [])) (flatMap elementLine (pairsAt b 24 n)) (textLine (take t (drop from b))) (flatMap changedLine (words c (drop (24 + 8 * n) b)))
-    (flatMap noteLine (pairsAt b (24 + 8 * n + 4 * c) m)))
+    rw (length-words n (drop 24 b), length-words c (drop (24 + 8 * n) b), length-words m (drop (24 + 8 * n + 8 * c) b), k)
+    (regroup (lineOf (111 ∷ 107 ∷ []) (n ∷ t ∷ c ∷ m ∷ x ∷ y ∷ [])) (flatMap elementLine (pairsAt b 24 n)) (textLine (take t (drop from b))) (flatMap changedLine (pairsAt b (24 + 8 * n) c))
+    (flatMap noteLine (pairsAt b (24 + 8 * n + 8 * c) m)))
 
 module _ (b d : List ℕ) (n t c m x y : ℕ) {l : List ℕ} {to : ℕ} (q : Fits (length b) (length d) n t c m) (p : Put d 0 (lineOf (111 ∷ 107 ∷ []) (n ∷ t ∷ c ∷ m ∷ x ∷ y ∷ [])) l to) where
   sized-end : to ≤ 69
@@ -274,21 +256,21 @@ module _ (b d : List ℕ) (n t c m x y : ℕ) {l : List ℕ} {to : ℕ} (q : Fit
   pub sized-room : length l ≡ length d → to + 24 * n + (2 * t + 6) ≤ length l
   sized-room e = omega (arith, sized-end, q .fits)
 
-  module _ {l₂ : List ℕ} {to₂ : ℕ} (p₂ : Put l to (flatMap elementLine (pairsAt b 24 n) ++ textLine (take t (drop (24 + 8 * n + 4 * c + 8 * m) b))) l₂ to₂) where
+  module _ {l₂ : List ℕ} {to₂ : ℕ} (p₂ : Put l to (flatMap elementLine (pairsAt b 24 n) ++ textLine (take t (drop (24 + 8 * n + 8 * c + 8 * m) b))) l₂ to₂) where
     treed-end : to₂ ≤ 75 + 24 * n + 2 * t
     treed-end =
-        let text = take t (drop (24 + 8 * n + 4 * c + 8 * m) b) in
+        let text = take t (drop (24 + 8 * n + 8 * c + 8 * m) b) in
         let k = length-append (flatMap elementLine (pairsAt b 24 n)) (textLine text) in
         let j = texts-length elementLine 24 element-length (pairsAt b 24 n) in
         let i = ap (λ x. 24 * x) (pairs-length b 24 n) in
-        omega (arith, sized-end, p₂ .end, text-length text, part-length t (24 + 8 * n + 4 * c + 8 * m) b)
+        omega (arith, sized-end, p₂ .end, text-length text, part-length t (24 + 8 * n + 8 * c + 8 * m) b)
 
     -- and behind those for the changed elements and the notes
-    pub treed-room : length l₂ ≡ length d → to₂ + 19 * c + 27 * m ≤ length l₂
+    pub treed-room : length l₂ ≡ length d → to₂ + 30 * c + 27 * m ≤ length l₂
     treed-room e = omega (arith, treed-end, q .fits)
 
     pub result-put : {l₃ : List ℕ} {to₃ : ℕ} → length l ≡ length d
-        → Put l₂ to₂ (flatMap changedLine (words c (drop (24 + 8 * n) b)) ++ flatMap noteLine (pairsAt b (24 + 8 * n + 4 * c) m)) l₃ to₃ → Put d 0 (print (gives (told b n t c m x y))) l₃ to₃
+        → Put l₂ to₂ (flatMap changedLine (pairsAt b (24 + 8 * n) c) ++ flatMap noteLine (pairsAt b (24 + 8 * n + 8 * c) m)) l₃ to₃ → Put d 0 (print (gives (told b n t c m x y))) l₃ to₃
     result-put e p₃ =
         rw (told-printed b n t c m x y (q .whole))
         (put-more (put-more p p₂ (omega (arith, sized-end, q .fits))) p₃ (omega (arith, treed-end, q .fits)))

@@ -51,9 +51,9 @@ spaced n = 32 ∷ decimal n
 unfoldable pub lineOf : List ℕ → List ℕ → List ℕ
 lineOf name ns = name ++ flatMap spaced ns ++ (10 ∷ [])
 
--- the line of a changed element
-unfoldable pub changedLine : ℕ → List ℕ
-changedLine e = line "changed" (e ∷ [])
+-- the line of a changed element: its number, its rule number
+unfoldable pub changedLine : ℕ × ℕ → List ℕ
+changedLine m = line "changed" (m .0 ∷ m .1 ∷ [])
 
 -- the line of a note: its number, its element
 unfoldable pub noteLine : ℕ × ℕ → List ℕ
@@ -100,9 +100,9 @@ element-length e = go (isNode (e .0))
     go true = line-length (110 ∷ []) (kindOf (e .0) ∷ e .1 ∷ []) 24 (omega arith)
     go false = line-length (116 ∷ []) (kindOf (e .0) ∷ e .1 ∷ []) 24 (omega arith)
 
-pub changed-length : (e : ℕ) → length (changedLine e) ≤ 19
+pub changed-length : (m : ℕ × ℕ) → length (changedLine m) ≤ 30
 unfolding changedLine line lineOf spaced ascii
-changed-length e = line-length (99 ∷ 104 ∷ 97 ∷ 110 ∷ 103 ∷ 101 ∷ 100 ∷ []) (e ∷ []) 19 (omega arith)
+changed-length m = line-length (99 ∷ 104 ∷ 97 ∷ 110 ∷ 103 ∷ 101 ∷ 100 ∷ []) (m .0 ∷ m .1 ∷ []) 30 (omega arith)
 
 pub note-length : (m : ℕ × ℕ) → length (noteLine m) ≤ 27
 unfolding noteLine line lineOf spaced ascii

@@ -3,7 +3,6 @@ ghost use mathlib.Core.Path.{_≡_};
 ghost use mathlib.Core.List.{_∷_, [], _++_, flatMap};
 ghost use Prim.Native.Nat.{_+_, _*_, _≤_, _<_, _^_};
 ghost use lib.ListN.{length, take, drop};
-ghost use Rattle.definition.specs.Words.{words};
 ghost use Rattle.definition.specs.Printed.{digits, hexDigit, hex, elementLine, textLine, print};
 ghost use Rattle.definition.specs.Basics.{refused, gives};
 ghost use Rattle.result_laws.specs.Decoded.{told, decoded};
@@ -140,11 +139,11 @@ fn put_elements(out: &mut [u8], at: usize, b: &[u8], from: usize, n: usize) -> u
 }
 
 // The line of a changed element is written at `at`.
-fn put_changed(out: &mut [u8], at: usize, element: usize) -> usize
-    requires { ⌜ at + 19 ≤ length (now out) ⌝ }
-    ensures { λ r. ⌜ Put (now (out .entry)) at (changedLine element) (now (out .exit)) r ⌝ }
+fn put_changed(out: &mut [u8], at: usize, element: usize, rule: usize) -> usize
+    requires { ⌜ at + 30 ≤ length (now out) ⌝ }
+    ensures { λ r. ⌜ Put (now (out .entry)) at (changedLine (element, rule)) (now (out .exit)) r ⌝ }
 {
-    put_line(out, at, b"changed", &[element])
+    put_line(out, at, b"changed", &[element, rule])
 }
 
 // The line of a note is written at `at`.
@@ -155,16 +154,17 @@ fn put_note(out: &mut [u8], at: usize, number: usize, element: usize) -> usize
     put_line(out, at, b"note", &[number, element])
 }
 
-// The lines of `n` changed elements, whose numbers stand at `from`, are written at `at`.
+// The lines of `n` changed elements are written at `at`; their numbers stand at `from`, their rule numbers behind those.
 fn put_all_changed(out: &mut [u8], at: usize, b: &[u8], from: usize, n: usize) -> usize
-    requires { ⌜ (from + 4 * n ≤ length (now b)) × (at + 19 * n ≤ length (now out)) ⌝ }
-    ensures { λ r. ⌜ Put (now (out .entry)) at (flatMap changedLine (words n (drop from (now (b .entry))))) (now (out .exit)) r ⌝ }
+    requires { ⌜ (from + 8 * n ≤ length (now b)) × (at + 30 * n ≤ length (now out)) ⌝ }
+    ensures { λ r. ⌜ Put (now (out .entry)) at (flatMap changedLine (pairsAt (now (b .entry)) from n)) (now (out .exit)) r ⌝ }
 {
     let mut to = at;
     let mut i = 0;
     while i < n {
         let element = words::read_word(b, from + 4 * i);
-        to = put_changed(out, to, element);
+        let rule = words::read_word(b, from + 4 * n + 4 * i);
+        to = put_changed(out, to, element, rule);
         i += 1;
     }
     to
@@ -198,11 +198,11 @@ fn put_tree(out: &mut [u8], at: usize, b: &[u8], n: usize, from: usize, t: usize
 
 // The lines of changed elements and notes are written at `at`; their numbers stand at `from`.
 fn put_found(out: &mut [u8], at: usize, b: &[u8], from: usize, c: usize, m: usize) -> usize
-    requires { ⌜ (from + 4 * c + 8 * m ≤ length (now b)) × (at + 19 * c + 27 * m ≤ length (now out)) ⌝ }
-    ensures { λ r. ⌜ Put (now (out .entry)) at (flatMap changedLine (words c (drop from (now (b .entry)))) ++ flatMap noteLine (pairsAt (now (b .entry)) (from + 4 * c) m)) (now (out .exit)) r ⌝ }
+    requires { ⌜ (from + 8 * c + 8 * m ≤ length (now b)) × (at + 30 * c + 27 * m ≤ length (now out)) ⌝ }
+    ensures { λ r. ⌜ Put (now (out .entry)) at (flatMap changedLine (pairsAt (now (b .entry)) from c) ++ flatMap noteLine (pairsAt (now (b .entry)) (from + 8 * c) m)) (now (out .exit)) r ⌝ }
 {
     let to = put_all_changed(out, at, b, from, c);
-    put_notes(out, to, b, from + 4 * c, m)
+    put_notes(out, to, b, from + 8 * c, m)
 }
 
 // What is printed of the result that the sizes and the arrays in `b` tell is written at the front.
@@ -220,7 +220,7 @@ fn put_result(
     ensures { λ r. ⌜ Put (now (out .entry)) 0 (print (gives (told (now (b .entry)) n t c m discarded climbs))) (now (out .exit)) r ⌝ }
 {
     let sized = put_line(out, 0, b"ok", &[n, t, c, m, discarded, climbs]);
-    let treed = put_tree(out, sized, b, n, ARRAYS + 8 * n + 4 * c + 8 * m, t);
+    let treed = put_tree(out, sized, b, n, ARRAYS + 8 * n + 8 * c + 8 * m, t);
     put_found(out, treed, b, ARRAYS + 8 * n, c, m)
 }
 

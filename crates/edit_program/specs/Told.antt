@@ -47,7 +47,7 @@ told (Refused k) result = print (refused k)
 told (Edited n) result = print (gives (decoded (take n result)))
 
 module _ (h : Choices) (b held : List ℕ) (work : List (List ℕ)) (holds : List ℕ) (left : List (List ℕ)) where
-  pub edit-showable : (r : Answer) (room : ℕ) → 180000 ≤ room → Edits h b held work (answerOf r) holds left → Showable r holds room
+  pub edit-showable : (r : Answer) (room : ℕ) → 190000 ≤ room → Edits h b held work (answerOf r) holds left → Showable r holds room
   unfolding answerOf
   edit-showable (Refused k) room m p = omega arith
   edit-showable (Edited n) room m p =
@@ -92,7 +92,7 @@ module _ {r : Answer} (result : List ℕ) where
 
 -- an answer, with its result at the front of the slice, tells what the definition prints of the batch by these choices
 pub record Tells (h : Choices) (b : List ℕ) (r : Answer) (result : List ℕ) : Type 0 where
-  pub showable : (room : ℕ) → 180000 ≤ room → Showable r result room
+  pub showable : (room : ℕ) → 190000 ≤ room → Showable r result room
   pub tells : told r result ≡ printed h b
 
 -- a wrong choice refuses the edit, and that is what is printed

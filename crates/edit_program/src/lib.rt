@@ -16,7 +16,7 @@ fn edit_batch(choices: Choices, batch: &[u8], result: &mut [u8]) -> Answer
 {
     let mut table = [0u32; 16384];
     let mut source = [0u32; 6147];
-    let mut changes = [0u32; 3328];
+    let mut changes = [0u32; 3584];
     let mut notes = [0u32; 3072];
     let mut incoming = [0u32; 3072];
     let mut changed = [0u32; 1024];
@@ -52,7 +52,7 @@ fn show(answer: Answer, result: &[u8], out: &mut [u8]) -> usize
 
 // What is printed of the batch in the first `read` bytes is written at the front of `out`.
 fn answer(choices: Choices, batch: &[u8], read: usize, out: &mut [u8]) -> usize
-    requires { ⌜ (65536 ≡ length (now batch)) × (read ≤ length (now batch)) × (180000 ≤ length (now out)) ⌝ }
+    requires { ⌜ (65536 ≡ length (now batch)) × (read ≤ length (now batch)) × (190000 ≤ length (now out)) ⌝ }
     ensures { λ r. ⌜ Responds (meant choices) (now (batch .entry)) read (now (out .exit)) r ⌝ }
 {
     let mut result = io::large_buffer();
@@ -69,7 +69,7 @@ pub struct Response {
 // Reads a batch and writes what is printed of it at the front of `out`. The bytes judged are the first `read` of the batch's buffer, as reading left it; that
 // these are the bytes that came on standard input is not promised (`program_input::read_batch`).
 pub fn respond(choices: Choices, batch: &mut [u8], out: &mut [u8]) -> Response
-    requires { ⌜ (65536 ≡ length (now batch)) × (180000 ≤ length (now out)) ⌝ }
+    requires { ⌜ (65536 ≡ length (now batch)) × (190000 ≤ length (now out)) ⌝ }
     ensures { λ r. ⌜ Responds (meant choices) (now (batch .exit)) (r .read) (now (out .exit)) (r .written) ⌝ }
 {
     let read = program_input::read_batch(batch);
@@ -81,7 +81,7 @@ pub fn respond(choices: Choices, batch: &mut [u8], out: &mut [u8]) -> Response
 pub fn run() {
     let choices = program_choices::choices();
     let mut batch = io::large_buffer();
-    let mut out = [0u8; 180000];
+    let mut out = [0u8; 190000];
     let response = respond(choices, &mut batch, &mut out);
     let written = response.written;
     io::write_all(1, &out[..written]);

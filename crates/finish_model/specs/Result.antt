@@ -5,36 +5,54 @@ use mathlib.Core.List.{List, [], _∷_, map, flatMap, append-nil}
 use mathlib.Core.Option.{Option, none, some, Option·map}
 use Prim.Native.Nat.{ℕ}
 use lib.ListN.{length, take}
-use Rattle.orders.specs.Lists.{All, pick}
+use Rattle.orders.specs.Lists.{pick}
 use Rattle.orders.specs.ListLaws.{All-map}
-use Rattle.orders.specs.Tree.{Tree, Path, list, children, label, measure as measureOf, text, preorder}
+use Rattle.orders.specs.Tree.{Tree, list, children, label, measure as measureOf, text, preorder}
 use Rattle.definition.specs.Basics.{keep, rising}
 use Rattle.definition.specs.Elements.{row}
 use Rattle.definition.specs.Planning.{Planned, isDiscarded}
 use Rattle.definition.specs.Rewriting.{Note}
-use Rattle.definition.specs.Running.{World}
+use Rattle.definition.specs.Running.{Changed, World}
 use Rattle.definition.specs.Finishing.{newTree, newTable, numberAt, changedElements, noteElements, Result, result}
 use Rattle.definition_laws.specs.Sorting.{map-rising}
 use Rattle.definition_laws.specs.Held.{Leads, Holds}
 use Rattle.rows_model.specs.Row.{Row, kind, measure, own, rowsOf, rowsAll}
-use Rattle.rows_model.specs.Place.{place}
 use Rattle.rows_model.specs.RowLaws.{kinds-preorder, measures-preorder, text-tree}
-use Rattle.run_model.specs.Store.{HeldNote, heldNote, store}
+use Rattle.run_model.specs.Store.{HeldNote, heldNote, HeldChanged, heldChanged, atRow, store}
 use Rattle.run_model.specs.Parts.{pick-square}
 use Rattle.finish_model.specs.Finished.{numberOf, startOf, changedNumbers, noteNumbers, resultOf}
 use Rattle.finish_model.specs.Numbers.{first-tree, number-row, start-row}
 
 -- ── Changed elements and notes ──────────────────────────────────────────────────────────────────────────────
 
-pub changed-elements : (w : World) → Holds w → changedNumbers (store w) ≡ changedElements (newTable w) w
-unfolding changedNumbers changedElements store pick
+-- a changed element of the new tree with its rule number, as the code holds it
+unfoldable pub numberedChange : ℕ × ℕ → HeldChanged
+numberedChange m = record { row = m .0; rule = m .1 }
+
+pub changed-elements : (w : World) → Holds w → changedNumbers (store w) ≡ map numberedChange (changedElements (newTable w) w)
+unfolding changedNumbers changedElements store heldChanged numberedChange atRow
 changed-elements w h =
-    ap (λ k. rising k (pick (numberOf (rowsOf w.trees)) (map (λ p. place p w.trees) w.changed))) (fun-ext (λ e. ap (λ s. s ∷ []) (start-row w e)))
-    ∙ ap (rising (λ e. (row (newTable w) e) .start ∷ [])) (go w.changed (h .changed))
+    ap (rising keyHeld) (pick-square (heldChanged w.trees) numberedChange found foundHeld w.changed (All-map one w.changed (h .changed)))
+    ∙ sym (map-rising numberedChange key keyHeld (λ m. ap (λ s. s ∷ []) (sym (start-row w (m .0)))) (pick found w.changed))
   where
-    go : (l : List Path) → All (Leads w.trees) l → pick (numberOf (rowsOf w.trees)) (map (λ p. place p w.trees) l) ≡ pick (numberAt (newTable w)) l
-    go [] a = refl
-    go (p ∷ l) a = rw (number-row w p (a .0), go l (a .1))
+    key : ℕ × ℕ → List ℕ
+    key m = (row (newTable w) (m .0)) .start ∷ []
+
+    keyHeld : HeldChanged → List ℕ
+    keyHeld c = startOf (rowsOf w.trees) c.row ∷ []
+
+    found : Changed → Option (ℕ × ℕ)
+    found c = Option·map (λ e. (e, c .1)) (numberAt (newTable w) (c .0))
+
+    foundHeld : HeldChanged → Option HeldChanged
+    foundHeld c = Option·map (atRow c) (numberOf (rowsOf w.trees) c.row)
+
+    one : (c : Changed) → Leads w.trees (c .0) → foundHeld (heldChanged w.trees c) ≡ Option·map numberedChange (found c)
+    one c l = ap (Option·map (atRow (heldChanged w.trees c))) (number-row w (c .0) l) ∙ told (numberAt (newTable w) (c .0))
+      where
+        told : (o : Option ℕ) → Option·map (atRow (heldChanged w.trees c)) o ≡ Option·map numberedChange (Option·map (λ e. (e, c .1)) o)
+        told none = refl
+        told (some e) = refl
 
 -- a note of the new tree with its row
 unfoldable pub heldAt : World → Note × ℕ → HeldNote × ℕ
@@ -89,6 +107,16 @@ unfolding heldAt
 elements-held w [] = refl
 elements-held w (m ∷ ms) = ap {B = List ℕ} (λ l. m .1 ∷ l) (elements-held w ms)
 
+rows-numbered : (ms : List (ℕ × ℕ)) → map (λ c. c .row) (map numberedChange ms) ≡ map (λ m. m .0) ms
+unfolding numberedChange
+rows-numbered [] = refl
+rows-numbered (m ∷ ms) = ap {B = List ℕ} (λ l. m .0 ∷ l) (rows-numbered ms)
+
+rules-numbered : (ms : List (ℕ × ℕ)) → map (λ c. c .rule) (map numberedChange ms) ≡ map (λ m. m .1) ms
+unfolding numberedChange
+rules-numbered [] = refl
+rules-numbered (m ∷ ms) = ap {B = List ℕ} (λ l. m .1 ∷ l) (rules-numbered ms)
+
 -- The result from what is held at the end, in rows, is the definition's.
 pub result-rows : (ps : List Planned) (climbs : ℕ) (w : World) → Holds w → resultOf (length (keep (λ p. isDiscarded p.fate) ps)) climbs (store w) ≡ result ps climbs w
 unfolding resultOf result store newTree
@@ -96,13 +124,14 @@ result-rows ps climbs w h =
     same
     (ap (map kind) (first-tree w.trees) ∙ one-told kind label kinds-preorder (list (children w.trees)))
     (ap (map measure) (first-tree w.trees) ∙ one-told measure measureOf measures-preorder (list (children w.trees)))
-    (changed-elements w h)
+    (ap (map (λ c. c .row)) (changed-elements w h) ∙ rows-numbered (changedElements (newTable w) w))
+    (ap (map (λ c. c .rule)) (changed-elements w h) ∙ rules-numbered (changedElements (newTable w) w))
     (ap (map (λ m. m .0 .number)) (note-elements w h) ∙ numbers-held w (noteElements (newTable w) w))
     (ap (map (λ m. m .1)) (note-elements w h) ∙ elements-held w (noteElements (newTable w) w))
     (ap (flatMap own) (first-tree w.trees) ∙ one-text (list (children w.trees)))
   where
-    of : List ℕ → List ℕ → List ℕ → List ℕ → List ℕ → List ℕ → Result
-    of k m c n e t = record { kinds = k; measures = m; changed = c; numbers = n; noted = e; text = t; discarded = length (keep (λ p. isDiscarded p.fate) ps); climbs = climbs }
+    of : List ℕ → List ℕ → List ℕ → List ℕ → List ℕ → List ℕ → List ℕ → Result
+    of k m c r n e t = record { kinds = k; measures = m; changed = c; rules = r; numbers = n; noted = e; text = t; discarded = length (keep (λ p. isDiscarded p.fate) ps); climbs = climbs }
 
-    same : {k k′ m m′ c c′ n n′ e e′ t t′ : List ℕ} → k ≡ k′ → m ≡ m′ → c ≡ c′ → n ≡ n′ → e ≡ e′ → t ≡ t′ → of k m c n e t ≡ of k′ m′ c′ n′ e′ t′
-    same a b c d e f = rw (a, b, c, d, e, f)
+    same : {k k′ m m′ c c′ r r′ n n′ e e′ t t′ : List ℕ} → k ≡ k′ → m ≡ m′ → c ≡ c′ → r ≡ r′ → n ≡ n′ → e ≡ e′ → t ≡ t′ → of k m c r n e t ≡ of k′ m′ c′ r′ n′ e′ t′
+    same a b c d e f g = rw (a, b, c, d, e, f, g)

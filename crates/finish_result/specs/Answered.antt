@@ -15,7 +15,7 @@ use Rattle.definition.specs.Finishing.{newTree, Result, result, encoded, fittin
 use Rattle.definition.specs.Answers.{edit, withChoices, edited}
 use Rattle.definition_laws.specs.Held.{Holds}
 use Rattle.rows_syntax_node.specs.Promises.{Part}
-use Rattle.run_model.specs.Store.{HeldNote, Store, store}
+use Rattle.run_model.specs.Store.{HeldNote, HeldChanged, Store, store}
 use Rattle.run_tree_store.specs.Stored.{stored}
 use Rattle.finish_model.specs.Finished.{firstTree, resultOf}
 use Rattle.finish_model.specs.Result.{result-rows}
@@ -71,7 +71,7 @@ pub answered-result : (ps : List Planned) (climbs : ℕ) (w : World) {s : Store}
 answered-result ps climbs w h e v = rw (← result-rows ps climbs w h, e) v
 
 -- The number of reads that the sweep returns over the rows of tree 0, as the run leaves them, is the new tree's count of elements.
-pub reads-new-tree : (w : World) (text marks : List ℕ) (notes : List HeldNote) (changed : List ℕ) {rows : List ℕ} {n : ℕ} {tree : List ℕ} {reads : ℕ} → store w ≡ stored text n rows marks notes changed → Part rows n 1 tree → Counts tree reads
+pub reads-new-tree : (w : World) (text marks : List ℕ) (notes : List HeldNote) (changed : List HeldChanged) {rows : List ℕ} {n : ℕ} {tree : List ℕ} {reads : ℕ} → store w ≡ stored text n rows marks notes changed → Part rows n 1 tree → Counts tree reads
     → reads ≡ elementsOf (forest (newTree w))
 unfolding store stored firstTree
 reads-new-tree w text marks notes changed e p c = c .elements text w (p .told text ∙ ap (λ s. firstTree s.rows) (sym e))

@@ -10,19 +10,20 @@ use Rattle.definition.specs.Basics.{rising}
 use Rattle.definition.specs.Finishing.{Result}
 use Rattle.definition_laws.specs.Sorting.{map-rising}
 use Rattle.rows_model.specs.Row.{Row, kind, measure, own}
-use Rattle.rows_model.specs.Place.{rowsAfter, inRun}
-use Rattle.run_model.specs.Store.{HeldNote, Store, withRow}
+use Rattle.rows_model.specs.Place.{rowsAfter}
+use Rattle.run_model.specs.Store.{HeldNote, HeldChanged, Store, withRow}
 use Rattle.run_annotations.specs.Promises.{noteIn}
 use Rattle.finish_model.specs.Finished.{firstTree, numberOf, starts, startOf, changedNumbers, noteNumbers, resultOf}
 use Rattle.finish_model.specs.Numbers.{tree-end}
-use Rattle.finish_sort.specs.Keys.{startKey, noteKey}
+use Rattle.finish_sort.specs.Keys.{elementIn, startKey, noteKey}
 
 -- the result, from the number of discarded changes, the climb steps, the rows of the new tree, its changed elements and its notes, whose rows are element numbers
-unfoldable pub resultIn : ℕ → ℕ → List Row → List ℕ → List HeldNote → Result
+unfoldable pub resultIn : ℕ → ℕ → List Row → List HeldChanged → List HeldNote → Result
 resultIn discarded climbs rs changed notes = record {
   kinds = map kind rs;
   measures = map measure rs;
-  changed = changed;
+  changed = map (λ c. c .row) changed;
+  rules = map (λ c. c .rule) changed;
   numbers = map (λ n. n .number) notes;
   noted = map (λ n. n .row) notes;
   text = flatMap own rs;
@@ -30,9 +31,9 @@ resultIn discarded climbs rs changed notes = record {
   climbs = climbs;
 }
 
--- the changed elements of a new tree of m elements in order, from where the text of each starts and the changed rows
-unfoldable pub changedBy : List ℕ → ℕ → List ℕ → List ℕ
-changedBy starts m changed = rising (startKey starts) (pick (inRun 1 (suc m)) changed)
+-- the changed elements of a new tree of m elements in order, from where the text of each starts and the changed elements that are held
+unfoldable pub changedBy : List ℕ → ℕ → List HeldChanged → List HeldChanged
+changedBy starts m changed = rising (startKey starts) (pick (elementIn 1 (suc m)) changed)
 
 -- its notes in order, from the notes that are held
 unfoldable pub notesBy : List ℕ → ℕ → List HeldNote → List HeldNote
@@ -48,7 +49,7 @@ map-via {X} {Y} {Z} g f h e (x ∷ l) = rw (e x, map-via g f h e l)
 module _ (s : Store) where
   changed-in : changedNumbers s ≡ changedBy (starts 0 (firstTree s.rows)) (length (firstTree s.rows)) s.changed
   unfolding changedNumbers changedBy startOf numberOf
-  changed-in = ap (λ n. rising (λ e. startOf s.rows e ∷ []) (pick (inRun 1 n) s.changed)) (tree-end s.rows)
+  changed-in = ap (λ n. rising (startKey (starts 0 (firstTree s.rows))) (pick (elementIn 1 n) s.changed)) (tree-end s.rows)
 
   -- a note of the new tree with its element for its row
   renumbered : HeldNote × ℕ → HeldNote
@@ -75,12 +76,12 @@ module _ (s : Store) where
 pub result-in : (discarded climbs : ℕ) (s : Store) → resultOf discarded climbs s ≡ resultIn discarded climbs (firstTree s.rows) (changedBy (starts 0 (firstTree s.rows)) (length (firstTree s.rows)) s.changed) (notesBy (starts 0 (firstTree s.rows)) (length (firstTree s.rows)) s.notes)
 unfolding resultOf resultIn renumbered withRow
 result-in discarded climbs s =
-    same (changed-in s)
+    same (ap (map (λ c. c .row)) (changed-in s)) (ap (map (λ c. c .rule)) (changed-in s))
     (map-via (renumbered s) (λ n. n .number) (λ m. m .0 .number) (λ m. refl) (noteNumbers s) ∙ ap (map (λ n. n .number)) (notes-in s))
     (map-via (renumbered s) (λ n. n .row) (λ m. m .1) (λ m. refl) (noteNumbers s) ∙ ap (map (λ n. n .row)) (notes-in s))
   where
-    of : List ℕ → List ℕ → List ℕ → Result
-    of c n e = record { kinds = map kind (firstTree s.rows); measures = map measure (firstTree s.rows); changed = c; numbers = n; noted = e; text = flatMap own (firstTree s.rows); discarded = discarded; climbs = climbs }
+    of : List ℕ → List ℕ → List ℕ → List ℕ → Result
+    of c r n e = record { kinds = map kind (firstTree s.rows); measures = map measure (firstTree s.rows); changed = c; rules = r; numbers = n; noted = e; text = flatMap own (firstTree s.rows); discarded = discarded; climbs = climbs }
 
-    same : {c c′ n n′ e e′ : List ℕ} → c ≡ c′ → n ≡ n′ → e ≡ e′ → of c n e ≡ of c′ n′ e′
-    same a b c = rw (a, b, c)
+    same : {c c′ r r′ n n′ e e′ : List ℕ} → c ≡ c′ → r ≡ r′ → n ≡ n′ → e ≡ e′ → of c r n e ≡ of c′ r′ n′ e′
+    same a b c d = rw (a, b, c, d)

@@ -15,7 +15,7 @@ use Rattle.rows_model.specs.Words.{length-triples}
 use Rattle.rows_path.specs.Offset.{offset}
 use Rattle.rows_path.specs.Promises.{standing, Resolves}
 use Rattle.rows_path.specs.declared.Resolved.the-variants.{At}
-use Rattle.run_model.specs.Store.{HeldNote}
+use Rattle.run_model.specs.Store.{HeldNote, HeldChanged}
 use Rattle.finish_arrays.specs.Starts.{Starts}
 use Rattle.finish_sort.specs.Keys.{startKey, noteKey}
 
@@ -34,9 +34,9 @@ module _ {tree d l : List ℕ} (v : Starts tree d l) (text : List ℕ) (t : Tree
           let h : e < length tree / 3 = omega (arith, place-lt path t u f, ap length told, length-triples text tree) in
           getD-take (length tree / 3) l e 0 h ∙ (ap (λ i. getD l i 0) a ∙ (v .paths text t path u told f ∙ sym b))
 
-  -- the key of e, if it is changed
-  pub changed-key : startKey (take (length tree / 3) l) e ≡ start ∷ []
-  changed-key = ap (λ s. s ∷ []) start-listed
+  -- the key of a changed element, if it is e
+  pub changed-key : (c : HeldChanged) → c .row ≡ e → startKey (take (length tree / 3) l) c ≡ start ∷ []
+  changed-key c f = ap (λ s. s ∷ []) (ap (λ i. getD (take (length tree / 3) l) i 0) f ∙ start-listed)
 
   -- the key of a note at e
   pub note-key : (n : HeldNote) → n .row ≡ e → noteKey (take (length tree / 3) l) n ≡ n .number ∷ n .place ∷ start ∷ []

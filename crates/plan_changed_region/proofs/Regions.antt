@@ -23,23 +23,23 @@ use Rattle.plan_changed_region.specs.Steps.{regionAround, nextRows, next
 
 -- ── Ranges ──────────────────────────────────────────────────────────────────────────────────────────────────
 
-module _ (w : List ℕ) (j a b x : ℕ) (f : x ≡ getD (drop (13 * j) w) 6 0) where
+module _ (w : List ℕ) (j a b x : ℕ) (f : x ≡ getD (drop (14 * j) w) 6 0) where
   pub starts-later : a < x → false ≡ contains (rowAt w j) a b
   unfolding contains rowAt rowOf
   starts-later h = rw (← f, lt-leb x a h)
 
-  pub starts-before : x ≤ a → (y : ℕ) → y ≡ getD (drop (13 * j) w) 7 0 → leb b y ≡ contains (rowAt w j) a b
+  pub starts-before : x ≤ a → (y : ℕ) → y ≡ getD (drop (14 * j) w) 7 0 → leb b y ≡ contains (rowAt w j) a b
   unfolding contains rowAt rowOf
   starts-before h y g = rw (← f, le-leb x a h, ← g)
 
 -- ── The region around a change ──────────────────────────────────────────────────────────────────────────────
 
-module _ (w : List ℕ) (j x : ℕ) (f : x ≡ getD (drop (13 * j) w) 11 0) where
+module _ (w : List ℕ) (j x : ℕ) (f : x ≡ getD (drop (14 * j) w) 11 0) where
   pub outer-none : x ≡ 0 → 0 ≡ outer (rowAt w j)
   unfolding outer rowAt rowOf
   outer-none e = rw (← f, e)
 
-  pub outer-some : (x ≡ 0 → ⊥) → (y : ℕ) → y ≡ getD (drop (13 * j) w) 12 0 → y + 1 ≡ outer (rowAt w j)
+  pub outer-some : (x ≡ 0 → ⊥) → (y : ℕ) → y ≡ getD (drop (14 * j) w) 12 0 → y + 1 ≡ outer (rowAt w j)
   unfolding outer rowAt rowOf
   outer-some n y g = rw (← f, ne-eqb x 0 n, ← g) (add-one y)
 
@@ -96,17 +96,17 @@ word-of j x y r f g = rw (f, g, undiscarded (r .fate) (r .owner)) (go (leb (r .f
     go true = refl
     go false = refl
 
-module _ (w : List ℕ) (p : ℕ) (n : p ≡ 0 → ⊥) (x : ℕ) (f : x ≡ getD (drop (13 * (p - 1)) w) 11 0) where
-  fate-at : (y : ℕ) → y ≡ getD (drop (13 * (p - 1)) w) 10 0 → fateOf (fate (stackTo w p p)) ≡ cond (leb x 1 && eqb y 2) 1 2
+module _ (w : List ℕ) (p : ℕ) (n : p ≡ 0 → ⊥) (x : ℕ) (f : x ≡ getD (drop (14 * (p - 1)) w) 11 0) where
+  fate-at : (y : ℕ) → y ≡ getD (drop (14 * (p - 1)) w) 10 0 → fateOf (fate (stackTo w p p)) ≡ cond (leb x 1 && eqb y 2) 1 2
   unfolding fate regionAt rowRegion rowAt rowOf
   fate-at y g =
       let s : p ≡ suc (p - 1) = omega arith in
       ap (λ (i : ℕ). fateOf (fate (stackTo w i i))) s ∙ rw (stack-last w (p - 1)) (word-of (p - 1) x y (rowAt w (p - 1)) f g)
 
   pub fate-under-discarded : 1 < x → 2 ≡ fateOf (fate (stackTo w p p))
-  fate-under-discarded h = sym (rw (lt-leb x 1 h) at (fate-at (getD (drop (13 * (p - 1)) w) 10 0) refl))
+  fate-under-discarded h = sym (rw (lt-leb x 1 h) at (fate-at (getD (drop (14 * (p - 1)) w) 10 0) refl))
 
-  module _ (h : x ≤ 1) (y : ℕ) (g : y ≡ getD (drop (13 * (p - 1)) w) 10 0) where
+  module _ (h : x ≤ 1) (y : ℕ) (g : y ≡ getD (drop (14 * (p - 1)) w) 10 0) where
     pub fate-dependent : y ≡ 2 → 1 ≡ fateOf (fate (stackTo w p p))
     fate-dependent e = sym (rw (le-leb x 1 h, eq-eqb y 2 e) at (fate-at y g))
 
@@ -123,7 +123,7 @@ owner-at w (suc j) = rw (stack-last w j) (go (not (isDiscarded (rowFate (rowAt w
     go true = refl
     go false = refl
 
-pub stated-by : (w : List ℕ) (k p f o : ℕ) → p ≤ k → f ≡ fateOf (fate (stackTo w p p)) → o ≡ p - 1 → set (set w (13 * k + 11) f) (13 * k + 12) o ≡ stated w k (fate (stackTo w k p))
+pub stated-by : (w : List ℕ) (k p f o : ℕ) → p ≤ k → f ≡ fateOf (fate (stackTo w p p)) → o ≡ p - 1 → set (set w (14 * k + 11) f) (14 * k + 12) o ≡ stated w k (fate (stackTo w k p))
 unfolding stated
 stated-by w k p f o h e q = rw (stack-lift w k p h, owner-at w p, e, q)
 
@@ -132,7 +132,7 @@ stated-by w k p f o h e q = rw (stack-lift w k p h, owner-at w p, e, q)
 pub set-past : (tops : List ℕ) (t x : ℕ) → length tops ≤ t → tops ≡ set tops t x
 set-past tops t x h = sym (set-out tops t x h)
 
-module _ (w : List ℕ) (k p x : ℕ) (f : x ≡ getD (drop (13 * k) w) 10 0) where
+module _ (w : List ℕ) (k p x : ℕ) (f : x ≡ getD (drop (14 * k) w) 10 0) where
   pub last-around : x ≡ 0 → p ≡ cond (eqb ((rowAt w k) .region) 0) p (suc k)
   unfolding rowAt rowOf
   last-around e = rw (← f, e)
@@ -154,7 +154,7 @@ module _ (w tops : List ℕ) (k t x : ℕ) (low : All (λ q. q ≤ k) tops) (e :
   unfolding Outward
   top-outward out j b = out j (omega (arith, top-low))
 
-  pub region-found : (a b r : ℕ) → t ≡ getD (drop (13 * k) w) 5 0 → a ≡ getD (drop (13 * k) w) 6 0 → b ≡ getD (drop (13 * k) w) 7 0 → r ≡ enclosing a b w x x → r ≡ regionAround w tops k
+  pub region-found : (a b r : ℕ) → t ≡ getD (drop (14 * k) w) 5 0 → a ≡ getD (drop (14 * k) w) 6 0 → b ≡ getD (drop (14 * k) w) 7 0 → r ≡ enclosing a b w x x → r ≡ regionAround w tops k
   unfolding regionAround rowAt rowOf
   region-found a b r u f g s = s ∙ (sym (enclosing-lift a b w k x top-low) ∙ rw (e, u, f, g))
 
@@ -165,7 +165,7 @@ pub rows-next : (w tops : List ℕ) (k p : ℕ) (w′ : List ℕ) → p ≡ regi
 unfolding nextRows
 rows-next w tops k p w′ e s = rw (← e) s
 
-pub tops-after : (w tops : List ℕ) (k p t l : ℕ) (tops′ : List ℕ) → p ≡ regionAround w tops k → t ≡ getD (drop (13 * k) w) 5 0 → l ≡ cond (eqb ((rowAt w k) .region) 0) p (suc k) → tops′ ≡ set tops t l → tops′ ≡ nextTops w tops k
+pub tops-after : (w tops : List ℕ) (k p t l : ℕ) (tops′ : List ℕ) → p ≡ regionAround w tops k → t ≡ getD (drop (14 * k) w) 5 0 → l ≡ cond (eqb ((rowAt w k) .region) 0) p (suc k) → tops′ ≡ set tops t l → tops′ ≡ nextTops w tops k
 unfolding nextTops rowAt rowOf
 tops-after w tops k p t l tops′ e f q s = s ∙ rw (f, q, e)
 
@@ -176,10 +176,10 @@ pub record Planning (w₀ : List ℕ) (n : ℕ) (w tops : List ℕ) (k : ℕ) : 
   pub inside : k ≤ n
   pub long : length w ≡ length w₀
   pub trees : length tops ≡ 16
-  pub tail : drop (13 * n) w ≡ drop (13 * n) w₀
+  pub tail : drop (14 * n) w ≡ drop (14 * n) w₀
   pub outward : Outward w k
   pub low : All (λ q. q ≤ k) tops
-  pub same : plannedRows (rowsOf n w₀) ≡ rowsOf k w ++ rowsFates k (map (stackTo w k) tops) (rowsOf (n - k) (drop (13 * k) w))
+  pub same : plannedRows (rowsOf n w₀) ≡ rowsOf k w ++ rowsFates k (map (stackTo w k) tops) (rowsOf (n - k) (drop (14 * k) w))
 
 pub planning-start : (w : List ℕ) (n : ℕ) → Planning w n w (replicate 16 0) 0
 unfolding plannedRows Outward rowsOf stackTo
@@ -193,7 +193,7 @@ planning-start w n = record {
   same = rw (sub-zero n);
 }
 
-module _ {w₀ : List ℕ} {n : ℕ} {w tops : List ℕ} {k : ℕ} (v : Planning w₀ n w tops k) (a : 13 * n ≤ length w₀) where
+module _ {w₀ : List ℕ} {n : ℕ} {w tops : List ℕ} {k : ℕ} (v : Planning w₀ n w tops k) (a : 14 * n ≤ length w₀) where
   pub planning-next : (w′ tops′ : List ℕ) → k < n → length w′ ≡ length w → w′ ≡ nextRows w tops k → tops′ ≡ nextTops w tops k → Planning w₀ n w′ tops′ (k + 1)
   unfolding nextTops
   planning-next w′ tops′ h q e f = rw (add-one k, f) (record {
@@ -209,11 +209,11 @@ module _ {w₀ : List ℕ} {n : ℕ} {w tops : List ℕ} {k : ℕ} (v : Planning
       N : List ℕ
       N = nextRows w tops k
 
-      room : 13 * k + 13 ≤ length w
+      room : 14 * k + 14 ≤ length w
       room = omega (arith, v .long)
 
       later : List ChangeRow
-      later = rowsFates (suc k) (map (stackTo N (suc k)) (nextTops w tops k)) (rowsOf (n - suc k) (drop (13 * suc k) N))
+      later = rowsFates (suc k) (map (stackTo N (suc k)) (nextTops w tops k)) (rowsOf (n - suc k) (drop (14 * suc k) N))
 
       next-count : n - k ≡ suc (n - suc k)
       next-count = omega arith
@@ -221,15 +221,15 @@ module _ {w₀ : List ℕ} {n : ℕ} {w tops : List ℕ} {k : ℕ} (v : Planning
       passed : rowsOf (suc k) N ≡ rowsOf k w ++ (rowAt N k ∷ [])
       passed = rows-to N k ∙ rw (rows-same N w k (next-before w tops k room (v .low)))
 
-      rest : drop (13 * n) N ≡ drop (13 * n) w
+      rest : drop (14 * n) N ≡ drop (14 * n) w
       rest =
-          let m : ℕ = 13 * n - 13 * suc k in
-          let c : 13 * n ≡ 13 * suc k + m = omega arith in
-          rw (c, ← drop-drop m (13 * suc k) N, ← drop-drop m (13 * suc k) w, next-rest w tops k room (v .low))
+          let m : ℕ = 14 * n - 14 * suc k in
+          let c : 14 * n ≡ 14 * suc k + m = omega arith in
+          rw (c, ← drop-drop m (14 * suc k) N, ← drop-drop m (14 * suc k) w, next-rest w tops k room (v .low))
 
-  pub planning-done : n ≤ k → w ≡ rowsWords (plannedRows (rowsOf n w₀)) ++ drop (13 * n) w₀
+  pub planning-done : n ≤ k → w ≡ rowsWords (plannedRows (rowsOf n w₀)) ++ drop (14 * n) w₀
   unfolding rowsOf rowsFates
   planning-done h =
       let e : k ≡ n = omega (arith, v .inside) in
       let s : plannedRows (rowsOf n w₀) ≡ rowsOf n w = v .same ∙ rw (e, sub-self n) (append-nil (rowsOf n w)) in
-      sym (take-append-drop (13 * n) w) ∙ rw (s, ← v .tail, rows-written n w (omega (arith, v .long)))
+      sym (take-append-drop (14 * n) w) ∙ rw (s, ← v .tail, rows-written n w (omega (arith, v .long)))

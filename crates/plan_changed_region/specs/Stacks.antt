@@ -52,7 +52,7 @@ Outward w k = (j : ℕ) → j < k → outer (rowAt w j) ≤ j
 
 -- the row at place k with the fate f
 unfoldable pub stated : List ℕ → ℕ → Fate → List ℕ
-stated w k f = set (set w (13 * k + 11) (fateOf f)) (13 * k + 12) (ownerOf f)
+stated w k f = set (set w (14 * k + 11) (fateOf f)) (14 * k + 12) (ownerOf f)
 
 -- ── Laws on stacks ──────────────────────────────────────────────────────────────────────────────────────────
 
@@ -123,40 +123,40 @@ module _ (a b : ℕ) (w : List ℕ) where
 
 -- ── A fate stated ───────────────────────────────────────────────────────────────────────────────────────────
 
-module _ (w : List ℕ) (k : ℕ) (f : Fate) (h : 13 * k + 13 ≤ length w) where
+module _ (w : List ℕ) (k : ℕ) (f : Fate) (h : 14 * k + 14 ≤ length w) where
   -- the words from the row on
-  told : drop (13 * k) (stated w k f) ≡ set (set (drop (13 * k) w) 11 (fateOf f)) 12 (ownerOf f)
+  told : drop (14 * k) (stated w k f) ≡ set (set (drop (14 * k) w) 11 (fateOf f)) 12 (ownerOf f)
   unfolding stated
-  told = drop-set-add (13 * k) (set w (13 * k + 11) (fateOf f)) 12 (ownerOf f) ∙ ap (λ (l : List ℕ). set l 12 (ownerOf f)) (drop-set-add (13 * k) w 11 (fateOf f))
+  told = drop-set-add (14 * k) (set w (14 * k + 11) (fateOf f)) 12 (ownerOf f) ∙ ap (λ (l : List ℕ). set l 12 (ownerOf f)) (drop-set-add (14 * k) w 11 (fateOf f))
 
-  same : (i : ℕ) → i < 11 → getD (drop (13 * k) (stated w k f)) i 0 ≡ getD (drop (13 * k) w) i 0
-  same i b =
+  same : (i : ℕ) → (i ≡ 11 → ⊥) → (i ≡ 12 → ⊥) → getD (drop (14 * k) (stated w k f)) i 0 ≡ getD (drop (14 * k) w) i 0
+  same i a b =
       rw told
-      (getD-set-other (set (drop (13 * k) w) 11 (fateOf f)) 12 i (ownerOf f) 0 (λ e. omega arith) ∙ getD-set-other (drop (13 * k) w) 11 i (fateOf f) 0 (λ e. omega arith))
+      (getD-set-other (set (drop (14 * k) w) 11 (fateOf f)) 12 i (ownerOf f) 0 b ∙ getD-set-other (drop (14 * k) w) 11 i (fateOf f) 0 a)
 
-  long : 12 < length (drop (13 * k) w)
-  long = omega (arith, length-drop (13 * k) w)
+  long : 12 < length (drop (14 * k) w)
+  long = omega (arith, length-drop (14 * k) w)
 
-  fate-word : getD (drop (13 * k) (stated w k f)) 11 0 ≡ fateOf f
+  fate-word : getD (drop (14 * k) (stated w k f)) 11 0 ≡ fateOf f
   fate-word =
       rw told
-      (getD-set-other (set (drop (13 * k) w) 11 (fateOf f)) 12 11 (ownerOf f) 0 (λ e. omega arith) ∙ getD-set-same (drop (13 * k) w) 11 (fateOf f) 0 (omega (arith, long)))
+      (getD-set-other (set (drop (14 * k) w) 11 (fateOf f)) 12 11 (ownerOf f) 0 (λ e. omega arith) ∙ getD-set-same (drop (14 * k) w) 11 (fateOf f) 0 (omega (arith, long)))
 
-  owner-word : getD (drop (13 * k) (stated w k f)) 12 0 ≡ ownerOf f
-  owner-word = rw told (getD-set-same (set (drop (13 * k) w) 11 (fateOf f)) 12 (ownerOf f) 0 (simp length-set long))
+  owner-word : getD (drop (14 * k) (stated w k f)) 12 0 ≡ ownerOf f
+  owner-word = rw told (getD-set-same (set (drop (14 * k) w) 11 (fateOf f)) 12 (ownerOf f) 0 (simp length-set long))
 
   pub stated-row : rowAt (stated w k f) k ≡ withFate (rowAt w k) f
   unfolding rowAt rowOf withFate
-  stated-row = λ i. record { operation = same 0 (lit< tt) i; target = same 1 (lit< tt) i; end = same 2 (lit< tt) i; list = same 3 (lit< tt) i; count = same 4 (lit< tt) i; tree = same 5 (lit< tt) i; from = same 6 (lit< tt) i; to = same 7 (lit< tt) i; depth = same 8 (lit< tt) i; rank = same 9 (lit< tt) i; region = same 10 (lit< tt) i; fate = fate-word i; owner = owner-word i }
+  stated-row = λ i. record { operation = same 0 (λ e. omega arith) (λ e. omega arith) i; target = same 1 (λ e. omega arith) (λ e. omega arith) i; end = same 2 (λ e. omega arith) (λ e. omega arith) i; list = same 3 (λ e. omega arith) (λ e. omega arith) i; count = same 4 (λ e. omega arith) (λ e. omega arith) i; tree = same 5 (λ e. omega arith) (λ e. omega arith) i; from = same 6 (λ e. omega arith) (λ e. omega arith) i; to = same 7 (λ e. omega arith) (λ e. omega arith) i; depth = same 8 (λ e. omega arith) (λ e. omega arith) i; rank = same 9 (λ e. omega arith) (λ e. omega arith) i; region = same 10 (λ e. omega arith) (λ e. omega arith) i; fate = fate-word i; owner = owner-word i; rule = same 13 (λ e. omega arith) (λ e. omega arith) i }
 
   pub stated-before : (j : ℕ) → j < k → rowAt (stated w k f) j ≡ rowAt w j
   unfolding rowAt stated
   stated-before j b =
-      row-ext (drop (13 * j) (stated w k f)) (drop (13 * j) w)
-      (λ i z. rw (getD-drop (13 * j) (stated w k f) i 0, getD-drop (13 * j) w i 0)
-      (getD-set-other (set w (13 * k + 11) (fateOf f)) (13 * k + 12) (13 * j + i) (ownerOf f) 0 (λ e. omega arith) ∙ getD-set-other w (13 * k + 11) (13 * j + i) (fateOf f) 0 (λ e. omega arith)))
+      row-ext (drop (14 * j) (stated w k f)) (drop (14 * j) w)
+      (λ i z. rw (getD-drop (14 * j) (stated w k f) i 0, getD-drop (14 * j) w i 0)
+      (getD-set-other (set w (14 * k + 11) (fateOf f)) (14 * k + 12) (14 * j + i) (ownerOf f) 0 (λ e. omega arith) ∙ getD-set-other w (14 * k + 11) (14 * j + i) (fateOf f) 0 (λ e. omega arith)))
 
-  pub stated-after : drop (13 * suc k) (stated w k f) ≡ drop (13 * suc k) w
+  pub stated-after : drop (14 * suc k) (stated w k f) ≡ drop (14 * suc k) w
   unfolding stated
   stated-after =
-      drop-set-lt (13 * suc k) (set w (13 * k + 11) (fateOf f)) (13 * k + 12) (ownerOf f) (omega arith) ∙ drop-set-lt (13 * suc k) w (13 * k + 11) (fateOf f) (omega arith)
+      drop-set-lt (14 * suc k) (set w (14 * k + 11) (fateOf f)) (14 * k + 12) (ownerOf f) (omega arith) ∙ drop-set-lt (14 * suc k) w (14 * k + 11) (fateOf f) (omega arith)

@@ -71,7 +71,7 @@ region-of w k r f e = rw (e, fate-stated r f)
 
 -- ── The step ────────────────────────────────────────────────────────────────────────────────────────────────
 
-module _ (w tops : List ℕ) (k : ℕ) (h : 13 * k + 13 ≤ length w) (low : All (λ q. q ≤ k) tops) where
+module _ (w tops : List ℕ) (k : ℕ) (h : 14 * k + 14 ≤ length w) (low : All (λ q. q ≤ k) tops) where
   abbrev p : ℕ
   p = regionAround w tops k
 
@@ -123,13 +123,13 @@ module _ (w tops : List ℕ) (k : ℕ) (h : 13 * k + 13 ≤ length w) (low : All
       map-set (stackTo w′ (suc k)) tops (r .tree) (cond (eqb (r .region) 0) p (suc k))
       ∙ rw (stack-next, map-same (stackTo w′ (suc k)) (stackTo w k) tops (All-map (λ q b. stack-kept q b) tops low))
 
-  pub next-rest : drop (13 * suc k) w′ ≡ drop (13 * suc k) w
+  pub next-rest : drop (14 * suc k) w′ ≡ drop (14 * suc k) w
   unfolding nextRows
   next-rest = stated-after w k f h
 
   -- the row at place k has its fate, and the rest of the fates follow from the new stacks
-  pub fates-next : (m : ℕ) → rowsFates k (map (stackTo w k) tops) (rowsOf (suc m) (drop (13 * k) w))
-      ≡ rowAt w′ k ∷ rowsFates (suc k) (map (stackTo w′ (suc k)) (nextTops w tops k)) (rowsOf m (drop (13 * suc k) w′))
+  pub fates-next : (m : ℕ) → rowsFates k (map (stackTo w k) tops) (rowsOf (suc m) (drop (14 * k) w))
+      ≡ rowAt w′ k ∷ rowsFates (suc k) (map (stackTo w′ (suc k)) (nextTops w tops k)) (rowsOf m (drop (14 * suc k) w′))
   unfolding rowsFates
   fates-next m = rw (rows-from w k m, over, next-row, stacks-next, next-rest)
 

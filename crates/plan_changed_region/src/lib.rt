@@ -75,7 +75,7 @@ fn fate_in(rows: &[u32], p: usize) -> usize
 
 // The fate of the change at place `k`, whose region around it is at the place `p`, is written into its row.
 fn state_fate(rows: &mut [u32], k: usize, p: usize)
-    requires { ⌜ (13 * k + 13 ≤ length (now rows)) × (k < 256) × (p ≤ k) ⌝ }
+    requires { ⌜ (14 * k + 14 ≤ length (now rows)) × (k < 256) × (p ≤ k) ⌝ }
     ensures { λ _. ⌜ now (rows .exit) ≡ stated (now (rows .entry)) k (fate (stackTo (now (rows .entry)) k p)) ⌝ }
 {
     let f = fate_in(rows, p);
@@ -133,7 +133,7 @@ fn region_around(rows: &[u32], k: usize, tops: &[u32]) -> usize
 
 // The change at place `k` gets its fate, and the stack of its tree becomes what it leaves.
 fn plan_change(rows: &mut [u32], k: usize, tops: &mut [u32])
-    requires { ⌜ (13 * k + 13 ≤ length (now rows)) × (k < 256) × All (λ q. q ≤ k) (now tops) × Outward (now rows) k ⌝ }
+    requires { ⌜ (14 * k + 14 ≤ length (now rows)) × (k < 256) × All (λ q. q ≤ k) (now tops) × Outward (now rows) k ⌝ }
     ensures { λ _. ⌜ now (rows .exit) ≡ nextRows (now (rows .entry)) (now (tops .entry)) k ⌝ }
     ensures { λ _. ⌜ now (tops .exit) ≡ nextTops (now (rows .entry)) (now (tops .entry)) k ⌝ }
 {
@@ -148,8 +148,8 @@ fn plan_change(rows: &mut [u32], k: usize, tops: &mut [u32])
 
 // Rust: EditPlan::build, the loop that fills PlanEntry. Each of `n` sorted changes gets its fate: the words FATE and OWNER of its row.
 pub fn plan_fates(rows: &mut [u32], n: usize)
-    requires { ⌜ (13 * n ≤ length (now rows)) × (n ≤ 256) ⌝ }
-    ensures { λ _. ⌜ now (rows .exit) ≡ rowsWords (plannedRows (rowsOf n (now (rows .entry)))) ++ drop (13 * n) (now (rows .entry)) ⌝ }
+    requires { ⌜ (14 * n ≤ length (now rows)) × (n ≤ 256) ⌝ }
+    ensures { λ _. ⌜ now (rows .exit) ≡ rowsWords (plannedRows (rowsOf n (now (rows .entry)))) ++ drop (14 * n) (now (rows .entry)) ⌝ }
 {
     let mut tops = [0u32; 16];
     let mut k = 0;

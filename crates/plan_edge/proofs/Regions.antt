@@ -19,14 +19,14 @@ use Rattle.plan_edge.specs.Rule.{targetParent, ofRoot, takes, regionDept
 -- ── Depths ──────────────────────────────────────────────────────────────────────────────────────────────────
 
 module _ (w v : List ℕ) (k : ℕ) (a : Bool) (e : a ≡ ofRoot w (rowAt v k)) where
-  depth-is : regionDepth w (rowAt v k) ≡ cond a 0 (getD (drop (13 * k) v) 8 0)
+  depth-is : regionDepth w (rowAt v k) ≡ cond a 0 (getD (drop (14 * k) v) 8 0)
   unfolding regionDepth rowAt rowOf
   depth-is = rw e
 
   pub root-depth : a ≡ true → 0 ≡ regionDepth w (rowAt v k)
   root-depth q = rw (depth-is, q)
 
-  pub parent-depth : a ≡ false → (d : ℕ) → d ≡ getD (drop (13 * k) v) 8 0 → d ≡ regionDepth w (rowAt v k)
+  pub parent-depth : a ≡ false → (d : ℕ) → d ≡ getD (drop (14 * k) v) 8 0 → d ≡ regionDepth w (rowAt v k)
   parent-depth q d f = rw (depth-is, q) f
 
 -- ── The innermost ───────────────────────────────────────────────────────────────────────────────────────────

@@ -43,7 +43,7 @@ module _ (v R : List ℕ) (most k : ℕ) where
       pub none-around : p ≡ 0 → false ≡ isDiscarded v R most k
       none-around z = rw (opens, z)
 
-      module _ (z : p ≡ 0 → ⊥) (g : ℕ) (f : g ≡ getD (drop (13 * (p - 1)) v) 10 0) where
+      module _ (z : p ≡ 0 → ⊥) (g : ℕ) (f : g ≡ getD (drop (14 * (p - 1)) v) 10 0) where
         kind : (rowAt v (p - 1)) .region ≡ g
         unfolding rowAt rowOf
         kind = sym f
@@ -86,7 +86,7 @@ module _ (w v R : List ℕ) (k p : ℕ) (e : p ≡ getD R k 0) where
       go (suc p) true = rw (ne-eqb (suc p) 0 (λ z. omega arith))
       go (suc p) false = rw (ne-eqb (suc p) 0 (λ z. omega arith))
 
-  pub stated-by : (f o : ℕ) → f ≡ fateOf (fateAt w v R k) → o ≡ p - 1 → set (set v (13 * k + 11) f) (13 * k + 12) o ≡ stated v k (fateAt w v R k)
+  pub stated-by : (f o : ℕ) → f ≡ fateOf (fateAt w v R k) → o ≡ p - 1 → set (set v (14 * k + 11) f) (14 * k + 12) o ≡ stated v k (fateAt w v R k)
   unfolding stated
   stated-by f o a b = rw (a, b, owner-is)
 
@@ -104,23 +104,23 @@ module _ (v u R S : List ℕ) (a : (j : ℕ) → (rowAt v j) .region ≡ (rowAt 
 
 -- ── All fates ───────────────────────────────────────────────────────────────────────────────────────────────
 
-row-same : (v u : List ℕ) (k : ℕ) → drop (13 * k) v ≡ drop (13 * k) u → rowAt v k ≡ rowAt u k
+row-same : (v u : List ℕ) (k : ℕ) → drop (14 * k) v ≡ drop (14 * k) u → rowAt v k ≡ rowAt u k
 unfolding rowAt
 row-same v u k e = ap rowOf e
 
 stated-region : (v : List ℕ) (k : ℕ) (f : Fate) (j : ℕ) → (rowAt (stated v k f) j) .region ≡ (rowAt v j) .region
 unfolding rowAt rowOf stated
 stated-region v k f j =
-    getD-drop (13 * j) (stated v k f) 10 0
-    ∙ (getD-set-other (set v (13 * k + 11) (fateOf f)) (13 * k + 12) (13 * j + 10) (ownerOf f) 0 (λ z. omega arith)
-    ∙ (getD-set-other v (13 * k + 11) (13 * j + 10) (fateOf f) 0 (λ z. omega arith) ∙ sym (getD-drop (13 * j) v 10 0)))
+    getD-drop (14 * j) (stated v k f) 10 0
+    ∙ (getD-set-other (set v (14 * k + 11) (fateOf f)) (14 * k + 12) (14 * j + 10) (ownerOf f) 0 (λ z. omega arith)
+    ∙ (getD-set-other v (14 * k + 11) (14 * j + 10) (fateOf f) 0 (λ z. omega arith) ∙ sym (getD-drop (14 * j) v 10 0)))
 
 -- of the n rows in v₀ those before place k have their fates in v
 pub record Stating (w v₀ R : List ℕ) (n : ℕ) (v : List ℕ) (k : ℕ) : Type 0 where
   pub inside : k ≤ n
   pub long : length v ≡ length v₀
   pub passed : rowsOf k v ≡ fatedRows w v₀ R k
-  pub rest : drop (13 * k) v ≡ drop (13 * k) v₀
+  pub rest : drop (14 * k) v ≡ drop (14 * k) v₀
   pub kinds : (j : ℕ) → (rowAt v j) .region ≡ (rowAt v₀ j) .region
 
 module _ (w v₀ R : List ℕ) (n : ℕ) where
@@ -128,7 +128,7 @@ module _ (w v₀ R : List ℕ) (n : ℕ) where
   unfolding fatedRows upFrom rowsOf
   stating-start = record { inside = omega arith; long = refl; passed = refl; rest = refl; kinds = λ j. refl }
 
-  module _ {v : List ℕ} {k : ℕ} (s : Stating w v₀ R n v k) (fits : 13 * n ≤ length v₀) where
+  module _ {v : List ℕ} {k : ℕ} (s : Stating w v₀ R n v k) (fits : 14 * n ≤ length v₀) where
     pub stating-next : k < n → (v′ : List ℕ) → length v′ ≡ length v → v′ ≡ stated v k (fateAt w v R k) → Stating w v₀ R n v′ (k + 1)
     unfolding fatedRows
     stating-next h v′ q e = rw (add-one k, e) (record {
@@ -145,7 +145,7 @@ module _ (w v₀ R : List ℕ) (n : ℕ) where
         N : List ℕ
         N = stated v k (fateAt w v R k)
 
-        room : 13 * k + 13 ≤ length v
+        room : 14 * k + 14 ≤ length v
         room = omega (arith, s .long)
 
         at : rowAt v k ≡ rowAt v₀ k
@@ -154,13 +154,13 @@ module _ (w v₀ R : List ℕ) (n : ℕ) where
         here : rowAt N k ≡ fatedAt w v₀ R k
         here = stated-row v k f room ∙ rw (fate-same v v₀ R R (s .kinds) (λ j. refl) w k at, at)
 
-        behind : drop (13 * suc k) v ≡ drop (13 * suc k) v₀
-        behind = let z : 13 * suc k ≡ 13 * k + 13 = omega arith in rw (z, ← drop-drop 13 (13 * k) v, ← drop-drop 13 (13 * k) v₀, s .rest)
+        behind : drop (14 * suc k) v ≡ drop (14 * suc k) v₀
+        behind = let z : 14 * suc k ≡ 14 * k + 14 = omega arith in rw (z, ← drop-drop 14 (14 * k) v, ← drop-drop 14 (14 * k) v₀, s .rest)
 
-    pub stating-done : n ≤ k → v ≡ rowsWords (fatedRows w v₀ R n) ++ drop (13 * n) v₀
+    pub stating-done : n ≤ k → v ≡ rowsWords (fatedRows w v₀ R n) ++ drop (14 * n) v₀
     stating-done h =
         let z : k ≡ n = omega (arith, s .inside) in
-        sym (take-append-drop (13 * n) v) ∙ rw (← z, ← s .passed, ← s .rest, rows-written k v (omega (arith, s .long)))
+        sym (take-append-drop (14 * n) v) ∙ rw (← z, ← s .passed, ← s .rest, rows-written k v (omega (arith, s .long)))
 
 -- ── Regions in a longer slice ───────────────────────────────────────────────────────────────────────────────
 
@@ -174,9 +174,9 @@ zeros zero j = refl
 zeros (suc m) zero = refl
 zeros (suc m) (suc j) = zeros m j
 
-pub all-stated : (w v : List ℕ) (n m : ℕ) (R v′ : List ℕ) → R ≡ regionsOf w v n ++ drop n (replicate m 0) → v′ ≡ rowsWords (fatedRows w v R n) ++ drop (13 * n) v → v′ ≡ rowsWords (edgeRows w n v) ++ drop (13 * n) v
+pub all-stated : (w v : List ℕ) (n m : ℕ) (R v′ : List ℕ) → R ≡ regionsOf w v n ++ drop n (replicate m 0) → v′ ≡ rowsWords (fatedRows w v R n) ++ drop (14 * n) v → v′ ≡ rowsWords (edgeRows w n v) ++ drop (14 * n) v
 unfolding edgeRows fatedRows upFrom
-all-stated w v n m R v′ e q = q ∙ ap (λ l. rowsWords l ++ drop (13 * n) v) (go 0 n)
+all-stated w v n m R v′ e q = q ∙ ap (λ l. rowsWords l ++ drop (14 * n) v) (go 0 n)
   where
     S : List ℕ
     S = regionsOf w v n

@@ -43,7 +43,7 @@ module _ (w : List ℕ) (x y e p q : ℕ) (a : p ≡ getD w (8 * e + 1) 0) (b : 
 
 -- ── A change ────────────────────────────────────────────────────────────────────────────────────────────────
 
-module _ (w v : List ℕ) (k x : ℕ) (t : x ≡ getD (drop (13 * k) v) 1 0) (op : ℕ) (o : op ≡ getD (drop (13 * k) v) 0 0) where
+module _ (w v : List ℕ) (k x : ℕ) (t : x ≡ getD (drop (14 * k) v) 1 0) (op : ℕ) (o : op ≡ getD (drop (14 * k) v) 0 0) where
   pub first-child-parent : op ≡ 0 → x ≡ targetParent w (rowAt v k)
   unfolding targetParent rowAt rowOf
   first-child-parent z = rw (← o, ← t, z)
@@ -52,16 +52,16 @@ module _ (w v : List ℕ) (k x : ℕ) (t : x ≡ getD (drop (13 * k) v) 1 0) (op
   unfolding targetParent rowAt rowOf
   other-target-parent z p e = rw (← o, ← t, ne-eqb op 0 z) e
 
-module _ (w v : List ℕ) (k op : ℕ) (o : op ≡ getD (drop (13 * k) v) 0 0) where
+module _ (w v : List ℕ) (k op : ℕ) (o : op ≡ getD (drop (14 * k) v) 0 0) where
   pub no-replacement : (op ≡ 2 → ⊥) → false ≡ ofRoot w (rowAt v k)
   unfolding ofRoot rowAt rowOf
   no-replacement z = rw (← o, ne-eqb op 2 z)
 
-  pub replacement-of : op ≡ 2 → (x : ℕ) → x ≡ getD (drop (13 * k) v) 1 0 → (p : ℕ) → p ≡ getD w (8 * x + 1) 0 → eqb p 0 ≡ ofRoot w (rowAt v k)
+  pub replacement-of : op ≡ 2 → (x : ℕ) → x ≡ getD (drop (14 * k) v) 1 0 → (p : ℕ) → p ≡ getD w (8 * x + 1) 0 → eqb p 0 ≡ ofRoot w (rowAt v k)
   unfolding ofRoot rowAt rowOf
   replacement-of z x t p e = rw (← o, ← t, ← e, z)
 
-module _ (w v : List ℕ) (x y k op e : ℕ) (o : op ≡ getD (drop (13 * k) v) 0 0) (t : e ≡ getD (drop (13 * k) v) 1 0) where
+module _ (w v : List ℕ) (x y k op e : ℕ) (o : op ≡ getD (drop (14 * k) v) 0 0) (t : e ≡ getD (drop (14 * k) v) 1 0) where
   pub first-child-none : op ≡ 0 → false ≡ onlyIn w x y (rowAt v k)
   unfolding onlyIn rowAt rowOf
   first-child-none z = rw (← o, z)
@@ -80,41 +80,41 @@ module _ (w v : List ℕ) (x y k op e : ℕ) (o : op ≡ getD (drop (13 * k) v) 
       unfolding onlyIn rowAt rowOf
       insert-before-last g = rw (← o, ← t, ← f, g, not-false r q)
 
-      pub replaces-to : (op ≡ 1 → ⊥) → (d : ℕ) → d ≡ getD (drop (13 * k) v) 2 0 → (b : Bool) → b ≡ inRun w x y d → b ≡ onlyIn w x y (rowAt v k)
+      pub replaces-to : (op ≡ 1 → ⊥) → (d : ℕ) → d ≡ getD (drop (14 * k) v) 2 0 → (b : Bool) → b ≡ inRun w x y d → b ≡ onlyIn w x y (rowAt v k)
       unfolding onlyIn rowAt rowOf
       replaces-to g d u b i = rw (← o, ← t, ← u, ← f, ne-eqb op 0 z, ne-eqb op 1 g, not-false r q) i
 
-module _ (v : List ℕ) (x y k op : ℕ) (o : op ≡ getD (drop (13 * k) v) 0 0) where
+module _ (v : List ℕ) (x y k op : ℕ) (o : op ≡ getD (drop (14 * k) v) 0 0) where
   pub no-run : (op ≡ 5 → ⊥) → false ≡ isRunOf x y (rowAt v k)
   unfolding isRunOf rowAt rowOf
   no-run z = rw (← o, ne-eqb op 5 z)
 
-  module _ (z : op ≡ 5) (e : ℕ) (t : e ≡ getD (drop (13 * k) v) 1 0) where
+  module _ (z : op ≡ 5) (e : ℕ) (t : e ≡ getD (drop (14 * k) v) 1 0) where
     pub other-start : (e ≡ x → ⊥) → false ≡ isRunOf x y (rowAt v k)
     unfolding isRunOf rowAt rowOf
     other-start q = rw (← o, ← t, z, ne-eqb e x q)
 
-    pub same-start : e ≡ x → (d : ℕ) → d ≡ getD (drop (13 * k) v) 2 0 → eqb d y ≡ isRunOf x y (rowAt v k)
+    pub same-start : e ≡ x → (d : ℕ) → d ≡ getD (drop (14 * k) v) 2 0 → eqb d y ≡ isRunOf x y (rowAt v k)
     unfolding isRunOf rowAt rowOf
     same-start q d u = rw (← o, ← t, ← u, z, eq-eqb e x q)
 
 -- ── A region ────────────────────────────────────────────────────────────────────────────────────────────────
 
-module _ (w v : List ℕ) (j e x : ℕ) (t : x ≡ getD (drop (13 * j) v) 1 0) where
+module _ (w v : List ℕ) (j e x : ℕ) (t : x ≡ getD (drop (14 * j) v) 1 0) where
   pub before-target : e < x → false ≡ removes w (rowAt v j) e
   unfolding removes rowAt rowOf
   before-target h = rw (← t, lt-leb x e h)
 
-  pub before-after : x ≤ e → (y : ℕ) → y ≡ getD (drop (13 * j) v) 2 0 → (a : ℕ) → a ≡ getD w (8 * y + 6) 0 → ltb e a ≡ removes w (rowAt v j) e
+  pub before-after : x ≤ e → (y : ℕ) → y ≡ getD (drop (14 * j) v) 2 0 → (a : ℕ) → a ≡ getD w (8 * y + 6) 0 → ltb e a ≡ removes w (rowAt v j) e
   unfolding removes rowAt rowOf
   before-after h y u a f = rw (← t, ← u, ← f, le-leb x e h)
 
-module _ (w v : List ℕ) (j k op : ℕ) (o : op ≡ getD (drop (13 * j) v) 0 0) where
+module _ (w v : List ℕ) (j k op : ℕ) (o : op ≡ getD (drop (14 * j) v) 0 0) where
   pub no-run-around : (op ≡ 5 → ⊥) → false ≡ inside w j (rowAt v j) k (rowAt v k)
   unfolding inside rowAt rowOf
   no-run-around z = rw (← o, ne-eqb op 5 z)
 
-  module _ (z : op ≡ 5) (x y : ℕ) (t : x ≡ getD (drop (13 * j) v) 1 0) (u : y ≡ getD (drop (13 * j) v) 2 0) (a : Bool) (e : a ≡ onlyIn w x y (rowAt v k)) where
+  module _ (z : op ≡ 5) (x y : ℕ) (t : x ≡ getD (drop (14 * j) v) 1 0) (u : y ≡ getD (drop (14 * j) v) 2 0) (a : Bool) (e : a ≡ onlyIn w x y (rowAt v k)) where
     opens : inside w j (rowAt v j) k (rowAt v k) ≡ (eqb op 5 && (onlyIn w x y (rowAt v k) && not (isRunOf x y (rowAt v k) && leb k j)))
     unfolding inside rowAt rowOf
     opens = rw (o, t, u)
@@ -129,7 +129,7 @@ module _ (w v : List ℕ) (j k op : ℕ) (o : op ≡ getD (drop (13 * j) v) 0 0)
       pub equal-run : not b ≡ false → ltb j k ≡ inside w j (rowAt v j) k (rowAt v k)
       equal-run g = rw (opens, eq-eqb op 5 z, ← e, not-false a q, ← f, not-false b g) (sym (not-leb k j))
 
-module _ (w v : List ℕ) (j k g : ℕ) (r : g ≡ getD (drop (13 * j) v) 10 0) where
+module _ (w v : List ℕ) (j k g : ℕ) (r : g ≡ getD (drop (14 * j) v) 10 0) where
   taking : takes w j (rowAt v j) k (rowAt v k) ≡ (not (eqb g 0) && (not (ofRoot w (rowAt v k)) && (removes w (rowAt v j) (targetParent w (rowAt v k)) || inside w j (rowAt v j) k (rowAt v k))))
   unfolding takes rowAt rowOf
   taking = rw r

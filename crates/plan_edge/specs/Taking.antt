@@ -30,9 +30,9 @@ pub record Placed (T : Table) (r : ChangeRow) (c : Change) : Type 0 where
   pub targetTold : r .target ≡ target c
   pub endTold : r .end ≡ endOf c
 
-pub row-placed : (T : Table) (at : ℕ) (c : Change) → Placed T (changeRow T at c) c
+pub row-placed : (T : Table) (at n : ℕ) (c : Change) → Placed T (changeRow T at n c) c
 unfolding changeRow
-row-placed T at c = record { tells = row-tells T at c; operationTold = refl; targetTold = refl; endTold = refl }
+row-placed T at n c = record { tells = row-tells T at n c; operationTold = refl; targetTold = refl; endTold = refl }
 
 -- two words name one parent
 same-parent : (a b : ℕ) → eqb a b ≡ sameParent (elementOf a) (elementOf b)

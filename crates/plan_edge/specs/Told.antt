@@ -142,17 +142,17 @@ module _ (t : ℕ) (w src : List ℕ) (W : Wellformed t w src) {X : Type 0} (row
     pub sits : Sits (view t w src) (change x)
 
   module _ (n : ℕ) (v : List ℕ) where
-    next : (j : ℕ) (y : X) (ys : List X) → rowsOf (suc (length ys)) (drop (13 * j) v) ≡ row y ∷ map row ys → (rowAt v j ≡ row y) × (rowsOf (length ys) (drop (13 * suc j) v) ≡ map row ys)
+    next : (j : ℕ) (y : X) (ys : List X) → rowsOf (suc (length ys)) (drop (14 * j) v) ≡ row y ∷ map row ys → (rowAt v j ≡ row y) × (rowsOf (length ys) (drop (14 * suc j) v) ≡ map row ys)
     next j y ys e = let z = sym (rows-from v j (length ys)) ∙ e in (head-eq-of-cons-eq z, tail-eq-of-cons-eq z)
 
-    stand : (j : ℕ) (ys : List X) → j + length ys ≤ n → rowsOf (length ys) (drop (13 * j) v) ≡ map row ys → All RowTells ys → All (Stands t w src v W n) (numbered j (map change ys))
+    stand : (j : ℕ) (ys : List X) → j + length ys ≤ n → rowsOf (length ys) (drop (14 * j) v) ≡ map row ys → All RowTells ys → All (Stands t w src v W n) (numbered j (map change ys))
     unfolding numbered
     stand j [] h e a = tt
     stand j (y ∷ ys) h e a =
         let z = next j y ys e in
         (record { within = omega arith; placed = rw (z .0) (a .0 .placed); sits = a .0 .sits }, stand (suc j) ys (omega arith) (z .1) (a .1))
 
-    fates-from : (f : ℕ → Fate) (g : ℕ × Change → Fate) (j : ℕ) (ys : List X) → rowsOf (length ys) (drop (13 * j) v) ≡ map row ys → All (λ q. f (q .0) ≡ g q) (numbered j (map change ys))
+    fates-from : (f : ℕ → Fate) (g : ℕ × Change → Fate) (j : ℕ) (ys : List X) → rowsOf (length ys) (drop (14 * j) v) ≡ map row ys → All (λ q. f (q .0) ≡ g q) (numbered j (map change ys))
         → map (λ k. withFate (rowAt v k) (f k)) (upFrom j (length ys)) ≡ zipWith (λ x f. withFate (row x) f) ys (map g (numbered j (map change ys)))
     unfolding numbered upFrom zipWith
     fates-from f g j [] e a = refl
@@ -165,7 +165,7 @@ module _ (t : ℕ) (w src : List ℕ) (W : Wellformed t w src) {X : Type 0} (row
     unfolding edgeRows fatedRows edge.fates1
     edge-fates-told xs e a =
         let long : length xs ≡ n = sym (length-map xs row) ∙ (ap length (sym e) ∙ length-rowsOf n v) in
-        let z : rowsOf (length xs) (drop (13 * 0) v) ≡ map row xs = ap (λ (m : ℕ). rowsOf m v) long ∙ e in
+        let z : rowsOf (length xs) (drop (14 * 0) v) ≡ map row xs = ap (λ (m : ℕ). rowsOf m v) long ∙ e in
         let h = stand 0 xs (omega arith) z a in
         let l : length (map change xs) ≡ n = length-map xs change ∙ long in
         ap (λ (m : ℕ). map (fatedAt w v (regionsOf w v n)) (upFrom 0 m)) (sym long)

@@ -265,7 +265,7 @@ fn fate_of(rows: &[u32], table: &[u32], regions: &[u32], k: usize) -> usize
 
 // The fate of the change at place `k` is written into its row.
 fn state_fate(rows: &mut [u32], table: &[u32], regions: &[u32], k: usize)
-    requires { ⌜ (13 * k + 13 ≤ length (now rows)) × (k < 256) ⌝ }
+    requires { ⌜ (14 * k + 14 ≤ length (now rows)) × (k < 256) ⌝ }
     ensures { λ _. ⌜ now (rows .exit) ≡ stated (now (rows .entry)) k (fateAt (now (table .entry)) (now (rows .entry)) (now (regions .entry)) k) ⌝ }
 {
     let f = fate_of(rows, table, regions, k);
@@ -278,8 +278,8 @@ fn state_fate(rows: &mut [u32], table: &[u32], regions: &[u32], k: usize)
 
 // The fates of `n` changes, by the region of each.
 fn state_fates(rows: &mut [u32], n: usize, table: &[u32], regions: &[u32])
-    requires { ⌜ (13 * n ≤ length (now rows)) × (n ≤ 256) ⌝ }
-    ensures { λ _. ⌜ now (rows .exit) ≡ rowsWords (fatedRows (now (table .entry)) (now (rows .entry)) (now (regions .entry)) n) ++ drop (13 * n) (now (rows .entry)) ⌝ }
+    requires { ⌜ (14 * n ≤ length (now rows)) × (n ≤ 256) ⌝ }
+    ensures { λ _. ⌜ now (rows .exit) ≡ rowsWords (fatedRows (now (table .entry)) (now (rows .entry)) (now (regions .entry)) n) ++ drop (14 * n) (now (rows .entry)) ⌝ }
 {
     let mut k = 0;
     while k < n {
@@ -290,8 +290,8 @@ fn state_fates(rows: &mut [u32], n: usize, table: &[u32], regions: &[u32])
 
 // Each of `n` sorted changes gets its fate by edge rule 1: the words FATE and OWNER of its row. An owner may be sorted later than its dependent.
 pub fn plan_edge_fates(rows: &mut [u32], n: usize, table: &[u32])
-    requires { ⌜ (13 * n ≤ length (now rows)) × (n ≤ 256) ⌝ }
-    ensures { λ _. ⌜ now (rows .exit) ≡ rowsWords (edgeRows (now (table .entry)) n (now (rows .entry))) ++ drop (13 * n) (now (rows .entry)) ⌝ }
+    requires { ⌜ (14 * n ≤ length (now rows)) × (n ≤ 256) ⌝ }
+    ensures { λ _. ⌜ now (rows .exit) ≡ rowsWords (edgeRows (now (table .entry)) n (now (rows .entry))) ++ drop (14 * n) (now (rows .entry)) ⌝ }
 {
     let mut regions = [0u32; 256];
     find_regions(rows, n, table, &mut regions);

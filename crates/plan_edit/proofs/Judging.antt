@@ -67,11 +67,11 @@ module _ (h : Choices) (t : List ℕ) (c : ℕ) (w : List ℕ) where
   ruled-1 e = rw (ne-eqb (h .edge) 0 e) refl
 
   -- so each rule's function leaves the rows of the rule
-  pub left-by-0 : {w′ : List ℕ} → h .edge ≡ 0 → w′ ≡ rowsWords (plannedRows (rowsOf c w)) ++ drop (13 * c) w → w′ ≡ rowsWords (ruleRows h t c w) ++ drop (13 * c) w
-  left-by-0 e f = f ∙ ap (λ (rs : List ChangeRow). rowsWords rs ++ drop (13 * c) w) (ruled-0 e)
+  pub left-by-0 : {w′ : List ℕ} → h .edge ≡ 0 → w′ ≡ rowsWords (plannedRows (rowsOf c w)) ++ drop (14 * c) w → w′ ≡ rowsWords (ruleRows h t c w) ++ drop (14 * c) w
+  left-by-0 e f = f ∙ ap (λ (rs : List ChangeRow). rowsWords rs ++ drop (14 * c) w) (ruled-0 e)
 
-  pub left-by-1 : {w′ : List ℕ} → ¬ (h .edge ≡ 0) → w′ ≡ rowsWords (edgeRows t c w) ++ drop (13 * c) w → w′ ≡ rowsWords (ruleRows h t c w) ++ drop (13 * c) w
-  left-by-1 e f = f ∙ ap (λ (rs : List ChangeRow). rowsWords rs ++ drop (13 * c) w) (ruled-1 e)
+  pub left-by-1 : {w′ : List ℕ} → ¬ (h .edge ≡ 0) → w′ ≡ rowsWords (edgeRows t c w) ++ drop (14 * c) w → w′ ≡ rowsWords (ruleRows h t c w) ++ drop (14 * c) w
+  left-by-1 e f = f ∙ ap (λ (rs : List ChangeRow). rowsWords rs ++ drop (14 * c) w) (ruled-1 e)
 
   -- and what is written is read back
   ruled-read : (l : List ℕ) → rowsOf c (rowsWords (ruleRows h t c w) ++ l) ≡ ruleRows h t c w
@@ -103,14 +103,14 @@ module _ {h : Choices} {b : List ℕ} {l : Layout} {t s : List ℕ} (r : Ready b
   changes-overlap i j z w′ =
       record { answer = sym (judged-overlap h (ready-facts r) i j (ap rowsOverlap (sym (S .rows)) ∙ overlaps (rowsOverlap (rowsOf c w)) i j (sym e ∙ z))); within = tt }
 
-  pub changes-fated : q ≡ Disjoint → {w′ : List ℕ} → w′ ≡ rowsWords (ruleRows h t c w) ++ drop (13 * c) w → ChangesJudged h b l t s w′ (Fated c)
+  pub changes-fated : q ≡ Disjoint → {w′ : List ℕ} → w′ ≡ rowsWords (ruleRows h t c w) ++ drop (14 * c) w → ChangesJudged h b l t s w′ (Fated c)
   unfolding judgedBy
   changes-fated z {w′} f =
       let T = tableIn l t s in
       let n : ℕ = l .sizes .elements in
       let facts = ready-facts r in
       let rows : rowsOf c w′ ≡ fatedRows T (callsIn l b) h =
-      ap (rowsOf c) f ∙ (ruled-read h t c w (drop (13 * c) w) ∙ ruled h r S) in
+      ap (rowsOf c) f ∙ (ruled-read h t c w (drop (14 * c) w) ∙ ruled h r S) in
       let disjoint = ap rowsOverlap (sym (S .rows)) ∙ disjoints (rowsOverlap (rowsOf c w)) (sym e ∙ z) in
       record {
         answer = ap (λ (rs : List ChangeRow). gives (fated (map (planOf (listedIn l b)) rs))) rows ∙ sym (judged-fated h facts disjoint);

@@ -58,7 +58,7 @@ module _ {b : List ℕ} {l : Layout} {t s : List ℕ} (r : Ready b l t s) where
     map-told = rw e (mapped-words k n mappingsAt (bounded k low))
 
     module _ {c : ℕ} {w : List ℕ} (F : RowsFated n T (listedIn l b) c w) where
-      pub rows-rewritable : 3328 ≤ length w → Rewritable n (wordsAt b (l .list) (l .sizes .listed)) w c
+      pub rows-rewritable : 3584 ≤ length w → Rewritable n (wordsAt b (l .list) (l .sizes .listed)) w c
       unfolding wordsAt
       rows-rewritable long = rewritable n T (listedIn l b) c w F (omega (arith, F .few)) (facts .elements)
 

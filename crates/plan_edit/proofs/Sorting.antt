@@ -27,12 +27,12 @@ module _ {b : List ℕ} {l : Layout} {t s : List ℕ} (r : Ready b l t s) where
   pub calls-few : l .sizes .calls ≤ 256
   calls-few = r .within .limits .calls
 
-  pub rows-sorted : (w w′ v v′ : List ℕ) (c : ℕ) → RowsRecorded (l .sizes .calls) (changeRows (tableIn l t s) (callsIn l b)) w c w′ → v′ ≡ rowsWords (rising rowKey (rowsOf c w′)) ++ drop (13 * c) v → Sorted b l t s c v′
+  pub rows-sorted : (w w′ v v′ : List ℕ) (c : ℕ) → RowsRecorded (l .sizes .calls) (changeRows (tableIn l t s) (callsIn l b)) w c w′ → v′ ≡ rowsWords (rising rowKey (rowsOf c w′)) ++ drop (14 * c) v → Sorted b l t s c v′
   unfolding sortedRows
   rows-sorted w w′ v v′ c R e =
       let rs : List ChangeRow = changeRows (tableIn l t s) (callsIn l b) in
-      let read : rowsOf c w′ ≡ rs = ap (rowsOf c) (R .written) ∙ rows-read rs (drop (13 * length rs) w) c (sym (R .counted)) in
+      let read : rowsOf c w′ ≡ rs = ap (rowsOf c) (R .written) ∙ rows-read rs (drop (14 * length rs) w) c (sym (R .counted)) in
       record {
         few = omega (arith, R .few, calls-few);
-        rows = ap (rowsOf c) (e ∙ ap (λ (q : List ChangeRow). rowsWords (rising rowKey q) ++ drop (13 * c) v) read) ∙ rows-read (rising rowKey rs) (drop (13 * c) v) c (rising-length rowKey rs ∙ sym (R .counted));
+        rows = ap (rowsOf c) (e ∙ ap (λ (q : List ChangeRow). rowsWords (rising rowKey q) ++ drop (14 * c) v) read) ∙ rows-read (rising rowKey rs) (drop (14 * c) v) c (rising-length rowKey rs ∙ sym (R .counted));
       }

@@ -60,7 +60,7 @@ discarded-cons r rs = rw (keep-cons discards r rs) (go (discards r))
 pub record Counting (w : List ℕ) (c n i : ℕ) : Type 0 where
   pub passed : i ≤ c
   pub few : n ≤ i
-  pub left : n + discardedOf (rowsOf (c - i) (drop (13 * i) w)) ≡ discardedOf (rowsOf c w)
+  pub left : n + discardedOf (rowsOf (c - i) (drop (14 * i) w)) ≡ discardedOf (rowsOf c w)
 
 none-left : (w : List ℕ) → discardedOf (rowsOf 0 w) ≡ 0
 unfolding rowsOf discardedOf keep pick
@@ -70,22 +70,22 @@ pub counting-start : (w : List ℕ) (c : ℕ) → Counting w c 0 0
 counting-start w c = record { passed = omega arith; few = omega arith; left = let e : c - 0 ≡ c = omega arith in rw e (omega arith) }
 
 module _ {w : List ℕ} {c n i : ℕ} (C : Counting w c n i) where
-  next : i < c → discardedOf (rowsOf (c - i) (drop (13 * i) w)) ≡ cond (discards (rowAt w i)) (suc (discardedOf (rowsOf (c - (i + 1)) (drop (13 * (i + 1)) w)))) (discardedOf (rowsOf (c - (i + 1)) (drop (13 * (i + 1)) w)))
+  next : i < c → discardedOf (rowsOf (c - i) (drop (14 * i) w)) ≡ cond (discards (rowAt w i)) (suc (discardedOf (rowsOf (c - (i + 1)) (drop (14 * (i + 1)) w)))) (discardedOf (rowsOf (c - (i + 1)) (drop (14 * (i + 1)) w)))
   next h =
       let e : c - i ≡ suc (c - (i + 1)) = omega arith in
-      let f : 13 * suc i ≡ 13 * (i + 1) = omega arith in
-      rw (e, rows-from w i (c - (i + 1)), f) (discarded-cons (rowAt w i) (rowsOf (c - (i + 1)) (drop (13 * (i + 1)) w)))
+      let f : 14 * suc i ≡ 14 * (i + 1) = omega arith in
+      rw (e, rows-from w i (c - (i + 1)), f) (discarded-cons (rowAt w i) (rowsOf (c - (i + 1)) (drop (14 * (i + 1)) w)))
 
-  pub counting-one : i < c → 1 < getD (drop (13 * i) w) 11 0 → Counting w c (n + 1) (i + 1)
+  pub counting-one : i < c → 1 < getD (drop (14 * i) w) 11 0 → Counting w c (n + 1) (i + 1)
   unfolding rowAt rowOf
   counting-one h d = record { passed = omega arith; few = omega (arith, C .few); left = omega (arith, C .left, rw (row-discards (rowAt w i) d) at (next h)) }
 
-  pub counting-none : i < c → getD (drop (13 * i) w) 11 0 ≤ 1 → Counting w c n (i + 1)
+  pub counting-none : i < c → getD (drop (14 * i) w) 11 0 ≤ 1 → Counting w c n (i + 1)
   unfolding rowAt rowOf
   counting-none h d = record { passed = omega arith; few = omega (arith, C .few); left = omega (arith, C .left, rw (row-stays (rowAt w i) d) at (next h)) }
 
   pub counting-end : c ≤ i → (n ≡ discardedOf (rowsOf c w)) × (n ≤ c)
   counting-end h =
       let e : c - i ≡ 0 = omega arith in
-      let z : discardedOf (rowsOf (c - i) (drop (13 * i) w)) ≡ 0 = rw e (none-left (drop (13 * i) w)) in
+      let z : discardedOf (rowsOf (c - i) (drop (14 * i) w)) ≡ 0 = rw e (none-left (drop (14 * i) w)) in
       (omega (arith, C .left), omega (arith, C .few, C .passed))

@@ -71,7 +71,7 @@ fn record_and_sort(
     sorted: &mut [u32],
 ) -> usize
     requires { ⌜ Ready (now b) l (now table) (now source) ⌝ }
-    requires { ⌜ (3328 ≤ length (now recorded)) × (256 ≤ length (now order)) × (3328 ≤ length (now sorted)) ⌝ }
+    requires { ⌜ (3584 ≤ length (now recorded)) × (256 ≤ length (now order)) × (3584 ≤ length (now sorted)) ⌝ }
     ensures { λ r. ⌜ Sorted (now (b .entry)) l (now (table .entry)) (now (source .entry)) r (now (sorted .exit)) ⌝ }
 {
     let s = l.sizes;
@@ -93,8 +93,8 @@ fn record_and_sort(
 
 // What becomes of each of `c` sorted changes, by the edge rule: the words FATE and OWNER of its row.
 fn state_fates(choices: Choices, sorted: &mut [u32], c: usize, table: &[u32])
-    requires { ⌜ (13 * c ≤ length (now sorted)) × (c ≤ 256) ⌝ }
-    ensures { λ _. ⌜ now (sorted .exit) ≡ rowsWords (ruleRows (meant choices) (now (table .entry)) c (now (sorted .entry))) ++ drop (13 * c) (now (sorted .entry)) ⌝ }
+    requires { ⌜ (14 * c ≤ length (now sorted)) × (c ≤ 256) ⌝ }
+    ensures { λ _. ⌜ now (sorted .exit) ≡ rowsWords (ruleRows (meant choices) (now (table .entry)) c (now (sorted .entry))) ++ drop (14 * c) (now (sorted .entry)) ⌝ }
 {
     if choices.edge == 0 {
         plan_changed_region::plan_fates(sorted, c);
@@ -116,7 +116,7 @@ pub fn judge_changes(
     sorted: &mut [u32],
 ) -> Judgement
     requires { ⌜ Ready (now b) l (now table) (now source) ⌝ }
-    requires { ⌜ (3328 ≤ length (now recorded)) × (256 ≤ length (now order)) × (3328 ≤ length (now sorted)) ⌝ }
+    requires { ⌜ (3584 ≤ length (now recorded)) × (256 ≤ length (now order)) × (3584 ≤ length (now sorted)) ⌝ }
     ensures { λ r. ⌜ ChangesJudged (meant choices) (now (b .entry)) l (now (table .entry)) (now (source .entry)) (now (sorted .exit)) r ⌝ }
 {
     let c = record_and_sort(b, l, table, source, recorded, order, sorted);
@@ -204,7 +204,7 @@ fn rewrite(
 ) -> Rewritten
     requires { ⌜ Ready (now b) l (now table) (now source) ⌝ }
     requires { ⌜ RowsFated (l .sizes .elements) (tableIn l (now table) (now source)) (listedIn l (now b)) c (now sorted) ⌝ }
-    requires { ⌜ (3328 ≤ length (now sorted)) × (2048 ≤ length (now map)) × (3328 ≤ length (now changes)) ⌝ }
+    requires { ⌜ (3584 ≤ length (now sorted)) × (2048 ≤ length (now map)) × (3584 ≤ length (now changes)) ⌝ }
     ensures { λ r. ⌜ Rewriting (now (b .entry)) l (now (table .entry)) (now (source .entry)) (now (map .exit)) (rowsOf c (now (sorted .entry))) c (now (changes .exit)) r ⌝ }
 {
     let s = l.sizes;
@@ -240,7 +240,7 @@ fn rewrite_and_settle(
 ) -> Planned
     requires { ⌜ Ready (now b) l (now table) (now source) ⌝ }
     requires { ⌜ ChangesJudged (meant choices) (now b) l (now table) (now source) (now sorted) (Fated c) ⌝ }
-    requires { ⌜ (3328 ≤ length (now sorted)) × (3328 ≤ length (now rewritten)) × (256 ≤ length (now order)) × (256 ≤ length (now running)) × (2048 ≤ length (now map)) × (768 ≤ length (now first)) ⌝ }
+    requires { ⌜ (3584 ≤ length (now sorted)) × (3584 ≤ length (now rewritten)) × (256 ≤ length (now order)) × (256 ≤ length (now running)) × (2048 ≤ length (now map)) × (768 ≤ length (now first)) ⌝ }
     ensures { λ r. ⌜ PlanMade (meant choices) (now (b .entry)) l (now (table .entry)) (now (source .entry)) (now (rewritten .exit)) (now (running .exit)) (now (first .exit)) r ⌝ }
 {
     match rewrite(b, l, table, source, sorted, c, map, rewritten) {
@@ -281,7 +281,7 @@ pub fn plan(
     first: &mut [u32],
 ) -> Planned
     requires { ⌜ Ready (now b) l (now table) (now source) ⌝ }
-    requires { ⌜ (3328 ≤ length (now recorded)) × (3328 ≤ length (now sorted)) × (3328 ≤ length (now changes)) × (256 ≤ length (now order)) × (256 ≤ length (now running)) × (2048 ≤ length (now map)) × (768 ≤ length (now first)) ⌝ }
+    requires { ⌜ (3584 ≤ length (now recorded)) × (3584 ≤ length (now sorted)) × (3584 ≤ length (now changes)) × (256 ≤ length (now order)) × (256 ≤ length (now running)) × (2048 ≤ length (now map)) × (768 ≤ length (now first)) ⌝ }
     ensures { λ r. ⌜ PlanMade (meant choices) (now (b .entry)) l (now (table .entry)) (now (source .entry)) (now (changes .exit)) (now (running .exit)) (now (first .exit)) r ⌝ }
 {
     match judge_changes(choices, b, l, table, source, recorded, order, sorted) {

@@ -14,8 +14,8 @@ use Rattle.definition.specs.Basics.{rising, lower}
 use Rattle.definition.specs.Choices.{Choices}
 use Rattle.definition.specs.Elements.{Table}
 use Rattle.definition.specs.Refusals.{Call}
-use Rattle.definition.specs.Recording.{firstChild, after, Change, insert, replace, delete, replaceWithMany, replaceAll, call, recorded}
-use Rattle.definition.specs.Planning.{Fate, dependent, Planned, target, key, sorted, overlap, nodeByNode, withFates}
+use Rattle.definition.specs.Recording.{Recorded, firstChild, after, Change, insert, replace, delete, replaceWithMany, replaceAll, call, recorded}
+use Rattle.definition.specs.Planning.{Fate, dependent, Planned, target, key, sorted, overlap, nodeByNode, changesOf, withFates}
 use Rattle.definition.specs.EdgeRule.{fates1, fatesBy, planned}
 use Rattle.definition_laws.specs.Basics.{map-All, getD-map}
 use Rattle.definition_laws.specs.Right.{Right, right-sits, judged, below-E}
@@ -45,9 +45,9 @@ use Rattle.plan_model.specs.Owners.{Owned, by-owned}
 -- ── Sorted ──────────────────────────────────────────────────────────────────────────────────────────────────
 
 module _ (T : Table) (cs : List Call) where
-  -- the recorded changes in sorted order, each with the place where its elements start
-  unfoldable pub sortedAt : List (ℕ × Change)
-  sortedAt = rising (λ p. key T (p .1)) (recordedAt cs)
+  -- what is recorded in sorted order, each with the place where its elements start
+  unfoldable pub sortedAt : List (ℕ × Recorded)
+  sortedAt = rising (λ p. key T (p .1 .change)) (recordedAt cs)
 
   -- THE ROWS in sorted order
   unfoldable pub sortedRows : List ChangeRow
@@ -55,19 +55,27 @@ module _ (T : Table) (cs : List Call) where
 
   -- and with their fates, by a choice
   unfoldable pub fatedRows : Choices → List ChangeRow
-  fatedRows h = zipWith withFate sortedRows (fatesBy h T (sorted T (recorded cs)))
+  fatedRows h = zipWith withFate sortedRows (fatesBy h T (changesOf (sorted T (recorded cs))))
 
   rows-sorted : sortedRows ≡ map (rowFor T) sortedAt
   unfolding sortedRows sortedAt changeRows
-  rows-sorted = sorted-rows T (rowFor T) snd (λ x. key-told (row-tells T (x .0) (x .1))) (recordedAt cs)
+  rows-sorted = sorted-rows T (rowFor T) snd (λ x. key-told (row-tells T (x .0) (x .1 .rule) (x .1 .change))) (recordedAt cs)
 
-  changes-sorted : sorted T (recorded cs) ≡ map snd sortedAt
+  recorded-sorted : sorted T (recorded cs) ≡ map snd sortedAt
   unfolding sortedAt
-  changes-sorted = ap (sorted T) (sym (recorded-changes cs)) ∙ sorted-changes T (rowFor T) snd (λ x. key-told (row-tells T (x .0) (x .1))) (recordedAt cs)
+  recorded-sorted = ap (sorted T) (sym (recorded-changes cs)) ∙ sorted-changes T (rowFor T) snd (λ x. key-told (row-tells T (x .0) (x .1 .rule) (x .1 .change))) (recordedAt cs)
+
+  -- its changes
+  abbrev changeAt : ℕ × Recorded → Change
+  changeAt p = p .1 .change
+
+  changes-sorted : changesOf (sorted T (recorded cs)) ≡ map changeAt sortedAt
+  unfolding changesOf
+  changes-sorted = rw recorded-sorted (map-map (λ r. r .change) snd sortedAt)
 
   -- refusal 8 is the definition's
-  pub overlap-sorted : rowsOverlap sortedRows ≡ overlap T (sorted T (recorded cs))
-  overlap-sorted = rw (rows-sorted, changes-sorted) (overlap-told T (rowFor T) snd (λ x. row-tells T (x .0) (x .1)) sortedAt)
+  pub overlap-sorted : rowsOverlap sortedRows ≡ overlap T (changesOf (sorted T (recorded cs)))
+  overlap-sorted = rw (rows-sorted, changes-sorted) (overlap-told T (rowFor T) changeAt (λ x. row-tells T (x .0) (x .1 .rule) (x .1 .change)) sortedAt)
 
 -- ── Fated ───────────────────────────────────────────────────────────────────────────────────────────────────
 
@@ -113,8 +121,8 @@ unfolding rowsOf rowAt
 rows-each P zero w h i b = absurd (omega arith)
 rows-each P (suc c) w h zero b = h .0
 rows-each P (suc c) w h (suc i) b =
-    let e : 13 * suc i ≡ 13 + 13 * i = omega arith in
-    rw (e, ← drop-drop (13 * i) 13 w) (rows-each P c (drop 13 w) (h .1) i (omega arith))
+    let e : 14 * suc i ≡ 14 + 14 * i = omega arith in
+    rw (e, ← drop-drop (14 * i) 14 w) (rows-each P c (drop 14 w) (h .1) i (omega arith))
 
 -- c rows with their fates, as the second stage goes by them
 pub record RowsFated (n : ℕ) (T : Table) (listed : List ℕ) (c : ℕ) (w : List ℕ) : Type 0 where
@@ -125,43 +133,47 @@ pub record RowsFated (n : ℕ) (T : Table) (listed : List ℕ) (c : ℕ) (w : Li
   pub owned : (i : ℕ) → i < c → (rowAt w i) .fate ≡ 1 → ((rowAt w i) .owner < c) × ((rowAt w ((rowAt w i) .owner)) .operation ≡ 2)
 
 -- what rewriting asks of them
-pub rewritable : (n : ℕ) (T : Table) (listed : List ℕ) (c : ℕ) (w : List ℕ) → RowsFated n T listed c w → 13 * c ≤ length w → All (λ e. e < n) listed → Rewritable n listed w c
+pub rewritable : (n : ℕ) (T : Table) (listed : List ℕ) (c : ℕ) (w : List ℕ) → RowsFated n T listed c w → 14 * c ≤ length w → All (λ e. e < n) listed → Rewritable n listed w c
 rewritable n T listed c w F fits elements =
     record { few = F .few; long = fits; elements = elements; stated = λ i h. (rows-each (Kept n T listed) c w (F .kept) i h) .stated; owned = F .owned }
 
 module _ (n : ℕ) (T : Table) (listed : List ℕ) (long : length T ≡ n) where
-  -- the row of a change, with its fate
-  abbrev fatedRow : ℕ × Change → Fate → ChangeRow
+  -- the row of what is recorded, with its fate
+  abbrev fatedRow : ℕ × Recorded → Fate → ChangeRow
   fatedRow y f = withFate (rowFor T y) f
 
-  kept-one : (y : ℕ × Change) (f : Fate) → Known T listed y → Kept n T listed (fatedRow y f)
+  kept-one : (y : ℕ × Recorded) (f : Fate) → Known T listed y → Kept n T listed (fatedRow y f)
   unfolding withFate changeRow
   kept-one y f k =
-      let e = recorded-exact T listed (y .0) f (y .1) (k .stands) in
-      let b = right-ends T (y .1) (k .right) in
-      record { exact = e; stated = exact-stated n T listed (withFate (changeRow T (y .0) (y .1)) f) e (operation-most (y .1)) (omega (arith, b .0)) (omega (arith, b .1)) (k .ends) }
+      let c : Change = y .1 .change in
+      let e = recorded-exact T listed (y .0) (y .1 .rule) f c (k .stands) in
+      let b = right-ends T c (k .right) in
+      record { exact = e; stated = exact-stated n T listed (withFate (changeRow T (y .0) (y .1 .rule) c) f) e (operation-most c) (omega (arith, b .0)) (omega (arith, b .1)) (k .ends); ruled = k .ruled }
 
-  zip-kept : (ys : List (ℕ × Change)) (fs : List Fate) → All (Known T listed) ys → All (Kept n T listed) (zipWith fatedRow ys fs)
+  zip-kept : (ys : List (ℕ × Recorded)) (fs : List Fate) → All (Known T listed) ys → All (Kept n T listed) (zipWith fatedRow ys fs)
   unfolding zipWith
   zip-kept [] fs k = tt
   zip-kept (y ∷ ys) [] k = tt
   zip-kept (y ∷ ys) (f ∷ fs) k = (kept-one y f (k .0), zip-kept ys fs (k .1))
 
-  zip-planned : (ys : List (ℕ × Change)) (fs : List Fate) → All (Known T listed) ys → map (planOf listed) (zipWith fatedRow ys fs) ≡ withFates (map snd ys) fs
-  unfolding zipWith planOf withFates
+  row-planned : (y : ℕ × Recorded) (f : Fate) → Known T listed y → planOf listed (fatedRow y f) ≡ record { change = y .1 .change; fate = f; rule = y .1 .rule }
+  unfolding planOf withFate changeRow
+  row-planned y f k = λ i. record { change = recorded-states T listed (y .0) (y .1 .rule) f (y .1 .change) (k .stands) i; fate = fate-stated (rowFor T y) f i; rule = y .1 .rule }
+
+  zip-planned : (ys : List (ℕ × Recorded)) (fs : List Fate) → All (Known T listed) ys → map (planOf listed) (zipWith fatedRow ys fs) ≡ withFates (map snd ys) fs
+  unfolding zipWith withFates
   zip-planned [] fs k = refl
   zip-planned (y ∷ ys) [] k = refl
-  zip-planned (y ∷ ys) (f ∷ fs) k =
-      rw (recorded-states T listed (y .0) f (y .1) (k .0 .stands), fate-stated (rowFor T y) f) (ap {B = List Planned} (λ l. record { change = y .1; fate = f } ∷ l) (zip-planned ys fs (k .1)))
+  zip-planned (y ∷ ys) (f ∷ fs) k = rw (row-planned y f (k .0)) (ap {B = List Planned} (λ l. record { change = y .1 .change; fate = f; rule = y .1 .rule } ∷ l) (zip-planned ys fs (k .1)))
 
   module _ (h : Choices) (cs : List Call) (known : All (Known T listed) (recordedAt cs)) where
     known-sorted : All (Known T listed) (sortedAt T cs)
     unfolding sortedAt rising
-    known-sorted = sort-all (λ (x y : ℕ × Change). lower (key T (x .1)) (key T (y .1))) (Known T listed) (recordedAt cs) known
+    known-sorted = sort-all (λ (x y : ℕ × Recorded). lower (key T (x .1 .change)) (key T (y .1 .change))) (Known T listed) (recordedAt cs) known
 
     -- what becomes of the sorted changes
     abbrev fs : List Fate
-    fs = fatesBy h T (map snd (sortedAt T cs))
+    fs = fatesBy h T (map (changeAt T cs) (sortedAt T cs))
 
     rows-fated : fatedRows T cs h ≡ zipWith fatedRow (sortedAt T cs) fs
     unfolding fatedRows
@@ -169,7 +181,7 @@ module _ (n : ℕ) (T : Table) (listed : List ℕ) (long : length T ≡ n) where
 
     -- by rule 0 the stacks of regions give them
     pub rule-0 : h .edge ≡ 0 → plannedRows (sortedRows T cs) ≡ fatedRows T cs h
-    rule-0 e = rw (rows-sorted T cs, rows-fated, fatesBy-0 h T e (map snd (sortedAt T cs))) (fates-told T (rowFor T) snd (λ x. row-tells T (x .0) (x .1)) (sortedAt T cs))
+    rule-0 e = rw (rows-sorted T cs, rows-fated, fatesBy-0 h T e (map (changeAt T cs) (sortedAt T cs))) (fates-told T (rowFor T) (changeAt T cs) (λ x. row-tells T (x .0) (x .1 .rule) (x .1 .change)) (sortedAt T cs))
 
     -- every row is exact and states a change of elements
     pub fated-kept : All (Kept n T listed) (fatedRows T cs h)
@@ -178,17 +190,20 @@ module _ (n : ℕ) (T : Table) (listed : List ℕ) (long : length T ≡ n) where
     -- the rows tell the definition's planned changes
     pub fated-planned : map (planOf listed) (fatedRows T cs h) ≡ planned h T (sorted T (recorded cs))
     unfolding planned
-    fated-planned = rw (rows-fated, changes-sorted T cs) (zip-planned (sortedAt T cs) fs known-sorted)
+    fated-planned = rw (rows-fated, changes-sorted T cs, recorded-sorted T cs) (zip-planned (sortedAt T cs) fs known-sorted)
 
     module _ (w : List ℕ) (c : ℕ) (rows : rowsOf c w ≡ fatedRows T cs h) where
+      abbrev R : List Recorded
+      R = sorted T (recorded cs)
+
       abbrev S : List Change
-      S = sorted T (recorded cs)
+      S = changesOf R
 
       stated-changes : map (changeOf listed) (rowsOf c w) ≡ S
       unfolding planOf
       stated-changes =
           sym (map-map (λ (p : Planned). p .change) (planOf listed) (rowsOf c w))
-          ∙ (ap (map (λ (p : Planned). p .change)) (ap (map (planOf listed)) rows ∙ fated-planned) ∙ planned-changes h T S)
+          ∙ (ap (map (λ (p : Planned). p .change)) (ap (map (planOf listed)) rows ∙ fated-planned) ∙ planned-changes h T R)
 
       counted : length S ≡ c
       counted = ap length (sym stated-changes) ∙ (length-map (rowsOf c w) (changeOf listed) ∙ length-rowsOf c w)
@@ -198,7 +213,7 @@ module _ (n : ℕ) (T : Table) (listed : List ℕ) (long : length T ≡ n) where
       owned-each =
           rows-each (λ r. Owned T S (rowFate r)) c w
           (map-All (λ (p : Planned). Owned T S (p .fate)) (planOf listed) (rowsOf c w)
-          (rw (rows, fated-planned) (map-All (Owned T S) (λ (p : Planned). p .fate) (planned h T S) (rw (planned-fates h T S) (by-owned T S h)))))
+          (rw (rows, fated-planned) (map-All (Owned T S) (λ (p : Planned). p .fate) (planned h T R) (rw (planned-fates h T R) (by-owned T S h)))))
 
       owner-at : (o : ℕ) → o < c → getD S o (delete 0) ≡ changeOf listed (rowAt w o)
       owner-at o b =
@@ -226,12 +241,12 @@ rule-else h T e cs = rw (ne-eqb (h .edge) 0 e) refl
 
 -- by rule 1 the words of the table give them
 module _ (n : ℕ) (t s : List ℕ) (W : Wellformed n t s) (listed : List ℕ) (h : Choices) (cs : List Call) (known : All (Known (view n t s) listed) (recordedAt cs)) where
-  row-known : (y : ℕ × Change) → Known (view n t s) listed y → RowTells n t s W (rowFor (view n t s)) snd y
-  row-known y k = record { placed = row-placed (view n t s) (y .0) (y .1); sits = right-sits (view n t s) (y .1) (k .right) }
+  row-known : (y : ℕ × Recorded) → Known (view n t s) listed y → RowTells n t s W (rowFor (view n t s)) (changeAt (view n t s) cs) y
+  row-known y k = record { placed = row-placed (view n t s) (y .0) (y .1 .rule) (y .1 .change); sits = right-sits (view n t s) (y .1 .change) (k .right) }
 
   pub rule-1 : ¬ (h .edge ≡ 0) → (c : ℕ) (v : List ℕ) → rowsOf c v ≡ sortedRows (view n t s) cs → edgeRows t c v ≡ fatedRows (view n t s) cs h
   rule-1 e c v rows =
       let T : Table = view n t s in
-      let ys : List (ℕ × Change) = sortedAt T cs in
-      rw (rows-fated n T listed (length-view n t s) h cs known, rule-else h T e (map snd ys))
-      (edge-fates-told n t s W (rowFor T) snd c v ys (rows ∙ rows-sorted T cs) (All-map row-known ys (known-sorted n T listed (length-view n t s) h cs known)))
+      let ys : List (ℕ × Recorded) = sortedAt T cs in
+      rw (rows-fated n T listed (length-view n t s) h cs known, rule-else h T e (map (changeAt T cs) ys))
+      (edge-fates-told n t s W (rowFor T) (changeAt T cs) c v ys (rows ∙ rows-sorted T cs) (All-map row-known ys (known-sorted n T listed (length-view n t s) h cs known)))

@@ -113,7 +113,7 @@ exceeding w k =
 
 -- what is left to find of n rows, from place k on
 unfoldable pub overlapFrom : List ℕ → ℕ → ℕ → Option (ℕ × ℕ)
-overlapFrom w n k = rowsOverlapping (removersBefore w k) (keep (λ r. removes (r .1)) (numbered k (rowsOf (n - k) (drop (13 * k) w))))
+overlapFrom w n k = rowsOverlapping (removersBefore w k) (keep (λ r. removes (r .1)) (numbered k (rowsOf (n - k) (drop (14 * k) w))))
 
 -- the answer that the code gives
 unfoldable pub replacements : Option (ℕ × ℕ) → Replacements

@@ -27,7 +27,7 @@ use Rattle.plan_postorder.specs.Links.{OwnerOf, Linked, Links, ownedBy}
 
 -- ── Owners ──────────────────────────────────────────────────────────────────────────────────────────────────
 
-module _ (w : List ℕ) (k x : ℕ) (f : x ≡ getD (drop (13 * k) w) 11 0) where
+module _ (w : List ℕ) (k x : ℕ) (f : x ≡ getD (drop (14 * k) w) 11 0) where
   pub owner-none : x ≡ 0 → OwnerOf w k 0
   unfolding ownedAt ownerTold rowFate rowAt rowOf owned
   owner-none e = record { inside = omega arith; owns = λ p h. rw (← f, e) (go p) }
@@ -39,13 +39,13 @@ module _ (w : List ℕ) (k x : ℕ) (f : x ≡ getD (drop (13 * k) w) 11 0) wher
   module _ (n : x ≡ 0 → ⊥) where
     pub owner-discarded : (x ≡ 1 → ⊥) → OwnerOf w k 257
     unfolding ownedAt ownerTold rowFate rowAt rowOf owned
-    owner-discarded m = record { inside = omega arith; owns = λ p h. rw (← f, ne-eqb x 0 n, ne-eqb x 1 m, ne-eqb 257 p (λ e. omega arith)) (go p (getD (drop (13 * k) w) 12 0)) }
+    owner-discarded m = record { inside = omega arith; owns = λ p h. rw (← f, ne-eqb x 0 n, ne-eqb x 1 m, ne-eqb 257 p (λ e. omega arith)) (go p (getD (drop (14 * k) w) 12 0)) }
       where
         go : (p y : ℕ) → owned (ownerTold p) (discarded y) ≡ false
         go zero y = refl
         go (suc i) y = refl
 
-    module _ (e : x ≡ 1) (y : ℕ) (g : y ≡ getD (drop (13 * k) w) 12 0) where
+    module _ (e : x ≡ 1) (y : ℕ) (g : y ≡ getD (drop (14 * k) w) 12 0) where
       -- o tells the owner y if it tells the same of each place below 256
       dependent-of : (o : ℕ) → o ≤ 257 → ((i : ℕ) → i < 256 → eqb i y ≡ eqb o (suc i)) → eqb o 0 ≡ false → OwnerOf w k o
       unfolding ownedAt ownerTold rowFate rowAt rowOf owned

@@ -68,17 +68,17 @@ owned-from n ws s m listed o r a D M =
 -- ── By the words ────────────────────────────────────────────────────────────────────────────────────────────
 
 module _ (n : ℕ) (b : List ℕ) (at l : ℕ) (w : List ℕ) (k i : ℕ) (D : Dependent n (wordsAt b at l) (rowAt w k) (rowAt w i)) where
-  pub owner-lists : (v : ℕ) → v ≡ getD (drop (13 * k) w) 3 0 → v < l
+  pub owner-lists : (v : ℕ) → v ≡ getD (drop (14 * k) w) 3 0 → v < l
   unfolding rowAt rowOf wordsAt
   owner-lists v q = omega (arith, one-listed n (wordsAt b at l) (rowAt w k) (D .owner) (D .replaces), length-words l (drop at b))
 
-  module _ (x v r op t e : ℕ) (qx : x ≡ getD (drop (13 * k) w) 1 0) (qv : v ≡ getD (drop (13 * k) w) 3 0) (qr : r ≡ getD (wordsAt b at l) v 0)
-      (qo : op ≡ getD (drop (13 * i) w) 0 0) (qt : t ≡ getD (drop (13 * i) w) 1 0) (qe : e ≡ getD (drop (13 * i) w) 2 0) where
+  module _ (x v r op t e : ℕ) (qx : x ≡ getD (drop (14 * k) w) 1 0) (qv : v ≡ getD (drop (14 * k) w) 3 0) (qr : r ≡ getD (wordsAt b at l) v 0)
+      (qo : op ≡ getD (drop (14 * i) w) 0 0) (qt : t ≡ getD (drop (14 * i) w) 1 0) (qe : e ≡ getD (drop (14 * i) w) 2 0) where
     pub ends-elements : (x < n) × (r < n) × (t < n) × (e < n)
     unfolding rowAt rowOf
     ends-elements = (
       rw qx (D .owner .target),
-      rw (qr, qv) (all-at n (wordsAt b at l) (getD (drop (13 * k) w) 3 0) (D .elements) (one-listed n (wordsAt b at l) (rowAt w k) (D .owner) (D .replaces))),
+      rw (qr, qv) (all-at n (wordsAt b at l) (getD (drop (14 * k) w) 3 0) (D .elements) (one-listed n (wordsAt b at l) (rowAt w k) (D .owner) (D .replaces))),
       rw qt (D .itself .target),
       rw qe (D .itself .end),
     )

@@ -64,29 +64,29 @@ module _ (n : ℕ) (w s m listed : List ℕ) (o r : ChangeRow) (D : Dependent n 
 -- ── One row ─────────────────────────────────────────────────────────────────────────────────────────────────
 
 -- the owner that a dependent names
-pub owner-named : (n : ℕ) (listed v : List ℕ) (i f k : ℕ) → Fated n listed v i → f ≡ getD (drop (13 * i) v) 11 0 → f ≡ 1 → k ≡ getD (drop (13 * i) v) 12 0 → (k < 256) × Dependent n listed (rowAt v k) (rowAt v i)
+pub owner-named : (n : ℕ) (listed v : List ℕ) (i f k : ℕ) → Fated n listed v i → f ≡ getD (drop (14 * i) v) 11 0 → f ≡ 1 → k ≡ getD (drop (14 * i) v) 12 0 → (k < 256) × Dependent n listed (rowAt v k) (rowAt v i)
 unfolding rowAt rowOf
 owner-named n listed v i f k F q h e = rw e (F .owned (sym q ∙ h))
 
-module _ (n : ℕ) (ws s m listed : List ℕ) (v : List ℕ) (i : ℕ) (f : ℕ) (q : f ≡ getD (drop (13 * i) v) 11 0) where
-  pub at-dependent : (k : ℕ) → f ≡ 1 → k ≡ getD (drop (13 * i) v) 12 0 → (before after : List ℕ) (r : Rewritten)
+module _ (n : ℕ) (ws s m listed : List ℕ) (v : List ℕ) (i : ℕ) (f : ℕ) (q : f ≡ getD (drop (14 * i) v) 11 0) where
+  pub at-dependent : (k : ℕ) → f ≡ 1 → k ≡ getD (drop (14 * i) v) 12 0 → (before after : List ℕ) (r : Rewritten)
       → RowRewritten (rewriteUnder (view n ws s) (mappedBy m) listed (changeOf listed (rowAt v k)) (rowAt v i)) i before after r
       → RowRewritten (rewriteAt (view n ws s) (mappedBy m) listed v i) i before after r
   unfolding rewriteAt rowAt rowOf
-  at-dependent k h e before after r R = record { row = R .row ∙ sym (rw (eq-eqb (getD (drop (13 * i) v) 11 0) 1 (sym q ∙ h), ← e)); behind = R .behind; few = R .few }
+  at-dependent k h e before after r R = record { row = R .row ∙ sym (rw (eq-eqb (getD (drop (14 * i) v) 11 0) 1 (sym q ∙ h), ← e)); behind = R .behind; few = R .few }
 
   other-is : (f ≡ 1 → ⊥) → rewriteAt (view n ws s) (mappedBy m) listed v i ≡ gives (rowAt v i, 0)
   unfolding rewriteAt rowAt rowOf
-  other-is h = rw (ne-eqb (getD (drop (13 * i) v) 11 0) 1 (λ z. h (q ∙ z)))
+  other-is h = rw (ne-eqb (getD (drop (14 * i) v) 11 0) 1 (λ z. h (q ∙ z)))
 
-  pub at-other : (f ≡ 1 → ⊥) → (before after : List ℕ) → after ≡ paste before (13 * i) (drop (13 * i) v) 13 → 13 * i + 13 ≤ length before → Fated n listed v i
+  pub at-other : (f ≡ 1 → ⊥) → (before after : List ℕ) → after ≡ paste before (14 * i) (drop (14 * i) v) 14 → 14 * i + 14 ≤ length before → Fated n listed v i
       → RowRewritten (rewriteAt (view n ws s) (mappedBy m) listed v i) i before after (Steps 0)
   unfolding rewrittenBy stepsOf rowAt
   at-other h before after e g F =
-      let l : 13 ≤ length (drop (13 * i) v) = omega (arith, F .long, length-drop (13 * i) v) in
+      let l : 14 ≤ length (drop (14 * i) v) = omega (arith, F .long, length-drop (14 * i) v) in
       record {
-        row = ap {B = Answer (ChangeRow × ℕ)} (λ p. gives (p, 0)) (ap (λ (p : List ℕ). rowAt p i) e ∙ row-there before (drop (13 * i) v) i g l) ∙ sym (other-is h);
-        behind = rw e (rows-behind before (drop (13 * i) v) i g l);
+        row = ap {B = Answer (ChangeRow × ℕ)} (λ p. gives (p, 0)) (ap (λ (p : List ℕ). rowAt p i) e ∙ row-there before (drop (14 * i) v) i g l) ∙ sym (other-is h);
+        behind = rw e (rows-behind before (drop (14 * i) v) i g l);
         few = omega arith;
       }
 
@@ -118,15 +118,15 @@ module _ (n : ℕ) (T : Table) (mapped : ℕ → Option ℕ) (listed v : List �
 -- the rows from place i on are rewritten in `out`, by this many steps
 pub record Rewriting (n : ℕ) (w s m listed v : List ℕ) (c : ℕ) (out : List ℕ) (i steps : ℕ) : Type 0 where
   pub inside : i ≤ c
-  pub long : 13 * c ≤ length out
+  pub long : 14 * c ≤ length out
   pub few : steps ≤ 4096 * (c - i)
-  pub rest : rewriteRows (view n w s) (mappedBy m) listed (rowsOf c v) (rowsOf (c - i) (drop (13 * i) v)) ≡ gives (rowsOf (c - i) (drop (13 * i) out), steps)
+  pub rest : rewriteRows (view n w s) (mappedBy m) listed (rowsOf c v) (rowsOf (c - i) (drop (14 * i) v)) ≡ gives (rowsOf (c - i) (drop (14 * i) out), steps)
 
 module _ (n : ℕ) (w s m listed v : List ℕ) (c : ℕ) where
   abbrev rewriteFrom : ℕ → Answer (List ChangeRow × ℕ)
-  rewriteFrom i = rewriteRows (view n w s) (mappedBy m) listed (rowsOf c v) (rowsOf (c - i) (drop (13 * i) v))
+  rewriteFrom i = rewriteRows (view n w s) (mappedBy m) listed (rowsOf c v) (rowsOf (c - i) (drop (14 * i) v))
 
-  pub rewriting-start : (out : List ℕ) → 13 * c ≤ length out → Rewriting n w s m listed v c out c 0
+  pub rewriting-start : (out : List ℕ) → 14 * c ≤ length out → Rewriting n w s m listed v c out c 0
   unfolding rewriteRows rowsOf
   rewriting-start out h = let e : c - c ≡ 0 = omega arith in record { inside = omega arith; long = h; few = omega arith; rest = rw e }
 
@@ -152,7 +152,7 @@ module _ (n : ℕ) (w s m listed v : List ℕ) (c : ℕ) where
 
   module _ (R : Rewritable n listed v c) (out : List ℕ) (steps : ℕ) where
     step-is : (j : ℕ) → Rewriting n w s m listed v c out (suc j) steps → (after : List ℕ) (a : Rewritten) → RowRewritten (rewriteAt (view n w s) (mappedBy m) listed v j) j out after a
-        → rewriteFrom j ≡ _>>=_ {B = List ChangeRow × ℕ} (rewrittenBy a (rowAt after j)) (λ q. gives (q .0 ∷ rowsOf (c - suc j) (drop (13 * suc j) after), q .1 + steps))
+        → rewriteFrom j ≡ _>>=_ {B = List ChangeRow × ℕ} (rewrittenBy a (rowAt after j)) (λ q. gives (q .0 ∷ rowsOf (c - suc j) (drop (14 * suc j) after), q .1 + steps))
     unfolding _>>=_
     step-is j Q after a G = one-before j (Q .inside) ∙ rw (Q .rest, at-row n (view n w s) (mappedBy m) listed v c R j (Q .inside), ← (G .row), ← (G .behind))
 

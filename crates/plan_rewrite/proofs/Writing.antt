@@ -28,17 +28,17 @@ use Rattle.plan_rewrite.proofs.Owning.{all-at, one-listed}
 
 -- ── A row written at its place ──────────────────────────────────────────────────────────────────────────────
 
-module _ (d s : List ℕ) (i : ℕ) (h : 13 * i + 13 ≤ length d) (l : 13 ≤ length s) where
+module _ (d s : List ℕ) (i : ℕ) (h : 14 * i + 14 ≤ length d) (l : 14 ≤ length s) where
   -- it is read there
-  pub row-there : rowAt (paste d (13 * i) s 13) i ≡ rowOf s
+  pub row-there : rowAt (paste d (14 * i) s 14) i ≡ rowOf s
   unfolding rowAt
   row-there =
-      rw (append-assoc (take (13 * i) d) (take 13 s) (drop (13 * i + 13) d), drop-at (take (13 * i) d) (take 13 s ++ drop (13 * i + 13) d) (13 * i) (length-take-le (13 * i) d (omega arith)))
-      (row-ext (take 13 s ++ drop (13 * i + 13) d) s (λ j b. List·getD-append (take 13 s) (drop (13 * i + 13) d) 0 j (omega (arith, length-take-le 13 s l)) ∙ getD-take 13 s j 0 b))
+      rw (append-assoc (take (14 * i) d) (take 14 s) (drop (14 * i + 14) d), drop-at (take (14 * i) d) (take 14 s ++ drop (14 * i + 14) d) (14 * i) (length-take-le (14 * i) d (omega arith)))
+      (row-ext (take 14 s ++ drop (14 * i + 14) d) s (λ j b. List·getD-append (take 14 s) (drop (14 * i + 14) d) 0 j (omega (arith, length-take-le 14 s l)) ∙ getD-take 14 s j 0 b))
 
   -- and those behind it stay
-  pub rows-behind : drop (13 * suc i) (paste d (13 * i) s 13) ≡ drop (13 * suc i) d
-  rows-behind = let e : 13 * suc i ≡ 13 * i + 13 = omega arith in rw e (drop-paste d (13 * i) s 13 (omega arith) l)
+  pub rows-behind : drop (14 * suc i) (paste d (14 * i) s 14) ≡ drop (14 * suc i) d
+  rows-behind = let e : 14 * suc i ≡ 14 * i + 14 = omega arith in rw e (drop-paste d (14 * i) s 14 (omega arith) l)
 
 -- ── A judged change ─────────────────────────────────────────────────────────────────────────────────────────
 
@@ -93,7 +93,7 @@ module _ (n : ℕ) (w s : List ℕ) (listed : List ℕ) (r : ChangeRow) (x y k :
 
 -- ── By the words ────────────────────────────────────────────────────────────────────────────────────────────
 
-module _ (n : ℕ) (b : List ℕ) (at l : ℕ) (v : List ℕ) (i x y : ℕ) (E : NewEnds n (wordsAt b at l) (rowAt v i) x y) (op list : ℕ) (qo : op ≡ getD (drop (13 * i) v) 0 0) (ql : list ≡ getD (drop (13 * i) v) 3 0) where
+module _ (n : ℕ) (b : List ℕ) (at l : ℕ) (v : List ℕ) (i x y : ℕ) (E : NewEnds n (wordsAt b at l) (rowAt v i) x y) (op list : ℕ) (qo : op ≡ getD (drop (14 * i) v) 0 0) (ql : list ≡ getD (drop (14 * i) v) 3 0) where
   pub lists-one : op ≡ 2 → list < l
   unfolding rowAt rowOf wordsAt
   lists-one h = omega (arith, one-listed n (wordsAt b at l) (rowAt v i) (E .itself) (sym qo ∙ h), length-words l (drop at b))
@@ -112,7 +112,7 @@ module _ (n : ℕ) (b : List ℕ) (at l : ℕ) (v : List ℕ) (i x y : ℕ) (E :
       unfolding rowAt rowOf
       fits-is = q ∙ rw (judge-is, qo)
 
-      pub row-written : t ≡ true → (after : List ℕ) → after ≡ paste before (13 * i) (rowWords (rowAnew (view n w s) (rowAt v i) x y z)) 13 → 13 * i + 13 ≤ length before → k ≤ 2 * n → Wellformed n w s
+      pub row-written : t ≡ true → (after : List ℕ) → after ≡ paste before (14 * i) (rowWords (rowAnew (view n w s) (rowAt v i) x y z)) 14 → 14 * i + 14 ≤ length before → k ≤ 2 * n → Wellformed n w s
           → RowRewritten (judgedRow (view n w s) (wordsAt b at l) (rowAt v i) (x, y, k)) i before after (Steps k)
       unfolding rewrittenBy stepsOf rowWords rowOf
       row-written h after e g f W =

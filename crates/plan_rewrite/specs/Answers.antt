@@ -57,14 +57,14 @@ stepsOf (NotRewritten number) = 0
 -- the row at place i is written as wanted, or refused, and the rows behind it stay
 pub record RowRewritten (want : Answer (ChangeRow × ℕ)) (i : ℕ) (before after : List ℕ) (answer : Rewritten) : Type 0 where
   pub row : rewrittenBy answer (rowAt after i) ≡ want
-  pub behind : drop (13 * suc i) after ≡ drop (13 * suc i) before
+  pub behind : drop (14 * suc i) after ≡ drop (14 * suc i) before
   pub few : stepsOf answer ≤ 4096
 
 -- what a judged change becomes as the row r
 unfoldable pub judgedRow : Table → List ℕ → ChangeRow → ℕ × ℕ × ℕ → Answer (ChangeRow × ℕ)
 judgedRow T listed r q = do
   m ← judgedEnds T (r .operation) (getD listed (r .list) 0) (newOf listed r) q
-  gives (withFate (changeRow T (r .list) (m .0)) (rowFate r), m .1)
+  gives (withFate (changeRow T (r .list) (r .rule) (m .0)) (rowFate r), m .1)
 
 -- all c rows, rewritten by the sorted rows w
 pub record RowsRewritten (n : ℕ) (table source map listed w : List ℕ) (c : ℕ) (after : List ℕ) (answer : Rewritten) : Type 0 where

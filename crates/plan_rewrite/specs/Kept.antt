@@ -40,7 +40,7 @@ accepts false u e = refl
 record Anew (T : Table) (listed : List ℕ) (r m : ChangeRow) : Type 0 where
   x : ℕ
   y : ℕ
-  row : m ≡ withFate (changeRow T (r .list) (changeBy (r .operation) x y (getD listed (r .list) 0) (newOf listed r))) (rowFate r)
+  row : m ≡ withFate (changeRow T (r .list) (r .rule) (changeBy (r .operation) x y (getD listed (r .list) 0) (newOf listed r))) (rowFate r)
   right : wrongCall T (call (changeBy (r .operation) x y (getD listed (r .list) 0) (newOf listed r))) ≡ false
 
 module _ (T : Table) (mapped : ℕ → Option ℕ) (listed : List ℕ) where
@@ -51,25 +51,25 @@ module _ (T : Table) (mapped : ℕ → Option ℕ) (listed : List ℕ) where
       let o : Change = changeOf listed (getD rs k noChange) in
       let z : ℕ = getD listed (r .list) 0 in
       let new : List ℕ = newOf listed r in
-      let u = then-gives (rewriteInto T mapped (target o) (replacement o) (changeBy (r .operation) (r .target) (r .end) z new)) (λ p. gives (withFate (changeRow T (r .list) (p .0)) (rowFate r), p .1)) m e in
+      let u = then-gives (rewriteInto T mapped (target o) (replacement o) (changeBy (r .operation) (r .target) (r .end) z new)) (λ p. gives (withFate (changeRow T (r .list) (r .rule) (p .0)) (rowFate r), p .1)) m e in
       let v =
       then-gives (movedEnds (moved T mapped (target o) (replacement o)) (r .operation) (r .target) (r .end)) (judgedEnds T (r .operation) z new) (u .0)
       (sym (rewriteInto-by T mapped (target o) (replacement o) (r .operation) (r .target) (r .end) z new h) ∙ u .1) in
       let q : ℕ × ℕ × ℕ = v .0 in
       let w = then-gives (refuse 9 (wrongCall T (call (changeBy (r .operation) (q .0) (q .1) z new)))) (λ _. withEnds (r .operation) z new q) (u .0) (v .2) in
       let c : changeBy (r .operation) (q .0) (q .1) z new ≡ u .0 .0 = ap (λ (p : Change × ℕ). p .0) (gives-inj (w .2)) in
-      let d : withFate (changeRow T (r .list) (u .0 .0)) (rowFate r) ≡ m .0 = ap (λ (p : ChangeRow × ℕ). p .0) (gives-inj (u .2)) in
-      inr (record { x = q .0; y = q .1; row = sym (ap (λ (p : Change). withFate (changeRow T (r .list) p) (rowFate r)) c ∙ d); right = accepts (wrongCall T (call (changeBy (r .operation) (q .0) (q .1) z new))) (w .0) (w .1) })
+      let d : withFate (changeRow T (r .list) (r .rule) (u .0 .0)) (rowFate r) ≡ m .0 = ap (λ (p : ChangeRow × ℕ). p .0) (gives-inj (u .2)) in
+      inr (record { x = q .0; y = q .1; row = sym (ap (λ (p : Change). withFate (changeRow T (r .list) (r .rule) p) (rowFate r)) c ∙ d); right = accepts (wrongCall T (call (changeBy (r .operation) (q .0) (q .1) z new))) (w .0) (w .1) })
   same-or-anew rs r (discarded k) m h e = inl (ap (λ (q : ChangeRow × ℕ). q .0) (gives-inj e))
 
 -- ── Exact, and a change of elements ─────────────────────────────────────────────────────────────────────────
 
-exact-by : (T : Table) (listed : List ℕ) (r : ChangeRow) (x y : ℕ) → r .operation ≤ 5 → Exact T listed (withFate (changeRow T (r .list) (changeBy (r .operation) x y (getD listed (r .list) 0) (newOf listed r))) (rowFate r))
+exact-by : (T : Table) (listed : List ℕ) (r : ChangeRow) (x y : ℕ) → r .operation ≤ 5 → Exact T listed (withFate (changeRow T (r .list) (r .rule) (changeBy (r .operation) x y (getD listed (r .list) 0) (newOf listed r))) (rowFate r))
 unfolding withFate changeRow newOf
 exact-by T listed r x y h =
     record {
       same =
-          rw (change-back T listed (r .list) (r .count) (rowFate r) (r .operation) x y h, fate-stated (changeRow T (r .list) (changeBy (r .operation) x y (getD listed (r .list) 0) (newOf listed r))) (rowFate r));
+          rw (change-back T listed (r .list) (r .rule) (r .count) (rowFate r) (r .operation) x y h, fate-stated (changeRow T (r .list) (r .rule) (changeBy (r .operation) x y (getD listed (r .list) 0) (newOf listed r))) (rowFate r));
     }
 
 -- the numbers of a call that line 6 takes
@@ -84,16 +84,17 @@ ends-low n (suc (suc (suc (suc zero)))) x y z new h a = (a .0, a .0)
 ends-low n (suc (suc (suc (suc (suc zero))))) x y z new h a = (a .0, a .1 .0)
 ends-low n (suc (suc (suc (suc (suc (suc op)))))) x y z new h a = absurd (omega arith)
 
--- what is kept
+-- what is kept: the row is exact, states a change, and its rule number has twelve bits
 pub record Kept (n : ℕ) (T : Table) (listed : List ℕ) (r : ChangeRow) : Type 0 where
   pub exact : Exact T listed r
   pub stated : Stated n listed r
+  pub ruled : r .rule < 4096
 
 module _ (n : ℕ) (T : Table) (mapped : ℕ → Option ℕ) (listed : List ℕ) (long : length T ≡ n) where
-  kept-anew : (r : ChangeRow) (x y : ℕ) → Stated n listed r → wrongCall T (call (changeBy (r .operation) x y (getD listed (r .list) 0) (newOf listed r))) ≡ false
-      → Kept n T listed (withFate (changeRow T (r .list) (changeBy (r .operation) x y (getD listed (r .list) 0) (newOf listed r))) (rowFate r))
+  kept-anew : (r : ChangeRow) (x y : ℕ) → Stated n listed r → r .rule < 4096 → wrongCall T (call (changeBy (r .operation) x y (getD listed (r .list) 0) (newOf listed r))) ≡ false
+      → Kept n T listed (withFate (changeRow T (r .list) (r .rule) (changeBy (r .operation) x y (getD listed (r .list) 0) (newOf listed r))) (rowFate r))
   unfolding withFate changeRow changeOf
-  kept-anew r x y S w =
+  kept-anew r x y S u w =
       let op : ℕ = r .operation in
       let z : ℕ = getD listed (r .list) 0 in
       let new : List ℕ = newOf listed r in
@@ -104,13 +105,14 @@ module _ (n : ℕ) (T : Table) (mapped : ℕ → Option ℕ) (listed : List ℕ)
       let k : length (news c) ≡ r .count = ap length (news-by op x y z (r .target) (r .end) new (S .known)) ∙ sym (S .counted) in
       record {
         exact = e;
-        stated = exact-stated n T listed (withFate (changeRow T (r .list) c) (rowFate r)) e (omega (arith, operation-by op x y z new (S .known), S .known)) (omega (arith, b .0, long)) (omega (arith, b .1, long)) (omega (arith, k, S .within));
+        stated = exact-stated n T listed (withFate (changeRow T (r .list) (r .rule) c) (rowFate r)) e (omega (arith, operation-by op x y z new (S .known), S .known)) (omega (arith, b .0, long)) (omega (arith, b .1, long)) (omega (arith, k, S .within));
+        ruled = u;
       }
 
   kept-row : (rs : List ChangeRow) (r : ChangeRow) (m : ChangeRow × ℕ) → Kept n T listed r → rewriteRow T mapped listed rs r ≡ gives m → Kept n T listed (m .0)
   unfolding rewriteRow
   kept-row rs r m K e =
-      ⊎-elim (λ q. subst (Kept n T listed) q K) (λ q. subst (Kept n T listed) (sym (q .row)) (kept-anew r (q .x) (q .y) (K .stated) (q .right)))
+      ⊎-elim (λ q. subst (Kept n T listed) q K) (λ q. subst (Kept n T listed) (sym (q .row)) (kept-anew r (q .x) (q .y) (K .stated) (K .ruled) (q .right)))
       (same-or-anew T mapped listed rs r (rowFate r) m (K .stated .known) e)
 
   pub rewritten-kept : (rs later : List ChangeRow) (q : List ChangeRow × ℕ) → All (Kept n T listed) later → rewriteRows T mapped listed rs later ≡ gives q → All (Kept n T listed) (q .0)

@@ -41,6 +41,7 @@ noChange = record {
   region = 0;
   fate = 0;
   owner = 0;
+  rule = 0;
 }
 
 module _ (T : Table) (mapped : ℕ → Option ℕ) (listed : List ℕ) where
@@ -48,7 +49,7 @@ module _ (T : Table) (mapped : ℕ → Option ℕ) (listed : List ℕ) where
   unfoldable pub rewriteUnder : Change → ChangeRow → Answer (ChangeRow × ℕ)
   rewriteUnder o r = do
     m ← rewriteInto T mapped (target o) (replacement o) (changeOf listed r)
-    gives (withFate (changeRow T (r .list) (m .0)) (rowFate r), m .1)
+    gives (withFate (changeRow T (r .list) (r .rule) (m .0)) (rowFate r), m .1)
 
   -- only a dependent is rewritten, by its owner as sorted; all rows as sorted are rs
   unfoldable pub rewriteFated : List ChangeRow → Fate → ChangeRow → Answer (ChangeRow × ℕ)
@@ -129,10 +130,10 @@ take-again zero l = refl
 take-again (suc k) [] = refl
 take-again (suc k) (x ∷ l) = ap (λ m. x ∷ m) (take-again k l)
 
-module _ (T : Table) (listed : List ℕ) (at k : ℕ) (f : Fate) where
-  -- the row of a change, with its fate, whose elements stand at `at`
+module _ (T : Table) (listed : List ℕ) (at n k : ℕ) (f : Fate) where
+  -- the row of a change by the rule n, with its fate, whose elements stand at `at`
   abbrev pub rowBy : ℕ → ℕ → ℕ → ChangeRow
-  rowBy op x y = withFate (changeRow T at (changeBy op x y (getD listed at 0) (take k (drop at listed)))) f
+  rowBy op x y = withFate (changeRow T at n (changeBy op x y (getD listed at 0) (take k (drop at listed)))) f
 
   pub change-back : (op x y : ℕ) → op ≤ 5 → changeOf listed (rowBy op x y) ≡ changeBy op x y (getD listed at 0) (take k (drop at listed))
   unfolding changeOf newOf changeBy withFate changeRow operation target endOf news
@@ -144,9 +145,9 @@ module _ (T : Table) (listed : List ℕ) (at k : ℕ) (f : Fate) where
   change-back (suc (suc (suc (suc (suc zero))))) x y h = ap (replaceAll x y) (take-again k (drop at listed))
   change-back (suc (suc (suc (suc (suc (suc op)))))) x y h = absurd (omega arith)
 
-  plan-back : (op x y : ℕ) → op ≤ 5 → planOf listed (rowBy op x y) ≡ record { change = changeBy op x y (getD listed at 0) (take k (drop at listed)); fate = f }
-  unfolding planOf
-  plan-back op x y h = λ i. record { change = change-back op x y h i; fate = fate-stated (changeRow T at (changeBy op x y (getD listed at 0) (take k (drop at listed)))) f i }
+  plan-back : (op x y : ℕ) → op ≤ 5 → planOf listed (rowBy op x y) ≡ record { change = changeBy op x y (getD listed at 0) (take k (drop at listed)); fate = f; rule = n }
+  unfolding planOf withFate changeRow
+  plan-back op x y h = λ i. record { change = change-back op x y h i; fate = fate-stated (changeRow T at n (changeBy op x y (getD listed at 0) (take k (drop at listed)))) f i; rule = n }
 
 -- ── The definition's rewriting ──────────────────────────────────────────────────────────────────────────────
 
@@ -159,14 +160,14 @@ unfoldable pub toldRows : List ℕ → Answer (List ChangeRow × ℕ) → Answer
 toldRows listed (refused n) = refused n
 toldRows listed (gives q) = gives (map (planOf listed) (q .0), q .1)
 
--- a change with its fate, and the steps
-abbrev plannedWith : Fate → Change × ℕ → Answer (Planned × ℕ)
-plannedWith f m = gives (record { change = m .0; fate = f }, m .1)
+-- a change with its fate and rule number, and the steps
+abbrev plannedWith : Fate → ℕ → Change × ℕ → Answer (Planned × ℕ)
+plannedWith f n m = gives (record { change = m .0; fate = f; rule = n }, m .1)
 
 module _ (T : Table) (mapped : ℕ → Option ℕ) (listed : List ℕ) where
   judged-told : (r : ChangeRow) (a : Answer (ℕ × ℕ × ℕ)) → r .operation ≤ 5
-      → _>>=_ {A = Change × ℕ} {B = Planned × ℕ} (a >>= judgedEnds T (r .operation) (getD listed (r .list) 0) (newOf listed r)) (plannedWith (rowFate r))
-      ≡ toldRow listed (_>>=_ {A = Change × ℕ} {B = ChangeRow × ℕ} (a >>= judgedEnds T (r .operation) (getD listed (r .list) 0) (newOf listed r)) (λ m. gives (withFate (changeRow T (r .list) (m .0)) (rowFate r), m .1)))
+      → _>>=_ {A = Change × ℕ} {B = Planned × ℕ} (a >>= judgedEnds T (r .operation) (getD listed (r .list) 0) (newOf listed r)) (plannedWith (rowFate r) (r .rule))
+      ≡ toldRow listed (_>>=_ {A = Change × ℕ} {B = ChangeRow × ℕ} (a >>= judgedEnds T (r .operation) (getD listed (r .list) 0) (newOf listed r)) (λ m. gives (withFate (changeRow T (r .list) (r .rule) (m .0)) (rowFate r), m .1)))
   unfolding _>>=_ toldRow refuse newOf
   judged-told r (refused n) h = refl
   judged-told r (gives q) h = go (wrongCall T (call (changeBy (r .operation) (q .0) (q .1) (getD listed (r .list) 0) (newOf listed r))))
@@ -175,38 +176,38 @@ module _ (T : Table) (mapped : ℕ → Option ℕ) (listed : List ℕ) where
       c = changeBy (r .operation) (q .0) (q .1) (getD listed (r .list) 0) (newOf listed r)
 
       go : (b : Bool)
-          → _>>=_ {A = Change × ℕ} {B = Planned × ℕ} (_>>=_ {B = Change × ℕ} (refuse 9 b) (λ _. gives (c, q .2))) (plannedWith (rowFate r))
-          ≡ toldRow listed (_>>=_ {A = Change × ℕ} {B = ChangeRow × ℕ} (_>>=_ {B = Change × ℕ} (refuse 9 b) (λ _. gives (c, q .2))) (λ m. gives (withFate (changeRow T (r .list) (m .0)) (rowFate r), m .1)))
+          → _>>=_ {A = Change × ℕ} {B = Planned × ℕ} (_>>=_ {B = Change × ℕ} (refuse 9 b) (λ _. gives (c, q .2))) (plannedWith (rowFate r) (r .rule))
+          ≡ toldRow listed (_>>=_ {A = Change × ℕ} {B = ChangeRow × ℕ} (_>>=_ {B = Change × ℕ} (refuse 9 b) (λ _. gives (c, q .2))) (λ m. gives (withFate (changeRow T (r .list) (r .rule) (m .0)) (rowFate r), m .1)))
       go true = refl
-      go false = ap {B = Answer (Planned × ℕ)} (λ p. gives (p, q .2)) (sym (plan-back T listed (r .list) (r .count) (rowFate r) (r .operation) (q .0) (q .1) h))
+      go false = ap {B = Answer (Planned × ℕ)} (λ p. gives (p, q .2)) (sym (plan-back T listed (r .list) (r .rule) (r .count) (rowFate r) (r .operation) (q .0) (q .1) h))
 
   owner-at : (rs : List ChangeRow) (k : ℕ) → getD (map (changeOf listed) rs) k (delete 0) ≡ changeOf listed (getD rs k noChange)
   unfolding changeOf changeBy noChange
   owner-at rs k = List·getD-map (changeOf listed) rs k noChange
 
   under-told : (x y : ℕ) (r : ChangeRow) → r .operation ≤ 5
-      → _>>=_ {A = Change × ℕ} {B = Planned × ℕ} (rewriteInto T mapped x y (changeOf listed r)) (plannedWith (rowFate r))
-      ≡ toldRow listed (_>>=_ {A = Change × ℕ} {B = ChangeRow × ℕ} (rewriteInto T mapped x y (changeOf listed r)) (λ m. gives (withFate (changeRow T (r .list) (m .0)) (rowFate r), m .1)))
+      → _>>=_ {A = Change × ℕ} {B = Planned × ℕ} (rewriteInto T mapped x y (changeOf listed r)) (plannedWith (rowFate r) (r .rule))
+      ≡ toldRow listed (_>>=_ {A = Change × ℕ} {B = ChangeRow × ℕ} (rewriteInto T mapped x y (changeOf listed r)) (λ m. gives (withFate (changeRow T (r .list) (r .rule) (m .0)) (rowFate r), m .1)))
   unfolding changeOf
   under-told x y r h =
       rw (rewriteInto-by T mapped x y (r .operation) (r .target) (r .end) (getD listed (r .list) 0) (newOf listed r) h)
       (judged-told r (movedEnds (moved T mapped x y) (r .operation) (r .target) (r .end)) h)
 
   row-told : (n : ℕ) (rs : List ChangeRow) (r : ChangeRow) (f : Fate) → rowFate r ≡ f → Stated n listed r
-      → _>>=_ {A = Change × ℕ} {B = Planned × ℕ} (rewriteOne T mapped (map (changeOf listed) rs) f (changeOf listed r)) (plannedWith f) ≡ toldRow listed (rewriteFated T mapped listed rs f r)
+      → _>>=_ {A = Change × ℕ} {B = Planned × ℕ} (rewriteOne T mapped (map (changeOf listed) rs) f (changeOf listed r)) (plannedWith f (r .rule)) ≡ toldRow listed (rewriteFated T mapped listed rs f r)
   unfolding rewriteOne rewriteFated rewriteUnder toldRow planOf _>>=_
-  row-told n rs r own q S = ap {B = Answer (Planned × ℕ)} (λ f. gives (record { change = changeOf listed r; fate = f }, 0)) (sym q)
+  row-told n rs r own q S = ap {B = Answer (Planned × ℕ)} (λ f. gives (record { change = changeOf listed r; fate = f; rule = r .rule }, 0)) (sym q)
   row-told n rs r (dependent k) q S =
       rw (owner-at rs k, ← q) (under-told (target (changeOf listed (getD rs k noChange))) (replacement (changeOf listed (getD rs k noChange))) r (S .known))
-  row-told n rs r (discarded k) q S = ap {B = Answer (Planned × ℕ)} (λ f. gives (record { change = changeOf listed r; fate = f }, 0)) (sym q)
+  row-told n rs r (discarded k) q S = ap {B = Answer (Planned × ℕ)} (λ f. gives (record { change = changeOf listed r; fate = f; rule = r .rule }, 0)) (sym q)
 
-  one-more : (f : Fate) (a : Answer (Change × ℕ)) (b : Answer (ChangeRow × ℕ)) (l : List ChangeRow × ℕ) → _>>=_ {B = Planned × ℕ} a (plannedWith f) ≡ toldRow listed b
-      → _>>=_ {B = List Planned × ℕ} a (λ m. gives (record { change = m .0; fate = f } ∷ map (planOf listed) (l .0), m .1 + l .1)) ≡ toldRows listed (_>>=_ {B = List ChangeRow × ℕ} b (λ m. gives (m .0 ∷ l .0, m .1 + l .1)))
+  one-more : (f : Fate) (n : ℕ) (a : Answer (Change × ℕ)) (b : Answer (ChangeRow × ℕ)) (l : List ChangeRow × ℕ) → _>>=_ {B = Planned × ℕ} a (plannedWith f n) ≡ toldRow listed b
+      → _>>=_ {B = List Planned × ℕ} a (λ m. gives (record { change = m .0; fate = f; rule = n } ∷ map (planOf listed) (l .0), m .1 + l .1)) ≡ toldRows listed (_>>=_ {B = List ChangeRow × ℕ} b (λ m. gives (m .0 ∷ l .0, m .1 + l .1)))
   unfolding _>>=_ toldRow toldRows
-  one-more f (refused n) (refused m) l e = cc
-  one-more f (refused n) (gives m) l e = cc
-  one-more f (gives n) (refused m) l e = cc
-  one-more f (gives n) (gives m) l e = ap {B = Answer (List Planned × ℕ)} (λ p. gives (p .0 ∷ map (planOf listed) (l .0), p .1 + l .1)) (gives-inj e)
+  one-more f r (refused n) (refused m) l e = cc
+  one-more f r (refused n) (gives m) l e = cc
+  one-more f r (gives n) (refused m) l e = cc
+  one-more f r (gives n) (gives m) l e = ap {B = Answer (List Planned × ℕ)} (λ p. gives (p .0 ∷ map (planOf listed) (l .0), p .1 + l .1)) (gives-inj e)
 
   -- on rows that state changes it is the definition's
   pub rewrite-told : (n : ℕ) (rs later : List ChangeRow) → All (Stated n listed) later
@@ -217,11 +218,11 @@ module _ (T : Table) (mapped : ℕ → Option ℕ) (listed : List ℕ) where
     where
       go : (a : Answer (List ChangeRow × ℕ))
           → _>>=_ {A = List Planned × ℕ} {B = List Planned × ℕ} (toldRows listed a)
-          (λ l. _>>=_ {B = List Planned × ℕ} (rewriteOne T mapped (map (changeOf listed) rs) (rowFate r) (changeOf listed r)) (λ m. gives (record { change = m .0; fate = rowFate r } ∷ l .0, m .1 + l .1)))
+          (λ l. _>>=_ {B = List Planned × ℕ} (rewriteOne T mapped (map (changeOf listed) rs) (rowFate r) (changeOf listed r)) (λ m. gives (record { change = m .0; fate = rowFate r; rule = r .rule } ∷ l .0, m .1 + l .1)))
           ≡ toldRows listed (_>>=_ {B = List ChangeRow × ℕ} a (λ l. _>>=_ {B = List ChangeRow × ℕ} (rewriteRow T mapped listed rs r) (λ m. gives (m .0 ∷ l .0, m .1 + l .1))))
       go (refused x) = refl
       go (gives l) =
-          one-more (rowFate r) (rewriteOne T mapped (map (changeOf listed) rs) (rowFate r) (changeOf listed r)) (rewriteRow T mapped listed rs r) l
+          one-more (rowFate r) (r .rule) (rewriteOne T mapped (map (changeOf listed) rs) (rowFate r) (changeOf listed r)) (rewriteRow T mapped listed rs r) l
           (row-told n rs r (rowFate r) refl (h .0))
 
 -- ── The whole, for rows in words ────────────────────────────────────────────────────────────────────────────
@@ -229,10 +230,10 @@ module _ (T : Table) (mapped : ℕ → Option ℕ) (listed : List ℕ) where
 all-rows : (P : ChangeRow → Type 0) (w : List ℕ) (c : ℕ) → ((i : ℕ) → i < c → P (rowAt w i)) → All P (rowsOf c w)
 unfolding rowsOf rowAt
 all-rows P w zero h = tt
-all-rows P w (suc c) h = (h 0 (omega arith), all-rows P (drop 13 w) c (λ i b. rw (behind i) (h (suc i) (omega arith))))
+all-rows P w (suc c) h = (h 0 (omega arith), all-rows P (drop 14 w) c (λ i b. rw (behind i) (h (suc i) (omega arith))))
   where
-    behind : (i : ℕ) → drop (13 * i) (drop 13 w) ≡ drop (13 * suc i) w
-    behind i = let e : 13 * suc i ≡ 13 + 13 * i = omega arith in rw e (drop-drop (13 * i) 13 w)
+    behind : (i : ℕ) → drop (14 * i) (drop 14 w) ≡ drop (14 * suc i) w
+    behind i = let e : 14 * suc i ≡ 14 + 14 * i = omega arith in rw e (drop-drop (14 * i) 14 w)
 
 map-both : (listed : List ℕ) (rs : List ChangeRow) → map (λ (p : Planned). p .change) (map (planOf listed) rs) ≡ map (changeOf listed) rs
 unfolding planOf

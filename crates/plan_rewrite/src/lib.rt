@@ -124,7 +124,7 @@ fn write_judged(
     out: &mut [u32],
 ) -> Rewritten
     requires { ⌜ Wellformed n (now table) (now source) ⌝ }
-    requires { ⌜ (listed + 4 * l ≤ length (now b)) × (i < 256) × (13 * i + 13 ≤ length (now out)) × (steps ≤ 2 * n) ⌝ }
+    requires { ⌜ (listed + 4 * l ≤ length (now b)) × (i < 256) × (14 * i + 14 ≤ length (now out)) × (steps ≤ 2 * n) ⌝ }
     requires { ⌜ NewEnds n (wordsAt (now b) listed l) (rowAt (now rows) i) x y ⌝ }
     ensures { λ r. ⌜ RowRewritten (judgedRow (view n (now (table .entry)) (now (source .entry))) (wordsAt (now (b .entry)) listed l) (rowAt (now (rows .entry)) i) (x, y, steps)) i (now (out .entry)) (now (out .exit)) r ⌝ }
 {
@@ -155,7 +155,7 @@ fn rewrite_dependent_target(
 ) -> Rewritten
     requires { ⌜ Wellformed n (now table) (now source) ⌝ }
     requires { ⌜ Mapped n (now map) ⌝ }
-    requires { ⌜ (listed + 4 * l ≤ length (now b)) × (i < 256) × (k < 256) × (13 * i + 13 ≤ length (now out)) ⌝ }
+    requires { ⌜ (listed + 4 * l ≤ length (now b)) × (i < 256) × (k < 256) × (14 * i + 14 ≤ length (now out)) ⌝ }
     requires { ⌜ Dependent n (wordsAt (now b) listed l) (rowAt (now rows) k) (rowAt (now rows) i) ⌝ }
     ensures { λ r. ⌜ RowRewritten (rewriteUnder (view n (now (table .entry)) (now (source .entry))) (mappedBy (now (map .entry))) (wordsAt (now (b .entry)) listed l) (changeOf (wordsAt (now (b .entry)) listed l) (rowAt (now (rows .entry)) k)) (rowAt (now (rows .entry)) i)) i (now (out .entry)) (now (out .exit)) r ⌝ }
 {
@@ -182,7 +182,7 @@ fn rewrite_row(
 ) -> Rewritten
     requires { ⌜ Wellformed n (now table) (now source) ⌝ }
     requires { ⌜ Mapped n (now map) ⌝ }
-    requires { ⌜ (listed + 4 * l ≤ length (now b)) × (13 * i + 13 ≤ length (now out)) ⌝ }
+    requires { ⌜ (listed + 4 * l ≤ length (now b)) × (14 * i + 14 ≤ length (now out)) ⌝ }
     requires { ⌜ Fated n (wordsAt (now b) listed l) (now rows) i ⌝ }
     ensures { λ r. ⌜ RowRewritten (rewriteAt (view n (now (table .entry)) (now (source .entry))) (mappedBy (now (map .entry))) (wordsAt (now (b .entry)) listed l) (now (rows .entry)) i) i (now (out .entry)) (now (out .exit)) r ⌝ }
 {
@@ -211,7 +211,7 @@ pub fn rewrite_dependents(
 ) -> Rewritten
     requires { ⌜ Wellformed n (now table) (now source) ⌝ }
     requires { ⌜ Mapped n (now map) ⌝ }
-    requires { ⌜ (listed + 4 * l ≤ length (now b)) × (13 * c ≤ length (now out)) ⌝ }
+    requires { ⌜ (listed + 4 * l ≤ length (now b)) × (14 * c ≤ length (now out)) ⌝ }
     requires { ⌜ Rewritable n (wordsAt (now b) listed l) (now rows) c ⌝ }
     ensures { λ r. ⌜ RowsRewritten n (now (table .entry)) (now (source .entry)) (now (map .entry)) (wordsAt (now (b .entry)) listed l) (now (rows .entry)) c (now (out .exit)) r ⌝ }
 {

@@ -1,11 +1,12 @@
 -- The answer and the slices, where no lent slice is too short: just what the definition answers.
 -- Assumes nothing.
 use mathlib.Core.Path.{_≡_, refl, ap, _∙_}
-use mathlib.Core.Bool.{false}
+use mathlib.Core.Bool.{Bool, true, false}
 use mathlib.Core.List.{List, [], _++_}
 use mathlib.Core.Option.{Option}
 use Prim.Native.Nat.{ℕ, _≤_}
 use native.Mathlib.Omega.{arith}
+use lib.Dec.{ltb}
 use lib.ListN.{length, drop}
 use borrow.Author.Tests.{le-ltb}
 use Rattle.definition.specs.Basics.{Answer, refused, gives, _>>=_, refuse, any}
@@ -76,6 +77,25 @@ pub edit-answered : (h : Choices) (b held : List ℕ) (work : List (List ℕ)) (
 edit-answered h b held work r holds left p y l =
     let z = edit-leaves h b held work r holds left p l in
     record { leaves = z; read = leaves-read h b held r holds y z }
+
+-- Whatever room there is, what stands in the slice is the answer with 13 where the room is too short.
+pub edit-fitted : (h : Choices) (b held : List ℕ) (work : List (List ℕ)) (r : Answer ℕ) (holds : List ℕ) (left : List (List ℕ)) → Edits h b held work r holds left → Bytes b → chosen h ≡ gives tt → tooShort (lengths needed work) ≡ false
+    → answerIn r holds ≡ (edit h b >>= λ R. fitting (length held) R)
+unfolding applied fitting refuse leftIn answerIn _>>=_
+edit-fitted h b held work r holds left p y c w = go (edit h b) refl (long-edited h c work b (length held) w)
+  where
+    go : (o : Answer Result) → edit h b ≡ o → edited h (lengths needed work) b (length held) ≡ (o >>= λ R. fitting (length held) R >>= λ S. gives (encoded S)) → answerIn r holds ≡ (o >>= λ R. fitting (length held) R)
+    go (refused k) e q = ap (λ x. answerIn x holds) (p .answer ∙ ap (λ x. x >>= λ bytes. gives (length bytes)) q)
+    go (gives R) e q = fits (ltb (length held) (length (encoded R))) refl
+      where
+        fits : (t : Bool) → ltb (length held) (length (encoded R)) ≡ t → answerIn r holds ≡ fitting (length held) R
+        fits true t =
+            let z : edited h (lengths needed work) b (length held) ≡ refused 13 = q ∙ rw t refl in
+            ap (λ x. answerIn x holds) (p .answer ∙ ap (λ x. x >>= λ bytes. gives (length bytes)) z) ∙ rw t refl
+        fits false t =
+            let z : edited h (lengths needed work) b (length held) ≡ gives (encoded R) = q ∙ rw t refl in
+            ap (λ x. answerIn x holds) (p .answer ∙ ap (λ x. x >>= λ bytes. gives (length bytes)) z)
+            ∙ (ap {B = Answer Result} gives (decoded-encoded R holds _ (p .result ∙ ap (leftIn held) z) (edit-within h b R e) (edit-worded h b R y e)) ∙ rw t refl)
 
 -- Every call of `find_element` that keeps its promise finds what the definition finds.
 pub find-answered : (h : Choices) (b : List ℕ) (n : ℕ) (work : List (List ℕ)) (r : Answer (Option ℕ)) (left : List (List ℕ)) → Finds h b n work r left → chosen h ≡ gives tt → tooShort (lengths needed work) ≡ false → r ≡ findElement h [] b n

@@ -57,7 +57,7 @@ module _ (h : Choices) (b held : List ℕ) (n : ℕ) (holds : List ℕ) (y : Byt
   finished-shown t s =
       let many : length (R .kinds) ≡ length (preorder t) = ap length (s .kinds) ∙ length-map (preorder t) label in
       let elements : word holds ≡ length (preorder t) = elements-read R holds (drop n holds) there within ∙ many in
-      let last : n - length (R .text) ≡ textAt (length (R .kinds)) (length (R .changed)) (length (R .numbers)) = omega (arith, f .size, encoded-length R (within .measures) (within .noted)) in
+      let last : n - length (R .text) ≡ textAt (length (R .kinds)) (length (R .changed)) (length (R .numbers)) = omega (arith, f .size, encoded-length R (within .measures) (within .ruled) (within .noted)) in
       record {
         elements = elements;
         size = text-read R holds (drop n holds) there within ∙ ap length (s .text);

@@ -19,7 +19,7 @@ use Rattle.definition.specs.Refusals.{calls, listsTooMany, wrongCall, wrongMapp
 use Rattle.definition.specs.Recording.{Change, insert, replace, delete, replaceWithMany, replaceAll, call}
 use Rattle.definition.specs.Planning.{Fate, own, dependent, discarded, Planned, target, Judgement, overlaps, fated}
 use Rattle.definition.specs.Rewriting.{mapping, replacement, mappedOr, climb, trail, land, moved, retarget, rewriteInto, rewriteOne, rewriting, rewritten, nearest, isParent, noteFrom, settle, settled}
-use Rattle.definition.specs.Running.{World, place, yield, news, spliced, tooLarge, records, step, steps}
+use Rattle.definition.specs.Running.{World, place, yield, news, spliced, tooLarge, recordedBy, step, steps}
 use Rattle.definition.specs.Finishing.{Result, result, encoded, fitting}
 use Rattle.definition.specs.Answers.{judgeChanges, disjoint, rewriteChanges, Plan, plan, performed, atFirst, ran, edit, edited, tooShort, withWork, withChoices}
 use Rattle.definition.specs.FindElement.{findIn, findElement}
@@ -239,7 +239,7 @@ steps-by T first w [] = tt
 steps-by T first w (p ∷ ps) =
     by-then stepLines (step T first w p) _
     (by-then stepLines (orRefuse 11 (place T w p.change)) _ (by-or stepLines 11 _ refl) λ r.
-    by-then stepLines (refuse 12 (tooLarge (spliced r (map (yield first w) (news p.change)) (records T p) w))) _ (by-refuse stepLines 12 _ refl) λ u. tt)
+    by-then stepLines (refuse 12 (tooLarge (spliced r (map (yield first w) (news p.change)) (recordedBy T p) w))) _ (by-refuse stepLines 12 _ refl) λ u. tt)
     λ next. steps-by T first next ps
 
 -- ── The edit ────────────────────────────────────────────────────────────────────────────────────────────────
@@ -370,7 +370,7 @@ refused-why h b held work r holds left p k e = rule (ltb 1 h.edge) refl
     rule true t = rw (← refused-inj (number (refused 17) (rw t refl))) (noSuchRule (ltb-true 1 h.edge t))
     rule false t = go (rw t refl) (tooShort (lengths needed work)) refl
 
--- With room for the most bytes that a result has 13 never comes.
+-- With room for the most bytes that a result has, 65,560, 13 never comes. (The edit program's buffer has 65,536.)
 pub never-13 : (h : Choices) (b held : List ℕ) (work : List (List ℕ)) (r : Answer ℕ) (holds : List ℕ) (left : List (List ℕ)) → Edits h b held work r holds left → mostBytes ≤ length held → r ≡ refused 13 → ⊥
 unfolding among any
 never-13 h b held work r holds left p m e = go 13 refl (refused-why h b held work r holds left p 13 e)

@@ -118,7 +118,7 @@ first-step-excluded = excluded (ofResult (λ r. length r.text)) twoAfterX firstS
 
 -- the result with these counts
 abbrev withCounts : Result → ℕ → ℕ → Result
-withCounts r discarded climbs = record { kinds = r .kinds; measures = r .measures; changed = r .changed; numbers = r .numbers; noted = r .noted; text = r .text; discarded = discarded; climbs = climbs }
+withCounts r discarded climbs = record { kinds = r .kinds; measures = r .measures; changed = r .changed; rules = r .rules; numbers = r .numbers; noted = r .noted; text = r .text; discarded = discarded; climbs = climbs }
 
 -- "reports a made-up discard .. count": always n
 unfoldable pub discardsMadeUp : ℕ → Editor

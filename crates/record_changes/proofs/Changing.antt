@@ -153,16 +153,16 @@ module _ {n : ℕ} {w s : List ℕ} {c : Change} (W : Wellformed n w s) (N : Nam
 
 -- ── A row written ───────────────────────────────────────────────────────────────────────────────────────────
 
--- the first eight words of a row, and the other five
-pub row-stored : (w w₁ w₂ : List ℕ) (k at : ℕ) (m : Numbers) (s : Spot) → at ≡ 13 * k → 13 * k + 13 ≤ length w
+-- the first eight words of a row, and the other six
+pub row-stored : (w w₁ w₂ : List ℕ) (k at : ℕ) (m : Numbers) (s : Spot) (n : ℕ) → at ≡ 14 * k → 14 * k + 14 ≤ length w
     → w₁ ≡ paste w at (m .operation ∷ m .target ∷ m .end ∷ m .list ∷ m .count ∷ s .tree ∷ s .from ∷ s .to ∷ []) 8
-    → w₂ ≡ paste w₁ (at + 8) (s .depth ∷ m .rank ∷ s .region ∷ 0 ∷ 0 ∷ []) 5
-    → w₂ ≡ paste w (13 * k) (rowWords (rowWith m s)) 13
+    → w₂ ≡ paste w₁ (at + 8) (s .depth ∷ m .rank ∷ s .region ∷ 0 ∷ 0 ∷ n ∷ []) 6
+    → w₂ ≡ paste w (14 * k) (rowWords (rowWith m s n)) 14
 unfolding rowWords rowWith
-row-stored w w₁ w₂ k at m s e h e₁ e₂ =
-    let five : List ℕ = s .depth ∷ m .rank ∷ s .region ∷ 0 ∷ 0 ∷ [] in
+row-stored w w₁ w₂ k at m s n e h e₁ e₂ =
+    let six : List ℕ = s .depth ∷ m .rank ∷ s .region ∷ 0 ∷ 0 ∷ n ∷ [] in
     let eight : List ℕ = m .operation ∷ m .target ∷ m .end ∷ m .list ∷ m .count ∷ s .tree ∷ s .from ∷ s .to ∷ [] in
-    e₂ ∙ (ap (λ (v : List ℕ). paste v (at + 8) five 5) e₁ ∙ (paste-paste w at eight 8 five 5 (at + 8) 13 refl refl (omega arith) (omega arith) refl ∙ ap (λ (i : ℕ). paste w i (eight ++ five) 13) e))
+    e₂ ∙ (ap (λ (v : List ℕ). paste v (at + 8) six 6) e₁ ∙ (paste-paste w at eight 8 six 6 (at + 8) 14 refl refl (omega arith) (omega arith) refl ∙ ap (λ (i : ℕ). paste w i (eight ++ six) 14) e))
 
 -- ── A change read ───────────────────────────────────────────────────────────────────────────────────────────
 

@@ -1,4 +1,4 @@
--- A recorded change as a row of thirteen words, with what planning needs beside it.
+-- A recorded change as a row of fourteen words, with what planning needs beside it.
 -- Assumes nothing.
 use mathlib.Core.Bool.{cond}
 use mathlib.Core.List.{List, [], _∷_}
@@ -30,10 +30,12 @@ pub record ChangeRow : Type 0 where
   -- 0 own, 1 dependent, 2 discarded; of or under which change
   pub fate : ℕ
   pub owner : ℕ
+  -- "the number of the rule that queued it" (document 02, Note 8)
+  pub rule : ℕ
 
 -- a row's words
 unfoldable pub rowWords : ChangeRow → List ℕ
-rowWords r = r .operation ∷ r .target ∷ r .end ∷ r .list ∷ r .count ∷ r .tree ∷ r .from ∷ r .to ∷ r .depth ∷ r .rank ∷ r .region ∷ r .fate ∷ r .owner ∷ []
+rowWords r = r .operation ∷ r .target ∷ r .end ∷ r .list ∷ r .count ∷ r .tree ∷ r .from ∷ r .to ∷ r .depth ∷ r .rank ∷ r .region ∷ r .fate ∷ r .owner ∷ r .rule ∷ []
 
 -- the row at the front of some words
 unfoldable pub rowOf : List ℕ → ChangeRow
@@ -51,12 +53,13 @@ rowOf l = record {
   region = getD l 10 0;
   fate = getD l 11 0;
   owner = getD l 12 0;
+  rule = getD l 13 0;
 }
 
 -- the n rows at the front of some words
 unfoldable pub rowsOf : ℕ → List ℕ → List ChangeRow
 rowsOf zero l = []
-rowsOf (suc n) l = rowOf l ∷ rowsOf n (drop 13 l)
+rowsOf (suc n) l = rowOf l ∷ rowsOf n (drop 14 l)
 
 -- the paper's number of a change
 unfoldable pub operation : Change → ℕ
@@ -80,9 +83,9 @@ module _ (T : Table) where
   unfoldable pub regionOf : Change → ℕ
   regionOf c = cond (nodeByNode T c) 2 (cond (addsRegion T c) 1 0)
 
-  -- the row of a change whose elements stand at `at` in the batch's list, before its fate is known
-  unfoldable pub changeRow : ℕ → Change → ChangeRow
-  changeRow at c = record {
+  -- the row of a change by the rule n, whose elements stand at `at` in the batch's list, before its fate is known
+  unfoldable pub changeRow : ℕ → ℕ → Change → ChangeRow
+  changeRow at n c = record {
     operation = operation c;
     target = target c;
     end = endOf c;
@@ -96,6 +99,7 @@ module _ (T : Table) where
     region = regionOf c;
     fate = 0;
     owner = 0;
+    rule = n;
   }
 
 -- the fate's number, and the change that it names

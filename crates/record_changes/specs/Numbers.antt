@@ -37,9 +37,9 @@ pub record NumbersFit (m : Numbers) : Type 0 where
   pub count : m .count < 2 ^ 32
   pub rank : m .rank < 2 ^ 32
 
--- the row of a change by its numbers and what planning needs, before its fate is known
-unfoldable pub rowWith : Numbers → Spot → ChangeRow
-rowWith m s = record {
+-- the row of a change by its numbers, what planning needs and its rule number, before its fate is known
+unfoldable pub rowWith : Numbers → Spot → ℕ → ChangeRow
+rowWith m s n = record {
   operation = m .operation;
   target = m .target;
   end = m .end;
@@ -53,6 +53,7 @@ rowWith m s = record {
   region = s .region;
   fate = 0;
   owner = 0;
+  rule = n;
 }
 
 -- ── The definition's change ─────────────────────────────────────────────────────────────────────────────────

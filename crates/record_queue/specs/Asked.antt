@@ -22,27 +22,27 @@ use Rattle.record_changes.specs.Spots.{spotOf}
 use Rattle.record_changes.specs.declared.Change.{Change}
 use Rattle.record_changes.specs.declared.Change.the-variants.{ReplaceWithMany, ReplaceAll}
 
--- the row of one of the code's changes, y the first of its call's listed elements
-unfoldable pub rowOfChange : Table → ℕ → Change → ChangeRow
-rowOfChange T y c = rowWith (numbersOf c) (spotOf T (asChange (y ∷ []) c))
+-- the row of one of the code's changes by the rule n, y the first of its call's listed elements
+unfoldable pub rowOfChange : Table → ℕ → ℕ → Change → ChangeRow
+rowOfChange T y n c = rowWith (numbersOf c) (spotOf T (asChange (y ∷ []) c)) n
 
 length-tail : (l : List ℕ) → length l - 1 ≡ length (tail l)
 length-tail [] = zero-sub 1
 length-tail (x ∷ l) = omega arith
 
-module _ (T : Table) (x at k y : ℕ) (l : List ℕ) (ek : k ≡ length l) (ey : y ≡ headD l 0) where
-  runs : (t : Bool) → rowOfChange T y (cond t (ReplaceWithMany x (record { at = suc at; count = length (tail l) })) (ReplaceAll x y (record { at = suc at; count = length (tail l) }))) ≡ changeRow T (suc at) (cond t (replaceWithMany x (tail l)) (replaceAll x y (tail l)))
+module _ (T : Table) (x at k y n : ℕ) (l : List ℕ) (ek : k ≡ length l) (ey : y ≡ headD l 0) where
+  runs : (t : Bool) → rowOfChange T y n (cond t (ReplaceWithMany x (record { at = suc at; count = length (tail l) })) (ReplaceAll x y (record { at = suc at; count = length (tail l) }))) ≡ changeRow T (suc at) n (cond t (replaceWithMany x (tail l)) (replaceAll x y (tail l)))
   unfolding rowOfChange rowWith spotOf changeRow operation endOf target rank from to parentDepth regionOf addsRegion nodeByNode news
   runs true = refl
   runs false = refl
 
-  rest : (op : ℕ) → 5 ≤ op → rowOfChange T y (changeAsked op x at k y) ≡ changeRow T (newsAt at (callAs op x l)) (change (callAs op x l))
+  rest : (op : ℕ) → 5 ≤ op → rowOfChange T y n (changeAsked op x at k y) ≡ changeRow T (newsAt at (callAs op x l n)) n (change (callAs op x l n))
   unfolding changeAsked newsAt change run runAsked
   rest op h =
       rw (ne-eqb op 0 (λ e. omega arith), ne-eqb op 1 (λ e. omega arith), ne-eqb op 2 (λ e. omega arith), ne-eqb op 3 (λ e. omega arith), ne-eqb op 4 (λ e. omega arith), le-ltb op 5 h, add-one at, ek, length-tail l, ← ey)
       (runs (eqb x y))
 
-  pub row-asked : (op : ℕ) → rowOfChange T y (changeAsked op x at k y) ≡ changeRow T (newsAt at (callAs op x l)) (change (callAs op x l))
+  pub row-asked : (op : ℕ) → rowOfChange T y n (changeAsked op x at k y) ≡ changeRow T (newsAt at (callAs op x l n)) n (change (callAs op x l n))
   unfolding changeAsked newsAt change rowOfChange rowWith spotOf changeRow operation endOf target rank from to parentDepth regionOf addsRegion nodeByNode news headD
   row-asked zero = rw ek
   row-asked (suc zero) = rw ek

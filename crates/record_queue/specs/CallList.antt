@@ -14,7 +14,7 @@ use Rattle.orders.specs.Lists.{All}
 use Rattle.orders.specs.ListLaws.{either-false, none-some, some-inj, map-some}
 use Rattle.definition.specs.Basics.{any}
 use Rattle.definition.specs.Elements.{Table}
-use Rattle.definition.specs.Refusals.{countOf, Call, callOf, calls, wrongCall}
+use Rattle.definition.specs.Refusals.{operationOf, countOf, Call, callOf, calls, wrongCount, wrongCall}
 use Rattle.definition.specs.Words.{word, words}
 use Rattle.definition_laws.specs.Right.{judged, below-E}
 use Rattle.record_changes.specs.ChangeRow.{ChangeRow, rowsOf}
@@ -25,18 +25,18 @@ use Rattle.record_queue.specs.RecordedRows.{meetsRow, mergedRow, rowFor}
 -- ── The calls ───────────────────────────────────────────────────────────────────────────────────────────────
 
 -- a call as the batch has it
-abbrev pub callAs : ℕ → ℕ → List ℕ → Call
-callAs op x l = record { operation = op; target = x; listed = l }
+abbrev pub callAs : ℕ → ℕ → List ℕ → ℕ → Call
+callAs op x l n = record { operation = op; target = x; listed = l; rule = n }
 
 -- from call words with their targets, and the listed elements: each call takes its count of them
 unfoldable pub callsOf : List (ℕ × ℕ) → List ℕ → List Call
 callsOf [] l = []
 callsOf (c ∷ cs) l = callOf (c .0) (c .1) (take (countOf (c .0)) l) ∷ callsOf cs (drop (countOf (c .0)) l)
 
--- each call has its count of listed elements; its target and all these are below n
+-- each call has its count of listed elements, as many as it may; its target and all these are below n
 abbrev pub Fit : ℕ → List (ℕ × ℕ) → List ℕ → Type 0
 Fit n [] l = Unit {0}
-Fit n (c ∷ cs) l = (countOf (c .0) ≤ length l) × (c .1 < n) × All (λ e. e < n) (take (countOf (c .0)) l) × Fit n cs (drop (countOf (c .0)) l)
+Fit n (c ∷ cs) l = (countOf (c .0) ≤ length l) × (c .1 < n) × All (λ e. e < n) (take (countOf (c .0)) l) × (wrongCount (operationOf (c .0)) (length (take (countOf (c .0)) l)) ≡ false) × Fit n cs (drop (countOf (c .0)) l)
 
 -- ── What line 6 accepts ─────────────────────────────────────────────────────────────────────────────────────
 
@@ -63,7 +63,7 @@ accepted-calls T (c ∷ cs) l r e q = go (leb (countOf (c .0)) (length l)) refl 
         let (a, b) = either-false (wrongCall T d) (any (wrongCall T) m) (rw (← er) at q) in
         let g = names-elements T d a in
         let h = f m em b in
-        (sym er ∙ ap {B = List Call} (λ r. d ∷ r) (h .0), (leb-true (countOf (c .0)) (length l) t, g .0, g .1, h .1))
+        (sym er ∙ ap {B = List Call} (λ r. d ∷ r) (h .0), (leb-true (countOf (c .0)) (length l) t, g .0, g .1, (judged T d a) .count, h .1))
 
 -- ── The calls from a place on ───────────────────────────────────────────────────────────────────────────────
 
@@ -110,11 +110,11 @@ pub record CallFits (n : ℕ) (b : List ℕ) (from at k x : ℕ) : Type 0 where
   pub few : k < 2 ^ 32
 
 -- a call is recorded: the rows w, of which the present editor's start at `start`, become w′
-pub record CallPut (T : Table) (at : ℕ) (c : Call) (start count : ℕ) (w : List ℕ) (start′ count′ : ℕ) (w′ : List ℕ) : Type 0 where
+pub record CallPut (T : Table) (L : List ℕ) (at : ℕ) (c : Call) (start count : ℕ) (w : List ℕ) (start′ count′ : ℕ) (w′ : List ℕ) : Type 0 where
   pub sound : start′ ≤ count′
   pub low : count ≤ count′
   pub high : count′ ≤ count + 1
-  pub beyond : drop (13 * count′) w′ ≡ drop (13 * count′) w
+  pub beyond : drop (14 * count′) w′ ≡ drop (14 * count′) w
   pub step : (cs : List (Option ChangeRow))
-      → through meetsRow mergedRow (take start (rowsOf count w)) (drop start (rowsOf count w)) (Option·map (rowFor T) (askedAt at c) ∷ cs)
-      ≡ through meetsRow mergedRow (take start′ (rowsOf count′ w′)) (drop start′ (rowsOf count′ w′)) cs
+      → through meetsRow (mergedRow L) (take start (rowsOf count w)) (drop start (rowsOf count w)) (Option·map (rowFor T) (askedAt at c) ∷ cs)
+      ≡ through meetsRow (mergedRow L) (take start′ (rowsOf count′ w′)) (drop start′ (rowsOf count′ w′)) cs

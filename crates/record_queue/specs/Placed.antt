@@ -2,37 +2,25 @@
 -- Assumes nothing.
 use mathlib.Core.Bool.{Bool, true, false, cond}
 use mathlib.Core.List.{List, [], _∷_, headD, tail}
-use mathlib.Core.Option.{none, some, Option·map}
+use mathlib.Core.Option.{none, some}
 use mathlib.Core.Path.{_≡_, refl, sym, ap, _∙_}
 use Prim.Native.Nat.{ℕ, zero, suc, _+_, _≤_}
 use native.Mathlib.Omega.{arith}
 use lib.ListN.{length, take, drop}
 use lib.Seq.{drop-drop, length-take-le}
-use lib.Dec.{leb, eqb}
-use borrow.Author.Tests.{leb-true, ne-eqb, le-ltb}
+use lib.Dec.{eqb}
+use borrow.Author.Tests.{ne-eqb, le-ltb}
 use Rattle.orders.specs.Lists.{All}
-use Rattle.orders.specs.ListLaws.{bool-absurd, either-false, none-some, some-inj, map-some}
+use Rattle.orders.specs.ListLaws.{bool-absurd}
 use Rattle.definition.specs.Basics.{any, among}
 use Rattle.definition.specs.Elements.{Table}
-use Rattle.definition.specs.Refusals.{operationOf, countOf, Call, callOf, calls, wrongCount, wrongCall}
+use Rattle.definition.specs.Refusals.{operationOf, countOf, ruleOf, Call, calls, wrongCount, wrongCall}
 use Rattle.definition.specs.Recording.{Change, change, run, replaceWithMany, replaceAll}
 use Rattle.definition.specs.Running.{news}
-use Rattle.definition_laws.specs.Right.{judged}
+use Rattle.definition_laws.specs.Stages.{asks}
 use Rattle.record_queue.specs.Queueing.{Asks, through-all}
-use Rattle.record_queue.specs.Recorded.{newsAt, askedAt, allAsked, isDelete, meetsAt, mergedAt, recordedAt}
-use Rattle.record_queue.specs.CallList.{callAs}
-
--- the elements that a change puts in stand in l, from its place on
-abbrev pub StandsIn : List ℕ → ℕ × Change → Type 0
-StandsIn l p = take (length (news (p .1))) (drop (p .0) l) ≡ news (p .1)
-
-merged-stands : (l : List ℕ) (c d : ℕ × Change) → StandsIn l c → StandsIn l d → StandsIn l (mergedAt c d)
-unfolding mergedAt
-merged-stands l c d a b = go (isDelete (d .1))
-  where
-    go : (t : Bool) → StandsIn l (cond t d c)
-    go true = b
-    go false = a
+use Rattle.record_queue.specs.Recorded.{newsAt, askedAt, allAsked, meetsAt, mergedAt, merged-keeps, recordedAt, StandsIn}
+use Rattle.record_queue.specs.CallList.{callAs, callsOf, Fit, accepted-calls}
 
 -- ── One call ────────────────────────────────────────────────────────────────────────────────────────────────
 
@@ -51,8 +39,8 @@ take-rest zero l h = refl
 take-rest (suc k) [] h = refl
 take-rest (suc k) (x ∷ l) h = take-same k l (omega arith)
 
-module _ (L : List ℕ) (at x k : ℕ) (l : List ℕ) (e : drop at L ≡ l) (h : k ≤ length l) where
-  runs : (op : ℕ) → 5 ≤ op → StandsIn L (newsAt at (callAs op x (take k l)), change (callAs op x (take k l)))
+module _ (L : List ℕ) (at x k n : ℕ) (l : List ℕ) (e : drop at L ≡ l) (h : k ≤ length l) where
+  runs : (op : ℕ) → 5 ≤ op → StandsIn L (newsAt at (callAs op x (take k l) n), asks (callAs op x (take k l) n))
   unfolding newsAt change run news
   runs op b =
       let z : suc at ≡ at + 1 = omega arith in
@@ -64,7 +52,7 @@ module _ (L : List ℕ) (at x k : ℕ) (l : List ℕ) (e : drop at L ≡ l) (h :
       go true = take-rest k l h
       go false = take-rest k l h
 
-  stands : (op : ℕ) → wrongCount op (length (take k l)) ≡ false → StandsIn L (newsAt at (callAs op x (take k l)), change (callAs op x (take k l)))
+  stands : (op : ℕ) → wrongCount op (length (take k l)) ≡ false → StandsIn L (newsAt at (callAs op x (take k l) n), asks (callAs op x (take k l) n))
   unfolding newsAt change news
   stands zero q = rw e (take-same k l h)
   stands (suc zero) q = rw e (take-same k l h)
@@ -73,40 +61,28 @@ module _ (L : List ℕ) (at x k : ℕ) (l : List ℕ) (e : drop at L ≡ l) (h :
   stands (suc (suc (suc (suc zero)))) q = rw e (take-same k l h)
   stands (suc (suc (suc (suc (suc op))))) q = runs (suc (suc (suc (suc (suc op))))) (omega arith)
 
-  asks : (op : ℕ) → wrongCount op (length (take k l)) ≡ false → Asks (StandsIn L) (askedAt at (callAs op x (take k l)))
+  asked-stands : (op : ℕ) → wrongCount op (length (take k l)) ≡ false → Asks (StandsIn L) (askedAt at (callAs op x (take k l) n))
   unfolding askedAt
-  asks op q = go (eqb op 6) (stands op q)
+  asked-stands op q = go (eqb op 6) (stands op q)
     where
-      go : (t : Bool) → StandsIn L (newsAt at (callAs op x (take k l)), change (callAs op x (take k l))) → Asks (StandsIn L) (cond t none (some (newsAt at (callAs op x (take k l)), change (callAs op x (take k l)))))
+      go : (t : Bool) → StandsIn L (newsAt at (callAs op x (take k l) n), asks (callAs op x (take k l) n)) → Asks (StandsIn L) (cond t none (some (newsAt at (callAs op x (take k l) n), asks (callAs op x (take k l) n))))
       go true s = tt
       go false s = s
 
 -- ── All calls ───────────────────────────────────────────────────────────────────────────────────────────────
 
-all-stand : (T : Table) (L : List ℕ) (cs : List (ℕ × ℕ)) (at : ℕ) (l : List ℕ) (r : List Call) → drop at L ≡ l → calls cs l ≡ some r → any (wrongCall T) r ≡ false → All (Asks (StandsIn L)) (allAsked at r)
-unfolding calls allAsked any
-all-stand T L [] at [] r e q w = rw (← some-inj q) tt
-all-stand T L [] at (x ∷ l) r e q w = none-some q
-all-stand T L (c ∷ cs) at l r e q w = go (leb (countOf (c .0)) (length l)) refl q (all-stand T L cs)
-  where
-    k : ℕ
-    k = countOf (c .0)
-
-    d : Call
-    d = callOf (c .0) (c .1) (take k l)
-
-    go : (t : Bool) → leb k (length l) ≡ t → cond t (Option·map (λ r. d ∷ r) (calls cs (drop k l))) none ≡ some r
-        → ((at : ℕ) (l : List ℕ) (r : List Call) → drop at L ≡ l → calls cs l ≡ some r → any (wrongCall T) r ≡ false → All (Asks (StandsIn L)) (allAsked at r))
-        → All (Asks (StandsIn L)) (allAsked at r)
-    go false t q f = none-some q
-    go true t q f =
-        let (m, em, er) = map-some (λ (r : List Call). d ∷ r) (calls cs (drop k l)) q in
-        let (a, b) = either-false (wrongCall T d) (any (wrongCall T) m) (rw (← er) at w) in
-        let h : k ≤ length l = leb-true k (length l) t in
-        let n : drop (at + length (take k l)) L ≡ drop k l = rw (length-take-le k l h, ← drop-drop k at L, e) in
-        rw (← er) (asks L at (c .1) k l e h (operationOf (c .0)) ((judged T d a) .count), f (at + length (take k l)) (drop k l) m n em b)
+-- what calls that fit ask for stands in the batch's list L, of which the elements from `at` on are theirs
+pub fit-stand : (n : ℕ) (L : List ℕ) (cs : List (ℕ × ℕ)) (at : ℕ) (l : List ℕ) → drop at L ≡ l → Fit n cs l → All (Asks (StandsIn L)) (allAsked at (callsOf cs l))
+unfolding callsOf allAsked
+fit-stand n L [] at l e f = tt
+fit-stand n L (c ∷ cs) at l e f =
+    let k : ℕ = countOf (c .0) in
+    let next : drop (at + length (take k l)) L ≡ drop k l = rw (length-take-le k l (f .0), ← drop-drop k at L, e) in
+    (asked-stands L at (c .1) k (ruleOf (c .0)) l e (f .0) (operationOf (c .0)) (f .3), fit-stand n L cs (at + length (take k l)) (drop k l) next (f .4))
 
 -- the elements that a recorded change of an accepted batch puts in stand in the batch's list, from its place on
 pub recorded-stand : (T : Table) (cs : List (ℕ × ℕ)) (l : List ℕ) (r : List Call) → calls cs l ≡ some r → any (wrongCall T) r ≡ false → All (StandsIn l) (recordedAt r)
 unfolding recordedAt
-recorded-stand T cs l r q w = through-all meetsAt mergedAt (StandsIn l) (merged-stands l) [] [] (allAsked 0 r) tt tt (all-stand T l cs 0 l r refl q w)
+recorded-stand T cs l r q w =
+    let (same, fit) = accepted-calls T cs l r q w in
+    rw same (through-all meetsAt mergedAt (StandsIn l) (merged-keeps (StandsIn l)) [] [] (allAsked 0 (callsOf cs l)) tt tt (fit-stand (length T) l cs 0 l refl fit))

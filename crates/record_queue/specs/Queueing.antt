@@ -134,19 +134,26 @@ module _ {A : Type 0} (meets : A → A → Bool) (merged : A → A → A) where
 
 -- ── From one form to another ────────────────────────────────────────────────────────────────────────────────
 
-module _ {A B : Type 0} (meets : A → A → Bool) (merged : A → A → A) (meets′ : B → B → Bool) (merged′ : B → B → B) (g : A → B)
-    (same : (c d : A) → meets′ (g c) (g d) ≡ meets c d) (alike : (c d : A) → g (merged c d) ≡ merged′ (g c) (g d)) where
-  pub put-map : (c : A) (q : List A) → map g (put meets merged c q) ≡ put meets′ merged′ (g c) (map g q)
+-- the two forms merge alike where P holds, as it does of all that is asked for
+module _ {A B : Type 0} (meets : A → A → Bool) (merged : A → A → A) (meets′ : B → B → Bool) (merged′ : B → B → B) (g : A → B) (P : A → Type 0) (keeps : (c d : A) → P c → P d → P (merged c d))
+    (same : (c d : A) → meets′ (g c) (g d) ≡ meets c d) (alike : (c d : A) → P c → P d → g (merged c d) ≡ merged′ (g c) (g d)) where
+  put-map : (c : A) (q : List A) → P c → All P q → map g (put meets merged c q) ≡ put meets′ merged′ (g c) (map g q)
   unfolding put
-  put-map c [] = refl
-  put-map c (d ∷ q) = rw (same c d, ← put-map c q) (go (meets c d))
+  put-map c [] h a = refl
+  put-map c (d ∷ q) h a = rw (same c d, ← put-map c q h (a .1)) (go (meets c d))
     where
       go : (t : Bool) → map g (cond t (merged c d ∷ q) (d ∷ put meets merged c q)) ≡ cond t (merged′ (g c) (g d) ∷ map g q) (g d ∷ map g (put meets merged c q))
-      go true = rw (alike c d)
+      go true = rw (alike c d h (a .0))
       go false = refl
 
-  pub through-map : (js q : List A) (cs : List (Option A)) → map g (through meets merged js q cs) ≡ through meets′ merged′ (map g js) (map g q) (map (Option·map g) cs)
+  pub through-map : (js q : List A) (cs : List (Option A)) → All P q → All (Asks P) cs → map g (through meets merged js q cs) ≡ through meets′ merged′ (map g js) (map g q) (map (Option·map g) cs)
   unfolding through
-  through-map js q [] = map-append g js q
-  through-map js q (none ∷ cs) = through-map (js ++ q) [] cs ∙ rw (map-append g js q)
-  through-map js q (some c ∷ cs) = through-map js (put meets merged c q) cs ∙ rw (put-map c q)
+  through-map js q [] a h = map-append g js q
+  through-map js q (none ∷ cs) a h = through-map (js ++ q) [] cs tt (h .1) ∙ rw (map-append g js q)
+  through-map js q (some c ∷ cs) a h = through-map js (put meets merged c q) cs (put-all meets merged P keeps c q (h .0) a) (h .1) ∙ rw (put-map c q (h .0) a)
+
+-- nothing is asked of what is asked for
+pub asks-any : {A : Type 0} (cs : List (Option A)) → All (Asks (λ c. Unit {0})) cs
+asks-any [] = tt
+asks-any (none ∷ cs) = (tt, asks-any cs)
+asks-any (some c ∷ cs) = (tt, asks-any cs)

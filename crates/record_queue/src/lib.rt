@@ -1,4 +1,5 @@
 // Recording: from the calls of an accepted batch to change rows, editor after editor.
+use record_changes::LIST;
 use record_changes::Numbers;
 use record_changes::Spot;
 use record_changes::TARGET;
@@ -6,8 +7,9 @@ use record_changes::WORDS;
 ghost use mathlib.Core.Path.{_≡_};
 ghost use mathlib.Core.List.{zip};
 ghost use Prim.Native.Nat.{_+_, _*_, _^_, _≤_, _<_};
-ghost use lib.ListN.{length, drop};
+ghost use lib.ListN.{length, getD, drop};
 ghost use Rattle.definition.specs.Words.{words as wordsOf};
+ghost use Rattle.definition.specs.Refusals.{countOf, callOf};
 ghost use Rattle.read_element_table.specs.View.{view};
 ghost use Rattle.read_element_table.specs.Wellformed.{Wellformed};
 ghost use Rattle.record_changes.specs.ChangeRow.{rowsOf};
@@ -15,8 +17,8 @@ ghost use Rattle.record_changes.specs.ChangeRowLaws.{rowAt};
 ghost use Rattle.record_changes.specs.Numbers.{rowWith, NumbersFit};
 ghost use Rattle.record_changes.specs.Spots.{SpotFits};
 ghost use Rattle.record_queue.specs.Queueing.{place};
-ghost use Rattle.record_queue.specs.RecordedRows.{isSingle, meetsSingle, meetsBy, changeRows, Put, RowsRecorded};
-ghost use Rattle.record_queue.specs.CallList.{callAs, callsOf, Fit, CallFits, CallPut, Stands};
+ghost use Rattle.record_queue.specs.RecordedRows.{isSingle, meetsSingle, meetsBy, idleBy, changeRows, Put, RowsRecorded};
+ghost use Rattle.record_queue.specs.CallList.{callsOf, Fit, CallFits, CallPut, Stands};
 
 // The rows so far: where the present editor's start, and how many there are.
 pub struct Queue {
@@ -36,7 +38,7 @@ fn is_single(operation: usize) -> bool
 
 // Whether the row at place `k` and a later change of this target, whose operation merges, merge.
 fn meets(rows: &[u32], k: usize, target: usize) -> bool
-    requires { ⌜ (13 * k + 13 ≤ length (now rows)) × (k < 2 ^ 32) ⌝ }
+    requires { ⌜ (14 * k + 14 ≤ length (now rows)) × (k < 2 ^ 32) ⌝ }
     ensures { λ r. ⌜ r ≡ meetsSingle target (rowAt (now (rows .entry)) k) ⌝ }
 {
     // The target first: most rows differ there.
@@ -48,7 +50,7 @@ fn meets(rows: &[u32], k: usize, target: usize) -> bool
 
 // The place of the first row that a change of this target, whose operation merges, meets, from `start` on; `count` if there is none.
 fn single_place(rows: &[u32], start: usize, count: usize, target: usize) -> usize
-    requires { ⌜ (start ≤ count) × (count ≤ 256) × (13 * count ≤ length (now rows)) ⌝ }
+    requires { ⌜ (start ≤ count) × (count ≤ 256) × (14 * count ≤ length (now rows)) ⌝ }
     ensures { λ r. ⌜ (r ≡ start + place (meetsSingle target) (drop start (rowsOf count (now (rows .entry))))) × (r ≤ count) ⌝ }
 {
     let mut k = start;
@@ -63,7 +65,7 @@ fn single_place(rows: &[u32], start: usize, count: usize, target: usize) -> usiz
 
 // The place of the first row that a change of this operation and target meets, from `start` on; `count` if there is none.
 fn place_of(rows: &[u32], start: usize, count: usize, operation: usize, target: usize) -> usize
-    requires { ⌜ (start ≤ count) × (count ≤ 256) × (13 * count ≤ length (now rows)) ⌝ }
+    requires { ⌜ (start ≤ count) × (count ≤ 256) × (14 * count ≤ length (now rows)) ⌝ }
     ensures { λ r. ⌜ (r ≡ start + place (meetsBy operation target) (drop start (rowsOf count (now (rows .entry))))) × (r ≤ count) ⌝ }
 {
     if !is_single(operation) {
@@ -72,32 +74,82 @@ fn place_of(rows: &[u32], start: usize, count: usize, operation: usize, target: 
     single_place(rows, start, count, target)
 }
 
+// Element `i` of the `listed` that stand at `list` in a batch, 0 past the end.
+fn listed_at(b: &[u8], list: usize, listed: usize, i: usize) -> usize
+    requires { ⌜ list + 4 * listed ≤ length (now b) ⌝ }
+    ensures { λ r. ⌜ r ≡ getD (wordsOf listed (drop list (now (b .entry)))) i 0 ⌝ }
+{
+    if i < listed {
+        return words::read_word(b, list + 4 * i);
+    }
+    0
+}
+
+// Whether a later change of this operation, whose first element stands at `at` in the batch's list, has no effect on the row at place `k`, which it meets: a
+// delete stays, and so does a replacement by the same element.
+fn is_idle(
+    b: &[u8],
+    list: usize,
+    listed: usize,
+    rows: &[u32],
+    k: usize,
+    operation: usize,
+    at: usize,
+) -> bool
+    requires { ⌜ (list + 4 * listed ≤ length (now b)) × (14 * k + 14 ≤ length (now rows)) × (k < 2 ^ 32) ⌝ }
+    ensures { λ r. ⌜ r ≡ idleBy (wordsOf listed (drop list (now (b .entry)))) operation at (rowAt (now (rows .entry)) k) ⌝ }
+{
+    let earlier = words::word(rows, WORDS * k);
+    if earlier == 3 {
+        return true;
+    }
+    if earlier != 2 {
+        return false;
+    }
+    if operation != 2 {
+        return false;
+    }
+    let element = listed_at(b, list, listed, words::word(rows, WORDS * k + LIST));
+    element == listed_at(b, list, listed, at)
+}
+
 // Rust: SyntaxEditor::replace, SyntaxEditor::delete, which look for a replacement of the same element. A change is recorded among the rows from `start`
-// on, over the one it meets unless that is a delete, which stays; how many rows there are then.
-fn record_change(rows: &mut [u32], start: usize, count: usize, m: Numbers, s: Spot) -> usize
-    requires { ⌜ (start ≤ count) × (count < 256) × (13 * count + 13 ≤ length (now rows)) × NumbersFit m × SpotFits s ⌝ }
-    ensures { λ r. ⌜ Put (rowWith m s) start count (now (rows .entry)) r (now (rows .exit)) ⌝ }
+// on, over the one it meets unless it has no effect on that; how many rows there are then.
+fn record_change(
+    b: &[u8],
+    list: usize,
+    listed: usize,
+    rows: &mut [u32],
+    start: usize,
+    count: usize,
+    m: Numbers,
+    s: Spot,
+    rule: usize,
+) -> usize
+    requires { ⌜ list + 4 * listed ≤ length (now b) ⌝ }
+    requires { ⌜ (start ≤ count) × (count < 256) × (14 * count + 14 ≤ length (now rows)) × NumbersFit m × SpotFits s × (rule < 2 ^ 32) ⌝ }
+    ensures { λ r. ⌜ Put (wordsOf listed (drop list (now (b .entry)))) (rowWith m s rule) start count (now (rows .entry)) r (now (rows .exit)) ⌝ }
 {
     let k = place_of(rows, start, count, m.operation, m.target);
     if k == count {
-        record_changes::write_row(rows, k, m, s);
+        record_changes::write_row(rows, k, m, s, rule);
         return count + 1;
     }
-    if words::word(rows, WORDS * k) == 3 {
+    if is_idle(b, list, listed, rows, k, m.operation, m.list) {
         return count;
     }
-    record_changes::write_row(rows, k, m, s);
+    record_changes::write_row(rows, k, m, s, rule);
     count
 }
 
-// A call is recorded, whose `listed` elements stand at `from` in the batch and at `at` in its list: the present editor's first row, and how many rows
-// there are.
+// The call of a call word is recorded, whose elements stand at `at` in the batch's list of `listed`: the present editor's first row, and how many rows there
+// are.
 fn record_call(
     b: &[u8],
-    from: usize,
-    at: usize,
-    operation: usize,
+    list: usize,
     listed: usize,
+    at: usize,
+    word: usize,
     target: usize,
     n: usize,
     table: &[u32],
@@ -106,22 +158,27 @@ fn record_call(
     rows: &mut [u32],
 ) -> Queue
     requires { ⌜ Wellformed n (now table) (now source) ⌝ }
-    requires { ⌜ CallFits n (now b) from at listed target ⌝ }
-    requires { ⌜ (q .start ≤ q .count) × (q .count < 256) × (13 * q .count + 13 ≤ length (now rows)) ⌝ }
-    ensures { λ r. ⌜ CallPut (view n (now (table .entry)) (now (source .entry))) at (callAs operation target (wordsOf listed (drop from (now (b .entry))))) (q .start) (q .count) (now (rows .entry)) (r .start) (r .count) (now (rows .exit)) ⌝ }
+    requires { ⌜ CallFits n (now b) (list + 4 * at) at (countOf word) target ⌝ }
+    requires { ⌜ list + 4 * listed ≤ length (now b) ⌝ }
+    requires { ⌜ (q .start ≤ q .count) × (q .count < 256) × (14 * q .count + 14 ≤ length (now rows)) ⌝ }
+    ensures { λ r. ⌜ CallPut (view n (now (table .entry)) (now (source .entry))) (wordsOf listed (drop list (now (b .entry)))) at (callOf word target (wordsOf (countOf word) (drop (list + 4 * at) (now (b .entry))))) (q .start) (q .count) (now (rows .entry)) (r .start) (r .count) (now (rows .exit)) ⌝ }
 {
     let start = q.start;
     let count = q.count;
+    let operation = read_calls::operation_of(word);
     if operation == 6 {
         return Queue {
             start: count,
             count,
         };
     }
-    let first = read_calls::first_listed(b, from, listed);
-    let c = record_changes::change_of(operation, target, at, listed, first);
+    let taken = read_calls::count_of(word);
+    let rule = read_calls::rule_of(word);
+    let first = read_calls::first_listed(b, list + 4 * at, taken);
+    let c = record_changes::change_of(operation, target, at, taken, first);
     let s = record_changes::spot_of(c, first, n, table, source);
-    let next = record_change(rows, start, count, record_changes::numbers_of(c), s);
+    let m = record_changes::numbers_of(c);
+    let next = record_change(b, list, listed, rows, start, count, m, s, rule);
     Queue { start, count: next }
 }
 
@@ -141,7 +198,7 @@ pub fn record_calls(
 ) -> usize
     requires { ⌜ Wellformed n (now table) (now source) ⌝ }
     requires { ⌜ Stands (now b) words targets calls list listed ⌝ }
-    requires { ⌜ 13 * calls ≤ length (now rows) ⌝ }
+    requires { ⌜ 14 * calls ≤ length (now rows) ⌝ }
     requires { ⌜ Fit n (zip (wordsOf calls (drop words (now b))) (wordsOf calls (drop targets (now b)))) (wordsOf listed (drop list (now b))) ⌝ }
     ensures { λ r. ⌜ RowsRecorded calls (changeRows (view n (now (table .entry)) (now (source .entry))) (callsOf (zip (wordsOf calls (drop words (now (b .entry)))) (wordsOf calls (drop targets (now (b .entry))))) (wordsOf listed (drop list (now (b .entry)))))) (now (rows .entry)) r (now (rows .exit)) ⌝ }
 {
@@ -151,13 +208,12 @@ pub fn record_calls(
     while i < calls {
         let word = words::read_word(b, words + 4 * i);
         let target = words::read_word(b, targets + 4 * i);
-        let count = read_calls::count_of(word);
         q = record_call(
             b,
-            list + 4 * taken,
+            list,
+            listed,
             taken,
-            read_calls::operation_of(word),
-            count,
+            word,
             target,
             n,
             table,
@@ -165,7 +221,7 @@ pub fn record_calls(
             q,
             rows,
         );
-        taken += count;
+        taken += read_calls::count_of(word);
         i += 1;
     }
     q.count

@@ -46,7 +46,7 @@ module _ (n op x y : ℕ) (l : Listed) (few : n ≤ 2048) (hx : x < n) (hy : y <
 
 -- the words that tell the change
 pub change-read : (w : List ℕ) (n i x y op at k : ℕ) (c : Change) → n ≤ 2048 → x < n → y < n
-    → (op ≡ getD (drop (13 * i) w) 0 0) × (op < 2 ^ 32) → (at ≡ getD (drop (13 * i) w) 3 0) × (at < 2 ^ 32) → (k ≡ getD (drop (13 * i) w) 4 0) × (k < 2 ^ 32)
+    → (op ≡ getD (drop (14 * i) w) 0 0) × (op < 2 ^ 32) → (at ≡ getD (drop (14 * i) w) 3 0) × (at < 2 ^ 32) → (k ≡ getD (drop (14 * i) w) 4 0) × (k < 2 ^ 32)
     → c ≡ changeBy op x y (record { at = at; count = k }) → ChangedEnds n (rowAt w i) x y c
 unfolding changeAnew rowAt rowOf
 change-read w n i x y op at k c few hx hy qo qa qk e =
@@ -66,35 +66,35 @@ paste-again d s t p n h k =
     let e : take p (paste d p s n) ≡ take p d = rw (append-assoc (take p d) (take n s) (drop (p + n) d)) (take-at (take p d) (take n s ++ drop (p + n) d) p (length-take-le p d h)) in
     rw (e, drop-paste d p s n h k)
 
--- fate and owner of r written over those of q
-fate-written : (d : List ℕ) (i : ℕ) (r q : ChangeRow) → 13 * i + 13 ≤ length d → paste (paste d (13 * i) (rowWords q) 13) (13 * i + 11) (r .fate ∷ r .owner ∷ []) 2 ≡ paste d (13 * i) (rowWords (keptFate r q)) 13
+-- fate, owner and rule number of r written over those of q
+fate-written : (d : List ℕ) (i : ℕ) (r q : ChangeRow) → 14 * i + 14 ≤ length d → paste (paste d (14 * i) (rowWords q) 14) (14 * i + 11) (r .fate ∷ r .owner ∷ r .rule ∷ []) 3 ≡ paste d (14 * i) (rowWords (keptFate r q)) 14
 unfolding keptFate rowWords rowOf
 fate-written d i r q h =
     let first : List ℕ = take 11 (rowWords q) in
-    let old : List ℕ = q .fate ∷ q .owner ∷ [] in
-    let new : List ℕ = r .fate ∷ r .owner ∷ [] in
-    let d′ : List ℕ = paste d (13 * i) first 11 in
-    let behind : (t : List ℕ) → paste d′ (13 * i + 11) t 2 ≡ paste d (13 * i) (first ++ t) 13 = λ t. paste-paste d (13 * i) first 11 t 2 (13 * i + 11) 13 refl refl (omega arith) (omega arith) refl in
-    ap (λ (v : List ℕ). paste v (13 * i + 11) new 2) (sym (behind old))
-    ∙ (paste-again d′ old new (13 * i + 11) 2 (omega (arith, length-paste d (13 * i) first 11 (omega arith) (omega arith))) (omega arith) ∙ behind new)
+    let old : List ℕ = q .fate ∷ q .owner ∷ q .rule ∷ [] in
+    let new : List ℕ = r .fate ∷ r .owner ∷ r .rule ∷ [] in
+    let d′ : List ℕ = paste d (14 * i) first 11 in
+    let behind : (t : List ℕ) → paste d′ (14 * i + 11) t 3 ≡ paste d (14 * i) (first ++ t) 14 = λ t. paste-paste d (14 * i) first 11 t 3 (14 * i + 11) 14 refl refl (omega arith) (omega arith) refl in
+    ap (λ (v : List ℕ). paste v (14 * i + 11) new 3) (sym (behind old))
+    ∙ (paste-again d′ old new (14 * i + 11) 3 (omega (arith, length-paste d (14 * i) first 11 (omega arith) (omega arith))) (omega arith) ∙ behind new)
 
--- they are the last two words of a row
-pub fate-copied : (w d d′ : List ℕ) (i f o : ℕ) → f ≡ getD (drop (13 * i) w) 11 0 → o ≡ getD (drop (13 * i) w) 12 0 → d′ ≡ paste d (13 * i + 11) (f ∷ o ∷ []) 2
-    → d′ ≡ paste d (13 * i + 11) ((rowAt w i) .fate ∷ (rowAt w i) .owner ∷ []) 2
+-- they are the last three words of a row
+pub fate-copied : (w d d′ : List ℕ) (i f o n : ℕ) → f ≡ getD (drop (14 * i) w) 11 0 → o ≡ getD (drop (14 * i) w) 12 0 → n ≡ getD (drop (14 * i) w) 13 0 → d′ ≡ paste d (14 * i + 11) (f ∷ o ∷ n ∷ []) 3
+    → d′ ≡ paste d (14 * i + 11) ((rowAt w i) .fate ∷ (rowAt w i) .owner ∷ (rowAt w i) .rule ∷ []) 3
 unfolding rowAt rowOf
-fate-copied w d d′ i f o ef eo e = rw (← ef, ← eo) e
+fate-copied w d d′ i f o n ef eo en e = rw (← ef, ← eo, ← en) e
 
--- the row of the change, and then its fate
+-- the row of the change, and then its fate, owner and rule number
 pub row-written : (T : Table) (w d d₁ d₂ : List ℕ) (n i x y z : ℕ) (c : Change) (m : Numbers) (s : Spot)
-    → d₂ ≡ paste d₁ (13 * i + 11) ((rowAt w i) .fate ∷ (rowAt w i) .owner ∷ []) 2 → d₁ ≡ paste d (13 * i) (rowWords (rowWith m s)) 13 → m ≡ numbersOf c → s ≡ spotOf T (asChange (z ∷ []) c)
-    → ChangedEnds n (rowAt w i) x y c → 13 * i + 13 ≤ length d → d₂ ≡ paste d (13 * i) (rowWords (rowAnew T (rowAt w i) x y z)) 13
+    → d₂ ≡ paste d₁ (14 * i + 11) ((rowAt w i) .fate ∷ (rowAt w i) .owner ∷ (rowAt w i) .rule ∷ []) 3 → d₁ ≡ paste d (14 * i) (rowWords (rowWith m s 0)) 14 → m ≡ numbersOf c → s ≡ spotOf T (asChange (z ∷ []) c)
+    → ChangedEnds n (rowAt w i) x y c → 14 * i + 14 ≤ length d → d₂ ≡ paste d (14 * i) (rowWords (rowAnew T (rowAt w i) x y z)) 14
 unfolding rowAnew
 row-written T w d d₁ d₂ n i x y z c m s e₂ e₁ em es C h =
-    rw (e₂, e₁, em, es, C .change) (fate-written d i (rowAt w i) (rowWith (numbersOf (changeAnew (rowAt w i) x y)) (spotOf T (asChange (z ∷ []) (changeAnew (rowAt w i) x y)))) h)
+    rw (e₂, e₁, em, es, C .change) (fate-written d i (rowAt w i) (rowWith (numbersOf (changeAnew (rowAt w i) x y)) (spotOf T (asChange (z ∷ []) (changeAnew (rowAt w i) x y))) 0) h)
 
 -- a row passed as a part of its slice
-pub row-copied : (out w : List ℕ) (a b : ℕ) → b ≡ a + 13 → b ≤ length w → paste out a (take (b - a) (drop a w)) (length (take (b - a) (drop a w))) ≡ paste out a (drop a w) 13
+pub row-copied : (out w : List ℕ) (a b : ℕ) → b ≡ a + 14 → b ≤ length w → paste out a (take (b - a) (drop a w)) (length (take (b - a) (drop a w))) ≡ paste out a (drop a w) 14
 row-copied out w a b e h =
-    let k : b - a ≡ 13 = omega arith in
-    let l : length (take 13 (drop a w)) ≡ 13 = length-take-le 13 (drop a w) (omega (arith, length-drop a w)) in
-    rw (k, l, take-take 13 13 (drop a w) (omega arith))
+    let k : b - a ≡ 14 = omega arith in
+    let l : length (take 14 (drop a w)) ≡ 14 = length-take-le 14 (drop a w) (omega (arith, length-drop a w)) in
+    rw (k, l, take-take 14 14 (drop a w) (omega arith))

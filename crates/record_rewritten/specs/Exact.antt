@@ -16,13 +16,13 @@ use Rattle.record_rewritten.specs.Stated.{changeBy, newOf, changeOf, Sta
 
 -- the row of the change that it states, with its fate
 pub record Exact (T : Table) (listed : List ℕ) (r : ChangeRow) : Type 0 where
-  pub same : r ≡ withFate (changeRow T (r .list) (changeOf listed r)) (rowFate r)
+  pub same : r ≡ withFate (changeRow T (r .list) (r .rule) (changeOf listed r)) (rowFate r)
 
 -- it tells what planning goes by
 pub exact-tells : {T : Table} {listed : List ℕ} {r : ChangeRow} → Exact T listed r → Tells T r (changeOf listed r)
 exact-tells {T} {listed} {r} e =
     subst (λ (q : ChangeRow). Tells T q (changeOf listed r)) (sym (e .same))
-    (fate-tells T (changeRow T (r .list) (changeOf listed r)) (changeOf listed r) (rowFate r) (row-tells T (r .list) (changeOf listed r)))
+    (fate-tells T (changeRow T (r .list) (r .rule) (changeOf listed r)) (changeOf listed r) (rowFate r) (row-tells T (r .list) (r .rule) (changeOf listed r)))
 
 -- and states a change, if its numbers are in bounds
 pub exact-stated : (n : ℕ) (T : Table) (listed : List ℕ) (r : ChangeRow) → Exact T listed r → r .operation ≤ 5 → r .target < n → r .end < n → r .list + r .count ≤ length listed → Stated n listed r
@@ -32,9 +32,9 @@ exact-stated n T listed r e h t d l =
 
 -- ── The row of a recorded change ────────────────────────────────────────────────────────────────────────────
 
-module _ (T : Table) (listed : List ℕ) (at : ℕ) (f : Fate) where
+module _ (T : Table) (listed : List ℕ) (at n : ℕ) (f : Fate) where
   -- it states the change whose elements stand at its place among the listed ones
-  pub recorded-states : (c : Change) → take (length (news c)) (drop at listed) ≡ news c → changeOf listed (withFate (changeRow T at c) f) ≡ c
+  pub recorded-states : (c : Change) → take (length (news c)) (drop at listed) ≡ news c → changeOf listed (withFate (changeRow T at n c) f) ≡ c
   unfolding changeOf newOf changeBy withFate changeRow operation target endOf news
   recorded-states (insert firstChild x l) h = ap (insert firstChild x) h
   recorded-states (insert after x l) h = ap (insert after x) h
@@ -47,6 +47,6 @@ module _ (T : Table) (listed : List ℕ) (at : ℕ) (f : Fate) where
   recorded-states (replaceWithMany x l) h = ap (replaceWithMany x) h
   recorded-states (replaceAll x y l) h = ap (replaceAll x y) h
 
-  pub recorded-exact : (c : Change) → take (length (news c)) (drop at listed) ≡ news c → Exact T listed (withFate (changeRow T at c) f)
+  pub recorded-exact : (c : Change) → take (length (news c)) (drop at listed) ≡ news c → Exact T listed (withFate (changeRow T at n c) f)
   unfolding withFate changeRow
-  recorded-exact c h = record { same = rw (recorded-states c h, fate-stated (changeRow T at c) f) }
+  recorded-exact c h = record { same = rw (recorded-states c h, fate-stated (changeRow T at n c) f) }

@@ -38,9 +38,9 @@ newOf listed r = take (r .count) (drop (r .list) listed)
 unfoldable pub changeOf : List ℕ → ChangeRow → Change
 changeOf listed r = changeBy r.operation r.target r.end (getD listed r.list 0) (newOf listed r)
 
--- and what becomes of it
+-- and what becomes of it, with its rule number
 unfoldable pub planOf : List ℕ → ChangeRow → Planned
-planOf listed r = record { change = changeOf listed r; fate = rowFate r }
+planOf listed r = record { change = changeOf listed r; fate = rowFate r; rule = r .rule }
 
 -- a row of a batch with n elements that states a change
 pub record Stated (n : ℕ) (listed : List ℕ) (r : ChangeRow) : Type 0 where
@@ -70,13 +70,13 @@ pub record NewEnds (n : ℕ) (listed : List ℕ) (r : ChangeRow) (x y : ℕ) : T
 -- the row at place i is one of 256 and states a change; as a dependent it has an owner
 pub record Fated (n : ℕ) (listed w : List ℕ) (i : ℕ) : Type 0 where
   pub few : i < 256
-  pub long : 13 * i + 13 ≤ length w
+  pub long : 14 * i + 14 ≤ length w
   pub owned : (rowAt w i) .fate ≡ 1 → ((rowAt w i) .owner < 256) × Dependent n listed (rowAt w ((rowAt w i) .owner)) (rowAt w i)
 
 -- c rows that state changes, each dependent with a call 2 as owner
 pub record Rewritable (n : ℕ) (listed w : List ℕ) (c : ℕ) : Type 0 where
   pub few : c ≤ 256
-  pub long : 13 * c ≤ length w
+  pub long : 14 * c ≤ length w
   pub elements : All (λ e. e < n) listed
   pub stated : (i : ℕ) → i < c → Stated n listed (rowAt w i)
   pub owned : (i : ℕ) → i < c → (rowAt w i) .fate ≡ 1 → ((rowAt w i) .owner < c) × ((rowAt w ((rowAt w i) .owner)) .operation ≡ 2)
@@ -103,13 +103,13 @@ pub record ChangedEnds (n : ℕ) (r : ChangeRow) (x y : ℕ) (c : code.Change) :
   pub named : Named n c
   pub fits : NumbersFit (numbersOf c)
 
--- the row q with the fate and owner of r
+-- the row q with the fate, owner and rule number of r
 unfoldable pub keptFate : ChangeRow → ChangeRow → ChangeRow
-keptFate r q = rowOf (take 11 (rowWords q) ++ (r .fate ∷ r .owner ∷ []))
+keptFate r q = rowOf (take 11 (rowWords q) ++ (r .fate ∷ r .owner ∷ r .rule ∷ []))
 
 -- the row r with the target x, the end y and the first listed element z
 unfoldable pub rowAnew : Table → ChangeRow → ℕ → ℕ → ℕ → ChangeRow
-rowAnew T r x y z = keptFate r (rowWith (numbersOf (changeAnew r x y)) (spotOf T (asChange (z ∷ []) (changeAnew r x y))))
+rowAnew T r x y z = keptFate r (rowWith (numbersOf (changeAnew r x y)) (spotOf T (asChange (z ∷ []) (changeAnew r x y))) 0)
 
 -- ── A change by its number, part by part ────────────────────────────────────────────────────────────────────
 
@@ -151,15 +151,15 @@ fate-dependent r f = go (r .fate) f
     go : (k : ℕ) → k ≡ 1 → cond (eqb k 0) own (cond (eqb k 1) (dependent (r .owner)) (discarded (r .owner))) ≡ dependent (r .owner)
     go k q = rw q
 
--- a dependent's fate is kept by its words
-fate-kept : (r q : ChangeRow) → r .fate ≡ 1 → withFate q (rowFate r) ≡ keptFate r q
-unfolding withFate keptFate fateOf ownerOf rowOf rowWords
-fate-kept r q f = rw (fate-dependent r f) (ap (λ (k : ℕ). rowOf (take 11 (rowWords q) ++ (k ∷ r .owner ∷ []))) (sym f))
+-- a dependent's fate is kept by its words, and so is its rule number
+fate-kept : (T : Table) (at : ℕ) (r : ChangeRow) (c : Change) → r .fate ≡ 1 → withFate (changeRow T at (r .rule) c) (rowFate r) ≡ keptFate r (changeRow T at 0 c)
+unfolding withFate changeRow keptFate fateOf ownerOf rowOf rowWords
+fate-kept T at r c f = rw (fate-dependent r f) (ap (λ (k : ℕ). rowOf (take 11 (rowWords (changeRow T at 0 c)) ++ (k ∷ r .owner ∷ r .rule ∷ []))) (sym f))
 
 module _ (T : Table) (at k x y z z′ : ℕ) (new : List ℕ) where
   -- the row of a change by its number, by the numbers of the code's change
   row-by : (op : ℕ) → op ≤ 5 → k ≡ length (news (changeBy op x y z new)) → (op ≡ 2 → z′ ≡ z)
-      → changeRow T at (changeBy op x y z new) ≡ rowWith (numbersOf (codeBy op x y (record { at = at; count = k }))) (spotOf T (asChange (z′ ∷ []) (codeBy op x y (record { at = at; count = k }))))
+      → changeRow T at 0 (changeBy op x y z new) ≡ rowWith (numbersOf (codeBy op x y (record { at = at; count = k }))) (spotOf T (asChange (z′ ∷ []) (codeBy op x y (record { at = at; count = k })))) 0
   unfolding changeBy codeBy news changeRow rowWith spotOf operation endOf target rank from to parentDepth regionOf addsRegion nodeByNode headD
   row-by zero h c g = rw c
   row-by (suc zero) h c g = rw c
@@ -169,13 +169,13 @@ module _ (T : Table) (at k x y z z′ : ℕ) (new : List ℕ) where
   row-by (suc (suc (suc (suc (suc zero))))) h c g = rw c
   row-by (suc (suc (suc (suc (suc (suc op)))))) h c g = absurd (omega arith)
 
--- the row anew is that of the change with the new target and end, and with the fate as it was
+-- the row anew is that of the change with the new target and end, and with the fate and the rule number as they were
 pub row-anew : (T : Table) (n : ℕ) (listed : List ℕ) (r : ChangeRow) (x y z : ℕ) → Stated n listed r → r .fate ≡ 1 → (r .operation ≡ 2 → z ≡ getD listed (r .list) 0)
-    → withFate (changeRow T (r .list) (changeBy (r .operation) x y (getD listed (r .list) 0) (newOf listed r))) (rowFate r) ≡ rowAnew T r x y z
+    → withFate (changeRow T (r .list) (r .rule) (changeBy (r .operation) x y (getD listed (r .list) 0) (newOf listed r))) (rowFate r) ≡ rowAnew T r x y z
 unfolding rowAnew changeAnew changeOf
 row-anew T n listed r x y z′ S f g =
     let op : ℕ = r .operation in
     let z : ℕ = getD listed (r .list) 0 in
     let new : List ℕ = newOf listed r in
     let c : r .count ≡ length (news (changeBy op x y z new)) = S .counted ∙ ap length (news-by op (r .target) (r .end) z x y new (S .known)) in
-    fate-kept r (changeRow T (r .list) (changeBy op x y z new)) f ∙ ap (keptFate r) (row-by T (r .list) (r .count) x y z z′ new op (S .known) c g)
+    fate-kept T (r .list) r (changeBy op x y z new) f ∙ ap (keptFate r) (row-by T (r .list) (r .count) x y z z′ new op (S .known) c g)

@@ -1,4 +1,4 @@
-// The row of a dependent with the ends that it has in the replacement: written as recording writes rows, with fate and owner kept.
+// The row of a dependent with the ends that it has in the replacement: written as recording writes rows, with fate, owner and rule number kept.
 ghost use mathlib.Core.List.{[], _∷_};
 ghost use mathlib.Core.Path.{_≡_};
 ghost use Prim.Native.Nat.{_+_, _*_, _≤_, _<_};
@@ -25,17 +25,18 @@ fn change_anew(rows: &[u32], n: usize, i: usize, x: usize, y: usize) -> Change
     record_changes::change_by(operation, x, y, listed)
 }
 
-// Fate and owner of the row at place `i` of `rows`, written at the same place of `out`.
+// Fate, owner and rule number of the row at place `i` of `rows`, written at the same place of `out`.
 fn copy_fate(rows: &[u32], i: usize, out: &mut [u32])
-    requires { ⌜ (i < 256) × (13 * i + 13 ≤ length (now out)) ⌝ }
-    ensures { λ _. ⌜ now (out .exit) ≡ paste (now (out .entry)) (13 * i + 11) ((rowAt (now (rows .entry)) i) .fate ∷ (rowAt (now (rows .entry)) i) .owner ∷ []) 2 ⌝ }
+    requires { ⌜ (i < 256) × (14 * i + 14 ≤ length (now out)) ⌝ }
+    ensures { λ _. ⌜ now (out .exit) ≡ paste (now (out .entry)) (14 * i + 11) ((rowAt (now (rows .entry)) i) .fate ∷ (rowAt (now (rows .entry)) i) .owner ∷ (rowAt (now (rows .entry)) i) .rule ∷ []) 3 ⌝ }
 {
     let fate = record_changes::field(rows, i, record_changes::FATE);
     let owner = record_changes::field(rows, i, record_changes::OWNER);
+    let rule = record_changes::field(rows, i, record_changes::RULE);
     words::copy_in(
         out,
         record_changes::WORDS * i + record_changes::FATE,
-        &[fate as u32, owner as u32],
+        &[fate as u32, owner as u32, rule as u32],
     );
 }
 
@@ -53,19 +54,19 @@ pub fn write_row(
     out: &mut [u32],
 )
     requires { ⌜ Wellformed n (now table) (now source) ⌝ }
-    requires { ⌜ (x < n) × (y < n) × (z < n) × (i < 256) × (13 * i + 13 ≤ length (now out)) ⌝ }
-    ensures { λ _. ⌜ now (out .exit) ≡ paste (now (out .entry)) (13 * i) (rowWords (rowAnew (view n (now (table .entry)) (now (source .entry))) (rowAt (now (rows .entry)) i) x y z)) 13 ⌝ }
+    requires { ⌜ (x < n) × (y < n) × (z < n) × (i < 256) × (14 * i + 14 ≤ length (now out)) ⌝ }
+    ensures { λ _. ⌜ now (out .exit) ≡ paste (now (out .entry)) (14 * i) (rowWords (rowAnew (view n (now (table .entry)) (now (source .entry))) (rowAt (now (rows .entry)) i) x y z)) 14 ⌝ }
 {
     let change = change_anew(rows, n, i, x, y);
     let spot = record_changes::spot_of(change, z, n, table, source);
-    record_changes::write_row(out, i, record_changes::numbers_of(change), spot);
+    record_changes::write_row(out, i, record_changes::numbers_of(change), spot, 0);
     copy_fate(rows, i, out);
 }
 
 // The row at place `i` of `rows`, written at the same place of `out`.
 pub fn copy_row(rows: &[u32], i: usize, out: &mut [u32])
-    requires { ⌜ (i < 256) × (13 * i + 13 ≤ length (now rows)) × (13 * i + 13 ≤ length (now out)) ⌝ }
-    ensures { λ _. ⌜ now (out .exit) ≡ paste (now (out .entry)) (13 * i) (drop (13 * i) (now (rows .entry))) 13 ⌝ }
+    requires { ⌜ (i < 256) × (14 * i + 14 ≤ length (now rows)) × (14 * i + 14 ≤ length (now out)) ⌝ }
+    ensures { λ _. ⌜ now (out .exit) ≡ paste (now (out .entry)) (14 * i) (drop (14 * i) (now (rows .entry))) 14 ⌝ }
 {
     let from = record_changes::WORDS * i;
     let to = from + record_changes::WORDS;

@@ -8,7 +8,7 @@ use Rattle.definition.specs.Finishing.{Result}
 
 -- where the text stands, behind n elements, c changed elements and m notes
 abbrev pub textAt : ℕ → ℕ → ℕ → ℕ
-textAt n c m = 24 + 8 * n + 4 * c + 8 * m
+textAt n c m = 24 + 8 * n + 8 * c + 8 * m
 
 -- the result that sizes and arrays tell
 unfoldable pub told : List ℕ → ℕ → ℕ → ℕ → ℕ → ℕ → ℕ → Result
@@ -16,8 +16,9 @@ told b n t c m discarded climbs = record {
   kinds = words n (drop 24 b);
   measures = words n (drop (24 + 4 * n) b);
   changed = words c (drop (24 + 8 * n) b);
-  numbers = words m (drop (24 + 8 * n + 4 * c) b);
-  noted = words m (drop (24 + 8 * n + 4 * c + 4 * m) b);
+  rules = words c (drop (24 + 8 * n + 4 * c) b);
+  numbers = words m (drop (24 + 8 * n + 8 * c) b);
+  noted = words m (drop (24 + 8 * n + 8 * c + 4 * m) b);
   text = take t (drop (textAt n c m) b);
   discarded = discarded;
   climbs = climbs;

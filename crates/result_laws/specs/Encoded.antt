@@ -13,19 +13,22 @@ use Rattle.definition_laws.specs.Limits.{Within, encoded-length}
 use Rattle.result_laws.specs.Worded.{Words, Worded}
 use Rattle.result_laws.specs.Decoded.{textAt, told, decoded}
 
--- six lists joined, told from each
-module _ (a b c d e f : List ℕ) where
-  from-3 : a ++ (b ++ (c ++ (d ++ (e ++ f)))) ≡ (a ++ b) ++ (c ++ (d ++ (e ++ f)))
+-- seven lists joined, told from each
+module _ (a b c d e f g : List ℕ) where
+  from-3 : a ++ (b ++ (c ++ (d ++ (e ++ (f ++ g))))) ≡ (a ++ b) ++ (c ++ (d ++ (e ++ (f ++ g))))
   from-3 = simp append-assoc
 
-  from-4 : a ++ (b ++ (c ++ (d ++ (e ++ f)))) ≡ (a ++ b ++ c) ++ (d ++ (e ++ f))
+  from-4 : a ++ (b ++ (c ++ (d ++ (e ++ (f ++ g))))) ≡ (a ++ b ++ c) ++ (d ++ (e ++ (f ++ g)))
   from-4 = simp append-assoc
 
-  from-5 : a ++ (b ++ (c ++ (d ++ (e ++ f)))) ≡ (a ++ b ++ c ++ d) ++ (e ++ f)
+  from-5 : a ++ (b ++ (c ++ (d ++ (e ++ (f ++ g))))) ≡ (a ++ b ++ c ++ d) ++ (e ++ (f ++ g))
   from-5 = simp append-assoc
 
-  from-6 : a ++ (b ++ (c ++ (d ++ (e ++ f)))) ≡ (a ++ b ++ c ++ d ++ e) ++ (f ++ [])
-  from-6 = simp (append-assoc, append-nil)
+  from-6 : a ++ (b ++ (c ++ (d ++ (e ++ (f ++ g))))) ≡ (a ++ b ++ c ++ d ++ e) ++ (f ++ g)
+  from-6 = simp append-assoc
+
+  from-7 : a ++ (b ++ (c ++ (d ++ (e ++ (f ++ g))))) ≡ (a ++ b ++ c ++ d ++ e ++ f) ++ (g ++ [])
+  from-7 = simp (append-assoc, append-nil)
 
 -- the array a behind the words p
 part : (p a s text : List ℕ) (at n : ℕ) → Words a → at ≡ 4 * length p → n ≡ length a → words n (drop at (written (p ++ (a ++ s)) ++ text)) ≡ a
@@ -46,7 +49,7 @@ module _ (r : Result) (bytes rest : List ℕ) (begin : bytes ≡ encoded r ++ re
 
   -- all words of a result, from the sizes on
   all : List ℕ
-  all = sixSizes r ++ (r .kinds ++ (r .measures ++ (r .changed ++ (r .numbers ++ r .noted))))
+  all = sixSizes r ++ (r .kinds ++ (r .measures ++ (r .changed ++ (r .rules ++ (r .numbers ++ r .noted)))))
 
   encoded-all : encoded r ≡ written all ++ r .text
   unfolding encoded all
@@ -57,7 +60,7 @@ module _ (r : Result) (bytes rest : List ℕ) (begin : bytes ≡ encoded r ++ re
 
   pub sizes-read : words 6 bytes ≡ sixSizes r
   unfolding all sixSizes
-  sizes-read = rw bytes-all (part [] (sixSizes r) (r .kinds ++ (r .measures ++ (r .changed ++ (r .numbers ++ r .noted)))) (r .text ++ rest) 0 6 sizes-words refl refl)
+  sizes-read = rw bytes-all (part [] (sixSizes r) (r .kinds ++ (r .measures ++ (r .changed ++ (r .rules ++ (r .numbers ++ r .noted))))) (r .text ++ rest) 0 6 sizes-words refl refl)
 
   size-at : (i : ℕ) → i < 6 → word (drop (4 * i) bytes) ≡ getD (sixSizes r) i 0
   size-at i h = sym (getD-words 6 bytes i h) ∙ ap (λ ws. getD ws i 0) sizes-read
@@ -95,7 +98,7 @@ module _ (r : Result) (bytes rest : List ℕ) (begin : bytes ≡ encoded r ++ re
   unfolding all sixSizes
   text-behind =
       let k : length (written all) ≡ textAt (length r.kinds) (length r.changed) (length r.numbers) =
-      omega (arith, ap length encoded-all, length-append (written all) r.text, encoded-length r (w .measures) (w .noted)) in
+      omega (arith, ap length encoded-all, length-append (written all) r.text, encoded-length r (w .measures) (w .ruled) (w .noted)) in
       rw (bytes-all, drop-at (written all) (r .text ++ rest) (textAt (length r.kinds) (length r.changed) (length r.numbers)) k) (take-at r.text rest (length r.text) refl)
 
   -- What is read out of the bytes is the result.
@@ -105,14 +108,17 @@ module _ (r : Result) (bytes rest : List ℕ) (begin : bytes ≡ encoded r ++ re
       let K = r .kinds in
       let M = r .measures in
       let C = r .changed in
+      let R = r .rules in
       let N = r .numbers in
       let D = r .noted in
       let S = sixSizes r in
       let k₁ = length-append S K in
       let k₂ = length-append (S ++ K) M in
       let k₃ = length-append (S ++ K ++ M) C in
-      let k₄ = length-append (S ++ K ++ M ++ C) N in
+      let k₄ = length-append (S ++ K ++ M ++ C) R in
+      let k₅ = length-append (S ++ K ++ M ++ C ++ R) N in
       let m = w .measures in
+      let u = w .ruled in
       let d = w .noted in
       rw (
         elements-read,
@@ -121,10 +127,11 @@ module _ (r : Result) (bytes rest : List ℕ) (begin : bytes ≡ encoded r ++ re
         notes-read,
         discarded-read,
         climbs-read,
-        array-read S K (M ++ (C ++ (N ++ D))) 24 (length K) refl (v .kinds) refl refl,
-        array-read (S ++ K) M (C ++ (N ++ D)) (24 + 4 * length K) (length K) (from-3 S K M C N D) (v .measures) (omega arith) (omega arith),
-        array-read (S ++ K ++ M) C (N ++ D) (24 + 8 * length K) (length C) (from-4 S K M C N D) (v .changed) (omega arith) (omega arith),
-        array-read (S ++ K ++ M ++ C) N D (24 + 8 * length K + 4 * length C) (length N) (from-5 S K M C N D) (v .numbers) (omega arith) (omega arith),
-        array-read (S ++ K ++ M ++ C ++ N) D [] (24 + 8 * length K + 4 * length C + 4 * length N) (length N) (from-6 S K M C N D) (v .noted) (omega arith) (omega arith),
+        array-read S K (M ++ (C ++ (R ++ (N ++ D)))) 24 (length K) refl (v .kinds) refl refl,
+        array-read (S ++ K) M (C ++ (R ++ (N ++ D))) (24 + 4 * length K) (length K) (from-3 S K M C R N D) (v .measures) (omega arith) (omega arith),
+        array-read (S ++ K ++ M) C (R ++ (N ++ D)) (24 + 8 * length K) (length C) (from-4 S K M C R N D) (v .changed) (omega arith) (omega arith),
+        array-read (S ++ K ++ M ++ C) R (N ++ D) (24 + 8 * length K + 4 * length C) (length C) (from-5 S K M C R N D) (v .rules) (omega arith) (omega arith),
+        array-read (S ++ K ++ M ++ C ++ R) N D (24 + 8 * length K + 8 * length C) (length N) (from-6 S K M C R N D) (v .numbers) (omega arith) (omega arith),
+        array-read (S ++ K ++ M ++ C ++ R ++ N) D [] (24 + 8 * length K + 8 * length C + 4 * length N) (length N) (from-7 S K M C R N D) (v .noted) (omega arith) (omega arith),
         text-behind,
       )

@@ -10,7 +10,7 @@ use lib.Dec.{leb, ltb, eqb, eqb→eq}
 use lib.ListN.{length, take, drop, length-append, take-append-drop}
 use borrow.Author.Tests.{leb-false}
 use Rattle.orders.specs.Lists.{All, pick}
-use Rattle.orders.specs.ListLaws.{none-passes, some-inj, none-some, All-map₂, All-over, All-pick, map-some, bind-some}
+use Rattle.orders.specs.ListLaws.{none-passes, some-inj, none-some, All-map, All-map₂, All-over, All-pick, map-some, bind-some}
 use Rattle.orders.specs.Tree.{Tree, node, token, list, label, measure, text, preorder, children, elementsOf, Path, resolve, adjust, strip}
 use Rattle.definition.specs.Basics.{gives, refuse, orRefuse, any, rising}
 use Rattle.definition.specs.Words.{words}
@@ -22,7 +22,7 @@ use Rattle.definition.specs.Refusals.{Accepted, accepted, calls, listsTooMany, 
 use Rattle.definition.specs.Answers.{judgeChanges, disjoint, Plan, rewriteChanges, plan, performed, atFirst, ran, edit}
 use Rattle.definition.specs.Planning.{Planned}
 use Rattle.definition.specs.Rewriting.{Note, settle, settled, mapping, rewritten}
-use Rattle.definition.specs.Running.{World, begin, present, withPath, notesAt, Yield, yieldAt, yield, news, Run, place, placed, spliced, tooLarge, records, step, steps}
+use Rattle.definition.specs.Running.{Changed, World, begin, present, withPath, notesAt, Yield, yieldAt, yield, news, Run, place, placed, spliced, tooLarge, records, recordedBy, step, steps}
 use Rattle.definition_laws.specs.Basics.{All-append, append-All, flatMap-append, All-flatMap, All-take, map-All}
 use Rattle.definition_laws.specs.Spelling.{read-spells}
 pub use Rattle.words.specs.Bytes.{Words, Bytes, take-bytes}
@@ -31,6 +31,8 @@ use Rattle.definition_laws.specs.Held.{Leads, Holds, number-found}
 use Rattle.definition_laws.specs.Sorting.{sort-all}
 use Rattle.definition_laws.specs.Measures.{preorders-list, preorder-list-length}
 use Rattle.definition_laws.specs.Rows.{table-length}
+use Rattle.definition_laws.specs.Accepted.{accepts}
+use Rattle.definition_laws.specs.Plans.{performed-ruled}
 use Rattle.definition_laws.specs.Limits.{Small, ran-known}
 use Rattle.orders.specs.TreeLaws.{forest-list}
 use Rattle.definition_laws.specs.Answers.{gives-inj, given, is-there}
@@ -76,10 +78,11 @@ batch-words bytes b h e =
 
 -- ── What the steps keep ─────────────────────────────────────────────────────────────────────────────────────
 
--- kind words and numbers of notes are words
+-- kind words, numbers of notes and rule numbers are words
 pub record Kept (w : World) : Type 0 where
   pub trees : Labelled w.trees
   pub notes : All (λ n. Word (n .number)) w.notes
+  pub changed : All (λ c. Word (c .1)) w.changed
 
 -- and so in what a listed element yields
 Yielded : Yield → Type 0
@@ -114,9 +117,14 @@ unfolding placed
 placed-kept q a [] h = tt
 placed-kept q a (y ∷ ys) h = (h .0, placed-kept q (suc a) ys (h .1))
 
-spliced-kept : (r : Run) (new : List Yield) (recorded : Bool) (w : World) → All Yielded new → Kept w → Kept (spliced r new recorded w)
-unfolding spliced Yielded withPath
-spliced-kept r new recorded w n k =
+-- the rule number by which a change is recorded is a word
+Ruled : Option ℕ → Type 0
+Ruled none = Unit
+Ruled (some n) = Word n
+
+spliced-kept : (r : Run) (new : List Yield) (recorded : Option ℕ) (w : World) → Ruled recorded → All Yielded new → Kept w → Kept (spliced r new recorded w)
+unfolding spliced Yielded withPath Ruled
+spliced-kept r new recorded w rule n k =
     let move = adjust r.parent r.from r.to (length new) in
     let places = placed r.parent r.from new in
     record {
@@ -126,18 +134,37 @@ spliced-kept r new recorded w n k =
           (All-pick (λ n. Option·map (withPath n) (move n.path)) (λ n. Word (n .number)) (λ n. Word (n .number)) (λ n m e h. moved (λ n. move n.path) n m h e) w.notes (k .notes))
           (All-flatMap (λ y. Yielded (y .1)) (λ n. Word (n .number)) (λ y. map (λ n. withPath n (y .0 ++ n .path)) (y .1 .notes))
           (λ y h. All-over (λ n. withPath n (y .0 ++ n .path)) (λ n. Word (n .number)) (λ n. Word (n .number)) (λ n h. h) (y .1 .notes) (h .1)) places (placed-kept r.parent r.from new n));
+      changed =
+          All-append (λ (c : Changed). Word (c .1)) (pick (λ c. Option·map (λ p. (p, c .1)) (move (c .0))) w.changed) (elim recorded [ none ↦ [] | some n ↦ map (λ y. (y .0, n)) places ])
+          (All-pick (λ c. Option·map (λ p. (p, c .1)) (move (c .0))) (λ c. Word (c .1)) (λ c. Word (c .1)) (same move) w.changed (k .changed)) (coming recorded rule places);
     }
+  where
+    same : (move : Path → Option Path) (c d : Changed) → Option·map (λ p. (p, c .1)) (move (c .0)) ≡ some d → Word (c .1) → Word (d .1)
+    same move c d e h = let (p, a, b) = map-some (λ (p : Path). (p, c .1)) (move (c .0)) e in rw (← b) h
 
-steps-kept : (T : Table) (first : World) (ps : List Planned) (w last : World) → Kept first → Kept w → steps T first w ps ≡ gives last → Kept last
+    coming : (o : Option ℕ) → Ruled o → (ys : List (Path × Yield)) → All (λ (c : Changed). Word (c .1)) (elim o as (λ _. List Changed) [ none ↦ [] | some n ↦ map (λ y. (y .0, n)) ys ])
+    coming none h ys = tt
+    coming (some n) h [] = tt
+    coming (some n) h (y ∷ ys) = (h, coming (some n) h ys)
+
+recordedBy-ruled : (T : Table) (p : Planned) → Word (p .rule) → Ruled (recordedBy T p)
+unfolding recordedBy Ruled
+recordedBy-ruled T p h = go (records T p)
+  where
+    go : (b : Bool) → Ruled (cond b (some p.rule) none)
+    go true = h
+    go false = tt
+
+steps-kept : (T : Table) (first : World) (ps : List Planned) (w last : World) → All (λ p. Word (p .rule)) ps → Kept first → Kept w → steps T first w ps ≡ gives last → Kept last
 unfolding steps step
-steps-kept T first [] w last f k e = rw (← gives-inj e) k
-steps-kept T first (p ∷ ps) w last f k e = given (step T first w p) _ e λ next a e. steps-kept T first ps next last f (next-kept next a) e
+steps-kept T first [] w last r f k e = rw (← gives-inj e) k
+steps-kept T first (p ∷ ps) w last r f k e = given (step T first w p) _ e λ next a e. steps-kept T first ps next last (r .1) f (next-kept next a) e
   where
     next-kept : (next : World) → step T first w p ≡ gives next → Kept next
     next-kept next a =
-        given (orRefuse 11 (place T w p.change)) _ a λ r b a.
-        given (refuse 12 (tooLarge (spliced r (map (yield first w) (news p.change)) (records T p) w))) _ a λ u c a.
-        rw (← gives-inj a) (spliced-kept r (map (yield first w) (news p.change)) (records T p) w (yields-kept first w (news p.change) f k) k)
+        given (orRefuse 11 (place T w p.change)) _ a λ run b a.
+        given (refuse 12 (tooLarge (spliced run (map (yield first w) (news p.change)) (recordedBy T p) w))) _ a λ u c a.
+        rw (← gives-inj a) (spliced-kept run (map (yield first w) (news p.change)) (recordedBy T p) w (recordedBy-ruled T p (r .0)) (yields-kept first w (news p.change) f k) k)
 
 -- ── What a batch begins with ────────────────────────────────────────────────────────────────────────────────
 
@@ -199,12 +226,12 @@ plan-kept h a p g e =
     given (settled a.table (mapping a.mappings) 0 a.notes) _ e λ notes x e.
     rw (← gives-inj e) (settled-kept a.table (mapping a.mappings) 0 a.notes notes g x)
 
-ran-kept : (a : Accepted) (p : Plan) (w : World) → All Labelled a.trees → All (λ n. Word (n .number)) p.notes → ran a p ≡ gives w → Kept w
+ran-kept : (a : Accepted) (p : Plan) (w : World) → All Labelled a.trees → All (λ n. Word (n .number)) p.notes → All (λ q. Word (q .rule)) (performed a p) → ran a p ≡ gives w → Kept w
 unfolding ran atFirst begin
-ran-kept a p w h k e = steps-kept a.table (atFirst a p) (performed a p) (atFirst a p) w first first e
+ran-kept a p w h k r e = steps-kept a.table (atFirst a p) (performed a p) (atFirst a p) w r first first e
   where
     first : Kept (atFirst a p)
-    first = record { trees = (omega arith, forest-labelled a.trees h); notes = k }
+    first = record { trees = (omega arith, forest-labelled a.trees h); notes = k; changed = tt }
 
 -- ── The answer ──────────────────────────────────────────────────────────────────────────────────────────────
 
@@ -213,6 +240,7 @@ pub record Worded (r : Result) : Type 0 where
   pub kinds : Words r.kinds
   pub measures : Words r.measures
   pub changed : Words r.changed
+  pub rules : Words r.rules
   pub numbers : Words r.numbers
   pub noted : Words r.noted
 
@@ -234,9 +262,13 @@ module _ (w : World) (h : length (newTable w) ≤ 65536) where
           let s : n ≡ m = some-inj (sym e ∙ a) in
           omega arith
 
-  changed-words : All (Leads w.trees) w.changed → All Word (changedElements (newTable w) w)
+  changed-words : All (λ c. Leads w.trees (c .0)) w.changed → All (λ c. Word (c .1)) w.changed → All (λ m. Word (m .0) × Word (m .1)) (changedElements (newTable w) w)
   unfolding changedElements rising
-  changed-words l = sort-all _ Word (pick (numberAt (newTable w)) w.changed) (All-pick (numberAt (newTable w)) (Leads w.trees) Word number-word w.changed l)
+  changed-words l k =
+      let at : Changed → Option (ℕ × ℕ) = λ c. Option·map (λ e. (e, c .1)) (numberAt (newTable w) (c .0)) in
+      sort-all _ (λ m. Word (m .0) × Word (m .1)) (pick at w.changed)
+      (All-pick at (λ c. Leads w.trees (c .0) × Word (c .1)) (λ m. Word (m .0) × Word (m .1))
+      (λ c m e x. let (d, a, b) = map-some (λ (e : ℕ). (e, c .1)) (numberAt (newTable w) (c .0)) e in rw (← b) (number-word (c .0) d a (x .0), x .1)) w.changed (All-map₂ (λ c a b. (a, b)) w.changed l k))
 
   notes-words : All (λ n. Leads w.trees n.path) w.notes → All (λ n. Word (n .number)) w.notes → All (λ m. Word (m .0 .number) × Word (m .1)) (noteElements (newTable w) w)
   unfolding noteElements rising
@@ -270,10 +302,12 @@ result-worded : (ps : List Planned) (climbs : ℕ) (w : World) → Kept w → Sm
 unfolding result
 result-worded ps climbs w k s h n =
     let notes = notes-words w n (h .notes) (k .notes) in
+    let changed = changed-words w n (h .changed) (k .changed) in
     record {
       kinds = all-words (map label (flatMap preorder (newTree w))) (new-labels w (k .trees));
       measures = all-words (map measure (flatMap preorder (newTree w))) (new-measures w s);
-      changed = all-words (changedElements (newTable w) w) (changed-words w n (h .changed));
+      changed = all-words (map (λ m. m .0) (changedElements (newTable w) w)) (All-over (λ m. m .0) (λ m. Word (m .0) × Word (m .1)) Word (λ m x. x .0) (changedElements (newTable w) w) changed);
+      rules = all-words (map (λ m. m .1) (changedElements (newTable w) w)) (All-over (λ m. m .1) (λ m. Word (m .0) × Word (m .1)) Word (λ m x. x .1) (changedElements (newTable w) w) changed);
       numbers = all-words (map (λ m. m .0 .number) (noteElements (newTable w) w)) (All-over (λ m. m .0 .number) (λ m. Word (m .0 .number) × Word (m .1)) Word (λ m x. x .0) (noteElements (newTable w) w) notes);
       noted = all-words (map (λ m. m .1) (noteElements (newTable w) w)) (All-over (λ m. m .1) (λ m. Word (m .0 .number) × Word (m .1)) Word (λ m x. x .1) (noteElements (newTable w) w) notes);
     }
@@ -303,4 +337,5 @@ edit-worded h bytes r g e =
     given (ran a p) _ e λ w z e.
     let (ts, ns) = accepted-kept bytes a g x in
     let k = ran-known h bytes a p w x y z in
-    rw (← gives-inj e) (result-worded p.changes p.climbs w (ran-kept a p w ts (plan-kept h a p ns y) z) (k .small) (k .holds) (table-long w (k .small)))
+    let ruled = All-map (λ q s. below-word q.rule (omega arith)) (performed a p) (performed-ruled h bytes a p (accepts bytes a x) y) in
+    rw (← gives-inj e) (result-worded p.changes p.climbs w (ran-kept a p w ts (plan-kept h a p ns y) ruled z) (k .small) (k .holds) (table-long w (k .small)))

@@ -3,21 +3,23 @@
 use mathlib.Core.Path.{_≡_, refl, sym, ap, subst, _∙_}
 use mathlib.Core.List.{List, [], _∷_, _++_, map, append-nil, append-assoc}
 use mathlib.Core.Option.{Option, none, some, Option·map}
-use Prim.Native.Nat.{ℕ, suc, _+_, _-_, _*_, _^_, _≤_, _<_}
+use Prim.Native.Nat.{ℕ, suc, _+_, _-_, _*_, _/_, _%_, _^_, _≤_, _<_}
 use native.Mathlib.Omega.{arith}
 use native.Mathlib.Numerals.{add-one}
 use native.Mathlib.Nat.{add-zero}
 use borrow.Author.Tests.{lt-ltb, le-ltb}
 use lib.ListN.{length, getD, set, take, drop, length-set, length-append, length-map}
-use lib.Seq.{paste, paste-zero, paste-suc, take-paste, drop-cons, take-suc, take-suc-set, take-all, drop-set-lt, drop-drop, length-take-le, getD-take, getD-drop}
+use lib.Seq.{paste, paste-zero, paste-suc, take-paste, drop-cons, take-all, drop-set-lt, drop-drop, length-take-le, getD-take, getD-drop}
 use Rattle.orders.specs.Lists.{All, more, pick}
 use Rattle.orders.specs.Tree.{shift}
-use Rattle.orders.specs.ListLaws.{zone-before, zone-inside, zone-after, All-at}
+use Rattle.orders.specs.ListLaws.{zone-before, zone-inside, zone-after, map-append, All-at}
 use Rattle.orders.specs.TreeLaws.{shift-before, shift-inside, shift-after}
+use Rattle.definition_laws.specs.Basics.{map-All, getD-map}
 use Rattle.rows_model.specs.Place.{inRun}
-use Rattle.run_model.specs.Store.{HeldNote, withRow}
+use Rattle.run_model.specs.Store.{HeldNote, HeldChanged, withRow, atRow, putIn}
 use Rattle.run_annotations.specs.Notes.{noteWords, notesOf, noteAt, length-notesOf, note-row, note-words, notes-to, note-among, notes-added, drop-note, length-note}
-use Rattle.run_annotations.specs.Promises.{RowMoved, RowsMoved, movedNote, NoteMoved, NotesMoved, noteIn, placedNote, NoteTaken, taken, NotesTaken, RowsAdded}
+use Rattle.run_annotations.specs.Changed.{changedWord, changedOf, changedIn, changed-read, length-changedIn, changed-to, changed-added, changed-put}
+use Rattle.run_annotations.specs.Promises.{movedChanged, RowMoved, RowsMoved, movedNote, NoteMoved, NotesMoved, noteIn, placedNote, NoteTaken, taken, NotesTaken, RowsAdded}
 use Rattle.run_annotations.specs.Places.{partRows, length-partRows}
 use Rattle.run_annotations.specs.declared.Taken.the-variants.{Full, Count}
 
@@ -33,56 +35,95 @@ pick-more {X} {Y} f (y ∷ l) x = go (f y) (pick-more f l x)
     go none e = e
     go (some z) e = ap {B = List Y} (λ r. z ∷ r) e
 
--- ── Changed rows ────────────────────────────────────────────────────────────────────────────────────────────
+-- ── Changed elements ────────────────────────────────────────────────────────────────────────────────────────
+
+-- the parts of a word are in bounds
+pub row-told : (w : ℕ) → w % 131072 ≡ changedOf w .row
+unfolding changedOf
+row-told w = refl
+
+pub rule-told : (w : ℕ) → w / 131072 ≡ changedOf w .rule
+unfolding changedOf
+rule-told w = refl
+
+-- and leave room for a move
+pub row-sum : (l : List ℕ) (i m : ℕ) {w x : ℕ} → (w ≡ getD l i 0) × (w < 2 ^ 32) → x ≡ changedOf w .row → changedOf (getD l i 0) .row < 2 ^ 16 → m < 2 ^ 16 → x + m < 2 ^ 64
+row-sum l i m {w} {x} e f h k = let s : x < 2 ^ 16 = rw (f, e .0) h in omega arith
+
+pub row-room : (l : List ℕ) (i p q m : ℕ) {w x : ℕ} → (w ≡ getD l i 0) × (w < 2 ^ 32) → x ≡ changedOf w .row → changedOf (getD l i 0) .row < 2 ^ 16 → m < 2 ^ 16 → x + m - (q - p) < 131072
+row-room l i p q m {w} {x} e f h k = let s : x < 2 ^ 16 = rw (f, e .0) h in omega arith
+
+pub rule-room : (w : ℕ) {rule : ℕ} → rule ≡ changedOf w .rule → w < 2 ^ 32 → rule < 32768
+unfolding changedOf
+rule-room w e h = omega arith
+
+pub word-told : (row rule : ℕ) → row + 131072 * rule ≡ changedWord (putIn rule row)
+unfolding changedWord
+word-told row rule = refl
+
+-- what becomes of a changed element is what becomes of its row
+moved-by : (l : List ℕ) (i p q m : ℕ) {w x : ℕ} (o : Option ℕ) → w ≡ getD l i 0 → x ≡ changedOf w .row → shift p q m x ≡ o → movedChanged p q m (changedOf (getD l i 0)) ≡ Option·map (atRow (changedOf w)) o
+moved-by l i p q m {w} {x} o e f g = rw (← e, ← f, g)
 
 module _ {l : List ℕ} {i r p q m : ℕ} where
-  -- a row y is written behind the first r
-  row-set : {x y : ℕ} → r ≤ i → i < length l → x ≡ getD l i 0 → shift p q m x ≡ some y → RowMoved l i r p q m (set l r y) (r + 1)
-  row-set {x} {y} h k e s = record {
-    kept = rw (add-one r, take-suc-set l r y (omega arith), ← e, s);
+  -- a changed element is written behind the first r
+  row-set : (y : ℕ) → r ≤ i → i < length l → movedChanged p q m (changedOf (getD l i 0)) ≡ some (changedOf y) → RowMoved l i r p q m (set l r y) (r + 1)
+  row-set y h k s = record {
+    kept = rw (add-one r, changed-added l r y (omega arith), s);
     rest = drop-set-lt (suc i) l r y (omega arith);
     long = length-set l r y;
     most = omega arith;
   }
 
-  pub row-before : {x : ℕ} → r ≤ i → i < length l → (x ≡ getD l i 0) × (x < 2 ^ 32) → x < p → RowMoved l i r p q m (set l r x) (r + 1)
-  row-before {x} h k e b = row-set h k (e .0) (shift-before p q m x b)
+  pub row-before : {w x : ℕ} → r ≤ i → i < length l → (w ≡ getD l i 0) × (w < 2 ^ 32) → x ≡ changedOf w .row → x < p → RowMoved l i r p q m (set l r w) (r + 1)
+  unfolding atRow
+  row-before {w} {x} h k e f b = row-set w h k (moved-by l i p q m (some x) (e .0) f (shift-before p q m x b) ∙ rw f)
 
-  pub row-inside : {x : ℕ} → r ≤ i → (x ≡ getD l i 0) × (x < 2 ^ 32) → p ≤ x → x < q → RowMoved l i r p q m l r
-  row-inside {x} h e a b = record {
-    kept = rw (← e .0, shift-inside p q m x a b) (sym (append-nil (take r l)));
+  pub row-inside : {w x : ℕ} → r ≤ i → (w ≡ getD l i 0) × (w < 2 ^ 32) → x ≡ changedOf w .row → p ≤ x → x < q → RowMoved l i r p q m l r
+  row-inside {w} {x} h e f a b = record {
+    kept = rw (moved-by l i p q m none (e .0) f (shift-inside p q m x a b)) (sym (append-nil (changedIn r l)));
     rest = refl;
     long = refl;
     most = omega arith;
   }
 
-  pub row-after : {x : ℕ} → r ≤ i → i < length l → (x ≡ getD l i 0) × (x < 2 ^ 32) → p ≤ x → q ≤ x → RowMoved l i r p q m (set l r (x + m - (q - p))) (r + 1)
-  row-after {x} h k e a b = row-set h k (e .0) (shift-after p q m x a b)
+  pub row-after : {w x rule y : ℕ} → r ≤ i → i < length l → (w ≡ getD l i 0) × (w < 2 ^ 32) → x ≡ changedOf w .row → p ≤ x → q ≤ x → rule ≡ changedOf w .rule
+      → q < 2 ^ 16 → m < 2 ^ 16 → changedOf (getD l i 0) .row < 2 ^ 16 → (y ≡ changedWord (putIn rule (x + m - (q - p)))) × (y < 2 ^ 32) → RowMoved l i r p q m (set l r y) (r + 1)
+  unfolding atRow
+  row-after {w} {x} {rule} {y} h k e f a b g u v n z =
+      let s : x < 2 ^ 16 = rw (f, e .0) n in
+      row-set y h k (moved-by l i p q m (some (x + m - (q - p))) (e .0) f (shift-after p q m x a b) ∙ rw (z .0, changed-read (putIn rule (x + m - (q - p))) (omega arith), g))
 
--- the first i changed rows are moved, and r of them are left
+-- the first i changed elements are moved, and r of them are left
 pub record Moving (l : List ℕ) (k p q m : ℕ) (out : List ℕ) (i r : ℕ) : Type 0 where
-  pub kept : take r out ≡ pick (shift p q m) (take i l)
+  pub kept : changedIn r out ≡ pick (movedChanged p q m) (changedIn i l)
   pub rest : drop i out ≡ drop i l
   pub long : length out ≡ length l
   pub most : r ≤ i
   pub inside : i ≤ k
 
 pub moving-start : (l : List ℕ) (k p q m : ℕ) → Moving l k p q m l 0 0
-unfolding pick
+unfolding pick changedIn
 moving-start l k p q m = record { kept = refl; rest = refl; long = refl; most = omega arith; inside = omega arith }
 
+-- a row among the first k changed elements
+changed-small : (l : List ℕ) (k i : ℕ) → i < k → k ≤ length l → All (λ c. c .row < 2 ^ 16) (changedIn k l) → changedOf (getD l i 0) .row < 2 ^ 16
+unfolding changedIn
+changed-small l k i h b a =
+    rw (← getD-take k l i 0 h) (All-at (λ x. changedOf x .row < 2 ^ 16) 0 (take k l) i (omega (arith, length-take-le k l b)) (map-All (λ c. c .row < 2 ^ 16) changedOf (take k l) a))
+
 module _ {l : List ℕ} {k p q m : ℕ} {out : List ℕ} {i r : ℕ} (v : Moving l k p q m out i r) where
-  -- a row that the loop has not come to yet
+  -- one that the loop has not come to yet
   unmoved : getD out i 0 ≡ getD l i 0
   unmoved =
       ap (λ (j : ℕ). getD out j 0) (sym (add-zero i)) ∙ (sym (getD-drop i out 0 0) ∙ (ap (λ (d : List ℕ). getD d 0 0) (v .rest) ∙ (getD-drop i l 0 0 ∙ ap (λ (j : ℕ). getD l j 0) (add-zero i))))
 
-  pub moving-small : i < k → k ≤ length l → All (λ x. x < 2 ^ 16) (take k l) → getD out i 0 < 2 ^ 16
-  moving-small h b a = rw (unmoved, ← getD-take k l i 0 h) (All-at (λ x. x < 2 ^ 16) 0 (take k l) i (omega (arith, length-take-le k l b)) a)
+  pub moving-small : i < k → k ≤ length l → All (λ c. c .row < 2 ^ 16) (changedIn k l) → changedOf (getD out i 0) .row < 2 ^ 16
+  moving-small h b a = rw unmoved (changed-small l k i h b a)
 
   pub moving-next : {out′ : List ℕ} {r′ : ℕ} → i < k → k ≤ length l → RowMoved out i r p q m out′ r′ → Moving l k p q m out′ (i + 1) r′
   moving-next h b w = record {
-    kept = rw (add-one i, take-suc l i 0 (omega arith), pick-more (shift p q m) (take i l) (getD l i 0), ← v .kept, ← unmoved) (w .kept);
+    kept = rw (add-one i, changed-to l i (omega arith), pick-more (movedChanged p q m) (changedIn i l) (changedOf (getD l i 0)), ← v .kept, ← unmoved) (w .kept);
     rest = rw (add-one i, w .rest, ← add-one i, ← drop-drop 1 i out, ← drop-drop 1 i l, v .rest);
     long = w .long ∙ v .long;
     most = omega (arith, w .most);
@@ -94,7 +135,7 @@ module _ {l : List ℕ} {k p q m : ℕ} {out : List ℕ} {i r : ℕ} (v : Moving
       let e : i ≡ k = omega (arith, v .inside) in
       record {
         rows = rw (← e) (v .kept);
-        count = rw (← e, ← v .kept) (sym (length-take-le r out (omega (arith, v .most, v .long))));
+        count = rw (← e, ← v .kept) (sym (length-changedIn r out (omega (arith, v .most, v .long))));
         most = omega (arith, v .most);
       }
 
@@ -279,38 +320,58 @@ module _ {l : List ℕ} {k p q at most : ℕ} {old : List ℕ} {c : ℕ} {out : 
 
 -- ── The rows of the parts that come in ──────────────────────────────────────────────────────────────────────
 
--- the rows of the first i parts are added, and the next part stands at `row`
-pub record Adding (l : List ℕ) (k at : ℕ) (sizes out : List ℕ) (i row : ℕ) : Type 0 where
+-- the words of parts put in by this rule
+abbrev partWords : ℕ → ℕ → List ℕ → List ℕ
+partWords rule at sizes = map (λ row. changedWord (putIn rule row)) (partRows at sizes)
+
+-- the first i parts are added, and the next part stands at `row`
+pub record Adding (l : List ℕ) (k at rule : ℕ) (sizes out : List ℕ) (i row : ℕ) : Type 0 where
   pub inside : i ≤ length sizes
   pub long : length out ≡ length l
-  pub added : out ≡ paste l k (partRows at sizes) i
+  pub added : out ≡ paste l k (partWords rule at sizes) i
   pub rest : drop i (partRows at sizes) ≡ partRows row (drop i sizes)
   pub small : row ≤ at + 2 ^ 16 * i
 
-pub adding-start : (l : List ℕ) (k at : ℕ) (sizes : List ℕ) → Adding l k at sizes l 0 at
-adding-start l k at sizes = record { inside = omega arith; long = refl; added = paste-zero l k (partRows at sizes); rest = refl; small = omega arith }
+pub adding-start : (l : List ℕ) (k at rule : ℕ) (sizes : List ℕ) → Adding l k at rule sizes l 0 at
+adding-start l k at rule sizes = record { inside = omega arith; long = refl; added = paste-zero l k (partWords rule at sizes); rest = refl; small = omega arith }
 
-module _ {l : List ℕ} {k at : ℕ} {sizes out : List ℕ} {i row : ℕ} (v : Adding l k at sizes out i row) where
-  pub adding-next : {n : ℕ} → i < length sizes → k + length sizes ≤ length l → All (λ x. x < 2 ^ 16) sizes → (n ≡ getD sizes i 0) × (n < 2 ^ 32) → Adding l k at sizes (set out (k + i) row) (i + 1) (row + n)
+module _ {l : List ℕ} {k at rule : ℕ} {sizes out : List ℕ} {i row : ℕ} (v : Adding l k at rule sizes out i row) where
+  -- the parts from here on
+  parts-on : i < length sizes → drop i (partRows at sizes) ≡ row ∷ partRows (row + getD sizes i 0) (drop (suc i) sizes)
   unfolding partRows
-  adding-next {n} h b a e =
+  parts-on h = v .rest ∙ rw (drop-cons sizes i 0 h) refl
+
+  part-row : i < length sizes → getD (partRows at sizes) i 0 ≡ row
+  part-row h =
+      let P : List ℕ = partRows at sizes in
+      ap (λ (j : ℕ). getD P j 0) (sym (add-zero i)) ∙ (sym (getD-drop i P 0 0) ∙ ap (λ (d : List ℕ). getD d 0 0) (parts-on h))
+
+  pub adding-small : i < length sizes → All (λ x. x < 131072) (partRows at sizes) → row < 131072
+  adding-small h a = rw (← part-row h) (All-at (λ x. x < 131072) 0 (partRows at sizes) i (omega (arith, length-partRows at sizes)) a)
+
+  pub adding-next : {n y : ℕ} → i < length sizes → k + length sizes ≤ length l → All (λ x. x < 2 ^ 16) sizes → (n ≡ getD sizes i 0) × (n < 2 ^ 32)
+      → (y ≡ changedWord (putIn rule row)) × (y < 2 ^ 32) → Adding l k at rule sizes (set out (k + i) y) (i + 1) (row + n)
+  adding-next {n} {y} h b a e z =
+      let W : List ℕ = partWords rule at sizes in
       let P : List ℕ = partRows at sizes in
       let s : n < 2 ^ 16 = rw (e .0) (All-at (λ x. x < 2 ^ 16) 0 sizes i h a) in
-      let f : drop i P ≡ row ∷ partRows (row + n) (drop (suc i) sizes) = v .rest ∙ rw (drop-cons sizes i 0 h, ← e .0) refl in
-      let g : getD P i 0 ≡ row = ap (λ (j : ℕ). getD P j 0) (sym (add-zero i)) ∙ (sym (getD-drop i P 0 0) ∙ ap (λ (d : List ℕ). getD d 0 0) f) in
+      let m : length W ≡ length sizes = length-map P (λ row. changedWord (putIn rule row)) ∙ length-partRows at sizes in
+      let g : getD W i 0 ≡ y = getD-map (λ row. changedWord (putIn rule row)) P i 0 0 (omega (arith, length-partRows at sizes)) ∙ (ap (λ (x : ℕ). changedWord (putIn rule x)) (part-row h) ∙ sym (z .0)) in
       record {
         inside = omega arith;
-        long = length-set out (k + i) row ∙ v .long;
-        added = ap (λ (d : List ℕ). set d (k + i) row) (v .added) ∙ (ap (λ (x : ℕ). set (paste l k P i) (k + i) x) (sym g) ∙ (paste-suc l k P i 0 (omega arith) (omega (arith, length-partRows at sizes)) ∙ ap (λ (j : ℕ). paste l k P j) (sym (add-one i))));
-        rest = sym (drop-drop 1 i P) ∙ (ap (λ (d : List ℕ). drop 1 d) f ∙ ap (λ (j : ℕ). partRows (row + n) (drop j sizes)) (sym (add-one i)));
+        long = length-set out (k + i) y ∙ v .long;
+        added = ap (λ (d : List ℕ). set d (k + i) y) (v .added) ∙ (ap (λ (x : ℕ). set (paste l k W i) (k + i) x) (sym g) ∙ (paste-suc l k W i 0 (omega arith) (omega arith) ∙ ap (λ (j : ℕ). paste l k W j) (sym (add-one i))));
+        rest = rw (e .0) (sym (drop-drop 1 i P) ∙ (ap (λ (d : List ℕ). drop 1 d) (parts-on h) ∙ ap (λ (j : ℕ). partRows (row + getD sizes i 0) (drop j sizes)) (sym (add-one i))));
         small = omega (arith, v .small);
       }
 
-  pub adding-done : length sizes ≤ i → k + length sizes ≤ length l → RowsAdded l k at sizes out (k + i)
-  adding-done h b =
-      let P : List ℕ = partRows at sizes in
-      let m = length-partRows at sizes in
+  pub adding-done : length sizes ≤ i → k + length sizes ≤ length l → All (λ x. x < 131072) (partRows at sizes) → RowsAdded l k at rule sizes out (k + i)
+  unfolding changedIn
+  adding-done h b a =
+      let W : List ℕ = partWords rule at sizes in
+      let m : length W ≡ length sizes = length-map (partRows at sizes) (λ row. changedWord (putIn rule row)) ∙ length-partRows at sizes in
+      let t : take (k + i) out ≡ take k l ++ W = rw (v .added) (take-paste l k W i (omega arith) (omega (arith, v .inside)) ∙ ap (λ (s : List ℕ). take k l ++ s) (take-all i W (omega arith))) in
       record {
-        rows = rw (v .added) (take-paste l k P i (omega arith) (omega (arith, v .inside)) ∙ ap (λ (s : List ℕ). take k l ++ s) (take-all i P (omega arith)));
+        rows = ap (map changedOf) t ∙ (map-append changedOf (take k l) W ∙ ap (λ (s : List HeldChanged). map changedOf (take k l) ++ s) (changed-put rule (partRows at sizes) a));
         count = omega (arith, v .inside);
       }

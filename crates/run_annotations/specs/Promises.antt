@@ -6,27 +6,32 @@ use mathlib.Core.List.{List, [], _++_, map}
 use mathlib.Core.Option.{Option, Option·map}
 use Prim.Native.Nat.{ℕ, suc, _+_, _*_, _≤_}
 use lib.Dec.{ltb}
-use lib.ListN.{length, getD, take, drop}
+use lib.ListN.{length, getD, drop}
 use Rattle.orders.specs.Lists.{more, pick}
 use Rattle.orders.specs.Tree.{shift}
 use Rattle.rows_model.specs.Place.{inRun}
-use Rattle.run_model.specs.Store.{HeldNote, withRow}
+use Rattle.run_model.specs.Store.{HeldNote, HeldChanged, withRow, atRow, putIn}
 use Rattle.run_annotations.specs.Notes.{notesOf, noteAt}
+use Rattle.run_annotations.specs.Changed.{changedOf, changedIn}
 use Rattle.run_annotations.specs.Places.{partRows}
 use Rattle.run_annotations.specs.declared.Taken.{Taken}
 use Rattle.run_annotations.specs.declared.Taken.the-variants.{Full, Count}
 
--- one changed row moved behind the first r
+-- what becomes of a changed element where the rows p up to q give way to m others
+abbrev pub movedChanged : ℕ → ℕ → ℕ → HeldChanged → Option HeldChanged
+movedChanged p q m c = Option·map (atRow c) (shift p q m c.row)
+
+-- one changed element moved behind the first r
 pub record RowMoved (l : List ℕ) (i r p q m : ℕ) (out : List ℕ) (n : ℕ) : Type 0 where
-  pub kept : take n out ≡ take r l ++ more (shift p q m (getD l i 0)) []
+  pub kept : changedIn n out ≡ changedIn r l ++ more (movedChanged p q m (changedOf (getD l i 0))) []
   pub rest : drop (suc i) out ≡ drop (suc i) l
   pub long : length out ≡ length l
   pub most : n ≤ suc i
 
--- the first k changed rows moved
+-- the first k changed elements moved
 pub record RowsMoved (l : List ℕ) (k p q m : ℕ) (out : List ℕ) (r : ℕ) : Type 0 where
-  pub rows : take r out ≡ pick (shift p q m) (take k l)
-  pub count : r ≡ length (pick (shift p q m) (take k l))
+  pub rows : changedIn r out ≡ pick (movedChanged p q m) (changedIn k l)
+  pub count : r ≡ length (pick (movedChanged p q m) (changedIn k l))
   pub most : r ≤ k
 
 -- what becomes of a note where the rows p up to q give way to m others
@@ -72,7 +77,7 @@ pub record NotesTaken (l : List ℕ) (k p q at most : ℕ) (old : List ℕ) (c :
   pub notes : c + length (pick (noteIn p q) (notesOf k l)) ≤ most
       → notesOf (c + length (pick (noteIn p q) (notesOf k l))) out ≡ notesOf c old ++ map (λ n. withRow n (at + n .row)) (pick (noteIn p q) (notesOf k l))
 
--- the rows of parts of some sizes added behind the first k changed rows, the first part at the row `at`
-pub record RowsAdded (l : List ℕ) (k at : ℕ) (sizes out : List ℕ) (r : ℕ) : Type 0 where
-  pub rows : take r out ≡ take k l ++ partRows at sizes
+-- parts of some sizes, put in by this rule, added behind the first k changed elements; the first part stands at the row `at`
+pub record RowsAdded (l : List ℕ) (k at rule : ℕ) (sizes out : List ℕ) (r : ℕ) : Type 0 where
+  pub rows : changedIn r out ≡ changedIn k l ++ map (putIn rule) (partRows at sizes)
   pub count : r ≡ k + length sizes

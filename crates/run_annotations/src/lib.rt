@@ -1,11 +1,13 @@
-// The changed rows and the notes that are held, moved through one splice.
+// The changed elements and the notes that are held, moved through one splice.
 ghost use mathlib.Core.Path.{_≡_};
-ghost use Prim.Native.Nat.{_+_, _-_, _*_, _^_, _≤_, _<_};
-ghost use lib.ListN.{length, getD, take};
+ghost use Prim.Native.Nat.{_+_, _-_, _*_, _/_, _%_, _^_, _≤_, _<_};
+ghost use lib.ListN.{length, getD};
 ghost use lib.Seq.{paste};
 ghost use Rattle.orders.specs.Lists.{All};
-ghost use Rattle.run_model.specs.Store.{withRow};
+ghost use Rattle.run_model.specs.Store.{withRow, putIn};
 ghost use Rattle.run_annotations.specs.Notes.{noteWords, notesOf, noteAt};
+ghost use Rattle.run_annotations.specs.Changed.{changedWord, changedOf, changedIn};
+ghost use Rattle.run_annotations.specs.Places.{partRows};
 ghost use Rattle.run_annotations.specs.Promises.{RowMoved, RowsMoved, NoteMoved, NotesMoved, NoteTaken, NotesTaken, RowsAdded};
 use words::store3;
 use words::word;
@@ -17,29 +19,56 @@ pub const NUMBER: usize = 1;
 // In the queue.
 pub const PLACE: usize = 2;
 
-// ── Changed rows ──
+// ── Changed elements: a word each, the row in its lower bits, the rule number above ──
 
-// Rust: SyntaxPath::adjust_for_splice, here of a row. The changed row at `i` goes behind the first `r`, moved; one of the rows that give way is left out.
+// The number of rows that the lower bits can tell.
+const ROWS: usize = 131072;
+
+// The row of a changed element.
+pub fn changed_row(w: usize) -> usize
+    ensures { λ r. ⌜ r ≡ changedOf w .row ⌝ }
+{
+    w % ROWS
+}
+
+// The rule number of the change that put it in.
+pub fn changed_rule(w: usize) -> usize
+    ensures { λ r. ⌜ r ≡ changedOf w .rule ⌝ }
+{
+    w / ROWS
+}
+
+// The word of a changed element.
+fn changed_word(row: usize, rule: usize) -> usize
+    requires { ⌜ (row < 131072) × (rule < 32768) ⌝ }
+    ensures { λ w. ⌜ (w ≡ changedWord (putIn rule row)) × (w < 2 ^ 32) ⌝ }
+{
+    row + ROWS * rule
+}
+
+// Rust: SyntaxPath::adjust_for_splice, here of a row. The changed element at `i` goes behind the first `r`, moved; one of the rows that give way is left
+// out.
 fn move_row(changed: &mut [u32], i: usize, r: usize, p: usize, q: usize, m: usize) -> usize
-    requires { ⌜ (r ≤ i) × (i < length (now changed)) × (p ≤ q) × (q < 2 ^ 16) × (m < 2 ^ 16) × (getD (now changed) i 0 < 2 ^ 16) ⌝ }
+    requires { ⌜ (r ≤ i) × (i < length (now changed)) × (p ≤ q) × (q < 2 ^ 16) × (m < 2 ^ 16) × (changedOf (getD (now changed) i 0) .row < 2 ^ 16) ⌝ }
     ensures { λ n. ⌜ RowMoved (now (changed .entry)) i r p q m (now (changed .exit)) n ⌝ }
 {
-    let x = word(changed, i);
+    let w = word(changed, i);
+    let x = changed_row(w);
     if x < p {
-        changed[r] = x as u32;
+        changed[r] = w as u32;
         return r + 1;
     }
     if x < q {
         return r;
     }
-    changed[r] = (x + m - (q - p)) as u32;
+    changed[r] = changed_word(x + m - (q - p), changed_rule(w)) as u32;
     r + 1
 }
 
-// Rust: `changed.retain_mut` in TreeState::splice. The first `k` changed rows where the rows `p` up to `q` give way to `m` others; what is left comes to
+// Rust: `changed.retain_mut` in TreeState::splice. The first `k` changed elements where the rows `p` up to `q` give way to `m` others; what is left comes to
 // the front.
 pub fn move_changed(changed: &mut [u32], k: usize, p: usize, q: usize, m: usize) -> usize
-    requires { ⌜ (k ≤ length (now changed)) × (p ≤ q) × (q < 2 ^ 16) × (m < 2 ^ 16) × All (λ x. x < 2 ^ 16) (take k (now changed)) ⌝ }
+    requires { ⌜ (k ≤ length (now changed)) × (p ≤ q) × (q < 2 ^ 16) × (m < 2 ^ 16) × All (λ c. c .row < 2 ^ 16) (changedIn k (now changed)) ⌝ }
     ensures { λ r. ⌜ RowsMoved (now (changed .entry)) k p q m (now (changed .exit)) r ⌝ }
 {
     let mut i = 0;
@@ -51,15 +80,15 @@ pub fn move_changed(changed: &mut [u32], k: usize, p: usize, q: usize, m: usize)
     r
 }
 
-// The rows at which parts of some sizes come to stand go behind the first `k` changed rows; the first stands at the row `at`.
-pub fn add_changed(changed: &mut [u32], k: usize, at: usize, sizes: &[u32]) -> usize
-    requires { ⌜ (k + length (now sizes) ≤ length (now changed)) × (at < 2 ^ 16) × (length (now sizes) < 2 ^ 12) × All (λ x. x < 2 ^ 16) (now sizes) ⌝ }
-    ensures { λ r. ⌜ RowsAdded (now (changed .entry)) k at (now (sizes .entry)) (now (changed .exit)) r ⌝ }
+// Parts of some sizes, put in by this rule, go behind the first `k` changed elements; the first stands at the row `at`.
+pub fn add_changed(changed: &mut [u32], k: usize, at: usize, rule: usize, sizes: &[u32]) -> usize
+    requires { ⌜ (k + length (now sizes) ≤ length (now changed)) × (rule < 4096) × (at < 2 ^ 16) × (length (now sizes) < 2 ^ 12) × All (λ x. x < 2 ^ 16) (now sizes) × All (λ x. x < 131072) (partRows at (now sizes)) ⌝ }
+    ensures { λ r. ⌜ RowsAdded (now (changed .entry)) k at rule (now (sizes .entry)) (now (changed .exit)) r ⌝ }
 {
     let mut i = 0;
     let mut row = at;
     while i < sizes.len() {
-        changed[k + i] = row as u32;
+        changed[k + i] = changed_word(row, rule) as u32;
         row += word(sizes, i);
         i += 1;
     }

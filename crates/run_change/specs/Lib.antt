@@ -1,3 +1,3 @@
 -- What the row of a change tells one step of the run.
---     Told    how deep the change goes, whether it records
+--     Told    how deep the change goes, by which rule it records
 pub mod Told

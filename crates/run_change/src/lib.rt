@@ -46,14 +46,17 @@ pub fn depth_above(table: &[u32], n: usize, changes: &[u32], k: usize) -> usize
     depth - 1
 }
 
-// Rust: PlannedChange::record_as_changed. Whether what the change at place `k` puts in is recorded as changed: it depends on no other (else its owner's
-// is), and goes into tree 0.
-pub fn is_recorded(changes: &[u32], k: usize) -> bool
+// Rust: PlannedChange::record_as_changed. What the change at place `k` puts in is recorded as changed if it depends on no other (else its owner's is), and
+// goes into tree 0: one more than the rule number that it is recorded by, else 0.
+pub fn recorded_by(changes: &[u32], k: usize) -> usize
     requires { ⌜ k < 2 ^ 32 ⌝ }
     ensures { λ r. ⌜ r ≡ recordsBy (rowAt (now (changes .entry)) k) ⌝ }
 {
     if field(changes, k, record_changes::FATE) != 0 {
-        return false;
+        return 0;
     }
-    field(changes, k, record_changes::TREE) == 0
+    if field(changes, k, record_changes::TREE) != 0 {
+        return 0;
+    }
+    field(changes, k, record_changes::RULE) + 1
 }

@@ -16,6 +16,7 @@ use Rattle.definition_laws.specs.Basics.{upFrom}
 use Rattle.read_element_table.specs.View.{view}
 use Rattle.record_changes.specs.ChangeRowLaws.{rowAt}
 use Rattle.run_annotations.specs.Notes.{notesOf, notes-same}
+use Rattle.run_annotations.specs.Changed.{changedIn}
 use Rattle.run_tree_store.specs.Stored.{stored, storedFirst}
 use Rattle.run_tree_state.specs.Store.{heldIn}
 use Rattle.run_tree_state.specs.declared.TreeState.{TreeState}
@@ -48,7 +49,7 @@ pub begins : {n : ℕ} (rows source notes first : List ℕ) {sum : ℕ} {rows′
     → marks′ ≡ upFrom 1 n
     → notes′ ≡ paste notes 0 first (length first)
     → Began n source first rows′ marks′ notes′ (record { root = 1; rows = n + 1; bytes = sum; notes = length first / 3; changed = 0 })
-unfolding stored storedFirst
+unfolding stored storedFirst changedIn
 begins {n} rows source notes first {sum} {rows′} {marks′} {notes′} h s e f g =
     let copied : take (3 * (n + 1)) rows′ ≡ take (3 * (n + 1)) source = part-copied rows source (3 * (n + 1)) (omega arith) e in
     let z : 3 * (n + 1) - 0 ≡ 3 * (n + 1) = omega arith in

@@ -26,7 +26,7 @@ use Rattle.run_step.specs.Stepping.{Performs, listsIn, Stepped}
 use Rattle.run_prepare.specs.Parts.{notesIn, wordsIn}
 use Rattle.run_execute.specs.Running.{plansIn, listsAll, RanSteps, marks-many, standing-next}
 
--- the changes at the first i places are performed, from what was held at first (n elements, m changed rows at most)
+-- the changes at the first i places are performed, from what was held at first (n elements, m changed elements at most)
 pub record Walking (n : ℕ) (lines source first listed changes running : List ℕ) (m : ℕ) (s₀ : TreeState) (rows₀ marks₀ notes₀ changed₀ : List ℕ) (s : TreeState) (rows marks notes changed : List ℕ) (i : ℕ) : Type 0 where
   pub standing : Standing n lines source first s rows marks notes changed
   pub steps : (text : List ℕ)

@@ -31,7 +31,7 @@ use Rattle.run_prepare.specs.Parts.{notesIn}
 unfoldable pub plansIn : List ℕ → List ℕ → List ℕ → List Planned
 plansIn listed changes ks = map (λ k. planOf listed (rowAt changes k)) ks
 
--- how many changed rows they may add
+-- how many changed elements they may add
 unfoldable pub listsAll : Table → List ℕ → List ℕ → List ℕ → ℕ
 listsAll T listed changes [] = 0
 listsAll T listed changes (k ∷ ks) = listsIn T listed (rowAt changes k) + listsAll T listed changes ks

@@ -3,6 +3,7 @@
 use mathlib.Core.Path.{_≡_, sym, ap, _∙_}
 use mathlib.Core.Bool.{Bool, _||_}
 use mathlib.Core.List.{List, map}
+use mathlib.Core.Option.{Option}
 use mathlib.Core.Logic.{inl, inr}
 use Prim.Native.Nat.{ℕ, suc, _+_, _≤_}
 use native.Mathlib.Omega.{arith}
@@ -38,7 +39,7 @@ pub any-same : {a a′ b b′ c c′ d d′ : Bool} → a ≡ a′ → b ≡ b�
 any-same e f g h = rw (e, f, g, h)
 
 -- What a step makes is too large by its rows just where it is by the definition, if what was before it was within depth 64.
-pub store-too-large : (w : World) (r : Run) (new : List Yield) (recorded : Bool) → HasRun w.trees r.parent r.from r.to → deepestOf (children w.trees) ≤ 64
+pub store-too-large : (w : World) (r : Run) (new : List Yield) (recorded : Option ℕ) → HasRun w.trees r.parent r.from r.to → deepestOf (children w.trees) ≤ 64
     → storeTooLarge (length r.parent) (map partIn new) (store (spliced r new recorded w)) ≡ tooLarge (spliced r new recorded w)
 unfolding storeTooLarge tooLarge store spliced
 store-too-large w r new recorded run h =

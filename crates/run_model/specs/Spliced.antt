@@ -1,7 +1,6 @@
 -- What is held after a splice of rows is what the definition's splice leaves, in rows.
 -- Assumes nothing.
 use mathlib.Core.Path.{_≡_, refl, sym, ap, _∙_}
-use mathlib.Core.Bool.{Bool, true, false, cond}
 use mathlib.Core.List.{List, [], _∷_, _++_, map, flatMap, append-assoc}
 use mathlib.Core.Option.{Option, none, some, Option·map, bind}
 use Prim.Native.Nat.{ℕ, suc, _+_, _-_}
@@ -11,14 +10,14 @@ use Rattle.orders.specs.Lists.{All, pick}
 use Rattle.orders.specs.ListLaws.{map-append, All-map}
 use Rattle.orders.specs.Tree.{Tree, Path, adjust, shift, splice, HasRun}
 use Rattle.definition.specs.Rewriting.{Note}
-use Rattle.definition.specs.Running.{World, withPath, Yield, Run, placed, spliced}
+use Rattle.definition.specs.Running.{Changed, World, withPath, Yield, Run, placed, spliced}
 use Rattle.definition_laws.specs.Held.{Leads, Holds}
 use Rattle.rows_model.specs.Row.{Row, rowsOf, rowsAll}
 use Rattle.rows_model.specs.Place.{sizeAll, place, spliceRows, markOf, movedMark, Held}
 use Rattle.rows_model.specs.PlaceLaws.{rows-splice}
 use Rattle.rows_model.specs.Moves.{adjust-place}
-use Rattle.rows_model.specs.Marks.{marks-follow, places-follow, new-place}
-use Rattle.run_model.specs.Store.{HeldNote, HeldChanged, Store, heldNote, store, withRow, newRows, placedParts, splicedStore}
+use Rattle.rows_model.specs.Marks.{marks-follow, new-place}
+use Rattle.run_model.specs.Store.{HeldNote, HeldChanged, Store, heldNote, heldChanged, store, withRow, atRow, putIn, newRows, placedParts, splicedStore}
 use Rattle.run_model.specs.Gaps.{gapAt}
 use Rattle.run_model.specs.Parts.{pick-square, partIn}
 
@@ -45,14 +44,15 @@ module _ (t : Tree ℕ) (q : Path) where
   rest-standing a at y ys s i c p g =
       ap (λ n. place (q ++ (n ∷ p)) t) (omega arith) ∙ (s (suc i) c p g ∙ omega (arith, length-append (rowsOf y.tree) (rowsAll (take i (treesOf ys)))))
 
-  -- the rows of what comes in
-  new-places : (a at : ℕ) (ys : List Yield) → Standing t q a at ys → map (λ y. y .0) (placedParts at (map partIn ys)) ≡ map (λ p. place p t) (map (λ y. y .0) (placed q a ys))
-  unfolding placedParts placed partIn
-  new-places a at [] s = refl
-  new-places a at (y ∷ ys) s =
+  -- what comes in, by its rows, with the rule number that it is recorded by
+  new-places : (rule a at : ℕ) (ys : List Yield) → Standing t q a at ys
+      → map (λ y. putIn rule (y .0)) (placedParts at (map partIn ys)) ≡ map (heldChanged t) (map (λ y. (y .0, rule)) (placed q a ys))
+  unfolding placedParts placed partIn heldChanged
+  new-places rule a at [] s = refl
+  new-places rule a at (y ∷ ys) s =
       let here : at ≡ place (q ++ (a ∷ [])) t = sym (head-place a at y ys s [] ∙ omega arith) in
-      ap {B = List ℕ} (λ n. n ∷ map (λ y. y .0) (placedParts (at + length (rowsOf y.tree)) (map partIn ys))) here
-      ∙ ap {B = List ℕ} (λ l. place (q ++ (a ∷ [])) t ∷ l) (new-places (suc a) (at + length (rowsOf y.tree)) ys (rest-standing a at y ys s))
+      ap {B = List HeldChanged} (λ n. putIn rule n ∷ map (λ y. putIn rule (y .0)) (placedParts (at + length (rowsOf y.tree)) (map partIn ys))) here
+      ∙ ap {B = List HeldChanged} (λ l. putIn rule (place (q ++ (a ∷ [])) t) ∷ l) (new-places rule (suc a) (at + length (rowsOf y.tree)) ys (rest-standing a at y ys s))
 
   -- and of their notes
   notes-one : (a at : ℕ) (y : Tree ℕ) → ((p : Path) → place (q ++ (a ∷ p)) t ≡ at + place p y) → (ns : List Note)
@@ -83,10 +83,10 @@ pub store-same : {r r′ : List Row} {m m′ : List ℕ} {n n′ : List HeldNote
 store-same e f g h = rw (e, f, g, h)
 
 -- A splice of what is held in rows is the definition's splice.
-pub spliced-store : (w : World) (r : Run) (new : List Yield) (recorded : Bool) → HasRun w.trees r.parent r.from r.to → Holds w → All (Held w.trees) w.paths
+pub spliced-store : (w : World) (r : Run) (new : List Yield) (recorded : Option ℕ) → HasRun w.trees r.parent r.from r.to → Holds w → All (Held w.trees) w.paths
     → splicedStore (gapAt w.trees r) (map partIn new) recorded (store w) ≡ store (spliced r new recorded w)
-unfolding splicedStore gapAt store spliced heldNote withRow withPath
-spliced-store w r new recorded run h held = store-same rows marks notes changed
+unfolding splicedStore gapAt store spliced heldNote heldChanged withRow atRow withPath
+spliced-store w r new recorded run h held = store-same rows marks notes (changed recorded)
   where
     t : Tree ℕ
     t = w .trees
@@ -149,19 +149,39 @@ spliced-store w r new recorded run h held = store-same rows marks notes changed
         ap (λ (l : List HeldNote). l ++ newHeld) keptNotes
         ∙ (ap (λ (l : List HeldNote). map (heldNote next) (pick keep w.notes) ++ l) (new-notes next r.parent r.from P new standing) ∙ sym (map-append (heldNote next) (pick keep w.notes) newNotes))
 
-    keptChanged : pick (shift P Q (length (newRows (map partIn new)))) (map (λ p. place p t) w.changed) ≡ map (λ p. place p next) (pick (adjust r.parent r.from r.to (length new)) w.changed)
+    moved : Changed → Option Changed
+    moved c = Option·map (λ p. (p, c .1)) (adjust r.parent r.from r.to (length new) (c .0))
+
+    movedRow : ℕ → HeldChanged → Option HeldChanged
+    movedRow m c = Option·map (atRow c) (shift P Q m c.row)
+
+    one-changed : (c : Changed) → Leads t (c .0) → movedRow (sizeAll (treesOf new)) (heldChanged t c) ≡ Option·map (heldChanged next) (moved c)
+    one-changed c l =
+        ap (Option·map (atRow (heldChanged t c))) (sym (adjust-place r.parent t r.from r.to (treesOf new) (c .0) (l .found) run (l .there)) ∙ ap (λ k. Option·map (λ r. place r next) (adjust r.parent r.from r.to k (c .0))) long)
+        ∙ told (adjust r.parent r.from r.to (length new) (c .0))
+      where
+        told : (o : Option Path) → Option·map (atRow (heldChanged t c)) (Option·map (λ r. place r next) o) ≡ Option·map (heldChanged next) (Option·map (λ p. (p, c .1)) o)
+        told none = refl
+        told (some e) = refl
+
+    keptChanged : pick (movedRow (length (newRows (map partIn new)))) (map (heldChanged t) w.changed) ≡ map (heldChanged next) (pick moved w.changed)
     keptChanged =
-        ap (λ m. pick (shift P Q m) (map (λ p. place p t) w.changed)) many
-        ∙ (sym (places-follow r.parent t r.from r.to (treesOf new) run w.changed (All-map (λ e l. (l .found, l .there)) w.changed (h .changed)))
-        ∙ ap (λ n. map (λ p. place p next) (pick (adjust r.parent r.from r.to n) w.changed)) long)
+        ap (λ m. pick (movedRow m) (map (heldChanged t) w.changed)) many
+        ∙ pick-square (heldChanged t) (heldChanged next) moved (movedRow (sizeAll (treesOf new))) w.changed (All-map one-changed w.changed (h .changed))
 
-    newChanged : (b : Bool) → cond b (map (λ y. y .0) (placedParts P (map partIn new))) [] ≡ map (λ p. place p next) (cond b (map (λ y. y .0) (placed r.parent r.from new)) [])
-    newChanged true = new-places next r.parent r.from P new standing
-    newChanged false = refl
+    come : Option ℕ → List Changed
+    come none = []
+    come (some rule) = map (λ y. (y .0, rule)) (placed r.parent r.from new)
 
-    changed : pick (shift P Q (length (newRows (map partIn new)))) (map (λ p. place p t) w.changed) ++ cond recorded (map (λ y. y .0) (placedParts P (map partIn new))) []
-        ≡ map (λ p. place p next) (pick (adjust r.parent r.from r.to (length new)) w.changed ++ cond recorded (map (λ y. y .0) (placed r.parent r.from new)) [])
-    changed =
-        ap (λ (l : List ℕ). l ++ cond recorded (map (λ y. y .0) (placedParts P (map partIn new))) []) keptChanged
-        ∙ (ap (λ (l : List ℕ). map (λ p. place p next) (pick (adjust r.parent r.from r.to (length new)) w.changed) ++ l) (newChanged recorded)
-        ∙ sym (map-append (λ p. place p next) (pick (adjust r.parent r.from r.to (length new)) w.changed) (cond recorded (map (λ y. y .0) (placed r.parent r.from new)) [])))
+    comeHeld : Option ℕ → List HeldChanged
+    comeHeld none = []
+    comeHeld (some rule) = map (λ y. putIn rule (y .0)) (placedParts P (map partIn new))
+
+    newChanged : (o : Option ℕ) → comeHeld o ≡ map (heldChanged next) (come o)
+    newChanged (some rule) = new-places next r.parent rule r.from P new standing
+    newChanged none = refl
+
+    changed : (o : Option ℕ) → pick (movedRow (length (newRows (map partIn new)))) (map (heldChanged t) w.changed) ++ comeHeld o ≡ map (heldChanged next) (pick moved w.changed ++ come o)
+    changed o =
+        ap (λ (l : List HeldChanged). l ++ comeHeld o) keptChanged
+        ∙ (ap (λ (l : List HeldChanged). map (heldChanged next) (pick moved w.changed) ++ l) (newChanged o) ∙ sym (map-append (heldChanged next) (pick moved w.changed) (come o)))

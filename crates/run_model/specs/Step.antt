@@ -12,7 +12,7 @@ use Rattle.orders.specs.Tree.{Tree, Path, deepest, deepestOf, children}
 use Rattle.definition.specs.Basics.{Answer, refused, gives, _>>=_, refuse, orRefuse}
 use Rattle.definition.specs.Elements.{Table, table, row, noRow}
 use Rattle.definition.specs.Planning.{Planned}
-use Rattle.definition.specs.Running.{World, begin, present, Yield, yield, news, Run, place as runAt, spliced, tooLarge, records, step, steps}
+use Rattle.definition.specs.Running.{World, begin, present, Yield, yield, news, Run, place as runAt, spliced, tooLarge, recordedBy, step, steps}
 use Rattle.definition.specs.Refusals.{Accepted}
 use Rattle.definition.specs.Rewriting.{Note}
 use Rattle.definition.specs.Answers.{Plan, performed, atFirst, ran}
@@ -82,10 +82,10 @@ module _ (ts : List (Tree ℕ)) (first : World) (k₀ : Kept ts first) (all : (e
       new = map (yield first w) (news p.change)
 
       onGap : Gap → Answer Store
-      onGap g = judged (depthAbove T (store w) p.change) parts (splicedStore g parts (records T p) (store w))
+      onGap g = judged (depthAbove T (store w) p.change) parts (splicedStore g parts (recordedBy T p) (store w))
 
       onRun : Run → Answer World
-      onRun r = refuse 12 (tooLarge (spliced r new (records T p) w)) >>= λ u. gives (spliced r new (records T p) w)
+      onRun r = refuse 12 (tooLarge (spliced r new (recordedBy T p) w)) >>= λ u. gives (spliced r new (recordedBy T p) w)
 
       last : (next : World) (b : Bool) → (refuse 12 b >>= λ u. gives (store next)) ≡ inRows (refuse 12 b >>= λ u. gives next)
       last next true = refl
@@ -95,11 +95,11 @@ module _ (ts : List (Tree ℕ)) (first : World) (k₀ : Kept ts first) (all : (e
       go none e = refl
       go (some r) e =
           let run = (place-fits ts w (k .follows) p.change r sits e) .run in
-          let next = spliced r new (records T p) w in
-          ap (λ y. judged (depthAbove T (store w) p.change) y (splicedStore (gapAt w.trees r) y (records T p) (store w))) (parts-yield w k (news p.change) (right-news T p.change c))
-          ∙ (ap (judged (depthAbove T (store w) p.change) (map partIn new)) (spliced-store w r new (records T p) run (k .holds) (paths-held ts w (k .follows)))
+          let next = spliced r new (recordedBy T p) w in
+          ap (λ y. judged (depthAbove T (store w) p.change) y (splicedStore (gapAt w.trees r) y (recordedBy T p) (store w))) (parts-yield w k (news p.change) (right-news T p.change c))
+          ∙ (ap (judged (depthAbove T (store w) p.change) (map partIn new)) (spliced-store w r new (recordedBy T p) run (k .holds) (paths-held ts w (k .follows)))
           ∙ (ap (λ d. judged d (map partIn new) (store next)) (depth-above ts w (k .follows) p.change r sits e)
-          ∙ (ap (λ b. refuse 12 b >>= λ u. gives (store next)) (store-too-large w r new (records T p) run (k .shallow)) ∙ last next (tooLarge next))))
+          ∙ (ap (λ b. refuse 12 b >>= λ u. gives (store next)) (store-too-large w r new (recordedBy T p) run (k .shallow)) ∙ last next (tooLarge next))))
 
   -- and keeps what is kept
   pub step-kept : (w next : World) (p : Planned) → Kept ts w → Right T p.change → step T first w p ≡ gives next → Kept ts next
@@ -109,7 +109,7 @@ module _ (ts : List (Tree ℕ)) (first : World) (k₀ : Kept ts first) (all : (e
     holds = step-holds ts first (k₀ .follows .worded) (k₀ .holds) w next p (k .follows) (k .holds) c e;
     shallow =
         given (orRefuse 11 (runAt T w p.change)) _ e λ r a e.
-        given (refuse 12 (tooLarge (spliced r (map (yield first w) (news p.change)) (records T p) w))) _ e λ u b e.
+        given (refuse 12 (tooLarge (spliced r (map (yield first w) (news p.change)) (recordedBy T p) w))) _ e λ u b e.
         rw (← gives-inj e) ((small _ (not-wrong 12 _ b)) .depth);
   }
 

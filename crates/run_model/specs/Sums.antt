@@ -3,6 +3,7 @@
 use mathlib.Core.Path.{_≡_, refl, sym, ap, _∙_}
 use mathlib.Core.Bool.{Bool, _||_}
 use mathlib.Core.List.{List, [], _∷_, _++_}
+use mathlib.Core.Option.{Option}
 use mathlib.Core.Logic.{inl, inr}
 use Prim.Native.Nat.{ℕ, zero, suc, _+_, _-_, _≤_, _<_, min}
 use native.Mathlib.Omega.{arith}
@@ -88,7 +89,7 @@ deep-enough above n = elim (lt-or-le n 65) [
 ]
 
 -- Whether a step makes too much is decided before it, from totals.
-pub too-large-sums : (above : ℕ) (g : Gap) (new : List Part) (recorded : Bool) (s : Store) → g .from ≤ g .to → g .to ≤ length s.rows
+pub too-large-sums : (above : ℕ) (g : Gap) (new : List Part) (recorded : Option ℕ) (s : Store) → g .from ≤ g .to → g .to ≤ length s.rows
     → storeTooLarge above new (splicedStore g new recorded s)
     ≡ tooLargeBy (length s.rows - (g .to - g .from) + length (newRows new)) (bytes s.rows + bytes (newRows new) - bytes (between g.from g.to s.rows)) (length ((splicedStore g new recorded s) .notes)) (above + min 65 (height (newRows new)))
 unfolding storeTooLarge tooLargeBy splicedStore

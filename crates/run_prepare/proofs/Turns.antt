@@ -18,7 +18,7 @@ use Rattle.words.specs.Bytes.{words-append, length-words, getD-words}
 use Rattle.rows_model.specs.Row.{Row, firstRows, triples}
 use Rattle.rows_model.specs.Words.{length-triples}
 use Rattle.definition_laws.specs.Basics.{upFrom, up-at}
-use Rattle.run_model.specs.Store.{HeldNote, withRow, Store, there, marked, Part, partAt, partOf, newRows, placedParts}
+use Rattle.run_model.specs.Store.{HeldNote, HeldChanged, withRow, Store, there, marked, Part, partAt, partOf, newRows, placedParts}
 use Rattle.rows_syntax_node.specs.Promises.{Appended}
 use Rattle.run_annotations.specs.Notes.{notesOf}
 use Rattle.run_annotations.specs.Promises as annotations
@@ -68,7 +68,7 @@ part-notes s m size h = ap (λ (i : ℕ). pick (noteIn m i) (s .notes)) (end-row
 
 module _ (rows : List ℕ) (n : ℕ) (source marks first notes : List ℕ) (k e : ℕ) where
   -- the notes that element e yields are those of its rows
-  notes-yielded : (text changed₀ changed : List ℕ) (size : ℕ) → e < length marks → size ≡ length ((partIn rows n source marks first notes k text changed₀ changed e) .rows)
+  notes-yielded : (text : List ℕ) (changed₀ changed : List HeldChanged) (size : ℕ) → e < length marks → size ≡ length ((partIn rows n source marks first notes k text changed₀ changed e) .rows)
       → (partIn rows n source marks first notes k text changed₀ changed e) .notes ≡ notesWith marks first notes k e size
   unfolding partOf marked stored storedFirst notesWith
   notes-yielded text changed₀ changed size b = go (getD marks e 0)
@@ -88,7 +88,7 @@ module _ (rows : List ℕ) (n : ℕ) (source marks first notes : List ℕ) (k e 
           part-notes F (getD (F .marks) e 0) size h ∙ ap (λ (i : ℕ). pick (noteIn i (i + size)) (notesIn first)) g
       go (suc m) h = part-notes S (suc m) size h
 
-  module _ (run : List ℕ) (P : tree.Prepared rows n source marks e run) (text changed₀ changed : List ℕ) where
+  module _ (run : List ℕ) (P : tree.Prepared rows n source marks e run) (text : List ℕ) (changed₀ changed : List HeldChanged) where
     abbrev part : Part
     part = partIn rows n source marks first notes k text changed₀ changed e
 
@@ -150,7 +150,7 @@ module _ (rows : List ℕ) (n : ℕ) (source marks first notes : List ℕ) (k e 
     abbrev with-notes : List HeldNote
     with-notes = notesWith marks first notes k e (length run / 3)
 
-    module _ (text changed₀ changed : List ℕ) where
+    module _ (text : List ℕ) (changed₀ changed : List HeldChanged) where
       abbrev with-part : Part
       with-part = partIn rows n source marks first notes k text changed₀ changed e
 
@@ -276,7 +276,7 @@ module _ (rows : List ℕ) (n : ℕ) (source marks first notes : List ℕ) (k : 
       pub longRows : length prepared ≡ length prepared₀
       pub longSizes : length sizes ≡ length sizes₀
       pub longNotes : length incoming ≡ length incoming₀
-      pub came : (text changed₀ changed : List ℕ) → Came text (map (partIn rows n source marks first notes k text changed₀ changed) (words i b)) at prepared sizes incoming m c
+      pub came : (text : List ℕ) (changed₀ changed : List HeldChanged) → Came text (map (partIn rows n source marks first notes k text changed₀ changed) (words i b)) at prepared sizes incoming m c
 
     pub preparing-start : Preparing prepared₀ sizes₀ incoming₀ 0 0 0
     unfolding words

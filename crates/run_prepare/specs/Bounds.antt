@@ -15,8 +15,9 @@ use Rattle.words.specs.Bytes.{length-words}
 use Rattle.rows_model.specs.Row.{skip}
 use Rattle.rows_model.specs.RowLaws.{skip-le}
 use Rattle.rows_model.specs.Place.{rowsAfter, subtree, inRun}
-use Rattle.run_model.specs.Store.{HeldNote, withRow, Store, marked, endRow, Part, partAt, partOf, newRows, placedParts}
+use Rattle.run_model.specs.Store.{HeldNote, HeldChanged, withRow, Store, marked, endRow, Part, partAt, partOf, newRows, placedParts}
 use Rattle.run_annotations.specs.Notes.{notesOf}
+use Rattle.run_annotations.specs.Places.{partRows}
 use Rattle.run_annotations.specs.Promises.{noteIn}
 use Rattle.run_prepare.specs.declared.Prepared.the-variants.{Parts}
 use Rattle.run_prepare.specs.Yields.{newNotes, partSizes, partIn}
@@ -86,12 +87,20 @@ new-notes-low at (y ∷ new) h =
     (All-over (λ n. withRow n (at + n .row)) (λ n. n .row < length (y .rows)) (λ n. n .row < at + length (y .rows ++ newRows new)) (λ n b. omega arith) (y .notes) (h .0))
     (All-map (λ n b. omega arith) (newNotes (at + length (y .rows)) new) (new-notes-low (at + length (y .rows)) new (h .1)))
 
+-- The parts that come in stand at the rows that come in.
+pub parts-low : (at end : ℕ) (new : List Part) → at + length (newRows new) ≤ end → All (λ x. x ≤ end) (partRows at (partSizes new))
+unfolding newRows flatMap partSizes partRows
+parts-low at end [] h = tt
+parts-low at end (y ∷ new) h =
+    let e = length-append (y .rows) (newRows new) in
+    (omega arith, parts-low (at + length (y .rows)) end new (omega arith))
+
 -- ── What is prepared ────────────────────────────────────────────────────────────────────────────────────────
 
 module _ {rows : List ℕ} {n : ℕ} {source marks first notes : List ℕ} {k : ℕ} {at : ℕ} {prepared sizes incoming : List ℕ} {m c : ℕ} where
   -- As many sizes as elements are listed.
   pub sizes-told : (count : ℕ) (bytes : List ℕ) → ElementsPrepared rows n source marks first notes k (words count bytes) at prepared sizes incoming (Parts m c)
-      → (text changed₀ changed : List ℕ) → take count sizes ≡ partSizes (map (partIn rows n source marks first notes k text changed₀ changed) (words count bytes))
+      → (text : List ℕ) (changed₀ changed : List HeldChanged) → take count sizes ≡ partSizes (map (partIn rows n source marks first notes k text changed₀ changed) (words count bytes))
   sizes-told count bytes P text changed₀ changed =
       let e : length (map (partIn rows n source marks first notes k text changed₀ changed) (words count bytes)) ≡ count =
       length-map (words count bytes) (partIn rows n source marks first notes k text changed₀ changed) ∙ length-words count bytes in
@@ -103,6 +112,13 @@ module _ {rows : List ℕ} {n : ℕ} {source marks first notes : List ℕ} {k : 
       let new : List Part = map (partIn rows n source marks first notes k [] [] []) (words count bytes) in
       let C : Came [] new at prepared sizes incoming m c = (P .parts [] [] []) .came m c refl in
       rw (sizes-told count bytes P [] [] []) (All-map (λ x h. omega (arith, C .many, C .fewRows)) (partSizes new) (sizes-low new))
+
+  -- and each part comes to stand among the rows that came in
+  pub sizes-placed : (count : ℕ) (bytes : List ℕ) → ElementsPrepared rows n source marks first notes k (words count bytes) at prepared sizes incoming (Parts m c) → All (λ x. x < 2 ^ 16) (partRows 0 (take count sizes))
+  sizes-placed count bytes P =
+      let new : List Part = map (partIn rows n source marks first notes k [] [] []) (words count bytes) in
+      let C : Came [] new at prepared sizes incoming m c = (P .parts [] [] []) .came m c refl in
+      rw (sizes-told count bytes P [] [] []) (All-map (λ x h. omega (arith, C .many, C .fewRows)) (partRows 0 (partSizes new)) (parts-low 0 (length (newRows new)) new (omega arith)))
 
   -- The notes that came in are at the rows that came in.
   pub notes-low : {l : List ℕ} → ElementsPrepared rows n source marks first notes k l at prepared sizes incoming (Parts m c) → All (λ x. x .row < at + m) (notesOf c incoming)

@@ -1,11 +1,11 @@
--- What the functions promise. Text and changed rows are not read, so that each promise holds for any.
+-- What the functions promise. Text and changed elements are not read, so that each promise holds for any.
 -- Assumes nothing.
 use mathlib.Core.Path.{_≡_}
 use mathlib.Core.List.{List, _++_, map}
 use Prim.Native.Nat.{ℕ, _+_, _≤_}
 use lib.ListN.{length, take}
 use Rattle.rows_model.specs.Row.{firstRows}
-use Rattle.run_model.specs.Store.{withRow, Part, newRows}
+use Rattle.run_model.specs.Store.{HeldChanged, withRow, Part, newRows}
 use Rattle.run_annotations.specs.Notes.{notesOf}
 use Rattle.run_annotations.specs.Promises.{taken}
 use Rattle.run_annotations.specs.declared.Taken.{Taken}
@@ -43,8 +43,8 @@ pub record AllIn (text : List ℕ) (new : List Part) (at : ℕ) (prepared sizes 
 module _ (rows : List ℕ) (n : ℕ) (source marks first notes : List ℕ) (k : ℕ) where
   -- what element e yields, behind what is prepared
   pub record ElementPrepared (e at : ℕ) (old : List ℕ) (m : ℕ) (held : List ℕ) (c : ℕ) (old′ held′ : List ℕ) (r : Prepared) : Type 0 where
-    pub part : (text changed₀ changed : List ℕ) → Behind text (partIn rows n source marks first notes k text changed₀ changed e) (at + m) old m held c old′ held′ r
+    pub part : (text : List ℕ) (changed₀ changed : List HeldChanged) → Behind text (partIn rows n source marks first notes k text changed₀ changed e) (at + m) old m held c old′ held′ r
 
   -- what the elements l yield
   pub record ElementsPrepared (l : List ℕ) (at : ℕ) (prepared sizes incoming : List ℕ) (r : Prepared) : Type 0 where
-    pub parts : (text changed₀ changed : List ℕ) → AllIn text (map (partIn rows n source marks first notes k text changed₀ changed) l) at prepared sizes incoming r
+    pub parts : (text : List ℕ) (changed₀ changed : List HeldChanged) → AllIn text (map (partIn rows n source marks first notes k text changed₀ changed) l) at prepared sizes incoming r

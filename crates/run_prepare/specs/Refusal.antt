@@ -4,7 +4,7 @@ use mathlib.Core.Path.{_≡_, refl, ap, _∙_}
 use mathlib.Core.Bool.{Bool, true, false, _||_}
 use mathlib.Core.List.{List, _++_, map}
 use mathlib.Core.Logic.{inl, inr}
-use mathlib.Core.Option.{Option·map}
+use mathlib.Core.Option.{Option, Option·map}
 use Prim.Native.Nat.{ℕ, _+_}
 use native.Mathlib.Omega.{arith}
 use borrow.Author.Tests.{lt-ltb}
@@ -13,7 +13,7 @@ use lib.Dec.{ltb}
 use Rattle.orders.specs.Lists.{pick}
 use Rattle.orders.specs.Tree.{shift}
 use Rattle.rows_model.specs.Row.{bytes, height}
-use Rattle.run_model.specs.Store.{HeldNote, withRow, Store, Gap, Part, newRows, splicedStore, storeTooLarge}
+use Rattle.run_model.specs.Store.{HeldNote, HeldChanged, withRow, Store, Gap, Part, newRows, splicedStore, storeTooLarge}
 use Rattle.run_model.specs.Sums.{Within, splice-length}
 use Rattle.run_prepare.specs.declared.Prepared.the-variants.{TooMany}
 use Rattle.run_prepare.specs.Yields.{newNotes, preparedBy, over, partIn}
@@ -27,7 +27,7 @@ third false true c d h = refl
 third false false c d h = rw h
 
 -- More rows or notes than a step takes make too much, wherever they go.
-pub too-many-refused : (above : ℕ) (g : Gap) (new : List Part) (recorded : Bool) (s : Store) → Within (length (s .rows)) g → TooMany ≡ preparedBy (length (newRows new)) (length (newNotes (g .from) new))
+pub too-many-refused : (above : ℕ) (g : Gap) (new : List Part) (recorded : Option ℕ) (s : Store) → Within (length (s .rows)) g → TooMany ≡ preparedBy (length (newRows new)) (length (newNotes (g .from) new))
     → storeTooLarge above new (splicedStore g new recorded s) ≡ true
 unfolding storeTooLarge splicedStore newNotes
 too-many-refused above g new recorded s w h = elim (over _ _ h) [
@@ -43,7 +43,7 @@ too-many-refused above g new recorded s w h = elim (over _ _ h) [
 -- So where the answer is `TooMany`, the step is refused.
 pub prepared-refused : {rows : List ℕ} {n : ℕ} {source marks first notes : List ℕ} {k : ℕ} {l : List ℕ} {at : ℕ} {prepared sizes incoming : List ℕ}
     → ElementsPrepared rows n source marks first notes k l at prepared sizes incoming TooMany
-    → (text changed₀ changed : List ℕ) (above : ℕ) (g : Gap) (recorded : Bool) → at ≡ g .from → Within (length ((stored text n rows marks (notesOf k notes) changed) .rows)) g
+    → (text : List ℕ) (changed₀ changed : List HeldChanged) (above : ℕ) (g : Gap) (recorded : Option ℕ) → at ≡ g .from → Within (length ((stored text n rows marks (notesOf k notes) changed) .rows)) g
     → storeTooLarge above (map (partIn rows n source marks first notes k text changed₀ changed) l)
     (splicedStore g (map (partIn rows n source marks first notes k text changed₀ changed) l) recorded (stored text n rows marks (notesOf k notes) changed))
     ≡ true

@@ -13,7 +13,7 @@ use lib.Dec.{ltb}
 use Rattle.orders.specs.Lists.{pick}
 use Rattle.orders.specs.ListLaws.{either-true, map-append}
 use Rattle.definition_laws.specs.Basics.{flatMap-append}
-use Rattle.run_model.specs.Store.{HeldNote, withRow, Part, partOf, newRows, placedParts}
+use Rattle.run_model.specs.Store.{HeldNote, HeldChanged, withRow, Part, partOf, newRows, placedParts}
 use Rattle.run_annotations.specs.Notes.{notesOf}
 use Rattle.run_annotations.specs.Promises.{noteIn}
 use Rattle.run_tree_store.specs.Stored.{stored, storedFirst}
@@ -43,8 +43,8 @@ unfoldable pub notesWith : List ℕ → List ℕ → List ℕ → ℕ → ℕ �
 notesWith marks first notes k e size = notesFrom first notes k e size (getD marks e 0)
 
 module _ (rows : List ℕ) (n : ℕ) (source marks first notes : List ℕ) (k : ℕ) where
-  -- what element e yields. Text and changed rows are not read
-  abbrev pub partIn : List ℕ → List ℕ → List ℕ → ℕ → Part
+  -- what element e yields. Text and changed elements are not read
+  abbrev pub partIn : List ℕ → List HeldChanged → List HeldChanged → ℕ → Part
   partIn text changed₀ changed = partOf (storedFirst text (length marks) source (notesIn first) changed₀) (stored text n rows marks (notesOf k notes) changed)
 
 -- ── Parts behind others ─────────────────────────────────────────────────────────────────────────────────────

@@ -1,8 +1,7 @@
 -- Each answer, from what was done, and the loop's invariant.
 -- Assumes nothing.
 use mathlib.Core.Path.{_≡_, refl, sym, ap, _∙_}
-use mathlib.Core.Bool.{Bool, true, false, cond}
-use mathlib.Core.List.{List, [], _∷_, _++_, append-nil}
+use mathlib.Core.List.{List, [], _∷_, _++_, map, append-nil}
 use mathlib.Core.Option.{Option, none, some, Option·map}
 use Prim.Native.Nat.{ℕ, zero, suc, _+_, _-_, _*_, _/_, _^_, _≤_, _<_}
 use native.Mathlib.Nat.{add-zero, zero-add}
@@ -16,8 +15,10 @@ use Rattle.orders.specs.Tree.{shift}
 use Rattle.orders.specs.TreeLaws.{shift-before, shift-inside, shift-after}
 use Rattle.words.specs.Parts.{getD-below, getD-inside}
 use Rattle.rows_syntax_node.specs.Promises.{Spliced, Shifted}
-use Rattle.run_model.specs.Store.{HeldNote, withRow}
+use Rattle.run_model.specs.Store.{HeldNote, withRow, putIn}
 use Rattle.run_annotations.specs.Notes.{noteOf, notesOf, noteAt, note-row, notes-to, notes-same}
+use Rattle.run_annotations.specs.Changed.{changedIn, countBy}
+use Rattle.run_annotations.specs.Places.{partRows}
 use Rattle.run_annotations.specs.Promises.{RowsMoved, movedNote, NotesMoved, RowsAdded}
 use Rattle.run_splice.specs.Promises.{SplicedMarks, Left, NotesLeft, NotesSpliced, Recorded, ChangedSpliced}
 
@@ -117,17 +118,21 @@ notes-spliced l k p q m incoming c moved out r long b h s e =
     let g : notesOf c (take (3 * c) incoming) ≡ notesOf c incoming = notes-same (take (3 * c) incoming) incoming c (λ j b. getD-take (3 * c) incoming j 0 b) in
     record { notes = f ∙ rw (g, s .notes); count = ap (λ (n : ℕ). n + c) (s .count) }
 
--- ── Changed rows ────────────────────────────────────────────────────────────────────────────────────────────
+-- ── Changed elements ────────────────────────────────────────────────────────────────────────────────────────
 
 -- there is room for what is recorded
-pub room-recorded : (k n m : ℕ) (b : Bool) → k + cond b n 0 ≤ m → b ≡ true → k + n ≤ m
-room-recorded k n m b h e = let z : cond b n 0 ≡ n = rw e in omega arith
+pub room-recorded : (k n m recorded : ℕ) → k + countBy recorded n ≤ m → (recorded ≡ 0 → ⊥) → k + n ≤ m
+room-recorded k n m zero h e = absurd (e refl)
+room-recorded k n m (suc rule) h e = h
 
-pub recorded-all : (l : List ℕ) (k at : ℕ) (b : Bool) (sizes out : List ℕ) (r : ℕ) → b ≡ true → RowsAdded l k at sizes out r → Recorded l k at b sizes out r
-recorded-all l k at b sizes out r e s = rw e (record { rows = s .rows; count = s .count })
+pub recorded-all : (l : List ℕ) (k at recorded : ℕ) (sizes out : List ℕ) (r : ℕ) → (recorded ≡ 0 → ⊥) → RowsAdded l k at (recorded - 1) sizes out r → Recorded l k at recorded sizes out r
+recorded-all l k at zero sizes out r e s = absurd (e refl)
+recorded-all l k at (suc rule) sizes out r e s =
+    let z : suc rule - 1 ≡ rule = omega arith in
+    record { rows = s .rows ∙ ap (λ (n : ℕ). changedIn k l ++ map (putIn n) (partRows at sizes)) z; count = s .count }
 
-pub recorded-none : (l : List ℕ) (k at : ℕ) (b : Bool) (sizes : List ℕ) → b ≡ false → Recorded l k at b sizes l k
-recorded-none l k at b sizes e = rw e (record { rows = sym (append-nil (take k l)); count = sym (add-zero k) })
+pub recorded-none : (l : List ℕ) (k at recorded : ℕ) (sizes : List ℕ) → recorded ≡ 0 → Recorded l k at recorded sizes l k
+recorded-none l k at recorded sizes e = rw e (record { rows = sym (append-nil (changedIn k l)); count = sym (add-zero k) })
 
-pub changed-spliced : {l : List ℕ} {k p q m : ℕ} {moved : List ℕ} {r : ℕ} {recorded : Bool} {sizes out : List ℕ} {n : ℕ} → RowsMoved l k p q m moved r → Recorded moved r p recorded sizes out n → ChangedSpliced l k p q m recorded sizes out n
+pub changed-spliced : {l : List ℕ} {k p q m : ℕ} {moved : List ℕ} {r recorded : ℕ} {sizes out : List ℕ} {n : ℕ} → RowsMoved l k p q m moved r → Recorded moved r p recorded sizes out n → ChangedSpliced l k p q m recorded sizes out n
 changed-spliced s t = record { rows = t .rows ∙ rw (s .rows); most = omega (arith, t .count, s .most) }

@@ -1,17 +1,17 @@
 -- What the functions promise, part by part. Text is not read, so that each promise holds for any.
 -- Assumes nothing.
 use mathlib.Core.Path.{_≡_}
-use mathlib.Core.Bool.{Bool, cond}
 use mathlib.Core.List.{List, [], _++_, map}
 use Prim.Native.Nat.{ℕ, _+_, _-_, _*_, _/_, _≤_, _<_}
-use lib.ListN.{length, take, drop}
+use lib.ListN.{length, drop}
 use Rattle.orders.specs.Lists.{All, more, pick}
 use Rattle.orders.specs.Tree.{shift}
 use Rattle.rows_model.specs.Row.{firstRows, triples}
 use Rattle.rows_model.specs.Place.{spliceRows, movedMark}
 use Rattle.run_annotations.specs.Notes.{notesOf}
+use Rattle.run_annotations.specs.Changed.{changedIn, countBy, putBy}
 use Rattle.run_annotations.specs.Places.{partRows}
-use Rattle.run_annotations.specs.Promises.{movedNote}
+use Rattle.run_annotations.specs.Promises.{movedNote, movedChanged}
 
 -- the rows p up to q give way to a run, and every mark moves; r rows then
 pub record SplicedMarks (rows : List ℕ) (n : ℕ) (marks : List ℕ) (parent p q lost : ℕ) (run : List ℕ) (gain : ℕ) (out marked : List ℕ) (r : ℕ) : Type 0 where
@@ -36,12 +36,12 @@ pub record NotesSpliced (l : List ℕ) (k p q m : ℕ) (incoming : List ℕ) (c 
   pub notes : notesOf r out ≡ pick (movedNote p q m) (notesOf k l) ++ notesOf c incoming
   pub count : r ≡ length (pick (movedNote p q m) (notesOf k l)) + c
 
--- the rows of what comes in behind the first k changed rows, if they are recorded
-pub record Recorded (changed : List ℕ) (k at : ℕ) (recorded : Bool) (sizes out : List ℕ) (r : ℕ) : Type 0 where
-  pub rows : take r out ≡ take k changed ++ cond recorded (partRows at sizes) []
-  pub count : r ≡ k + cond recorded (length sizes) 0
+-- what comes in behind the first k changed elements, if it is recorded
+pub record Recorded (changed : List ℕ) (k at recorded : ℕ) (sizes out : List ℕ) (r : ℕ) : Type 0 where
+  pub rows : changedIn r out ≡ changedIn k changed ++ putBy recorded (partRows at sizes)
+  pub count : r ≡ k + countBy recorded (length sizes)
 
--- the changed rows moved, and behind them those of what comes in
-pub record ChangedSpliced (changed : List ℕ) (k p q m : ℕ) (recorded : Bool) (sizes out : List ℕ) (r : ℕ) : Type 0 where
-  pub rows : take r out ≡ pick (shift p q m) (take k changed) ++ cond recorded (partRows p sizes) []
-  pub most : r ≤ k + cond recorded (length sizes) 0
+-- the changed elements moved, and behind them what comes in
+pub record ChangedSpliced (changed : List ℕ) (k p q m recorded : ℕ) (sizes out : List ℕ) (r : ℕ) : Type 0 where
+  pub rows : changedIn r out ≡ pick (movedChanged p q m) (changedIn k changed) ++ putBy recorded (partRows p sizes)
+  pub most : r ≤ k + countBy recorded (length sizes)

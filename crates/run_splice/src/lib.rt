@@ -1,10 +1,11 @@
-// One splice of what is held, slice by slice: rows and marks, notes, changed rows.
+// One splice of what is held, slice by slice: rows and marks, notes, changed elements.
 ghost use mathlib.Core.Path.{_≡_};
-ghost use mathlib.Core.Bool.{cond};
 ghost use Prim.Native.Nat.{_+_, _-_, _*_, _%_, _^_, _≤_, _<_};
-ghost use lib.ListN.{length, getD, take};
+ghost use lib.ListN.{length, getD};
 ghost use Rattle.orders.specs.Lists.{All, pick};
 ghost use Rattle.run_annotations.specs.Notes.{notesOf};
+ghost use Rattle.run_annotations.specs.Changed.{changedIn, countBy};
+ghost use Rattle.run_annotations.specs.Places.{partRows};
 ghost use Rattle.run_annotations.specs.Promises.{movedNote};
 ghost use Rattle.run_splice.specs.Promises.{SplicedMarks, Left, NotesLeft, NotesSpliced, Recorded, ChangedSpliced};
 use rows_syntax_node::ROW_WORDS;
@@ -93,32 +94,34 @@ pub fn splice_notes(
     r + c
 }
 
-// ── Changed rows ──
+// ── Changed elements ──
 
-// The rows at which parts of some sizes come to stand, the first at `at`, go behind the first `k` changed rows if the change records. The new number of
-// changed rows.
-fn record_changed(changed: &mut [u32], k: usize, at: usize, recorded: bool, sizes: &[u32]) -> usize
-    requires { ⌜ (k + cond recorded (length (now sizes)) 0 ≤ length (now changed)) × (at < 2 ^ 16) × (length (now sizes) < 2 ^ 12) × All (λ x. x < 2 ^ 16) (now sizes) ⌝ }
+// Parts of some sizes, the first at the row `at`, go behind the first `k` changed elements if the change records: by the rule number that `recorded` tells,
+// which is one more than it, 0 for a change that does not record. The new number of changed elements.
+fn record_changed(changed: &mut [u32], k: usize, at: usize, recorded: usize, sizes: &[u32]) -> usize
+    requires { ⌜ (k + countBy recorded (length (now sizes)) ≤ length (now changed)) × (recorded ≤ 4096) × (at < 2 ^ 16) ⌝ }
+    requires { ⌜ (length (now sizes) < 2 ^ 12) × All (λ x. x < 2 ^ 16) (now sizes) × All (λ x. x < 131072) (partRows at (now sizes)) ⌝ }
     ensures { λ r. ⌜ Recorded (now (changed .entry)) k at recorded (now (sizes .entry)) (now (changed .exit)) r ⌝ }
 {
-    if recorded {
-        return add_changed(changed, k, at, sizes);
+    if recorded == 0 {
+        return k;
     }
-    k
+    add_changed(changed, k, at, recorded - 1, sizes)
 }
 
-// The first `k` changed rows where the rows `p` up to `q` give way to `m` others, and behind them the rows of the parts if the change records.
+// The first `k` changed elements where the rows `p` up to `q` give way to `m` others, and behind them the parts if the change records.
 pub fn splice_changed(
     changed: &mut [u32],
     k: usize,
     p: usize,
     q: usize,
     m: usize,
-    recorded: bool,
+    recorded: usize,
     sizes: &[u32],
 ) -> usize
-    requires { ⌜ (p ≤ q) × (q < 2 ^ 16) × (m < 2 ^ 16) × All (λ x. x < 2 ^ 16) (take k (now changed)) ⌝ }
-    requires { ⌜ (k + cond recorded (length (now sizes)) 0 ≤ length (now changed)) × (length (now sizes) < 2 ^ 12) × All (λ x. x < 2 ^ 16) (now sizes) ⌝ }
+    requires { ⌜ (p ≤ q) × (q < 2 ^ 16) × (m < 2 ^ 16) × All (λ c. c .row < 2 ^ 16) (changedIn k (now changed)) ⌝ }
+    requires { ⌜ (k + countBy recorded (length (now sizes)) ≤ length (now changed)) × (recorded ≤ 4096) ⌝ }
+    requires { ⌜ (length (now sizes) < 2 ^ 12) × All (λ x. x < 2 ^ 16) (now sizes) × All (λ x. x < 131072) (partRows p (now sizes)) ⌝ }
     ensures { λ r. ⌜ ChangedSpliced (now (changed .entry)) k p q m recorded (now (sizes .entry)) (now (changed .exit)) r ⌝ }
 {
     let r = move_changed(changed, k, p, q, m);

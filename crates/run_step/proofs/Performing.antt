@@ -6,7 +6,7 @@ use mathlib.Core.List.{List, [], map}
 use mathlib.Core.Option.{Option, none, some}
 use Prim.Native.Nat.{ℕ, zero, suc, _+_, _-_, _*_, _/_, _^_, _≤_, _<_}
 use native.Mathlib.Omega.{arith}
-use lib.ListN.{length, getD, take, drop}
+use lib.ListN.{length, getD, drop}
 use lib.Dec.{eqb}
 use borrow.Author.Tests.{ne-eqb}
 use Rattle.orders.specs.Lists.{All}
@@ -15,7 +15,7 @@ use Rattle.definition.specs.Basics.{refused, orRefuse, _>>=_}
 use Rattle.definition.specs.Elements.{Table, tree, depth}
 use Rattle.definition.specs.Planning.{own, dependent, discarded, Planned, target}
 use Rattle.definition.specs.Recording.{Change}
-use Rattle.definition.specs.Running.{news, owned, records}
+use Rattle.definition.specs.Running.{news, owned, records, recordedBy}
 use Rattle.definition_laws.specs.Right.{right-sits}
 use Rattle.words.specs.Bytes.{length-words}
 use Rattle.run_model.specs.Store as model
@@ -30,6 +30,7 @@ use Rattle.record_rewritten.specs.Stated.{changeBy, newOf, changeOf, planOf}
 use Rattle.record_rewritten.specs.Exact.{exact-tells}
 use Rattle.plan_rewrite.specs.Kept.{Kept}
 use Rattle.run_annotations.specs.Notes.{notesOf}
+use Rattle.run_annotations.specs.Changed.{changedIn, ruleBy, countBy}
 use Rattle.run_tree_store.specs.Stored.{storedFirst}
 use Rattle.run_tree_store.specs.Gaps.{gapBy, gap-by, held, siteOf}
 use Rattle.run_tree_store.specs.Promises.{SiteAt}
@@ -62,9 +63,10 @@ module _ {n : ℕ} {T : Table} {listed : List ℕ} {r : ChangeRow} (k : Kept n T
       let d : r .end ≡ endOf c = ap (λ (q : ChangeRow). q .end) e in
       ap (λ (o : ℕ). gapBy T s o (r .target) (r .end)) a ∙ (ap (λ (x : ℕ). gapBy T s (operation c) x (r .end)) b ∙ (ap (gapBy T s (operation c) (target c)) d ∙ gap-by T s c))
 
-  records-row : recordsBy r ≡ records T (planOf listed r)
-  unfolding recordsBy records planOf rowFate owned
-  records-row = go (eqb (r .fate) 0) ∙ ap (λ (t : ℕ). owned none (rowFate r) && eqb t 0) (exact-tells (k .exact) .treeTold)
+  -- and is recorded as it is
+  flag-row : (eqb (r .fate) 0 && eqb (r .tree) 0) ≡ records T (planOf listed r)
+  unfolding records planOf rowFate owned
+  flag-row = go (eqb (r .fate) 0) ∙ ap (λ (t : ℕ). owned none (rowFate r) && eqb t 0) (exact-tells (k .exact) .treeTold)
     where
       inner : (b : Bool) → owned none (cond b (dependent (r .owner)) (discarded (r .owner))) ≡ false
       inner true = refl
@@ -73,6 +75,30 @@ module _ {n : ℕ} {T : Table} {listed : List ℕ} {r : ChangeRow} (k : Kept n T
       go : (b : Bool) → (b && eqb (r .tree) 0) ≡ (owned none (cond b own (cond (eqb (r .fate) 1) (dependent (r .owner)) (discarded (r .owner)))) && eqb (r .tree) 0)
       go true = refl
       go false = rw (inner (eqb (r .fate) 1))
+
+  rule-row : ruleBy (recordsBy r) ≡ recordedBy T (planOf listed r)
+  unfolding recordsBy recordedBy planOf
+  rule-row = go (eqb (r .fate) 0 && eqb (r .tree) 0) ∙ ap (λ (b : Bool). cond b (some (r .rule)) none) flag-row
+    where
+      go : (b : Bool) → ruleBy (cond b (suc (r .rule)) 0) ≡ cond b (some (r .rule)) none
+      go true = refl
+      go false = refl
+
+  count-row : (n : ℕ) → countBy (recordsBy r) n ≡ cond (records T (planOf listed r)) n 0
+  unfolding recordsBy
+  count-row n = go (eqb (r .fate) 0 && eqb (r .tree) 0) ∙ ap (λ (b : Bool). cond b n 0) flag-row
+    where
+      go : (b : Bool) → countBy (cond b (suc (r .rule)) 0) n ≡ cond b n 0
+      go true = refl
+      go false = refl
+
+  ruled-row : r .rule < 4096 → recordsBy r ≤ 4096
+  unfolding recordsBy
+  ruled-row h = go (eqb (r .fate) 0 && eqb (r .tree) 0)
+    where
+      go : (b : Bool) → cond b (suc (r .rule)) 0 ≤ 4096
+      go true = omega arith
+      go false = omega arith
 
 above-by : (T : Table) (s : Store) (op x y z : ℕ) (new : List ℕ) → depthAbove T s (changeBy op x y z new) ≡ cond (eqb op 0) (depth T x) (depth T x - 1)
 unfolding changeBy depthAbove
@@ -111,8 +137,8 @@ step-gone : (T : Table) (first s : Store) (p : Planned) → gap T s (p .change) 
 unfolding storeStep orRefuse _>>=_
 step-gone T first s p e = rw e
 
-step-found : (T : Table) (first s : Store) (p : Planned) (g : model.Gap) (above : ℕ) (recorded : Bool) (l : List ℕ) → gap T s (p .change) ≡ some g → above ≡ depthAbove T s (p .change) → recorded ≡ records T p → news (p .change) ≡ l
-    → storeStep T first s p ≡ judgedStore above (map (partOf first s) l) (splicedStore g (map (partOf first s) l) recorded s)
+step-found : (T : Table) (first s : Store) (p : Planned) (g : model.Gap) (above recorded : ℕ) (l : List ℕ) → gap T s (p .change) ≡ some g → above ≡ depthAbove T s (p .change) → ruleBy recorded ≡ recordedBy T p → news (p .change) ≡ l
+    → storeStep T first s p ≡ judgedStore above (map (partOf first s) l) (splicedStore g (map (partOf first s) l) (ruleBy recorded) s)
 unfolding storeStep orRefuse judgedStore _>>=_
 step-found T first s p g above recorded l e a r n = rw (e, a, r, n)
 
@@ -141,13 +167,13 @@ module _ {lines source first : List ℕ} {s : TreeState} {rows marks notes chang
   pub asks-depth : Lines (length marks) lines × (k < 2 ^ 32) × (R .target < length marks)
   asks-depth = (v .begun .formed, x .2, u .kept .stated .target)
 
-  pub list-within : {list count : ℕ} → (list ≡ getD (drop (13 * k) changes) 3 0) × (list < 2 ^ 32) → (count ≡ getD (drop (13 * k) changes) 4 0) × (count < 2 ^ 32) → 4 * list + 4 * count ≤ length listed
+  pub list-within : {list count : ℕ} → (list ≡ getD (drop (14 * k) changes) 3 0) × (list < 2 ^ 32) → (count ≡ getD (drop (14 * k) changes) 4 0) × (count < 2 ^ 32) → 4 * list + 4 * count ≤ length listed
   unfolding rowAt rowOf
   list-within e f = omega (arith, e .0, f .0, u .kept .stated .within, long-listed)
 
   module _ {site : Site} (w : SiteAt rows (s .rows) lines marks (R .operation) (R .target) (R .end) site) where
     gap-site : (text : List ℕ) → site ≡ siteOf (gap T (heldIn text s rows marks notes changed) (changeOf L R))
-    gap-site text = w .site text source (notesOf (s .notes) notes) (take (s .changed) changed) ∙ ap siteOf (gap-row (u .kept) (heldIn text s rows marks notes changed))
+    gap-site text = w .site text source (notesOf (s .notes) notes) (changedIn (s .changed) changed) ∙ ap siteOf (gap-row (u .kept) (heldIn text s rows marks notes changed))
 
     pub performed-gone : site ≡ Gone → Stepped lines source first L R s rows marks notes changed rows marks notes changed (Refused 11)
     unfolding executedIn planOf
@@ -156,12 +182,12 @@ module _ {lines source first : List ℕ} {s : TreeState} {rows marks notes chang
       grown = λ t q. let z : _≡_ {A = ℕ} 0 1 = cc in absurd (omega arith);
     }
 
-    module _ {g : Gap} {above : ℕ} {recorded : Bool} {list count : ℕ}
+    module _ {g : Gap} {above recorded list count : ℕ}
         (e : site ≡ At g)
         (ea : AboveBy lines (R .operation) (R .target) above)
         (er : recorded ≡ recordsBy R)
-        (el : (list ≡ getD (drop (13 * k) changes) 3 0) × (list < 2 ^ 32))
-        (ec : (count ≡ getD (drop (13 * k) changes) 4 0) × (count < 2 ^ 32)) where
+        (el : (list ≡ getD (drop (14 * k) changes) 3 0) × (list < 2 ^ 32))
+        (ec : (count ≡ getD (drop (14 * k) changes) 4 0) × (count < 2 ^ 32)) where
       gap-here : (text : List ℕ) → gap T (heldIn text s rows marks notes changed) (changeOf L R) ≡ some (gapTold g)
       gap-here text = site-at _ g (sym e ∙ gap-site text)
 
@@ -176,8 +202,11 @@ module _ {lines source first : List ℕ} {s : TreeState} {rows marks notes chang
       many : count ≡ length (news (changeOf L R))
       many = count-is ∙ u .kept .stated .counted
 
-      recorded-is : recorded ≡ records T (planOf L R)
-      recorded-is = er ∙ records-row (u .kept)
+      recorded-is : ruleBy recorded ≡ recordedBy T (planOf L R)
+      recorded-is = ap ruleBy er ∙ rule-row (u .kept)
+
+      counted-is : (n : ℕ) → countBy recorded n ≡ cond (records T (planOf L R)) n 0
+      counted-is n = ap (λ (i : ℕ). countBy i n) er ∙ count-row (u .kept) n
 
       within : 4 * list + 4 * count ≤ length listed
       within = list-within el ec
@@ -194,7 +223,8 @@ module _ {lines source first : List ℕ} {s : TreeState} {rows marks notes chang
           subst (Open s rows marks notes changed g recorded) (sym (part-many listed list count within))
           (subst (λ (h : Gap). Open s rows marks notes changed h recorded count) (held-told g)
           (gap-room v (changeOf L R) (right-sits T (changeOf L R) (u .right)) (gapTold g) (gap-here (v .begun .text)) recorded count (omega (arith, within, x .0)) long
-          (rw (recorded-is, many) room)))
+          (rw (counted-is count, many) room)
+          (rw er (ruled-row (u .kept) (u .ruled)))))
 
       pub performed : {rows′ marks′ notes′ changed′ : List ℕ} {r : Executed} → SteppedAt s rows marks notes changed source first g above recorded (wordsIn (partFrom listed list count)) rows′ marks′ notes′ changed′ r
           → Stepped lines source first L R s rows marks notes changed rows′ marks′ notes′ changed′ r
@@ -208,5 +238,5 @@ module _ {lines source first : List ℕ} {s : TreeState} {rows marks notes chang
             (above-row (length marks) lines source L R (heldIn text s rows marks notes changed) above (v .begun .formed) (u .kept .stated .target) ea)
             recorded-is
             news-are);
-        grown = λ t q. subst (λ (m : ℕ). Grown s m rows′ t) (rw (recorded-is, ← news-are)) (y .grown t q);
+        grown = λ t q. subst (λ (m : ℕ). Grown s m rows′ t) (counted-is (length (wordsIn (partFrom listed list count))) ∙ ap (λ (l : List ℕ). cond (records T (planOf L R)) (length l) 0) (sym news-are)) (y .grown t q);
       }

@@ -1,7 +1,6 @@
 -- One step, from what was done.
 -- Assumes nothing.
 use mathlib.Core.Path.{_≡_, refl, sym, _∙_, subst}
-use mathlib.Core.Bool.{Bool, cond}
 use mathlib.Core.List.{List, []}
 use Prim.Native.Nat.{ℕ, _+_, _*_, _/_, _^_, _≤_, _<_}
 use native.Mathlib.Omega.{arith}
@@ -15,6 +14,8 @@ use Rattle.words.specs.Bytes.{length-words}
 use Rattle.rows_model.specs.Row.{firstRows}
 use Rattle.rows_model.specs.Words.{length-first}
 use Rattle.run_model.specs.Sums.{Within}
+use Rattle.run_annotations.specs.Changed.{changedIn, ruleBy, countBy}
+use Rattle.run_annotations.specs.Places.{partRows}
 use Rattle.run_tree_store.specs.Stored.{stored}
 use Rattle.run_tree_store.specs.declared.Gap.{Gap}
 use Rattle.run_tree_state.specs.Store.{gapTold, Open, Coming}
@@ -24,7 +25,7 @@ use Rattle.run_tree_state.specs.declared.Executed.{Executed}
 use Rattle.run_tree_state.specs.declared.Executed.the-variants.{Refused}
 use Rattle.run_prepare.specs.Yields.{newNotes, partSizes}
 use Rattle.run_prepare.specs.Promises.{ElementsPrepared}
-use Rattle.run_prepare.specs.Bounds.{sizes-told, sizes-small}
+use Rattle.run_prepare.specs.Bounds.{sizes-told, sizes-small, sizes-placed}
 use Rattle.run_prepare.specs.Refusal.{prepared-refused}
 use Rattle.run_prepare.specs.declared.Prepared.{Prepared}
 use Rattle.run_prepare.specs.declared.Prepared.the-variants.{TooMany, Parts}
@@ -33,9 +34,9 @@ use Rattle.run_step.specs.Stepping.{yieldsIn, SteppedAt}
 
 -- ── Parts of what is prepared ───────────────────────────────────────────────────────────────────────────────
 
-module _ {s : TreeState} {rows marks notes changed : List ℕ} {g : Gap} {recorded : Bool} {count : ℕ} (v : Open s rows marks notes changed g recorded count)
+module _ {s : TreeState} {rows marks notes changed : List ℕ} {g : Gap} {recorded : ℕ} {count : ℕ} (v : Open s rows marks notes changed g recorded count)
     (prepared : List ℕ) {m : ℕ} (sizes incoming : List ℕ) {c : ℕ}
-    (w : (m ≤ 4096) × (3 * m ≤ length prepared) × (count ≤ mostListed) × (count ≤ length sizes) × All (λ x. x < 2 ^ 16) (take count sizes) × (c ≤ 1024) × (3 * c ≤ length incoming)) where
+    (w : (m ≤ 4096) × (3 * m ≤ length prepared) × (count ≤ mostListed) × (count ≤ length sizes) × All (λ x. x < 2 ^ 16) (take count sizes) × All (λ x. x < 2 ^ 16) (partRows 0 (take count sizes)) × (c ≤ 1024) × (3 * c ≤ length incoming)) where
   part-open : Open s rows marks notes changed g recorded (length (take count sizes))
   part-open = subst (Open s rows marks notes changed g recorded) (sym (length-take-le count sizes (w .3))) v
 
@@ -47,11 +48,12 @@ module _ {s : TreeState} {rows marks notes changed : List ℕ} {g : Gap} {record
         short = omega (arith, w .0);
         fewParts = omega (arith, length-take-le count sizes (w .3), w .2);
         sized = w .4;
-        fewComing = w .5;
-        longComing = w .6;
+        placed = w .5;
+        fewComing = w .6;
+        longComing = w .7;
       }
 
-pub asks-prepare : {s : TreeState} {rows marks notes changed : List ℕ} {g : Gap} {recorded : Bool} (list : List ℕ) → Open s rows marks notes changed g recorded (length list / 4)
+pub asks-prepare : {s : TreeState} {rows marks notes changed : List ℕ} {g : Gap} {recorded : ℕ} (list : List ℕ) → Open s rows marks notes changed g recorded (length list / 4)
     → (source first prepared sizes incoming : List ℕ)
     → (length marks ≤ 2048) × (3 * length marks + 3 ≤ length source) × (length first ≤ 768)
     → (length list ≤ 4 * mostListed) × All (λ e. e < length marks) (wordsIn list)
@@ -66,20 +68,21 @@ asks-prepare list v source first prepared sizes incoming x y z =
 
 -- ── What the listed elements yield goes in ──────────────────────────────────────────────────────────────────
 
-module _ {s : TreeState} {rows marks notes changed : List ℕ} {g : Gap} {recorded : Bool} {count : ℕ} (v : Open s rows marks notes changed g recorded count)
+module _ {s : TreeState} {rows marks notes changed : List ℕ} {g : Gap} {recorded : ℕ} {count : ℕ} (v : Open s rows marks notes changed g recorded count)
     (rest : List ℕ) {source first prepared sizes incoming : List ℕ} {made : Prepared}
     (u : ElementsPrepared rows (s .rows) source marks first notes (s .notes) (words count rest) (g .from) prepared sizes incoming made) where
-  pub made-small : {m c : ℕ} → made ≡ Parts m c → (m ≤ 4096) × All (λ x. x < 2 ^ 16) (take count sizes) × (c ≤ 1024)
+  pub made-small : {m c : ℕ} → made ≡ Parts m c → (m ≤ 4096) × All (λ x. x < 2 ^ 16) (take count sizes) × All (λ x. x < 2 ^ 16) (partRows 0 (take count sizes)) × (c ≤ 1024)
   made-small {m} {c} e =
       let z = (u .parts [] [] []) .came m c e in
-      (z .fewRows, sizes-small count rest (subst (ElementsPrepared rows (s .rows) source marks first notes (s .notes) (words count rest) (g .from) prepared sizes incoming) e u), z .fewNotes)
+      let p = subst (ElementsPrepared rows (s .rows) source marks first notes (s .notes) (words count rest) (g .from) prepared sizes incoming) e u in
+      (z .fewRows, sizes-small count rest p, sizes-placed count rest p, z .fewNotes)
 
   pub asks-apply : {m c : ℕ} → made ≡ Parts m c → 12288 ≤ length prepared → mostListed ≤ length sizes → 3072 ≤ length incoming → count ≤ mostListed
       → Open s rows marks notes changed g recorded (length (take count sizes)) × Coming (take (3 * m) prepared) (take count sizes) incoming c
   asks-apply {m} {c} e lp ls li few =
       let z = made-small e in
-      let w : (m ≤ 4096) × (3 * m ≤ length prepared) × (count ≤ mostListed) × (count ≤ length sizes) × All (λ x. x < 2 ^ 16) (take count sizes) × (c ≤ 1024) × (3 * c ≤ length incoming) =
-      (z .0, omega (arith, z .0), few, omega arith, z .1, z .2, omega (arith, z .2)) in
+      let w : (m ≤ 4096) × (3 * m ≤ length prepared) × (count ≤ mostListed) × (count ≤ length sizes) × All (λ x. x < 2 ^ 16) (take count sizes) × All (λ x. x < 2 ^ 16) (partRows 0 (take count sizes)) × (c ≤ 1024) × (3 * c ≤ length incoming) =
+      (z .0, omega (arith, z .0), few, omega arith, z .1, z .2, z .3, omega (arith, z .3)) in
       (part-open v prepared sizes incoming w, part-coming v prepared sizes incoming w)
 
   module _ {above : ℕ} where
@@ -90,7 +93,7 @@ module _ {s : TreeState} {rows marks notes changed : List ℕ} {g : Gap} {record
           let p = subst (ElementsPrepared rows (s .rows) source marks first notes (s .notes) (words count rest) (g .from) prepared sizes incoming) e u in
           let z = length-first text (s .rows) rows (v .long) in
           let inside : Within (length (firstRows text (s .rows) rows)) (gapTold g) = record { below = v .below; order = v .order; high = omega (arith, v .high) } in
-          rw (prepared-refused p text [] (take (s .changed) changed) above (gapTold g) recorded refl inside);
+          rw (prepared-refused p text [] (changedIn (s .changed) changed) above (gapTold g) (ruleBy recorded) refl inside);
       grown = λ t q. let z : _≡_ {A = ℕ} 0 1 = cc in absurd (omega arith);
     }
 
@@ -103,7 +106,7 @@ module _ {s : TreeState} {rows marks notes changed : List ℕ} {g : Gap} {record
         let n : length (take count sizes) ≡ length (words count rest) = length-take-le count sizes long ∙ sym (length-words count rest) in
         record {
           answer = λ text.
-              let z = (p .parts text [] (take (s .changed) changed)) .came m c refl in
-              w .answer text (yieldsIn s rows marks notes changed source first text (words count rest)) (record { told = z .rows; each = sizes-told count rest p text [] (take (s .changed) changed); noted = z .notes });
-          grown = λ t q. record { place = w .place t q; measured = w .measured t q; few = w .few t q; most = subst (λ (k : ℕ). t .changed ≤ s .changed + cond recorded k 0) n (w .most t q) };
+              let z = (p .parts text [] (changedIn (s .changed) changed)) .came m c refl in
+              w .answer text (yieldsIn s rows marks notes changed source first text (words count rest)) (record { told = z .rows; each = sizes-told count rest p text [] (changedIn (s .changed) changed); noted = z .notes });
+          grown = λ t q. record { place = w .place t q; measured = w .measured t q; few = w .few t q; most = subst (λ (k : ℕ). t .changed ≤ s .changed + countBy recorded k) n (w .most t q) };
         }

@@ -1,12 +1,11 @@
 -- What is held now has its rows in bounds, and where a change goes there is a gap, and room.
 -- Assumes nothing.
 use mathlib.Core.Path.{_≡_, refl, sym, ap, _∙_, subst}
-use mathlib.Core.Bool.{Bool, cond}
 use mathlib.Core.List.{List, map}
 use mathlib.Core.Option.{Option, none, some}
 use Prim.Native.Nat.{ℕ, _+_, _*_, _^_, _≤_, _<_}
 use native.Mathlib.Omega.{arith}
-use lib.ListN.{length, getD, take, length-map}
+use lib.ListN.{length, getD, length-map}
 use Rattle.orders.specs.Lists.{All}
 use Rattle.orders.specs.ListLaws.{map-some, All-over}
 use Rattle.orders.specs.Tree.{Tree, node, token, list, Path, HasRun, text, children, textOf}
@@ -22,12 +21,13 @@ use Rattle.rows_model.specs.Place.{size, place, markOf, Held}
 use Rattle.rows_model.specs.PlaceLaws.{place-lt, place-bound}
 use Rattle.rows_model.specs.Words.{rows-many, node-at}
 use Rattle.run_model.specs.Store as model
-use Rattle.run_model.specs.Store.{heldNote, store, gap}
+use Rattle.run_model.specs.Store.{heldNote, heldChanged, store, gap}
 use Rattle.run_model.specs.Gaps.{gapAt, gap-place}
 use Rattle.run_model.specs.Sums.{Within, gap-within}
 use Rattle.run_model.specs.Step.{paths-held}
 use Rattle.read_element_table.specs.View.{view}
 use Rattle.run_annotations.specs.Notes.{notesOf, length-notesOf}
+use Rattle.run_annotations.specs.Changed.{changedIn, countBy}
 use Rattle.run_tree_store.specs.Stored.{stored}
 use Rattle.run_tree_store.specs.Gaps.{held}
 use Rattle.run_tree_state.specs.Store.{heldIn, Open}
@@ -58,7 +58,7 @@ module _ {n : ℕ} {lines source first : List ℕ} {s : TreeState} {rows marks n
   unfolding stored store
   notes-same = ap (λ (x : model.Store). x .notes) (v .now .same)
 
-  changed-same : take (s .changed) changed ≡ map (λ p. place p (w .trees)) (w .changed)
+  changed-same : changedIn (s .changed) changed ≡ map (heldChanged (w .trees)) (w .changed)
   unfolding stored store
   changed-same = ap (λ (x : model.Store). x .changed) (v .now .same)
 
@@ -97,8 +97,9 @@ module _ {n : ℕ} {lines source first : List ℕ} {s : TreeState} {rows marks n
   unfolding heldNote
   notes-low = rw notes-same (All-over (heldNote (w .trees)) (λ m. Leads (w .trees) (m .path)) (λ m. m .row < 2 ^ 16) (λ m l. lead-low (m .path) l) (w .notes) (v .now .kept .holds .notes))
 
-  pub changed-low : All (λ x. x < 2 ^ 16) (take (s .changed) changed)
-  changed-low = rw changed-same (All-over (λ p. place p (w .trees)) (Leads (w .trees)) (λ x. x < 2 ^ 16) lead-low (w .changed) (v .now .kept .holds .changed))
+  pub changed-low : All (λ c. c .row < 2 ^ 16) (changedIn (s .changed) changed)
+  unfolding heldChanged
+  changed-low = rw changed-same (All-over (heldChanged (w .trees)) (λ c. Leads (w .trees) (c .0)) (λ c. c .row < 2 ^ 16) (λ c l. lead-low (c .0) l) (w .changed) (v .now .kept .holds .changed))
 
   -- ── The gap ──
 
@@ -114,9 +115,9 @@ module _ {n : ℕ} {lines source first : List ℕ} {s : TreeState} {rows marks n
         let (r, x, y) = map-some (gapAt (w .trees)) (runAt (table 0 0 (v .begun .trees)) w c) (sym (gap-place (v .begun .trees) w (v .now .kept .follows) c sits′) ∙ e) in
         (r, (place-fits (v .begun .trees) w (v .now .kept .follows) c r sits′ x) .run, y)
 
-    pub gap-room : (recorded : Bool) (gain : ℕ) → gain ≤ 1024 → 3072 ≤ length notes → s .changed + cond recorded gain 0 ≤ length changed → Open s rows marks notes changed (held g) recorded gain
+    pub gap-room : (recorded gain : ℕ) → gain ≤ 1024 → 3072 ≤ length notes → s .changed + countBy recorded gain ≤ length changed → recorded ≤ 4096 → Open s rows marks notes changed (held g) recorded gain
     unfolding held gapAt
-    gap-room recorded gain few long room =
+    gap-room recorded gain few long room ruled =
         let (r, run, y) = there in
         let inside : Within (size (w .trees)) g = subst (Within (size (w .trees))) y (gap-within (w .trees) r run) in
         let (isNode, _, many) = node-at (v .begun .text) (s .rows) rows (w .trees) (v .long) rows-same (r .parent) (run .kind) (run .children) (run .found) in
@@ -137,4 +138,5 @@ module _ {n : ℕ} {lines source first : List ℕ} {s : TreeState} {rows marks n
           noted = notes-low;
           held = changed-low;
           room = room;
+          ruled = ruled;
         }

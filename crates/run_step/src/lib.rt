@@ -16,7 +16,7 @@ use record_changes::field;
 use rows_syntax_node::ROW_WORDS;
 use run_change::change_gap;
 use run_change::depth_above;
-use run_change::is_recorded;
+use run_change::recorded_by;
 use run_prepare::Prepared;
 use run_prepare::prepare;
 use run_tree_state::Executed;
@@ -40,7 +40,7 @@ fn step_at(
     s: TreeState,
     g: Gap,
     above: usize,
-    recorded: bool,
+    recorded: usize,
 ) -> Executed
     requires { ⌜ Open s (now rows) (now marks) (now notes) (now changed) g recorded (length (now list) / 4) ⌝ }
     requires { ⌜ (12291 ≤ length (now rows)) × (3072 ≤ length (now notes)) × (above ≤ 64) ⌝ }
@@ -116,7 +116,7 @@ pub fn step(
         Site::Gone => Executed::Refused(11),
         Site::At(g) => {
             let above = depth_above(table, marks.len(), changes, k);
-            let recorded = is_recorded(changes, k);
+            let recorded = recorded_by(changes, k);
             let from = 4 * field(changes, k, record_changes::LIST);
             let to = from + 4 * field(changes, k, record_changes::COUNT);
             step_at(

@@ -17,6 +17,7 @@ use Rattle.run_model.specs.Store.{HeldNote, withRow, Part, newRows, placedParts
 use Rattle.run_model.specs.Sums.{splice-bytes, tooLargeBy, too-large-sums}
 use Rattle.rows_syntax_node.specs.Promises.{Bytes, Height}
 use Rattle.run_annotations.specs.Notes.{notesOf, length-notesOf}
+use Rattle.run_annotations.specs.Changed.{ruleBy}
 use Rattle.run_annotations.specs.Promises.{movedNote}
 use Rattle.run_tree_store.specs.Stored.{stored}
 use Rattle.run_tree_store.specs.declared.Gap.{Gap}
@@ -99,10 +100,10 @@ by-same e f g h = rw (e, f, g, h)
 
 -- ── One step ────────────────────────────────────────────────────────────────────────────────────────────────
 
-module _ {s : TreeState} {rows marks notes changed : List ℕ} {g : Gap} {recorded : Bool} {run sizes incoming : List ℕ} {c : ℕ} (m : Open s rows marks notes changed g recorded (length sizes)) (w : Coming run sizes incoming c) where
+module _ {s : TreeState} {rows marks notes changed : List ℕ} {g : Gap} {recorded : ℕ} {run sizes incoming : List ℕ} {c : ℕ} (m : Open s rows marks notes changed g recorded (length sizes)) (w : Coming run sizes incoming c) where
   -- what is told before the step is told of what it makes
   large-same : (above : ℕ) (text : List ℕ) (new : List Part) → Comes text new (g .from) run sizes incoming c
-      → storeTooLarge above new (splicedStore (gapTold g) new recorded (heldIn text s rows marks notes changed)) ≡ largeThen rows notes s g run c above text
+      → storeTooLarge above new (splicedStore (gapTold g) new (ruleBy recorded) (heldIn text s rows marks notes changed)) ≡ largeThen rows notes s g run c above text
   unfolding largeThen rowsThen bytesThen notesThen splicedStore gapTold stored
   large-same above text new i =
       let z = length-first text (s .rows) rows (m .long) in
@@ -110,7 +111,7 @@ module _ {s : TreeState} {rows marks notes changed : List ℕ} {g : Gap} {record
       let kept : List HeldNote = pick (movedNote (g .from) (g .to) (length (newRows new))) (notesOf (s .notes) notes) in
       let come : List HeldNote = flatMap (λ y. map (λ n. withRow n (y .0 + n .row)) (y .1 .notes)) (placedParts (g .from) new) in
       let n : length (kept ++ come) ≡ length kept + c = length-append kept come ∙ ap (λ (x : ℕ). length kept + x) (ap length (sym (i .noted)) ∙ length-notesOf c incoming) in
-      too-large-sums above (gapTold g) new recorded (heldIn text s rows marks notes changed) (m .order) (omega (arith, m .high))
+      too-large-sums above (gapTold g) new (ruleBy recorded) (heldIn text s rows marks notes changed) (m .order) (omega (arith, m .high))
       ∙ by-same
       (ap (λ (x : ℕ). x - (g .to - g .from) + length (newRows new)) z ∙ ap (λ (x : ℕ). s .rows - (g .to - g .from) + x) (sym k))
       (ap (λ (l : List Row). bytes (firstRows text (s .rows) rows) + bytes l - bytes (between (g .from) (g .to) (firstRows text (s .rows) rows))) (sym (i .told)))

@@ -1,5 +1,5 @@
-// The state of a run: where the root of tree 0 stands, and how much is held; lent to each splice step, which rows, marks, notes and changed rows go
-// through together. 12 is decided before anything is written.
+// The state of a run: where the root of tree 0 stands, and how much is held; lent to each splice step, which rows, marks, notes and changed elements
+// go through together. 12 is decided before anything is written.
 ghost use mathlib.Core.Path.{_≡_};
 ghost use mathlib.Core.List.{List};
 ghost use Prim.Native.Nat.{ℕ, _+_, _-_, _*_, _/_, _^_, _≤_, _<_};
@@ -23,7 +23,7 @@ use run_tree_store::too_large;
 // ── All that is held ──
 
 // Rust: TreeState, one for each tree; here all trees stand in one slice of rows. Where the root of tree 0 stands, and how much is held: rows, their text bytes,
-// notes, changed rows.
+// notes, changed elements.
 pub struct TreeState {
     pub root: usize,
     pub rows: usize,
@@ -33,7 +33,7 @@ pub struct TreeState {
 }
 
 // The covered splice, by value: the rows of the gap give way to a run of parts of these sizes, with `c` notes that come in; what is held then has `bytes`
-// text bytes.
+// text bytes. `recorded` is one more than the rule number that the parts are recorded by, 0 if they are not.
 fn splice_store(
     s: TreeState,
     rows: &mut [u32],
@@ -41,7 +41,7 @@ fn splice_store(
     notes: &mut [u32],
     changed: &mut [u32],
     g: Gap,
-    recorded: bool,
+    recorded: usize,
     run: &[u32],
     sizes: &[u32],
     incoming: &[u32],
@@ -86,7 +86,7 @@ fn replace_store(
     notes: &mut [u32],
     changed: &mut [u32],
     g: Gap,
-    recorded: bool,
+    recorded: usize,
     run: &[u32],
     sizes: &[u32],
     incoming: &[u32],
@@ -134,7 +134,7 @@ fn splice(
     notes: &mut [u32],
     changed: &mut [u32],
     g: Gap,
-    recorded: bool,
+    recorded: usize,
     run: &[u32],
     sizes: &[u32],
     incoming: &[u32],
@@ -170,7 +170,7 @@ fn replace_root(
     notes: &mut [u32],
     changed: &mut [u32],
     g: Gap,
-    recorded: bool,
+    recorded: usize,
     run: &[u32],
     sizes: &[u32],
     incoming: &[u32],
@@ -207,7 +207,7 @@ fn spliced(
     notes: &mut [u32],
     changed: &mut [u32],
     g: Gap,
-    recorded: bool,
+    recorded: usize,
     run: &[u32],
     sizes: &[u32],
     incoming: &[u32],
@@ -245,7 +245,7 @@ fn root_replaced(
     notes: &mut [u32],
     changed: &mut [u32],
     g: Gap,
-    recorded: bool,
+    recorded: usize,
     run: &[u32],
     sizes: &[u32],
     incoming: &[u32],
@@ -284,7 +284,7 @@ fn splice_held(
     notes: &mut [u32],
     changed: &mut [u32],
     g: Gap,
-    recorded: bool,
+    recorded: usize,
     run: &[u32],
     sizes: &[u32],
     incoming: &[u32],
@@ -390,7 +390,7 @@ pub fn apply(
     s: TreeState,
     g: Gap,
     above: usize,
-    recorded: bool,
+    recorded: usize,
     run: &[u32],
     sizes: &[u32],
     incoming: &[u32],

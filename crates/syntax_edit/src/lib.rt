@@ -130,6 +130,7 @@ pub extern "C" fn syntax_write(
     text: &[u8],
     operations: &[u32],
     counts: &[u32],
+    rules: &[u32],
     targets: &[u32],
     listed: &[u32],
     inputs: &[u32],
@@ -141,7 +142,7 @@ pub extern "C" fn syntax_write(
     table: &mut [u32],
     source: &mut [u32],
 ) -> i64
-    ensures { λ r. ⌜ ReturnsBatch (listsIn trees (now (kinds .entry)) (now (measures .entry)) (now (text .entry)) (now (operations .entry)) (now (counts .entry)) (now (targets .entry)) (now (listed .entry)) (now (inputs .entry)) (now (outputs .entry)) (now (noted .entry)) (now (numbers .entry))) (now (destination .entry)) (now (draft .entry) ∷ now (table .entry) ∷ now (source .entry) ∷ []) r (now (destination .exit)) (now (draft .exit) ∷ now (table .exit) ∷ now (source .exit) ∷ []) ⌝ }
+    ensures { λ r. ⌜ ReturnsBatch (listsIn trees (now (kinds .entry)) (now (measures .entry)) (now (text .entry)) (now (operations .entry)) (now (counts .entry)) (now (rules .entry)) (now (targets .entry)) (now (listed .entry)) (now (inputs .entry)) (now (outputs .entry)) (now (noted .entry)) (now (numbers .entry))) (now (destination .entry)) (now (draft .entry) ∷ now (table .entry) ∷ now (source .entry) ∷ []) r (now (destination .exit)) (now (draft .exit) ∷ now (table .exit) ∷ now (source .exit) ∷ []) ⌝ }
 {
     let told = write_batch::write_batch(
         trees,
@@ -150,6 +151,7 @@ pub extern "C" fn syntax_write(
         text,
         operations,
         counts,
+        rules,
         targets,
         listed,
         inputs,

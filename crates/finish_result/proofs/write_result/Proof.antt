@@ -8,26 +8,8 @@ use Rattle.finish_result.proofs.write_result.Tie as tie
 text-size-requires : tie.Need-text-size-requires
 text-size-requires c κs = search needs
 
-mul-total : tie.Need-mul-total
-mul-total c = search needs
-
-add-total : tie.Need-add-total
-add-total c = search needs
-
-mul-total-2 : tie.Need-mul-total-2
-mul-total-2 c = search needs
-
-add-total-2 : tie.Need-add-total-2
-add-total-2 c = search needs
-
-mul-total-3 : tie.Need-mul-total-3
-mul-total-3 c = search needs
-
-add-total-3 : tie.Need-add-total-3
-add-total-3 c = search needs
-
-add-total-4 : tie.Need-add-total-4
-add-total-4 c = search needs
+bytes-of-requires : tie.Need-bytes-of-requires
+bytes-of-requires c κs = search needs
 
 returns : tie.Need-returns
 returns c = search (result-short, needs)
@@ -55,13 +37,7 @@ write-result-spec =
     tie.close
     (tie.spec
     text-size-requires
-    mul-total
-    add-total
-    mul-total-2
-    add-total-2
-    mul-total-3
-    add-total-3
-    add-total-4
+    bytes-of-requires
     returns
     write-front-requires
     mul-write-rest

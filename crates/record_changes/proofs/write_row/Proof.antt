@@ -1,4 +1,4 @@
--- `write_row` meets its contract. Eight words are written, then five.
+-- `write_row` meets its contract. Eight words are written, then six.
 -- Assumes nothing.
 use Rattle.record_changes.proofs.Changing.{row-stored}
 use borrow.Author.Needs.{needs}
@@ -14,14 +14,17 @@ store8-requires c κs = search needs
 add-copy-in : tie.Need-add-copy-in
 add-copy-in c = search needs
 
-cast-t13 : tie.Need-cast-t13
-cast-t13 c = search needs
-
 cast-t14 : tie.Need-cast-t14
 cast-t14 c = search needs
 
 cast-t15 : tie.Need-cast-t15
 cast-t15 c = search needs
+
+cast-t16 : tie.Need-cast-t16
+cast-t16 c = search needs
+
+cast-t17 : tie.Need-cast-t17
+cast-t17 c = search needs
 
 slice-aggregate-copy-in : tie.Need-slice-aggregate-copy-in
 slice-aggregate-copy-in c = search needs
@@ -42,9 +45,10 @@ write-row-spec =
     mul-at
     store8-requires
     add-copy-in
-    cast-t13
     cast-t14
     cast-t15
+    cast-t16
+    cast-t17
     slice-aggregate-copy-in
     copy-in-requires
     same-length

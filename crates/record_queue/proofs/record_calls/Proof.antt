@@ -35,34 +35,25 @@ add-read-word-2 c = search needs
 read-word-requires-2 : tie.Need-read-word-requires-2 Inv-loop μ-loop
 read-word-requires-2 c κs = search needs
 
+record-call-requires : tie.Need-record-call-requires Inv-loop μ-loop
+record-call-requires c κs =
+    let read = c .before .before in
+    let v = read .before .before .loop .inv in
+    let p = read .before .before .before .before .before .before .before .pre in
+    let fits = recording-fits v (omega arith) (read .read-word .ensures .0) (c .before .read-word2 .ensures .0) (p .1 .0) in
+    (p .0, (fits, (p .1 .0 .listWithin, (v .sound, omega (arith, v .high, p .1 .0 .fewCalls), omega (arith, v .high, v .long, p .1 .1 .0)))))
+
 count-of-requires : tie.Need-count-of-requires Inv-loop μ-loop
 count-of-requires c κs = search needs
 
-mul-record-call : tie.Need-mul-record-call Inv-loop μ-loop
-mul-record-call c = search needs
-
-add-record-call : tie.Need-add-record-call Inv-loop μ-loop
-add-record-call c = search needs
-
-operation-of-requires : tie.Need-operation-of-requires Inv-loop μ-loop
-operation-of-requires c κs = search needs
-
-record-call-requires : tie.Need-record-call-requires Inv-loop μ-loop
-record-call-requires c κs =
-    let counted = c .before .before in
-    let read = counted .before in
-    let v = read .before .before .before .loop .inv in
-    let p = c .before .before .before .before .before .before .before .before .before .before .before .pre in
-    let fits = recording-fits v (omega arith) (read .before .read-word .ensures .0) (read .read-word2 .ensures .0) (counted .count-of .ensures) (p .1 .0) in
-    (search needs, (fits, (v .sound, omega (arith, v .high, p .1 .0 .fewCalls), omega (arith, v .high, v .long, p .1 .1 .0))))
-
 add-taken : tie.Need-add-taken Inv-loop μ-loop
 add-taken c =
-    let counted = c .before .before .before .before .before in
-    let read = counted .before in
-    let v = read .before .before .before .loop .inv in
-    let few = recording-front v (omega arith) (read .before .read-word .ensures .0) (read .read-word2 .ensures .0) (counted .count-of .ensures) in
-    record { fits = omega (arith, few, v .few, (c .before .before .before .before .before .before .before .before .before .before .before .before .before .before .pre .1 .0) .fewListed) }
+    let aimed = c .before .before .before .before .before in
+    let read = aimed .before in
+    let v = read .before .before .loop .inv in
+    let p = read .before .before .before .before .before .before .before .pre in
+    let few = recording-front v (omega arith) (read .read-word .ensures .0) (aimed .read-word2 .ensures .0) in
+    record { fits = omega (arith, few, v .few, c .count-of .ensures, p .1 .0 .fewListed) }
 
 add-i : tie.Need-add-i Inv-loop μ-loop
 add-i c = search needs
@@ -72,10 +63,10 @@ loop-less c = search needs
 
 loop-again : tie.Need-loop-again Inv-loop μ-loop
 loop-again c =
-    let called = c .before .before in
-    let counted = called .before .before .before in
-    let read = counted .before in
-    recording-next (read .before .before .before .loop .inv) (omega arith) (read .before .read-word .ensures .0) (read .read-word2 .ensures .0) (counted .count-of .ensures) (called .before .before .operation-of .ensures) (called .record-call .ensures) (search needs)
+    let called = c .before .before .before in
+    let aimed = called .before .before in
+    let read = aimed .before in
+    recording-next (read .before .before .loop .inv) (omega arith) (read .read-word .ensures .0) (aimed .read-word2 .ensures .0) (called .record-call .ensures) (search needs) (c .count-of .ensures)
 
 same-length : tie.Need-same-length Inv-loop μ-loop
 same-length c = search needs
@@ -96,11 +87,8 @@ record-calls-spec =
     mul-read-word-2
     add-read-word-2
     read-word-requires-2
-    count-of-requires
-    mul-record-call
-    add-record-call
-    operation-of-requires
     record-call-requires
+    count-of-requires
     add-taken
     add-i
     loop-less

@@ -1,4 +1,4 @@
--- `record_change` meets its contract: a row is added, a delete stays, any other row that it meets is written over.
+-- `record_change` meets its contract: a row is added, stays, or is written over.
 -- Assumes nothing.
 use Rattle.record_queue.proofs.Recordings.{record-added, record-stays, record-over}
 use borrow.Author.Needs.{needs}
@@ -20,11 +20,8 @@ same-length c = search needs
 returns : tie.Need-returns
 returns c = search (record-added, needs)
 
-mul-word : tie.Need-mul-word
-mul-word c = search needs
-
-word-requires : tie.Need-word-requires
-word-requires c κs = search needs
+is-idle-requires : tie.Need-is-idle-requires
+is-idle-requires c κs = search needs
 
 same-length-2 : tie.Need-same-length-2
 same-length-2 c = search needs
@@ -50,8 +47,7 @@ record-change-spec =
     add-result
     same-length
     returns
-    mul-word
-    word-requires
+    is-idle-requires
     same-length-2
     returns-2
     write-row-requires-2

@@ -1,4 +1,4 @@
--- `copy_fate` meets its contract. Two words of the row.
+-- `copy_fate` meets its contract. Three words of the row.
 -- Assumes nothing.
 use borrow.Author.Needs.{needs}
 use Rattle.record_rewritten.proofs.Writing.{fate-copied}
@@ -11,17 +11,23 @@ field-requires c κs = search needs
 field-requires-2 : tie.Need-field-requires-2
 field-requires-2 c κs = search needs
 
+field-requires-3 : tie.Need-field-requires-3
+field-requires-3 c κs = search needs
+
 mul-copy-in : tie.Need-mul-copy-in
 mul-copy-in c = search needs
 
 add-copy-in : tie.Need-add-copy-in
 add-copy-in c = search needs
 
-cast-t12 : tie.Need-cast-t12
-cast-t12 c = search needs
-
 cast-t13 : tie.Need-cast-t13
 cast-t13 c = search needs
+
+cast-t14 : tie.Need-cast-t14
+cast-t14 c = search needs
+
+cast-t15 : tie.Need-cast-t15
+cast-t15 c = search needs
 
 slice-aggregate-copy-in : tie.Need-slice-aggregate-copy-in
 slice-aggregate-copy-in c = search needs
@@ -41,10 +47,12 @@ copy-fate-spec =
     (tie.spec
     field-requires
     field-requires-2
+    field-requires-3
     mul-copy-in
     add-copy-in
-    cast-t12
     cast-t13
+    cast-t14
+    cast-t15
     slice-aggregate-copy-in
     copy-in-requires
     same-length

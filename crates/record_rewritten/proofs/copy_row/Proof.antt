@@ -32,7 +32,7 @@ same-length : tie.Need-same-length
 same-length c = search needs
 
 returns : tie.Need-returns
-returns c = c .before .before .copy-in .ensures ∙ row-copied (c .before .before .before .before .before .before .before .args .out .now) (c .before .before .before .before .before .before .before .args .rows .now) (13 * c .before .before .before .before .before .before .before .args .i) (13 * c .before .before .before .before .before .before .before .args .i + 13) refl (search needs)
+returns c = c .before .before .copy-in .ensures ∙ row-copied (c .before .before .before .before .before .before .before .args .out .now) (c .before .before .before .before .before .before .before .args .rows .now) (14 * c .before .before .before .before .before .before .before .args .i) (14 * c .before .before .before .before .before .before .before .args .i + 14) refl (search needs)
 
 pub copy-row-spec : {M : Type 1} → statement M
 copy-row-spec =

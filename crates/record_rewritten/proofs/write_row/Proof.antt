@@ -15,7 +15,7 @@ numbers-of-requires : tie.Need-numbers-of-requires
 numbers-of-requires c κs = search needs
 
 write-row-requires : tie.Need-write-row-requires
-write-row-requires c κs = (search needs, search (fits-told, needs), search needs)
+write-row-requires c κs = (search needs, search (fits-told, needs), search needs, search needs)
 
 copy-fate-requires : tie.Need-copy-fate-requires
 copy-fate-requires c κs = search needs

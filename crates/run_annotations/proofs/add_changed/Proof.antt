@@ -2,19 +2,22 @@
 -- Assumes nothing.
 use Prim.Native.Nat.{_-_}
 use lib.ListN.{length}
-use Rattle.run_annotations.proofs.Turns.{Adding, adding-start, adding-next, adding-done}
+use Rattle.run_annotations.proofs.Turns.{Adding, adding-start, adding-small, adding-next, adding-done}
 use borrow.Author.Needs.{needs}
 use Rattle.run_annotations.proofs.add_changed.Statement.{statement}
 use Rattle.run_annotations.proofs.add_changed.Tie as tie
 
 abbrev Inv-loop : tie.InvT-loop
-Inv-loop changed₀ k at sizes i₀ row₀ changed i row = Adding changed₀ k at sizes changed i row
+Inv-loop changed₀ k at rule sizes i₀ row₀ changed i row = Adding changed₀ k at rule sizes changed i row
 
 abbrev μ-loop : tie.MeasureT-loop
-μ-loop changed₀ k at sizes i₀ row₀ changed i row = length sizes - i
+μ-loop changed₀ k at rule sizes i₀ row₀ changed i row = length sizes - i
 
 loop-holds : tie.Need-loop-holds Inv-loop μ-loop
 loop-holds c = search (adding-start, needs)
+
+changed-word-requires : tie.Need-changed-word-requires Inv-loop μ-loop
+changed-word-requires c κs = search (adding-small, needs)
 
 cast-changed : tie.Need-cast-changed Inv-loop μ-loop
 cast-changed c = search needs
@@ -59,6 +62,7 @@ add-changed-spec =
     Inv-loop
     μ-loop
     loop-holds
+    changed-word-requires
     cast-changed
     add-changed
     mul-changed

@@ -1,12 +1,15 @@
 -- `move_row` meets its contract.
 -- Assumes nothing.
-use Rattle.run_annotations.proofs.Turns.{row-before, row-inside, row-after}
+use Rattle.run_annotations.proofs.Turns.{row-sum, row-room, rule-room, row-before, row-inside, row-after}
 use borrow.Author.Needs.{needs}
 use Rattle.run_annotations.proofs.move_row.Statement.{statement}
 use Rattle.run_annotations.proofs.move_row.Tie as tie
 
 word-requires : tie.Need-word-requires
 word-requires c κs = search needs
+
+changed-row-requires : tie.Need-changed-row-requires
+changed-row-requires c κs = search needs
 
 cast-changed : tie.Need-cast-changed
 cast-changed c = search needs
@@ -32,14 +35,20 @@ same-length-2 c = search needs
 returns-2 : tie.Need-returns-2
 returns-2 c = search (row-inside, needs)
 
-add-changed : tie.Need-add-changed
-add-changed c = search needs
+add-changed-word : tie.Need-add-changed-word
+add-changed-word c = search (row-sum, needs)
 
-sub-changed : tie.Need-sub-changed
-sub-changed c = search needs
+sub-changed-word : tie.Need-sub-changed-word
+sub-changed-word c = search needs
 
-sub-changed-2 : tie.Need-sub-changed-2
-sub-changed-2 c = search needs
+sub-changed-word-2 : tie.Need-sub-changed-word-2
+sub-changed-word-2 c = search needs
+
+changed-rule-requires : tie.Need-changed-rule-requires
+changed-rule-requires c κs = search needs
+
+changed-word-requires : tie.Need-changed-word-requires
+changed-word-requires c κs = search (row-room, rule-room, needs)
 
 cast-changed-2 : tie.Need-cast-changed-2
 cast-changed-2 c = search needs
@@ -64,6 +73,7 @@ move-row-spec =
     tie.close
     (tie.spec
     word-requires
+    changed-row-requires
     cast-changed
     mul-changed
     slice-write-changed
@@ -72,9 +82,11 @@ move-row-spec =
     returns
     same-length-2
     returns-2
-    add-changed
-    sub-changed
-    sub-changed-2
+    add-changed-word
+    sub-changed-word
+    sub-changed-word-2
+    changed-rule-requires
+    changed-word-requires
     cast-changed-2
     mul-changed-2
     slice-write-changed-2

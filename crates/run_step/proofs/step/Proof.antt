@@ -19,8 +19,8 @@ enum-known-site c = search needs
 depth-above-requires : tie.Need-depth-above-requires
 depth-above-requires c κs = let o = c .before .before .before .before .before .before .before .before .before .before .before .before .before .before .before .before .before .before in asks-depth (o .pre .0) (o .args .listed .now) (o .args .changes .now) (o .args .k) (o .pre .1 .1 .0) (o .pre .1 .1 .1 .0)
 
-is-recorded-requires : tie.Need-is-recorded-requires
-is-recorded-requires c κs = let o = c .before .before .before .before .before .before .before .before .before .before .before .before .before .before .before .before .before .before .before in (asks-depth (o .pre .0) (o .args .listed .now) (o .args .changes .now) (o .args .k) (o .pre .1 .1 .0) (o .pre .1 .1 .1 .0)) .1
+recorded-by-requires : tie.Need-recorded-by-requires
+recorded-by-requires c κs = let o = c .before .before .before .before .before .before .before .before .before .before .before .before .before .before .before .before .before .before .before in (asks-depth (o .pre .0) (o .args .listed .now) (o .args .changes .now) (o .args .k) (o .pre .1 .1 .0) (o .pre .1 .1 .1 .0)) .1
 
 field-requires : tie.Need-field-requires
 field-requires c κs = let o = c .before .before .before .before .before .before .before .before .before .before .before .before .before .before .before .before .before .before .before .before in ((asks-depth (o .pre .0) (o .args .listed .now) (o .args .changes .now) (o .args .k) (o .pre .1 .1 .0) (o .pre .1 .1 .1 .0)) .1, omega arith)
@@ -47,7 +47,7 @@ part-step-at-end : tie.Need-part-step-at-end
 part-step-at-end c = let o = c .before .before .before .before .before .before .before .before .before .before .before .before .before .before .before .before .before .before .before .before .before .before .before .before .before .before .before .before .before in let q = list-within (o .pre .0) (o .args .listed .now) (o .args .changes .now) (o .args .k) (o .pre .1 .1 .0) (o .pre .1 .1 .1 .0) (c .before .before .before .before .before .before .before .before .field .ensures) (c .before .before .before .before .before .before .before .field2 .ensures) in omega arith
 
 step-at-requires : tie.Need-step-at-requires
-step-at-requires c κs = let o = c .before .before .before .before .before .before .before .before .before .before .before .before .before .before .before .before .before .before .before .before .before .before .before .before .before .before .before .before .before .before in let p = o .pre in let v = p .0 in let q = listed-low (o .pre .0) (o .args .listed .now) (o .args .changes .now) (o .args .k) (o .pre .1 .1 .0) (o .pre .1 .1 .1 .0) (c .before .before .before .before .before .before .before .before .before .before .before .before .before .before .before .change-gap .ensures) (c .before .before .before .before .before .before .before .before .before .before .before .before .before .site .given .1) (c .before .before .before .before .before .before .before .before .before .before .before .depth-above .ensures) (c .before .before .before .before .before .before .before .before .before .before .is-recorded .ensures) (c .before .before .before .before .before .before .before .before .before .field .ensures) (c .before .before .before .before .before .before .before .before .field2 .ensures) in let gap = opens (o .pre .0) (o .args .listed .now) (o .args .changes .now) (o .args .k) (o .pre .1 .1 .0) (o .pre .1 .1 .1 .0) (c .before .before .before .before .before .before .before .before .before .before .before .before .before .before .before .change-gap .ensures) (c .before .before .before .before .before .before .before .before .before .before .before .before .before .site .given .1) (c .before .before .before .before .before .before .before .before .before .before .before .depth-above .ensures) (c .before .before .before .before .before .before .before .before .before .before .is-recorded .ensures) (c .before .before .before .before .before .before .before .before .before .field .ensures) (c .before .before .before .before .before .before .before .before .field2 .ensures) (p .1 .0 .1) (p .1 .1 .1 .1) in let d = c .before .before .before .before .before .before .before .before .before .before .before .depth-above .ensures .low in (gap, ((p .1 .0 .0, p .1 .0 .1, d), ((bytes-few v, v .measured), ((v .begun .formed .few, v .begun .long, v .begun .fewNotes), (q, (p .1 .0 .2, p .1 .0 .3, p .1 .0 .4))))))
+step-at-requires c κs = let o = c .before .before .before .before .before .before .before .before .before .before .before .before .before .before .before .before .before .before .before .before .before .before .before .before .before .before .before .before .before .before in let p = o .pre in let v = p .0 in let q = listed-low (o .pre .0) (o .args .listed .now) (o .args .changes .now) (o .args .k) (o .pre .1 .1 .0) (o .pre .1 .1 .1 .0) (c .before .before .before .before .before .before .before .before .before .before .before .before .before .before .before .change-gap .ensures) (c .before .before .before .before .before .before .before .before .before .before .before .before .before .site .given .1) (c .before .before .before .before .before .before .before .before .before .before .before .depth-above .ensures) (c .before .before .before .before .before .before .before .before .before .before .recorded-by .ensures) (c .before .before .before .before .before .before .before .before .before .field .ensures) (c .before .before .before .before .before .before .before .before .field2 .ensures) in let gap = opens (o .pre .0) (o .args .listed .now) (o .args .changes .now) (o .args .k) (o .pre .1 .1 .0) (o .pre .1 .1 .1 .0) (c .before .before .before .before .before .before .before .before .before .before .before .before .before .before .before .change-gap .ensures) (c .before .before .before .before .before .before .before .before .before .before .before .before .before .site .given .1) (c .before .before .before .before .before .before .before .before .before .before .before .depth-above .ensures) (c .before .before .before .before .before .before .before .before .before .before .recorded-by .ensures) (c .before .before .before .before .before .before .before .before .before .field .ensures) (c .before .before .before .before .before .before .before .before .field2 .ensures) (p .1 .0 .1) (p .1 .1 .1 .1) in let d = c .before .before .before .before .before .before .before .before .before .before .before .depth-above .ensures .low in (gap, ((p .1 .0 .0, p .1 .0 .1, d), ((bytes-few v, v .measured), ((v .begun .formed .few, v .begun .long, v .begun .fewNotes), (q, (p .1 .0 .2, p .1 .0 .3, p .1 .0 .4))))))
 
 same-length : tie.Need-same-length
 same-length c = search needs
@@ -80,7 +80,7 @@ same-length-9 : tie.Need-same-length-9
 same-length-9 c = search needs
 
 returns-2 : tie.Need-returns-2
-returns-2 c = let o = c .before .before .before .before .before .before .before .before .before .before .before .before .before .before .before .before .before .before .before .before .before .before .before .before .before .before .before .before .before .before .before .before .before .before .before .before .before .before .before .before .before .before .before .before .before in performed (o .pre .0) (o .args .listed .now) (o .args .changes .now) (o .args .k) (o .pre .1 .1 .0) (o .pre .1 .1 .1 .0) (c .before .before .before .before .before .before .before .before .before .before .before .before .before .before .before .before .before .before .before .before .before .before .before .before .before .before .before .before .before .before .change-gap .ensures) (c .before .before .before .before .before .before .before .before .before .before .before .before .before .before .before .before .before .before .before .before .before .before .before .before .before .before .before .before .site .given .1) (c .before .before .before .before .before .before .before .before .before .before .before .before .before .before .before .before .before .before .before .before .before .before .before .before .before .before .depth-above .ensures) (c .before .before .before .before .before .before .before .before .before .before .before .before .before .before .before .before .before .before .before .before .before .before .before .before .before .is-recorded .ensures) (c .before .before .before .before .before .before .before .before .before .before .before .before .before .before .before .before .before .before .before .before .before .before .before .before .field .ensures) (c .before .before .before .before .before .before .before .before .before .before .before .before .before .before .before .before .before .before .before .before .before .before .before .field2 .ensures) (c .before .before .before .before .before .before .before .before .before .before .before .before .before .before .step-at .ensures)
+returns-2 c = let o = c .before .before .before .before .before .before .before .before .before .before .before .before .before .before .before .before .before .before .before .before .before .before .before .before .before .before .before .before .before .before .before .before .before .before .before .before .before .before .before .before .before .before .before .before .before in performed (o .pre .0) (o .args .listed .now) (o .args .changes .now) (o .args .k) (o .pre .1 .1 .0) (o .pre .1 .1 .1 .0) (c .before .before .before .before .before .before .before .before .before .before .before .before .before .before .before .before .before .before .before .before .before .before .before .before .before .before .before .before .before .before .change-gap .ensures) (c .before .before .before .before .before .before .before .before .before .before .before .before .before .before .before .before .before .before .before .before .before .before .before .before .before .before .before .before .site .given .1) (c .before .before .before .before .before .before .before .before .before .before .before .before .before .before .before .before .before .before .before .before .before .before .before .before .before .before .depth-above .ensures) (c .before .before .before .before .before .before .before .before .before .before .before .before .before .before .before .before .before .before .before .before .before .before .before .before .before .recorded-by .ensures) (c .before .before .before .before .before .before .before .before .before .before .before .before .before .before .before .before .before .before .before .before .before .before .before .before .field .ensures) (c .before .before .before .before .before .before .before .before .before .before .before .before .before .before .before .before .before .before .before .before .before .before .before .field2 .ensures) (c .before .before .before .before .before .before .before .before .before .before .before .before .before .before .step-at .ensures)
 
 pub step-spec : {M : Type 1} → statement M
 step-spec =
@@ -90,7 +90,7 @@ step-spec =
     enum-told
     enum-known-site
     depth-above-requires
-    is-recorded-requires
+    recorded-by-requires
     field-requires
     mul-from
     field-requires-2

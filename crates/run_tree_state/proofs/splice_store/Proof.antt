@@ -12,7 +12,7 @@ splice-notes-requires : tie.Need-splice-notes-requires
 splice-notes-requires c κs = let p = c .before .before .before .before .before .before .before .before .before .before .before .before .before .before .before .pre in asks-notes (p .0) (p .1 .0) (p .1 .1)
 
 splice-changed-requires : tie.Need-splice-changed-requires
-splice-changed-requires c κs = let p = c .before .before .before .before .before .before .before .before .before .before .before .before .before .before .before .before .before .before .before .pre in asks-changed (p .0) (p .1 .0)
+splice-changed-requires c κs = let p = c .before .before .before .before .before .before .before .before .before .before .before .before .before .before .before .before .before .before .before .pre in let q = asks-changed (p .0) (p .1 .0) in (q .0, (q .1, q .2))
 
 same-length : tie.Need-same-length
 same-length c = search needs

@@ -27,7 +27,7 @@ use denote.RattleType.{owns, flat}
 use denote.Laws.{Is, Are, Ises, shows}
 use denote.Memory.{mem, partAt}
 use denote.Lend.{lends-ref, ref-back}
-use denote.Plain.{Nothing, uint-vals, uint-tells, bool-vals, bool-tells}
+use denote.Plain.{Nothing, uint-vals, uint-tells}
 use denote.Ref.{RefT, MutRef}
 use denote.Slice.{slice-vals, mut-slice-tells, shr-slice-tells}
 use denote.Builtin.{u32}
@@ -112,7 +112,7 @@ module _ {M : Type 1} (𝓤 : URA M) (H : Heap 𝓤) (A : Atoms 𝓤) (W : Given
         pass1 ! (init ! 38 refl (tt, (tt, (record { fits = are .1 .1 .1 .0 .0 .1 .0 }, tt)))) $
         pass1 ! (init ! 36 refl (tt, (tt, (record { fits = are .1 .1 .1 .1 .0 .0 .1 .0 }, tt)))) $
         pass1 ! (init ! 34 refl (LL.lawful G.the-type G′.the-laws 𝓤 H A W .typed (a .1 .1 .1 .1 .0) _ (are .1 .1 .1 .1 .1 .0) .0)) $
-        pass1 ! (init ! 32 refl (tt, tt)) $
+        pass1 ! (init ! 32 refl (tt, record { fits = are .1 .1 .1 .1 .1 .1 .0 .1 })) $
         pass1 ! (init ! 30 refl (tt, (tt, (record { fits = are .1 .1 .1 .1 .1 .1 .1 .0 .0 .1 .0 }, tt)))) $
         pass1 ! (init ! 28 refl (tt, (tt, (record { fits = are .1 .1 .1 .1 .1 .1 .1 .1 .0 .0 .1 .0 }, tt)))) $
         pass1 ! (init ! 26 refl (tt, (tt, (record { fits = are .1 .1 .1 .1 .1 .1 .1 .1 .1 .0 .0 .1 .0 }, tt)))) $
@@ -156,8 +156,8 @@ module _ {M : Type 1} (𝓤 : URA M) (H : Heap 𝓤) (A : Atoms 𝓤) (W : Given
 module _ {M : Type 1} (𝓤 : URA M) (H : Heap 𝓤) (A : Atoms 𝓤) (W : Given 𝓤 H A) (at-mem : Memory → SProp 𝓤) (run : Routine → Fun 𝓤) where
   spliced-walks : (C₀ : Calls 𝓤 H) (Λ : Loops 𝓤 H) → FmC 𝓤 H (W .laws) C₀ → Triple 𝓤 (C₀ #run-tree-state·splice) (Splice 𝓤 H A at-mem run) → Walks 𝓤 H A spliced.ended stayed (WpFn 𝓤 H C₀ Λ code.function) (spliced.clauses 𝓤 H A at-mem run)
   spliced-walks C₀ Λ fm known = walked 𝓤 H A spliced.ended stayed (spliced.clauses 𝓤 H A at-mem run) (WpFn 𝓤 H C₀ Λ code.function)
-      (λ κs. (LL.vals T.the-type T′.the-laws, (slice-vals, (slice-vals, (slice-vals, (slice-vals, (LL.vals G.the-type G′.the-laws, (bool-vals, (slice-vals, (slice-vals, (slice-vals, (uint-vals w64, (uint-vals w64, tt)))))))))))))
-      (λ κs. (LL.tells T.the-type T′.the-laws, (mut-slice-tells (named 0) (κs .0) u32, (mut-slice-tells (named 1) (κs .1 .0) u32, (mut-slice-tells (named 2) (κs .1 .1 .0) u32, (mut-slice-tells (named 3) (κs .1 .1 .1 .0) u32, (LL.tells G.the-type G′.the-laws, (bool-tells, (shr-slice-tells (named 4) (κs .1 .1 .1 .1 .0) u32, (shr-slice-tells (named 5) (κs .1 .1 .1 .1 .1 .0) u32, (shr-slice-tells (named 6) (κs .1 .1 .1 .1 .1 .1 .0) u32, (uint-tells w64, (uint-tells w64, tt)))))))))))))
+      (λ κs. (LL.vals T.the-type T′.the-laws, (slice-vals, (slice-vals, (slice-vals, (slice-vals, (LL.vals G.the-type G′.the-laws, (uint-vals w64, (slice-vals, (slice-vals, (slice-vals, (uint-vals w64, (uint-vals w64, tt)))))))))))))
+      (λ κs. (LL.tells T.the-type T′.the-laws, (mut-slice-tells (named 0) (κs .0) u32, (mut-slice-tells (named 1) (κs .1 .0) u32, (mut-slice-tells (named 2) (κs .1 .1 .0) u32, (mut-slice-tells (named 3) (κs .1 .1 .1 .0) u32, (LL.tells G.the-type G′.the-laws, (uint-tells w64, (shr-slice-tells (named 4) (κs .1 .1 .1 .1 .0) u32, (shr-slice-tells (named 5) (κs .1 .1 .1 .1 .1 .0) u32, (shr-slice-tells (named 6) (κs .1 .1 .1 .1 .1 .1 .0) u32, (uint-tells w64, (uint-tells w64, tt)))))))))))))
       (λ κs qs bounds a g are. walk 𝓤 H A W at-mem run κs qs (a .0) (a .1) C₀ Λ fm known are)
 
 spliced-meets : {M : Type 1} (𝓤 : URA M) (H : Heap 𝓤) (A : Atoms 𝓤) → Given 𝓤 H A → (at-mem : Memory → SProp 𝓤) (run : Routine → Fun 𝓤) (𝓣 : Tables 𝓤 H) → Triple 𝓤 (𝓣 .C #run-tree-state·splice) (Splice 𝓤 H A at-mem run)
