@@ -39,11 +39,22 @@ def token(kind, text=b""):
     return Element(kind, None, text)
 
 
-class Batch:
-    """`calls` are (operation, target, listed); operation 6 has no target. `mappings` are (input, output), `notes` (element, number)."""
+def call_word(op, count, rule=0):
+    """A call word: operation, count of listed elements, rule number."""
+    return op + (count << 8) + (rule << 20)
 
-    def __init__(self, trees, calls=(), mappings=(), notes=()):
-        self.trees, self.calls, self.mappings, self.notes = list(trees), list(calls), list(mappings), list(notes)
+
+def word_parts(word):
+    """Operation, count of listed elements and rule number of a call word."""
+    return word & 255, word >> 8 & 0xFFF, word >> 20
+
+
+class Batch:
+    """`calls` are (operation, target, listed); operation 6 has no target. `mappings` are (input, output), `notes` (element, number). `rules` are the rule
+    numbers of the first calls; the others have 0."""
+
+    def __init__(self, trees, calls=(), mappings=(), notes=(), rules=()):
+        self.trees, self.calls, self.mappings, self.notes, self.rules = list(trees), list(calls), list(mappings), list(notes), list(rules)
 
     def elements(self):
         return [element for root in self.trees for element in root.below()]
@@ -71,10 +82,11 @@ def encode(batch):
     """The batch's bytes."""
     place(batch.trees)
     elements = batch.elements()
+    rules = batch.rules + [0] * (len(batch.calls) - len(batch.rules))
     arrays = [
         [element.kind | NODE if element.is_node else element.kind for element in elements],
         [len(element.children) if element.is_node else len(element.text) for element in elements],
-        [op + 256 * len(listed) for op, _, listed in batch.calls],
+        [call_word(op, len(listed), rule) for (op, _, listed), rule in zip(batch.calls, rules, strict=True)],
         [0 if op == EDITOR else target.number for op, target, _ in batch.calls],
         [element.number for _, _, listed in batch.calls for element in listed],
         [x.number for x, _ in batch.mappings],

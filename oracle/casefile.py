@@ -1,7 +1,7 @@
 """The recorded cases: one file of bytes, and an index in text.
 
 All words are 32-bit little-endian. The file starts with the count of cases. A case is: the batch's length and bytes; the refusal's number, 0 if
-the batch is accepted; the result's length (0 for a refusal) and bytes, as document 01 lays a result out; the count of `find_element` calls, and
+the batch is accepted; the result's length (0 for a refusal) and bytes, as the documents lay a result out; the count of `find_element` calls, and
 for each of them the element asked for and the element found, 2^32 - 1 for none."""
 
 from collections import namedtuple
@@ -27,7 +27,7 @@ def result_bytes(printed):
     rest = [list(map(int, line.split()[1:])) for line in lines[2 + sizes[0] :]]
     changed, notes = rest[: sizes[2]], rest[sizes[2] :]
     words = sizes + [int(kind) | NODE * (sort == "n") for sort, kind, _ in elements]
-    words += [int(measure) for _, _, measure in elements] + [number for number, in changed]
+    words += [int(measure) for _, _, measure in elements] + [number for number, _ in changed] + [rule for _, rule in changed]
     words += [number for number, _ in notes] + [element for _, element in notes]
     return pack("<%dI" % len(words), *words) + text
 
@@ -37,13 +37,14 @@ def printed_form(case):
     if case.refusal:
         return "refused %d\n" % case.refusal
     n, b, c, a = unpack_from("<4I", case.result)
-    words = unpack_from("<%dI" % (6 + 2 * n + c + 2 * a), case.result)
+    words = unpack_from("<%dI" % (6 + 2 * n + 2 * c + 2 * a), case.result)
     lines = ["ok " + " ".join(map(str, words[:6]))]
     lines += ["%s %d %d" % ("tn"[kind >> 31], kind & 0xFFFF, measure) for kind, measure in zip(words[6:], words[6 + n : 6 + 2 * n])]
     lines.append(("text " + case.result[4 * len(words) :].hex()).rstrip())
     at = 6 + 2 * n
-    lines += ["changed %d" % number for number in words[at : at + c]]
-    lines += ["note %d %d" % pair for pair in zip(words[at + c : at + c + a], words[at + c + a :])]
+    lines += ["changed %d %d" % pair for pair in zip(words[at : at + c], words[at + c : at + 2 * c])]
+    at += 2 * c
+    lines += ["note %d %d" % pair for pair in zip(words[at : at + a], words[at + a :])]
     return "\n".join(lines) + "\n"
 
 

@@ -3,12 +3,12 @@
 from collections import Counter
 
 from agree import AGREED, DIFFERENT, NOTES, expected, expected_finds, source, verdict
-from batches import decode_arrays
+from batches import decode_arrays, word_parts
 from program import Stream
 from rust import Rust
 from shrink import describe, shrink
 
-LABELS = ["ok"] + ["refused %d" % number for number in (*range(2, 13), 16)]
+LABELS = ["ok"] + ["refused %d" % number for number in (*range(2, 14), 16)]
 
 
 def label(printed):
@@ -89,7 +89,9 @@ class Comparison:
             facts["accepted with notes"] += notes > 0
             facts["accepted with discarded changes"] += discarded > 0
             facts["accepted with climb steps"] += climbs > 0
-            for operation in set(word & 255 for word in decode_arrays(batch)[1][2]):
+            words = [word_parts(word) for word in decode_arrays(batch)[1][2]]
+            facts["accepted with rule numbers"] += any(rule for _, _, rule in words)
+            for operation in {operation for operation, _, _ in words}:
                 facts["accepted with operation %d" % operation] += 1
 
     def report(self):

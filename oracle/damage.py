@@ -2,7 +2,7 @@
 
 from struct import pack_into, unpack_from
 
-from batches import AFTER, DELETE, EDITOR, FIRST, LIMITS, MANY, NODE, REPLACE, RUN, decode_arrays, encode_arrays
+from batches import AFTER, DELETE, EDITOR, FIRST, LIMITS, MANY, NODE, REPLACE, RUN, call_word, decode_arrays, encode_arrays, word_parts
 
 KINDS, MEASURES, WORDS, TARGETS, LISTED, INPUTS, OUTPUTS, NOTES, NUMBERS = range(9)
 HUGE = (2**31 - 1, 2**31, 2**32 - 1)
@@ -42,8 +42,8 @@ class Parts:
             owed += (measure if kind >= NODE else 0) - (owed > 0)
         return out
 
-    def add_call(self, op, target, listed):
-        self.arrays[WORDS].append(op + 256 * len(listed))
+    def add_call(self, op, target, listed, rule=0):
+        self.arrays[WORDS].append(call_word(op, len(listed), rule))
         self.arrays[TARGETS].append(target)
         self.arrays[LISTED] += listed
 
@@ -164,19 +164,19 @@ def other_operation(d, p):
 def other_count(d, p):
     if p.arrays[WORDS]:
         i = d.below(len(p.arrays[WORDS]))
-        count = max(0, (p.arrays[WORDS][i] >> 8) + d.choose((-1, 1)))
-        p.arrays[WORDS][i] = p.arrays[WORDS][i] & 255 | count << 8
+        op, count, rule = word_parts(p.arrays[WORDS][i])
+        p.arrays[WORDS][i] = call_word(op, max(0, count + d.choose((-1, 1))), rule)
 
 
 def huge_counts(d, p):
     """256 calls that list the most that a call word can say."""
     while len(p.arrays[WORDS]) < 256:
         p.add_call(EDITOR, 0, [])
-    p.arrays[WORDS] = [word & 255 | 0xFFFFFF00 for word in p.arrays[WORDS]]
+    p.arrays[WORDS] = [word | 0xFFF00 for word in p.arrays[WORDS]]
 
 
 def huge_count(d, p):
-    p.set_any(d, WORDS, d.below(7) + 256 * d.choose((1024, 2**23, 2**24 - 1)))
+    p.set_any(d, WORDS, call_word(d.below(7), d.choose((1024, 2**11, 2**12 - 1))))
 
 
 def one_listed_more(d, p):
@@ -237,6 +237,18 @@ def editor_with_listed(d, p):
     p.add_call(EDITOR, 0, [0])
 
 
+def editor_with_rule(d, p):
+    p.add_call(EDITOR, 0, [], d.choose((1, 2**11, 4095)))
+
+
+def other_rule(d, p):
+    """A fault in an operation 6 alone."""
+    if p.arrays[WORDS]:
+        i = d.below(len(p.arrays[WORDS]))
+        op, count, _ = word_parts(p.arrays[WORDS][i])
+        p.arrays[WORDS][i] = call_word(op, count, d.choose((1, 2, 255, 256, 2**11, 4095)))
+
+
 def too_few_listed(d, p):
     p.add_call(d.choose((REPLACE, RUN)), d.below(p.size()), [])
 
@@ -286,7 +298,7 @@ ON_PARTS = (
     stray_bit, token_for_node, other_measure, huge_measure, wrapping_measures, other_trees, other_text, too_deep, no_elements,
     unknown_operation, other_operation, other_count, huge_counts, huge_count, one_listed_more, one_listed_less, no_such_target,
     no_such_listed, other_target, other_listed, token_as_parent, childless_parent, root_as_target, token_for_root, any_run,
-    editor_with_target, editor_with_listed, too_few_listed, too_many_listed,
+    editor_with_target, editor_with_listed, editor_with_rule, other_rule, too_few_listed, too_many_listed,
     mapping_of_token, mapping_to_root, mapping_from_root, mapping_of_nothing, note_on_nothing, note_numbered_zero,
 )  # fmt: skip
 

@@ -2,7 +2,7 @@
 
 from struct import pack
 
-from batches import AFTER, DELETE, EDITOR, FIRST, LIMITS, MANY, NODE, REPLACE, RUN, Batch, encode, encode_arrays, node, token
+from batches import AFTER, DELETE, EDITOR, FIRST, LIMITS, MANY, NODE, REPLACE, RUN, Batch, call_word, encode, encode_arrays, node, token
 from damage import KINDS, LISTED, MEASURES, NOTES, NUMBERS, TARGETS, WORDS, Parts, add_mapping
 from generator import NOTES as NOTES_HELD
 from generator import TEXT as TEXT_BYTES
@@ -23,8 +23,8 @@ class S:
         self.copy = node(6, token(2, b"a"))
         self.r = node(9, self.copy)
 
-    def batch(self, *calls, mappings=(), notes=(), more=()):
-        return Batch(self.trees + list(more), calls, mappings, notes)
+    def batch(self, *calls, mappings=(), notes=(), more=(), rules=()):
+        return Batch(self.trees + list(more), calls, mappings, notes, rules)
 
 
 def printed():
@@ -159,8 +159,8 @@ def line_6():
         yield what, s.batch((op, target, listed))
     plain = s.batch((AFTER, s.x, [s.c]))
 
-    def with_call(what, op, target, listed):
-        return what, changed_parts(plain, lambda p: p.add_call(op, target, listed))
+    def with_call(what, op, target, listed, rule=0):
+        return what, changed_parts(plain, lambda p: p.add_call(op, target, listed, rule))
 
     for op in (7, 8, 128, 255):
         yield with_call("operation %d" % op, op, 1, [])
@@ -174,12 +174,12 @@ def line_6():
     yield with_call("a run that lists 2^31", RUN, 1, [1, 2**31])
     yield "one listed more than the counts say", changed_parts(plain, lambda p: p.arrays[LISTED].append(1))
     yield "one listed less than the counts say", changed_parts(plain, lambda p: p.arrays[LISTED].pop())
-    yield "a count of 2^24 - 1", changed_parts(plain, lambda p: p.arrays[WORDS].__setitem__(0, 0xFFFFFF01))
+    yield "a count of 4,095", changed_parts(plain, lambda p: p.arrays[WORDS].__setitem__(0, call_word(AFTER, 4095)))
 
     def huge(p):
-        p.arrays[WORDS], p.arrays[TARGETS] = [0xFFFFFF06] * 256, [0] * 256
+        p.arrays[WORDS], p.arrays[TARGETS] = [call_word(EDITOR, 4095)] * 256, [0] * 256
 
-    yield "256 counts of 2^24 - 1", changed_parts(plain, huge)
+    yield "256 counts of 4,095", changed_parts(plain, huge)
 
 
 def line_7():
@@ -554,7 +554,9 @@ def sizes_at_their_limits():
     yield "1,024 listed by 25 calls", Batch([node(1, a), node(1, c)], [(AFTER, a, [c] * 41)] * 24 + [(MANY, a, [c] * 40)], notes=[(a, 1)])
     yield "256 notes on one element", Batch([node(1, a), node(1, c)], [(AFTER, a, [a, a])], notes=[(a, 1 + i % 3) for i in range(256)])
     yield "2,048 elements", two_thousand()
-    yield "a result of 61,464 bytes, the longest", longest_result()
+    yield "a result of 65,536 bytes, as many as a program holds", longest_result(24)
+    yield "a result of 65,537 bytes, one too many for a program", longest_result(23)
+    yield "a result of 65,560 bytes, the longest, too many for a program", longest_result(0)
     yield "every size at its limit", every_size()
     data = encode(every_size())
     yield "65,536 bytes, all that is judged", data + bytes(65536 - len(data))
@@ -569,11 +571,12 @@ def two_thousand():
     return Batch([root, other], calls, notes=[(parts[50].children[2], 1), (last[2], 2), (new, 3), (parts[150], 4)])
 
 
-def longest_result():
+def longest_result(less):
+    """The longest result but for so many bytes of text, of 42 at most."""
     p, q = node(2, token(3, b"p" * 8)), node(2, token(3, b"q" * 8))
-    rest = [token(4, b"rest") for _ in range(2042)] + [token(4, b"restrest")]
+    rest = [token(4, b"rest") for _ in range(2032)] + [token(4, b"r" * (48 - less))] + [token(4) for _ in range(10)]
     root = node(1, p, q, *rest)
-    return Batch([root], [(AFTER, q, [p, p, p, q])] * 256, notes=[(p, 1)] + [(it, 2) for it in rest[:255]])
+    return Batch([root], [(AFTER, q, [p, p, p, q])] * 256, notes=[(p, 1)] + [(it, 2) for it in rest[:255]], rules=range(3840, 4096))
 
 
 def every_size():
@@ -586,7 +589,7 @@ def every_size():
     maps = [(nodes[i], nodes[i + 1]) for i in range(1019)] + [(nodes[0], trees[-1].children[0])] * 5
     while len(Batch(trees).elements()) < 2048:
         inner.children.append(token(4))
-    return Batch(trees, calls, maps, [(tokens[i], 1 + i % 7) for i in range(256)])
+    return Batch(trees, calls, maps, [(tokens[i], 1 + i % 7) for i in range(256)], range(256))
 
 
 # ---------------------------------------------------------------- Note 1: insertion into an empty node
@@ -673,8 +676,73 @@ def longest_lists():
     yield "1,024 listed by one call", s.batch((MANY, s.x, [s.c] * 1024))
 
 
+# ---------------------------------------------------------------- Note 8: rule numbers on calls
+
+
+def rule_numbers():
+    s = S()
+    for what, target in (("node", s.x), ("token", s.b)):
+        by_c, by_d, delete = (REPLACE, target, [s.c]), (REPLACE, target, [s.d]), (DELETE, target, [])
+        yield "rule 1 replaces a %s by c, 2 by d, 3 by c: 3" % what, s.batch(by_c, by_d, by_c, rules=[1, 2, 3])
+        yield "rule 1 replaces a %s by c, 2 by c: 1" % what, s.batch(by_c, by_c, rules=[1, 2])
+        yield "rule 1 replaces a %s by c, 2 by c, 3 by d, 4 by d: 3" % what, s.batch(by_c, by_c, by_d, by_d, rules=[1, 2, 3, 4])
+        yield "rule 7 replaces a %s by c, none by d: 0" % what, s.batch(by_c, by_d, rules=[7, 0])
+        yield "rule 1 deletes a %s, 2 replaces it, 3 deletes it: nothing is changed" % what, s.batch(delete, by_c, delete, rules=[1, 2, 3])
+        yield "rule 1 replaces a %s, 2 deletes it, 3 replaces it: nothing is changed" % what, s.batch(by_c, delete, by_d, rules=[1, 2, 3])
+        yield "rule 2 replaces a %s, 3 inserts, 1 replaces it by another" % what, s.batch(by_c, (AFTER, s.a, [s.c]), by_d, rules=[2, 3, 1])
+    by_c, after = (REPLACE, s.b, [s.c]), (AFTER, s.x, [s.d])
+    yield "a number for each operation", s.batch(
+        (FIRST, s.root, [s.c]), (AFTER, s.x, [s.d]), (MANY, s.b, [s.c, s.d]), (REPLACE, s.a, [s.d]), rules=[1, 2, 3, 4])  # fmt: skip
+    yield "runs with equal ends have their numbers", s.batch((RUN, s.x, [s.x, s.c, s.d]), (RUN, s.b, [s.b, s.c]), rules=[5, 6])
+    yield "rule 9 replaces a run of siblings by two", s.batch((RUN, s.x, [s.b, s.c, s.d]), rules=[9])
+    yield "rule 12 replaces the root", s.batch((REPLACE, s.root, [s.trees[1]]), rules=[12])
+    yield "rule 12 replaces the root, 13 by the same: 12", s.batch(*[(REPLACE, s.root, [s.trees[1]])] * 2, rules=[12, 13])
+    yield "numbers go with their elements, not in the order of the calls", s.batch((AFTER, s.b, [s.c]), (AFTER, s.x, [s.d]), (FIRST, s.x, [s.c]), rules=[3, 2, 1])
+    yield "four calls at one place, later ones to the left", s.batch(*[(AFTER, s.x, [it]) for it in (s.c, s.d, s.c, s.d)], rules=[1, 2, 3, 4])
+    e, c = token(4), token(4, b"c")
+    empty = Batch([node(1, token(3), token(3, b"b")), node(2, e, c)])
+    y, root = empty.trees[0].children[0], empty.trees[0]
+    empty.calls, empty.rules = [(AFTER, y, [e, e]), (FIRST, root, [e, c]), (AFTER, y, [e])], [1, 2, 3]
+    yield "numbers of changed elements at one start", empty
+    yield "two editors, and numbers in both", s.batch(by_c, OTHER, after, rules=[1, 0, 2])
+    yield "two editors do not merge, and both keep their numbers", s.batch((AFTER, s.x, [s.c]), OTHER, (AFTER, s.x, [s.c]), rules=[1, 0, 2])
+    yield "each editor merges by itself", s.batch(by_c, by_c, OTHER, (REPLACE, s.a, [s.c]), (REPLACE, s.a, [s.d]), rules=[1, 2, 0, 3, 4])
+    yield "a number below another editor's", s.batch(after, OTHER, after, OTHER, after, rules=[3, 0, 1, 0, 2])
+    yield "a discarded call's number goes with it", s.batch((MANY, s.x, [s.d]), (REPLACE, s.a, [s.c]), rules=[1, 2])
+    owned = (REPLACE, s.x, [s.r]), (AFTER, s.a, [s.c])
+    yield "the owner's number, not its dependent's", s.batch(*owned, rules=[1, 2], mappings=[(s.x, s.copy)], more=[s.r])
+    yield "a change of another tree has no number here, its tree the lister's", s.batch((AFTER, s.c, [s.d]), (AFTER, s.x, [s.trees[1]]), rules=[1, 2])
+    yield "a changed element and its number go with a node that is deleted later", s.batch((DELETE, s.x, []), (REPLACE, s.b, [s.d]), (AFTER, s.a, [s.c]), rules=[1, 2, 3])
+    yield from wide_numbers()
+
+
+def wide_numbers():
+    s = S()
+    after = (AFTER, s.x, [s.c])
+    for rule in (1, 255, 256, 2047, 2048, 4094, 4095):
+        yield "rule number %d" % rule, s.batch(after, (REPLACE, s.b, [s.d]), rules=[rule, 4095 - rule])
+    yield "rule 4,095 lists 41: count and number side by side", s.batch((AFTER, s.x, [s.c, s.d] * 20 + [s.a]), rules=[4095])
+    yield "rule 4,095 lists 42", s.batch((AFTER, s.x, [s.c, s.d] * 21), rules=[4095])
+    yield "256 calls, each with a number of its own", s.batch(*[after] * 256, rules=range(3840, 4096))
+    for rule in (1, 4095):
+        yield "call 6 with number %d" % rule, s.batch(after, OTHER, after, rules=[0, rule, 0])
+    yield "call 6 with number 1, first of all", s.batch(OTHER, after, rules=[1])
+    yield "call 6 with number 1, and 42 listed", s.batch((AFTER, s.x, [s.c] * 42), OTHER, rules=[0, 1])
+    yield "call 6 with number 1, and a root as a mapping's output", s.batch(OTHER, after, rules=[1], mappings=[(s.x, s.root)])
+    plain = s.batch(after)
+
+    def word(what, value):
+        return what, changed_parts(plain, lambda p: p.arrays[WORDS].__setitem__(0, value))
+
+    yield word("every bit of the number, and the count as it is", 0xFFF00101)
+    yield word("bit 20 alone: a number, not a count", 0x00100101)
+    yield word("bit 19: a count of 2,049", 0x00080101)
+    yield word("every bit of the count and of the number", 0xFFFFFF01)
+    yield word("operation 7 with a number", 0x00100107)
+
+
 def all_cases():
-    parts = (printed, marked, lines_2_to_4, line_5, line_6, line_7, recording, planning, dependents, endless, notes, running, limits, empty_nodes, longest_lists)
+    parts = (printed, marked, lines_2_to_4, line_5, line_6, line_7, recording, planning, dependents, endless, notes, running, limits, empty_nodes, longest_lists, rule_numbers)
     for part in parts:
         for what, batch in part():
             yield what, encode(batch) if isinstance(batch, Batch) else batch

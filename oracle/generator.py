@@ -442,6 +442,24 @@ def add_notes(d, batch):
         batch.notes.append((d.choose(elements), number))
 
 
+RULES = 1 << 32  # rule numbers are drawn by themselves, under a number beyond every batch's: all else in a batch is as it was without them
+
+
+def some_rule(d):
+    """A rule number: none, a small one, any, or one at an edge of its bits."""
+    sort = d.below(6)
+    return 0 if sort < 2 else d.between(1, 3) if sort < 4 else d.below(4096) if sort == 4 else d.choose((1, 255, 256, 2047, 2048, 4094, 4095))
+
+
+def add_rules(seed, number, batch):
+    """Rule numbers: now and then none at all, or one for all calls; else each its own. Operation 6 has none."""
+    d = Draws(seed, RULES + number)
+    every = some_rule(d)
+    sort = d.weighted(((0, 2), (1, 1), (2, 7)))
+    rules = [(0, every, some_rule(d))[sort] for _ in batch.calls]
+    batch.rules = [0 if op == EDITOR else rule for (op, _, _), rule in zip(batch.calls, rules)]
+
+
 def generate(seed, number):
     """The batch of this number: what sort it is, and its bytes."""
     d = Draws(seed, number)
@@ -450,5 +468,6 @@ def generate(seed, number):
     batch = sort(d)
     add_editors(d, batch)
     add_notes(d, batch)
+    add_rules(seed, number, batch)
     data = encode(batch)
     return ("damaged", damage(d, data)) if damaged else (sort.__name__, data)

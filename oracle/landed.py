@@ -8,7 +8,7 @@ from pathlib import Path
 from types import ModuleType
 
 # Notes 1 to LEVEL of document 02 have landed.
-LEVEL = 7
+LEVEL = 8
 TOOLS = Path(__file__).resolve().parent.parent.parent / "shared" / "tools"
 
 

@@ -2,9 +2,9 @@
 
 from collections import namedtuple
 
-from batches import EDITOR, LIMITS, decode_arrays
+from batches import EDITOR, LIMITS, decode_arrays, word_parts
 from damage import damage
-from generator import SORTS, Draws, add_editors, add_notes, encode
+from generator import SORTS, Draws, add_editors, add_notes, add_rules, encode
 from landed import LEVEL, notes
 
 # The lengths that the work slices need: draft, table, source.
@@ -15,11 +15,11 @@ WORD = 2**32
 Drawn = namedtuple("Drawn", "sort lists room work")
 
 # Lists in step; one of each changes its length by itself.
-STEPS = (("kinds", "measures"), ("ops", "counts", "targets"), ("map_in", "map_out"), ("note_elements", "note_numbers"))
+STEPS = (("kinds", "measures"), ("ops", "counts", "rules", "targets"), ("map_in", "map_out"), ("note_elements", "note_numbers"))
 # A size that is beyond its limit: the lists that have it, and what they get more of.
 SIZES = (
     (LIMITS[1], ("kinds", "measures"), (0, 0)),
-    (LIMITS[3], ("ops", "counts", "targets"), (EDITOR, 0, 0)),
+    (LIMITS[3], ("ops", "counts", "rules", "targets"), (EDITOR, 0, 0, 0)),
     (LIMITS[4], ("listed",), (0,)),
     (LIMITS[5], ("map_in", "map_out"), (0, 0)),
     (LIMITS[6], ("note_elements", "note_numbers"), (0, 1)),
@@ -33,8 +33,8 @@ def apart(data):
         return None
     trees, arrays, text = parts
     kinds, measures, words, targets, listed, map_in, map_out, noted, numbers = map(tuple, arrays)
-    ops, counts = tuple(word % 256 for word in words), tuple(word // 256 for word in words)
-    return notes.Lists(trees, kinds, measures, text, ops, counts, None, targets, listed, map_in, map_out, noted, numbers)
+    ops, counts, rules = zip(*map(word_parts, words)) if words else ((), (), ())
+    return notes.Lists(trees, kinds, measures, text, ops, counts, rules, targets, listed, map_in, map_out, noted, numbers)
 
 
 def put(d, numbers, change):
@@ -62,14 +62,20 @@ def wide_operation(d, lists):
 
 
 def wide_count(d, lists):
-    """A count of 2^24 and more; its low bits are those of the count."""
+    """A count of 2^12 and more; its low bits are those of the count."""
     lists = with_a_call(lists)
-    return lists._replace(counts=put(d, lists.counts, lambda n: n + 2**24 * d.choose((1, 2, 128, 255))))
+    return lists._replace(counts=put(d, lists.counts, lambda n: n + 2**12 * d.choose((1, 2, 2**12, 2**20 - 1))))
+
+
+def wide_rule(d, lists):
+    """A rule number of 4,096 and more; its low bits are those of the number."""
+    lists = with_a_call(lists)
+    return lists._replace(rules=put(d, lists.rules, lambda n: n + 2**12 * d.choose((1, 2, 2**12, 2**20 - 1))))
 
 
 def with_a_call(lists):
     """The lists, with an operation 6 where they have no call."""
-    return lists if lists.ops else lists._replace(ops=(EDITOR,), counts=(0,), targets=(0,))
+    return lists if lists.ops else lists._replace(ops=(EDITOR,), counts=(0,), rules=(0,), targets=(0,))
 
 
 def beyond(d, lists):
@@ -101,7 +107,7 @@ def refused(d, lists, data):
     return lists
 
 
-CHANGES = ((right, 5), (out_of_step, 2), (wide_operation, 1), (wide_count, 1), (beyond, 2), (at_limit, 1), (refused, 4))
+CHANGES = ((right, 5), (out_of_step, 2), (wide_operation, 1), (wide_count, 1), (wide_rule, 1), (beyond, 2), (at_limit, 1), (refused, 4))
 
 
 def length_of(lists):
@@ -128,6 +134,7 @@ def draw(seed, number):
     batch = d.weighted(SORTS[:8] if d.chance(0.99) else SORTS)(d)
     add_editors(d, batch)
     add_notes(d, batch)
+    add_rules(seed, number, batch)
     data = encode(batch)
     change = d.weighted(CHANGES)
     lists = change(d, apart(data), data) if change is refused else change(d, apart(data))

@@ -4,7 +4,7 @@ on one stage. Nothing is drawn: the sets are the same every time."""
 from itertools import product
 from struct import pack
 
-from batches import AFTER, DELETE, EDITOR, FIRST, MANY, NODE, REPLACE, RUN, node, place, token
+from batches import AFTER, DELETE, EDITOR, FIRST, MANY, NODE, REPLACE, RUN, call_word, node, place, token
 
 # Kinds: root 1, X 2, a 3, b 4, C 5, c 6, R 7, Y 8, Q 9. A copy has its original's kind, so that `find_element` can take one for the other.
 
@@ -22,9 +22,11 @@ class Stage:
         self.text = b"".join(it.text for it in self.elements)
 
     def batch(self, calls, mappings=(), notes=()):
-        """The bytes of calls (operation, target, listed), mappings (input, output) and notes (element, number), all in element numbers."""
+        """The bytes of calls (operation, target, listed), mappings (input, output) and notes (element, number), all in element numbers. A call's rule
+        number is its place, counted from 1."""
         listed = [number for _, _, numbers in calls for number in numbers]
-        words = [operation + 256 * len(numbers) for operation, _, numbers in calls] + [target for _, target, _ in calls] + listed
+        rules = [0 if operation == EDITOR else turn for turn, (operation, _, _) in enumerate(calls, 1)]
+        words = [call_word(operation, len(numbers), rule) for (operation, _, numbers), rule in zip(calls, rules)] + [target for _, target, _ in calls] + listed
         words += [x for x, _ in mappings] + [y for _, y in mappings] + [x for x, _ in notes] + [n for _, n in notes]
         sizes = (self.trees, self.count, len(self.text), len(calls), len(listed), len(mappings), len(notes))
         return pack("<7I", *sizes) + self.arrays + pack("<%dI" % len(words), *words) + self.text

@@ -1,10 +1,10 @@
 """Makes a batch small while it still shows what it showed."""
 
-from batches import NODE, RUN, REPLACE, decode_arrays, encode_arrays
+from batches import NODE, RUN, REPLACE, call_word, decode_arrays, encode_arrays, word_parts
 
 
 class Flat:
-    """A batch as flat lists: elements are [kind word, measure, text], calls [operation, target, listed]."""
+    """A batch as flat lists: elements are [kind word, measure, text], calls [operation, target, listed, rule number]."""
 
     def __init__(self, trees, elements, calls, mappings, notes):
         self.trees, self.elements, self.calls, self.mappings, self.notes = trees, elements, calls, mappings, notes
@@ -13,9 +13,9 @@ class Flat:
         arrays = [
             [kind for kind, _, _ in self.elements],
             [measure for _, measure, _ in self.elements],
-            [op + 256 * len(listed) for op, _, listed in self.calls],
-            [target for _, target, _ in self.calls],
-            [number for _, _, listed in self.calls for number in listed],
+            [call_word(op, len(listed), rule) for op, _, listed, rule in self.calls],
+            [target for _, target, _, _ in self.calls],
+            [number for _, _, listed, _ in self.calls for number in listed],
             *([pair[i] for pair in pairs] for pairs in (self.mappings, self.notes) for i in (0, 1)),
         ]
         return encode_arrays(self.trees, arrays, b"".join(text for _, _, text in self.elements))
@@ -37,8 +37,9 @@ def flatten(data):
         at += own
     used = 0
     for word, target in zip(words, targets):
-        calls.append([word & 255, target, listed[used : used + (word >> 8)]])
-        used += word >> 8
+        op, count, rule = word_parts(word)
+        calls.append([op, target, listed[used : used + count], rule])
+        used += count
     if at != len(text) or used != len(listed):
         return None
     return Flat(trees, elements, calls, list(zip(inputs, outputs)), list(zip(notes, numbers)))
@@ -64,11 +65,11 @@ def without(flat, a, b, elements, trees):
     alive = lambda e: not a <= e < b
     move = lambda e: e if e < a else e - (b - a)
     calls = []
-    for op, target, listed in flat.calls:
+    for op, target, listed, rule in flat.calls:
         kept = [move(e) for e in listed if alive(e)]
         needed = op == REPLACE or op == RUN and not alive(listed[0])
         if alive(target) and not (needed and len(kept) < len(listed)):
-            calls.append([op, move(target), kept])
+            calls.append([op, move(target), kept, rule])
     mappings = [(move(x), move(y)) for x, y in flat.mappings if alive(x) and alive(y)]
     notes = [(move(x), n) for x, n in flat.notes if alive(x)]
     return Flat(trees, elements, calls, mappings, notes)
@@ -104,9 +105,9 @@ def fewer_of(items):
 
 
 def simpler(flat):
-    for i, (op, target, listed) in enumerate(flat.calls):
-        for kept in fewer_of(listed):
-            yield flat.but(calls=flat.calls[:i] + [[op, target, kept]] + flat.calls[i + 1 :])
+    for i, (op, target, listed, rule) in enumerate(flat.calls):
+        for kept, by in [(kept, rule) for kept in fewer_of(listed)] + [(listed, lower) for lower in (0, 1) if lower < rule]:
+            yield flat.but(calls=flat.calls[:i] + [[op, target, kept, by]] + flat.calls[i + 1 :])
     for i, (kind, measure, text) in enumerate(flat.elements):
         plain = kind & NODE | 1
         for new in ([kind, 0, b""], [kind, 1, b"a"], [plain, measure, text]):
@@ -157,7 +158,8 @@ def describe(data):
     lines = ["elements: " + " ".join("%s%d:%d" % ("tn"[k >> 31], k & 0xFFFF, m) for k, m, _ in flat.elements)]
     if shape is not None:
         lines = ["tree: " + spelled(flat, i) for i, parent in enumerate(shape[0]) if parent is None]
-    lines += ["call %d on %d listing %s" % (op, target, listed) for op, target, listed in flat.calls]
+    for op, target, listed, rule in flat.calls:
+        lines.append("call %d on %d listing %s" % (op, target, listed) + (" by rule %d" % rule if rule else ""))
     lines += ["mapping %d to %d" % it for it in flat.mappings]
     return lines + ["note %d on %d" % (number, element) for element, number in flat.notes]
 

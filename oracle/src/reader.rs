@@ -6,6 +6,8 @@ const LIMITS: [(u64, u64); 7] = [(1, 16), (0, 2_048), (0, 16_384), (0, 256), (0,
 const MOST_DEPTH: usize = 64;
 /// The most elements that a call may list, a run's end not counted.
 const MOST_LISTED: usize = 41;
+/// A call word has the operation in bits 0 to 7, the count of listed elements in bits 8 to 19 and the rule number above.
+const MOST_COUNT: u32 = 0xfff;
 
 /// An element: `index` among its parent's children, `children` of its own, and the number `end` after all below it.
 pub struct Element<'a> {
@@ -138,11 +140,13 @@ fn spell<'a>(kinds: &[u32], measures: &[u32], mut text: &'a [u8], trees: usize) 
 fn calls(words: &[u32], targets: &[u32], mut listed: &[u32], elements: &[Element<'_>]) -> Option<Vec<Call>> {
     let mut calls = Vec::new();
     for (&word, &target) in words.iter().zip(targets) {
-        let (own, rest) = listed.split_at_checked(word as usize >> 8)?;
+        let (own, rest) = listed.split_at_checked((word >> 8 & MOST_COUNT) as usize)?;
         listed = rest;
         let own = own.iter().map(|&it| it as usize).collect();
         let call = Call { operation: word as u8, target: target as usize, listed: own };
-        if !allowed(&call, elements) {
+        // The Rust has no rule numbers; of ours only those of operation 6 are judged.
+        let numbered = word >> 20 != 0;
+        if call.operation == 6 && numbered || !allowed(&call, elements) {
             return None;
         }
         calls.push(call);

@@ -1,7 +1,7 @@
 //! Fires damaged and random batches at the static library:   fire [COUNT [SEED]]   fire --exact COUNT [SEED]
 //!
 //! Each call gets buffers full of a pattern between guard words, work slices of the lengths needed, longer or too short, and a result of any length.
-//! Checked after each: no guard is changed, the batch is unchanged, the answer is one that its length tells or a refusal from 1 to 13, every work
+//! Checked after each: no guard is changed, the batch is unchanged, the answer is one that its length tells or a refusal from 1 to 13, 16 or 17, every work
 //! slice is zeros, the result beyond the answer (or all of it, if refused) still holds the pattern; and, by a second call with another pattern, that
 //! the answer depends on the batch alone. First come all prefixes and single-byte changes of the seeds (the example batches), then COUNT batches:
 //! recorded cases with some words changed, parts of two joined, and random bytes.
@@ -10,7 +10,7 @@
 
 use std::{env, fs, path::PathBuf};
 
-use syntax_edit::{Answer, Choices, raw};
+use syntax_edit::{Answer, Choices, MOST_ANSWER, raw};
 
 const GUARD: usize = 64;
 
@@ -103,7 +103,7 @@ impl Fire {
         assert!(result.guards_stand(), "a byte beside the result is written");
         assert!(work.iter().all(Buffer::guards_stand), "a word beside a work slice is written");
         assert!(work.iter().all(|it| it.held().iter().all(|&it| it == 0)), "a work slice is not zeros");
-        assert!((-17..=65_560).contains(&answer) && answer != 0, "no answer: {answer}");
+        assert!((-17..=MOST_ANSWER as i64).contains(&answer) && answer != 0, "no answer: {answer}");
         assert_eq!(choices.edge > 1, answer == -17, "a wrong edge rule, and it alone, is refused by 17");
         assert_eq!(short && choices.edge <= 1, answer == -1, "a short work slice, and it alone, is refused by 1");
         let length = usize::try_from(answer).unwrap_or(0);
@@ -131,11 +131,11 @@ impl Fire {
 
     /// Two calls on a batch, which must agree wherever neither is refused for its slices, and one of `find_element`.
     fn one(&mut self, batch: &[u8]) {
-        let room = if self.random.one_in(4) { self.random.below(2_000) } else { 65_536 };
+        let room = if self.random.one_in(4) { self.random.below(2_000) } else { MOST_ANSWER };
         let pattern = self.random.next() as u32 | 0x0101_0101;
         let choices = self.choices();
         let first = self.call(choices, batch, room, pattern);
-        let exact = first.as_ref().map_or(65_536, Vec::len);
+        let exact = first.as_ref().map_or(MOST_ANSWER, Vec::len);
         let second = self.call(choices, batch, exact, !pattern);
         let slices = |it: &Result<Vec<u8>, i64>| matches!(it, Err(1 | 13));
         assert!(slices(&first) || slices(&second) || first == second, "two answers to one batch");
@@ -178,7 +178,7 @@ impl Fire {
                 0 => self.random.below(8) as u32,
                 1 => self.random.below(elements + 2) as u32,
                 2 => u32::from_le_bytes(bytes[from..from + 4].try_into().expect("four bytes")),
-                3 => (self.random.below(7) + 256 * self.random.below(4)) as u32,
+                3 => (self.random.below(7) + 256 * self.random.below(4) + (self.random.below(3) << 20)) as u32,
                 4 => 1 << 31 | self.random.below(5) as u32,
                 _ => self.random.next() as u32,
             };

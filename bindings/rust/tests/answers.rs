@@ -404,6 +404,88 @@ fn a_call_lists_41_elements_at_most() {
     assert_eq!(refusal.to_string(), "refused 16: a call lists more than 41 elements");
 }
 
+/// The changed elements, each with its rule number.
+fn ruled(it: &S) -> Vec<(u32, u32)> {
+    let (batch, mut editor) = (it.builder.finish().expect("it is small"), Editor::new());
+    let answer = editor.edit(&batch).expect("it is accepted");
+    assert_eq!(answer.changed().len(), answer.rules().len());
+    answer.changed().zip(answer.rules()).collect()
+}
+
+#[test]
+fn rule_numbers_are_told_with_what_they_changed() {
+    let mut it = s();
+    it.builder.rule(3).insert_after(it.b, &[it.c, it.d]);
+    it.builder.rule(2).insert_first(it.x, &[it.c]);
+    it.builder.rule(0).insert_after(it.x, &[it.d]);
+    assert_eq!(ruled(&it), [(2, 2), (4, 0), (6, 3), (7, 3)]);
+    let printed = Editor::new().edit(&it.builder.finish().expect("it is small")).map(|it| it.to_string()).expect("it is accepted");
+    assert!(printed.ends_with("changed 2 2\nchanged 4 0\nchanged 6 3\nchanged 7 3\n"));
+}
+
+#[test]
+fn by_rule_lends_its_number() {
+    let mut it = s();
+    let (x, b, c, d) = (it.x, it.b, it.c, it.d);
+    it.builder.rule(7);
+    let told = it.builder.by_rule(9, |builder| {
+        builder.insert_after(x, &[c]);
+        builder.by_rule(4_095, |builder| builder.replace(b, d));
+        "told"
+    });
+    assert_eq!(told, "told");
+    it.builder.insert_first(x, &[d]);
+    assert_eq!(ruled(&it), [(2, 7), (4, 9), (5, 4_095)]);
+}
+
+#[test]
+fn merging_keeps_the_number_of_the_last_effect() {
+    let merged = |by: &[(u32, bool)]| {
+        let mut it = s();
+        for &(rule, c) in by {
+            it.builder.rule(rule).replace(it.x, if c { it.c } else { it.d });
+        }
+        ruled(&it)
+    };
+    assert_eq!(merged(&[(1, true), (2, false), (3, true)]), [(1, 3)]);
+    assert_eq!(merged(&[(1, true), (2, true)]), [(1, 1)]);
+    assert_eq!(merged(&[(2, true), (0, false)]), [(1, 0)]);
+    // A delete stays, and changes no element of the new tree.
+    let mut it = s();
+    it.builder.rule(1).delete(it.x);
+    it.builder.rule(2).replace(it.x, it.c);
+    it.builder.rule(3).delete(it.x);
+    assert_eq!((answered(&it), ruled(&it)), (text("b", 0), vec![]));
+}
+
+#[test]
+fn a_further_editor_has_no_number_and_does_not_merge() {
+    let mut it = s();
+    it.builder.rule(1).insert_after(it.x, &[it.c]);
+    it.builder.next_editor();
+    it.builder.insert_after(it.x, &[it.c]);
+    it.builder.rule(2).insert_after(it.x, &[it.d]);
+    assert_eq!(ruled(&it), [(3, 2), (4, 1), (5, 1)]);
+    // Operation 6 with a number is refused by 6: its call word is the second, behind the sizes and the elements' two arrays.
+    let mut bytes = it.builder.finish().expect("it is small").bytes().to_vec();
+    let word = 4 * (7 + 2 * usize::from(bytes[4]) + 1);
+    assert_eq!(bytes[word..word + 4], [6, 0, 0, 0]);
+    bytes[word + 2] = 1 << 4;
+    assert_eq!(Editor::new().edit_bytes(&bytes).map(|_| ()).unwrap_err().number(), 6);
+}
+
+#[test]
+fn a_rule_number_above_4095_is_not_written() {
+    let mut it = s();
+    it.builder.rule(4_095).insert_after(it.x, &[it.c]);
+    assert_eq!(ruled(&it), [(3, 4_095)]);
+    for rule in [4_096, 4_097, 1 << 20, u32::MAX] {
+        let mut it = s();
+        it.builder.rule(rule).insert_after(it.x, &[it.c]);
+        assert_eq!(unwritten(&it.builder), 14);
+    }
+}
+
 #[test]
 fn bytes_that_are_no_answer_are_not_read() {
     assert!(Answer::read(&[]).is_none());

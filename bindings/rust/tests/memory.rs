@@ -129,7 +129,7 @@ const LISTS: raw::Lists<'static> = raw::Lists {
     text: b"abc",
     operations: &[1],
     counts: &[1],
-    rules: &[7],
+    rules: &[0],
     targets: &[1],
     listed: &[4],
     inputs: &[],
@@ -161,6 +161,17 @@ fn a_batch_leaves_the_rest_of_the_destination() {
     }
 }
 
+/// The call word is the one behind the sizes and two arrays of five: operation 1, one listed element, and the number.
+#[test]
+fn a_rule_number_goes_into_the_call_word() {
+    for rule in [0, 1, 255, 256, 4_094, 4_095] {
+        let (told, destination) = written(raw::Lists { rules: &[rule], ..LISTS }, 91, [0; 3]);
+        let mut wanted = PRINTED_CASE.to_vec();
+        wanted[68..72].copy_from_slice(&(1 | 1 << 8 | rule << 20).to_le_bytes());
+        assert_eq!((told, destination), (91, wanted));
+    }
+}
+
 #[test]
 fn a_refused_write_leaves_the_destination() {
     let refused = |lists, room, more, number: i64| {
@@ -188,6 +199,9 @@ fn a_refused_write_leaves_the_destination() {
         raw::Lists { operations: &[257], counts: &[0], listed: &[4], ..LISTS },
         raw::Lists { counts: &[1 << 12 | 1], ..LISTS },
         raw::Lists { rules: &[4_096], ..LISTS },
+        raw::Lists { rules: &[u32::MAX], ..LISTS },
+        raw::Lists { rules: &[0, 0], ..LISTS },
+        raw::Lists { operations: &[6], counts: &[0], rules: &[1], targets: &[0], listed: &[], ..LISTS },
         raw::Lists { trees: 1 << 32 | 2, ..LISTS },
         raw::Lists { text: &[0; 16_385], ..LISTS },
         raw::Lists { trees: 3, ..LISTS },

@@ -1,7 +1,7 @@
 //! The recorded cases of the oracle: every byte of every answer, every refusal, every recorded `find_element` call; and each batch taken apart and written
 //! again.
 
-use syntax_edit::{Choices, raw};
+use syntax_edit::{Choices, MOST_ANSWER, raw};
 
 const CASES: &[u8] = include_bytes!("../../../crates/replay/stdin");
 
@@ -29,6 +29,7 @@ fn recorded_cases() {
     let mut cases = Reader(CASES);
     let mut work = raw::Work::new();
     let mut result = vec![0; 65_536];
+    let mut longest = 0;
     for case in 0..cases.word() {
         let (batch, refusal, expected) = (cases.bytes(), cases.word(), cases.bytes());
         let answer = raw::edit(Choices::default(), batch, &mut result, work.slices());
@@ -38,6 +39,12 @@ fn recorded_cases() {
         } else {
             assert_eq!(answer, -i64::from(refusal), "case {case}");
         }
+        if refusal == 13 {
+            let mut room = vec![0; MOST_ANSWER];
+            let length = raw::edit(Choices::default(), batch, &mut room, work.slices());
+            assert!((65_537..=65_560).contains(&length), "case {case}");
+            longest = longest.max(length);
+        }
         for _ in 0..cases.word() {
             let (old, new) = (cases.word(), cases.word());
             let expected = if new == u32::MAX { raw::NONE } else { i64::from(new) };
@@ -45,6 +52,7 @@ fn recorded_cases() {
         }
     }
     assert!(cases.0.is_empty());
+    assert_eq!(longest, MOST_ANSWER as i64);
 }
 
 /// A batch taken apart and written again; nothing if its length is not what its sizes give.
