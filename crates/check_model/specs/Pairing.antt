@@ -2,13 +2,14 @@
 -- Assumes nothing.
 use mathlib.Core.Path.{_≡_, refl, sym, ap, _∙_}
 use mathlib.Core.Bool.{Bool, true, false, cond, _&&_}
-use mathlib.Core.List.{List, [], _∷_, List·Memᴰ, List·Memᴰ·head, List·Memᴰ·tail, List·Memᴰ·cases-cons, List·Memᴰ·not-nil}
+use mathlib.Core.List.{List, [], _∷_, zip, zipWith, List·Memᴰ, List·Memᴰ·head, List·Memᴰ·tail, List·Memᴰ·cases-cons, List·Memᴰ·not-nil}
 use mathlib.Core.Logic.{_⊎_, inl, inr, ⊎-elim}
-use Prim.Native.Nat.{ℕ, zero, suc, _≤_, _<_}
+use Prim.Native.Nat.{ℕ, zero, suc, _+_, _≤_, _<_}
+use native.Mathlib.Numerals.{add-one}
 use native.Mathlib.Omega.{arith}
 use lib.Dec.{eqb, ltb}
-use lib.ListN.{length, getD, set, replicate, length-set}
-use lib.Seq.{getD-set-same, getD-set-other}
+use lib.ListN.{length, getD, set, drop, replicate, length-set, drop-of-length-le}
+use lib.Seq.{drop-cons, getD-set-same, getD-set-other}
 use borrow.Author.Tests.{eqb-true, eq-eqb, ne-eqb, lt-ltb, ltb-true}
 use Rattle.orders.specs.Lists.{any, All, Pairs}
 use Rattle.orders.specs.ListLaws.{bool-absurd, both-true, All-mem}
@@ -28,6 +29,10 @@ zeros-at zero i = refl
 zeros-at (suc m) zero = refl
 zeros-at (suc m) (suc i) = zeros-at m i
 
+-- every number of a list is below n
+abbrev pub Below : ℕ → List ℕ → Type 0
+Below n l = All (λ x. x < n) l
+
 -- every new element is one
 abbrev pub Within : ℕ → List (ℕ × ℕ) → Type 0
 Within m P = All (λ p. p .1 < m) P
@@ -35,6 +40,31 @@ Within m P = All (λ p. p .1 < m) P
 -- no new element stands twice
 abbrev pub Apart : List (ℕ × ℕ) → Type 0
 Apart P = Pairs (λ p q. p .1 ≡ q .1 → ⊥) P
+
+-- ── Two lists side by side ──────────────────────────────────────────────────────────────────────────────────
+
+pub length-zip : (l m : List ℕ) → length m ≡ length l → length (zip l m) ≡ length l
+unfolding zip zipWith
+length-zip [] m e = refl
+length-zip (a ∷ l) [] e = absurd (omega arith)
+length-zip (a ∷ l) (b ∷ m) e = ap suc (length-zip l m (omega arith))
+
+module _ (l m : List ℕ) where
+  -- the pairs from place i on
+  unfoldable pub pairsFrom : ℕ → List (ℕ × ℕ)
+  pairsFrom i = zip (drop i l) (drop i m)
+
+  pub pairs-all : pairsFrom 0 ≡ zip l m
+  unfolding pairsFrom
+  pairs-all = refl
+
+  pub pairs-more : (i : ℕ) → length m ≡ length l → i < length l → pairsFrom i ≡ (getD l i 0, getD m i 0) ∷ pairsFrom (i + 1)
+  unfolding pairsFrom zip zipWith
+  pairs-more i e h = rw (drop-cons l i 0 h, drop-cons m i 0 (omega arith), add-one i)
+
+  pub pairs-none : (i : ℕ) → length l ≤ i → pairsFrom i ≡ []
+  unfolding pairsFrom zip zipWith
+  pairs-none i h = rw (drop-of-length-le l h)
 
 -- ── Partners ────────────────────────────────────────────────────────────────────────────────────────────────
 

@@ -2,45 +2,20 @@
 -- Assumes nothing.
 use mathlib.Core.Path.{_≡_, refl, sym, ap, _∙_}
 use mathlib.Core.Bool.{Bool, true, false, not, _&&_}
-use mathlib.Core.List.{List, [], _∷_, _++_, zip, zipWith, append-assoc, append-nil}
-use mathlib.Core.Logic.{inl, inr}
+use mathlib.Core.List.{List, [], _∷_, _++_, zip, append-assoc, append-nil}
 use Prim.Native.Nat.{ℕ, zero, suc, _+_, _-_, _*_, _≤_, _<_}
-use native.Mathlib.Numerals.{add-one}
 use native.Mathlib.Omega.{arith}
 use borrow.Author.Tests.{not-true, not-false}
 use lib.Dec.{eqb}
-use lib.ListN.{length, getD, set, take, drop, replicate, length-set}
-use lib.Seq.{drop-cons, drop-length, set-getD, paste, length-paste, take-paste}
+use lib.ListN.{length, getD, set, take, replicate, length-set}
+use lib.Seq.{set-getD, paste, length-paste, take-paste}
 use Rattle.orders.specs.ListLaws.{bool-absurd}
 use Rattle.read_spelling.specs.Spelling.{childrenOf, lengthOf, stands, fills, accepts}
 use Rattle.read_spelling.specs.SpellingLaws.{fills-close, stands-shallow, fills-open, fills-short, fills-long, fills-end, fills-over}
 use Rattle.read_spelling.specs.Stack.{stack, length-stack, stack-top, stack-push}
+use Rattle.check_model.specs.Pairing.{length-zip, pairsFrom, pairs-more, pairs-none}
 use Rattle.check_table.specs.Walk.{wordsFrom, wordsOf, Reads}
 use Rattle.check_table.specs.WalkLaws.{words-close, words-open, words-none}
-
--- ── The elements that are left ──────────────────────────────────────────────────────────────────────────────
-
-module _ (kinds measures : List ℕ) where
-  unfoldable pub leftFrom : ℕ → List (ℕ × ℕ)
-  leftFrom i = zip (drop i kinds) (drop i measures)
-
-  left-all : leftFrom 0 ≡ zip kinds measures
-  unfolding leftFrom
-  left-all = refl
-
-  left-more : (i : ℕ) → length measures ≡ length kinds → i < length kinds → leftFrom i ≡ (getD kinds i 0, getD measures i 0) ∷ leftFrom (i + 1)
-  unfolding leftFrom zip zipWith
-  left-more i e h = rw (drop-cons kinds i 0 h, drop-cons measures i 0 (omega arith), add-one i)
-
-  left-none : (i : ℕ) → length kinds ≡ i → leftFrom i ≡ []
-  unfolding leftFrom zip zipWith
-  left-none i e = rw (← e, drop-length kinds)
-
-length-zip : (ks ms : List ℕ) → length ms ≡ length ks → length (zip ks ms) ≡ length ks
-unfolding zip zipWith
-length-zip [] ms e = refl
-length-zip (k ∷ ks) [] e = absurd (omega arith)
-length-zip (k ∷ ks) (m ∷ ms) e = ap suc (length-zip ks ms (omega arith))
 
 -- what a store keeps below a bound
 set-below : (l : List ℕ) (i x n : ℕ) → ((j : ℕ) → getD l j 0 ≤ n) → x ≤ n → (j : ℕ) → getD (set l i x) j 0 ≤ n
@@ -70,11 +45,11 @@ module _ (kinds measures : List ℕ) (bytes : ℕ) where
     pub low : d ≤ 65
     pub few : sum ≤ bytes
     pub small : (j : ℕ) → getD owner j 0 ≤ i
-    pub verdict : accepts 1 bytes (zip kinds measures) ≡ fills bytes (stack 0 left d) sum (leftFrom kinds measures i)
-    pub words : wordsOf (zip kinds measures) ≡ take (4 * i) table ++ wordsFrom (stack 0 left d) (stack 0 owner d) i sum (leftFrom kinds measures i)
+    pub verdict : accepts 1 bytes (zip kinds measures) ≡ fills bytes (stack 0 left d) sum (pairsFrom kinds measures i)
+    pub words : wordsOf (zip kinds measures) ≡ take (4 * i) table ++ wordsFrom (stack 0 left d) (stack 0 owner d) i sum (pairsFrom kinds measures i)
 
   pub reading-start : {table : List ℕ} → Reading table table (set (replicate 65 0) 0 1) (replicate 65 0) 1 0 0
-  unfolding accepts stack wordsOf leftFrom
+  unfolding accepts stack wordsOf pairsFrom
   reading-start = record { inside = omega arith; long = refl; owners = refl; same = refl; low = omega arith; few = omega arith; small = zeros-below 65 0; verdict = refl; words = refl }
 
 module _ {kinds measures : List ℕ} {bytes : ℕ} {table₀ table left owner : List ℕ} {d sum i : ℕ} (v : Reading kinds measures bytes table₀ table left owner d sum i) where
@@ -89,8 +64,8 @@ module _ {kinds measures : List ℕ} {bytes : ℕ} {table₀ table left owner : 
         low = omega (arith, v .low);
         few = v .few;
         small = v .small;
-        verdict = v .verdict ∙ rw (stack-top 0 left d h, e) (fills-close bytes (stack 0 left (d - 1)) sum (leftFrom kinds measures i));
-        words = v .words ∙ rw (stack-top 0 left d h, stack-top 0 owner d h, e) (ap (λ (l : List ℕ). take (4 * i) table ++ l) (words-close (stack 0 left (d - 1)) (stack 0 owner (d - 1)) (getD owner (d - 1) 0) i sum (leftFrom kinds measures i)));
+        verdict = v .verdict ∙ rw (stack-top 0 left d h, e) (fills-close bytes (stack 0 left (d - 1)) sum (pairsFrom kinds measures i));
+        words = v .words ∙ rw (stack-top 0 left d h, stack-top 0 owner d h, e) (ap (λ (l : List ℕ). take (4 * i) table ++ l) (words-close (stack 0 left (d - 1)) (stack 0 owner (d - 1)) (getD owner (d - 1) 0) i sum (pairsFrom kinds measures i)));
       }
 
   -- it is not accepted
@@ -104,15 +79,15 @@ module _ {kinds measures : List ℕ} {bytes : ℕ} {table₀ table left owner : 
 
   module _ (alike : length measures ≡ length kinds) where
     pub reading-long : d ≤ 0 → i < length kinds → Reads (zip kinds measures) bytes false table
-    reading-long h j = rejects (v .verdict ∙ rw (over h, left-more kinds measures i alike j) (fills-long bytes sum _ _))
+    reading-long h j = rejects (v .verdict ∙ rw (over h, pairs-more kinds measures i alike j) (fills-long bytes sum _ _))
 
     pub reading-end : d ≤ 0 → length kinds ≤ i → Reads (zip kinds measures) bytes (eqb sum bytes) table
     reading-end h j =
         let e : length kinds ≡ i = omega (arith, v .inside) in
         let f : 4 * length (zip kinds measures) ≡ 4 * i = omega (arith, length-zip kinds measures alike) in
         record {
-          verdict = sym (v .verdict ∙ rw (over h, left-none kinds measures i e) (fills-end bytes sum));
-          words = λ q. rw f (sym (v .words ∙ rw (left-none kinds measures i e, words-none (stack 0 left d) (stack 0 owner d) i sum) (append-nil (take (4 * i) table))));
+          verdict = sym (v .verdict ∙ rw (over h, pairs-none kinds measures i (omega arith)) (fills-end bytes sum));
+          words = λ q. rw f (sym (v .words ∙ rw (pairs-none kinds measures i (omega arith), words-none (stack 0 left d) (stack 0 owner d) i sum) (append-nil (take (4 * i) table))));
         }
 
     module _ (h : 0 < d) (ne : getD left (d - 1) 0 ≡ 0 → ⊥) where
@@ -121,15 +96,15 @@ module _ {kinds measures : List ℕ} {bytes : ℕ} {table₀ table left owner : 
 
       -- a child is to come, and no element is left
       pub reading-short : length kinds ≤ i → Reads (zip kinds measures) bytes false table
-      reading-short j = let e : length kinds ≡ i = omega (arith, v .inside) in rejects (v .verdict ∙ rw (top, left-none kinds measures i e) (fills-short bytes _ _ sum))
+      reading-short j = let e : length kinds ≡ i = omega (arith, v .inside) in rejects (v .verdict ∙ rw (top, pairs-none kinds measures i (omega arith)) (fills-short bytes _ _ sum))
 
       module _ (j : i < length kinds) {k m : ℕ} (ek : k ≡ getD kinds i 0) (em : m ≡ getD measures i 0) where
         -- the next element
         turn : accepts 1 bytes (zip kinds measures)
-            ≡ (stands k d && fills bytes (childrenOf k m ∷ (getD left (d - 1) 0 - 1) ∷ stack 0 left (d - 1)) (sum + lengthOf k m) (leftFrom kinds measures (i + 1)))
+            ≡ (stands k d && fills bytes (childrenOf k m ∷ (getD left (d - 1) 0 - 1) ∷ stack 0 left (d - 1)) (sum + lengthOf k m) (pairsFrom kinds measures (i + 1)))
         turn =
             let e : suc (length (stack 0 left (d - 1))) ≡ d = omega (arith, length-stack 0 left (d - 1)) in
-            v .verdict ∙ rw (top, left-more kinds measures i alike j, ← ek, ← em) (fills-open bytes _ (stack 0 left (d - 1)) sum k m _ d e)
+            v .verdict ∙ rw (top, pairs-more kinds measures i alike j, ← ek, ← em) (fills-open bytes _ (stack 0 left (d - 1)) sum k m _ d e)
 
         -- it may not stand there
         pub reading-wrong : {r : Bool} → r ≡ stands k d → not r ≡ true → Reads (zip kinds measures) bytes false table
@@ -141,7 +116,7 @@ module _ {kinds measures : List ℕ} {bytes : ℕ} {table₀ table left owner : 
 
           -- its text is too long
           pub reading-over : bytes < sum + l → Reads (zip kinds measures) bytes false table
-          reading-over o = rejects (turn ∙ rw (may, ← el) (fills-over bytes (leftFrom kinds measures (i + 1)) (childrenOf k m ∷ (getD left (d - 1) 0 - 1) ∷ stack 0 left (d - 1)) (sum + l) o))
+          reading-over o = rejects (turn ∙ rw (may, ← el) (fills-over bytes (pairsFrom kinds measures (i + 1)) (childrenOf k m ∷ (getD left (d - 1) 0 - 1) ∷ stack 0 left (d - 1)) (sum + l) o))
 
           -- it is opened
           pub reading-open : {c : ℕ} {table′ : List ℕ} → c ≡ childrenOf k m → sum + l ≤ bytes → 4 * length kinds ≤ length table₀ → table′ ≡ paste table (4 * i) (k ∷ sum ∷ (sum + l) ∷ getD owner (d - 1) 0 ∷ []) 4
@@ -164,6 +139,6 @@ module _ {kinds measures : List ℕ} {bytes : ℕ} {table₀ table left owner : 
                 small = set-below owner d (i + 1) (i + 1) (λ j. omega (arith, v .small j)) (omega arith);
                 verdict = turn ∙ rw (may, ← ec, ← el, stack-push 0 left d (getD left (d - 1) 0 - 1) c h (omega (arith, v .long)));
                 words =
-                    v .words ∙ rw (top, stack-top 0 owner d h, left-more kinds measures i alike j, ← ek, ← em, words-open _ (stack 0 left (d - 1)) (getD owner (d - 1) 0) (stack 0 owner (d - 1)) i sum k m (leftFrom kinds measures (i + 1)), ← ec, ← el, front, stack-push 0 left d (getD left (d - 1) 0 - 1) c h (omega (arith, v .long)), pushed)
+                    v .words ∙ rw (top, stack-top 0 owner d h, pairs-more kinds measures i alike j, ← ek, ← em, words-open _ (stack 0 left (d - 1)) (getD owner (d - 1) 0) (stack 0 owner (d - 1)) i sum k m (pairsFrom kinds measures (i + 1)), ← ec, ← el, front, stack-push 0 left d (getD left (d - 1) 0 - 1) c h (omega (arith, v .long)), pushed)
                     (sym (append-assoc (take (4 * i) table) row _));
               }
