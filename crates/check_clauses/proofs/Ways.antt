@@ -5,12 +5,12 @@ use mathlib.Core.Bool.{Bool, true, false, cond, not, _&&_, _||_}
 use mathlib.Core.List.{List}
 use Prim.Native.Nat.{ℕ, zero, suc, _+_, _-_, _*_, _≤_, _<_}
 use native.Mathlib.Omega.{arith}
-use borrow.Author.Tests.{eq-eqb, ne-eqb, le-leb, lt-leb}
+use borrow.Author.Tests.{eq-eqb, ne-eqb, le-leb, lt-leb, not-true, not-false}
 use lib.Dec.{leb, eqb}
-use lib.ListN.{length, getD}
+use lib.ListN.{length, getD, take}
 use Rattle.definition.specs.Elements.{isNode}
-use Rattle.check_laws.specs.Check.{sameBytes}
-use Rattle.check_model.specs.Clauses.{entry, part, alike, meet, parentsMeet, loose, accounted}
+use Rattle.check_laws.specs.Check.{every, sameBytes}
+use Rattle.check_model.specs.Clauses.{entry, part, alike, meet, parentsMeet, loose, accounted, rises, each, judgedBy}
 
 -- ── 3 ───────────────────────────────────────────────────────────────────────────────────────────────────────
 
@@ -74,3 +74,32 @@ module _ (new w c : List ℕ) (y : ℕ) {m v : ℕ} (e : m ≡ getD c y 0) (e′
           go : (p : ℕ) → (p ≡ 0 → ⊥) → u ≡ getD w (p - 1) 0 → eqb u 0 ≡ loose w p
           go zero z q = absurd (z refl)
           go (suc p) z q = let d : suc p - 1 ≡ p = omega arith in ap (λ (j : ℕ). eqb j 0) (q ∙ ap (λ (j : ℕ). getD w j 0) d)
+
+-- ── All ─────────────────────────────────────────────────────────────────────────────────────────────────────
+
+module _ (old new text text′ : List ℕ) (n : ℕ) (P : List (ℕ × ℕ)) (w c : List ℕ) {v : ℕ} (e : v ≡ getD w 0 0) where
+  abbrev Judged : Bool → Type 0
+  Judged r = r ≡ judgedBy old new text text′ n P w c
+
+  pub no-roots : (v ≡ 1 → ⊥) → Judged false
+  unfolding judgedBy
+  no-roots h = rw (← e, ne-eqb v 1 h)
+
+  module _ (h : v ≡ 1) {a : Bool} (ea : a ≡ every (alike old new text text′) P) where
+    pub not-alike : not a ≡ true → Judged false
+    unfolding judgedBy
+    not-alike q = rw (← e, eq-eqb v 1 h, ← ea, not-true a q)
+
+    module _ (qa : not a ≡ false) {b : Bool} (eb : b ≡ every (parentsMeet old new w) P) where
+      pub not-meet : not b ≡ true → Judged false
+      unfolding judgedBy
+      not-meet q = rw (← e, eq-eqb v 1 h, ← ea, not-false a qa, ← eb, not-true b q)
+
+      module _ (qb : not b ≡ false) {d : Bool} (ed : d ≡ rises 0 (take n w)) where
+        pub not-rising : not d ≡ true → Judged false
+        unfolding judgedBy
+        not-rising q = rw (← e, eq-eqb v 1 h, ← ea, not-false a qa, ← eb, not-false b qb, ← ed, not-true d q)
+
+        pub all-asked : not d ≡ false → {r : Bool} → r ≡ each (accounted new w c) 0 n → Judged r
+        unfolding judgedBy
+        all-asked q k = k ∙ rw (← e, eq-eqb v 1 h, ← ea, not-false a qa, ← eb, not-false b qb, ← ed, not-false d q)

@@ -38,6 +38,21 @@ pub record Reached (table : List ℕ) (bytes : ℕ) (list : List ℕ) : Type 0 w
   pub sound : Sound n bytes table
   pub below : Below n list
 
+-- what all clauses together need, of pairs, the words of two trees, texts, partners and marks of these lengths, and n new elements
+pub record Ready (olds news old new : List ℕ) (bytes bytes′ partners marks n : ℕ) : Type 0 where
+  pub alike : length news ≡ length olds
+  pub old-reached : Reached old bytes olds
+  pub new-reached : Reached new bytes′ news
+  pub linked : Linked new n
+  pub below : Below partners news
+  pub some : 0 < partners
+  pub room : n ≤ partners
+  pub room′ : n ≤ marks
+
+-- whoever is reached can be climbed from
+pub reached-climbed : {table : List ℕ} {bytes : ℕ} {list : List ℕ} → Reached table bytes list → Climbed table list
+reached-climbed r = record { n = r .n; linked = record { long = r .long; before = r .sound .before }; below = r .below }
+
 -- THE PROMISE of `pair_up`: no new element stands twice, and then all partners are written
 pub record PairsUp (P : List (ℕ × ℕ)) (w : List ℕ) (r : Bool) (w′ : List ℕ) : Type 0 where
   pub verdict : r ≡ fresh w P

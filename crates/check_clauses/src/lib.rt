@@ -12,7 +12,7 @@ ghost use Rattle.orders.specs.Lists.{any};
 ghost use Rattle.check_laws.specs.Check.{every, sameBytes};
 ghost use Rattle.check_model.specs.Clauses.{entry as wordOf, marked, alike as alikeIn, parentsMeet, rises, accounted as accountedIn, each, judgedBy};
 ghost use Rattle.check_model.specs.Pairing.{Below};
-ghost use Rattle.check_clauses.specs.Asked.{PairsUp, Reaches, Reached, Climbs, Linked, Climbed};
+ghost use Rattle.check_clauses.specs.Asked.{PairsUp, Reaches, Reached, Climbs, Linked, Climbed, Ready};
 
 // 19: whether a number of the list is none of `n` elements.
 pub fn beyond(list: &[u32], n: usize) -> bool
@@ -199,4 +199,34 @@ fn all_accounted(new: &[u32], partners: &[u32], marks: &[u32], n: usize) -> bool
         y += 1;
     }
     true
+}
+
+// All clauses, where `pair_up` found no new element twice and wrote the partners, and `mark_all` the marks, of `n` new elements.
+pub fn judge(
+    olds: &[u32],
+    news: &[u32],
+    old: &[u32],
+    new: &[u32],
+    old_text: &[u8],
+    new_text: &[u8],
+    partners: &[u32],
+    marks: &[u32],
+    n: usize,
+) -> bool
+    requires { ⌜ Ready (now olds) (now news) (now old) (now new) (length (now «old_text»)) (length (now «new_text»)) (length (now partners)) (length (now marks)) n ⌝ }
+    ensures { λ r. ⌜ r ≡ judgedBy (now (old .entry)) (now (new .entry)) (now («old_text» .entry)) (now («new_text» .entry)) n (zip (now (olds .entry)) (now (news .entry))) (now (partners .entry)) (now (marks .entry)) ⌝ }
+{
+    if words::word(partners, 0) != 1 {
+        return false;
+    }
+    if !all_alike(olds, news, old, new, old_text, new_text) {
+        return false;
+    }
+    if !all_parents_meet(olds, news, old, new, partners) {
+        return false;
+    }
+    if !rising(partners, n) {
+        return false;
+    }
+    all_accounted(new, partners, marks, n)
 }

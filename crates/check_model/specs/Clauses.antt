@@ -76,6 +76,6 @@ unfoldable pub judgedBy : List ℕ → List ℕ → List ℕ → List ℕ → �
 judgedBy old new text text′ n P w c =
     eqb (getD w 0 0) 1 && (every (alike old new text text′) P && (every (parentsMeet old new w) P && (rises 0 (take n w) && each (accounted new w c) 0 n)))
 
--- with room for the partners and the marks of m elements
-unfoldable pub judged : List ℕ → List ℕ → List ℕ → List ℕ → ℕ → ℕ → List (ℕ × ℕ) → List ℕ → Bool
-judged old new text text′ n m P changed = fresh (replicate m 0) P && judgedBy old new text text′ n P (partnered (replicate m 0) P) (marked (replicate m 0) changed)
+-- with room for m partners and m′ marks
+unfoldable pub judged : List ℕ → List ℕ → List ℕ → List ℕ → ℕ → ℕ → ℕ → List (ℕ × ℕ) → List ℕ → Bool
+judged old new text text′ n m m′ P changed = fresh (replicate m 0) P && judgedBy old new text text′ n P (partnered (replicate m 0) P) (marked (replicate m′ 0) changed)

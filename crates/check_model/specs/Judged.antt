@@ -63,9 +63,9 @@ front-holds (suc n) (a ∷ w) (suc y) x e = front-holds n w y x e
 
 -- ── The law ─────────────────────────────────────────────────────────────────────────────────────────────────
 
-module _ (os ns : List (Tree ℕ)) (old new text text′ : List ℕ) (n n′ m : ℕ) (P : List (ℕ × ℕ)) (changed : List ℕ)
+module _ (os ns : List (Tree ℕ)) (old new text text′ : List ℕ) (n n′ m m′ : ℕ) (P : List (ℕ × ℕ)) (changed : List ℕ)
     (K : Known os text n old) (L : Known ns text′ n′ new)
-    (olds : All (λ p. p .0 < n) P) (news : Within n′ P) (named : All (λ c. c < n′) changed) (room : n′ ≤ m) where
+    (olds : All (λ p. p .0 < n) P) (news : Within n′ P) (named : All (λ c. c < n′) changed) (room : n′ ≤ m) (room′ : n′ ≤ m′) where
   abbrev O : Table
   O = table 0 0 os
 
@@ -75,14 +75,20 @@ module _ (os ns : List (Tree ℕ)) (old new text text′ : List ℕ) (n n′ m :
   abbrev z : List ℕ
   z = replicate m 0
 
+  abbrev z′ : List ℕ
+  z′ = replicate m′ 0
+
   abbrev w : List ℕ
   w = partnered z P
 
   abbrev c : List ℕ
-  c = marked z changed
+  c = marked z′ changed
 
   long : length z ≡ m
   long = length-replicate m 0
+
+  long′ : length z′ ≡ m′
+  long′ = length-replicate m′ 0
 
   within : Within (length z) P
   within = All-map (λ p h. omega (arith, long)) P news
@@ -109,11 +115,11 @@ module _ (os ns : List (Tree ℕ)) (old new text text′ : List ℕ) (n n′ m :
   pair x y e = ⊎-elim (λ q. absurd (omega (arith, sym (zeros-at m y) ∙ q))) (λ q. q) (partner-mem P z x y within e)
 
   mark : (y : ℕ) → eqb (getD c y 0) 0 ≡ not (among changed y)
-  mark y = go (eqb (getD c y 0) 0) refl (marks-told changed z y (All-map (λ y h. omega (arith, long)) changed named))
+  mark y = go (eqb (getD c y 0) 0) refl (marks-told changed z′ y (All-map (λ y h. omega (arith, long′)) changed named))
     where
-      go : (b : Bool) → eqb (getD c y 0) 0 ≡ b → (eqb (getD c y 0) 0 ≡ true → (eqb (getD z y 0) 0 ≡ true) × (among changed y ≡ false)) × (eqb (getD c y 0) 0 ≡ false → (eqb (getD z y 0) 0 ≡ false) ⊎ (among changed y ≡ true)) → eqb (getD c y 0) 0 ≡ not (among changed y)
+      go : (b : Bool) → eqb (getD c y 0) 0 ≡ b → (eqb (getD c y 0) 0 ≡ true → (eqb (getD z′ y 0) 0 ≡ true) × (among changed y ≡ false)) × (eqb (getD c y 0) 0 ≡ false → (eqb (getD z′ y 0) 0 ≡ false) ⊎ (among changed y ≡ true)) → eqb (getD c y 0) 0 ≡ not (among changed y)
       go true e t = e ∙ ap not (sym (t .0 e .1))
-      go false e t = ⊎-elim (λ q. bool-absurd (eq-eqb (getD z y 0) 0 (zeros-at m y)) q) (λ q. e ∙ ap not (sym q)) (t .1 e)
+      go false e t = ⊎-elim (λ q. bool-absurd (eq-eqb (getD z′ y 0) 0 (zeros-at m′ y)) q) (λ q. e ∙ ap not (sym q)) (t .1 e)
 
   -- ── 3 and 4, of one pair ──
 
@@ -179,7 +185,7 @@ module _ (os ns : List (Tree ℕ)) (old new text text′ : List ℕ) (n n′ m :
 
   -- ── Judged, so accepted ──
 
-  module _ (e : judged old new text text′ n′ m P changed ≡ true) where
+  module _ (e : judged old new text text′ n′ m m′ P changed ≡ true) where
     parts : (fresh z P ≡ true) × (eqb (getD w 0 0) 1 ≡ true) × (every (alike old new text text′) P ≡ true) × (every (parentsMeet old new w) P ≡ true) × (rises 0 (take n′ w) ≡ true) × (each (accounted new w c) 0 n′ ≡ true)
     unfolding judged judgedBy
     parts =
@@ -267,7 +273,7 @@ module _ (os ns : List (Tree ℕ)) (old new text text′ : List ℕ) (n n′ m :
     rises-all : rises 0 (take n′ w) ≡ true
     rises-all = told-rises (take n′ w) 0 (λ y x e. omega arith) (λ y y′ x x′ l e f. pairs-rise os ns P changed s inside x y x′ y′ (pair x y (front-holds n′ w y x e)) (pair x′ y′ (front-holds n′ w y′ x′ f)) l)
 
-    says-judged : judged old new text text′ n′ m P changed ≡ true
+    says-judged : judged old new text text′ n′ m m′ P changed ≡ true
     unfolding judged judgedBy
     says-judged =
         rw (
@@ -280,8 +286,8 @@ module _ (os ns : List (Tree ℕ)) (old new text text′ : List ℕ) (n n′ m :
         )
 
   -- THE LAW
-  pub judged-accepts : accepts os ns P changed ≡ judged old new text text′ n′ m P changed
+  pub judged-accepts : accepts os ns P changed ≡ judged old new text text′ n′ m m′ P changed
   judged-accepts =
-      both-ways (accepts os ns P changed) (judged old new text text′ n′ m P changed)
+      both-ways (accepts os ns P changed) (judged old new text text′ n′ m m′ P changed)
       (λ e. says-judged (accepts-says os ns P changed (λ x y h. inside x y h .1) e))
       (λ e. says-accepts os ns P changed (says e))
