@@ -1,13 +1,13 @@
 // THE CHECKER of another editor's output (document 02, Note 11).
 ghost use mathlib.Core.Path.{_≡_};
-ghost use mathlib.Core.Bool.{true};
 ghost use mathlib.Core.List.{_∷_, [], zip};
-ghost use Prim.Native.Nat.{_*_, _≤_};
+ghost use Prim.Native.Nat.{_≤_};
 ghost use lib.ListN.{length};
 ghost use Rattle.definition.specs.Answers.{tooShort};
 ghost use Rattle.promises.specs.Slices.{lengths, zeroed};
 ghost use Rattle.check_claim.specs.Promise.{checkerNeeds, claimsIn, Checks, told};
-ghost use Rattle.check_claim.specs.Judging.{verdictOf, answerOf, bigSizes, unequalSizes, sizesRefusal, ReadsBoth, Telling, Judges};
+ghost use Rattle.check_model.specs.Pairing.{Below};
+ghost use Rattle.check_claim.specs.Judging.{answerOf, bigSizes, sizesRefusal, ReadsBoth, Telling, WritesClaims, naming, judging};
 
 // The answer: a refusal's number, or whether the output is accepted.
 pub enum Verdict {
@@ -105,4 +105,178 @@ fn read_both(
         return false;
     }
     check_table::read_tree(new_kinds, new_measures, new_bytes, new)
+}
+
+// 19: whether a claim names no element, of so many old and new ones.
+fn names_none(
+    olds: &[u32],
+    news: &[u32],
+    changed: &[u32],
+    old_count: usize,
+    new_count: usize,
+) -> bool
+    ensures { λ r. ⌜ r ≡ naming «old_count» «new_count» (now (olds .entry)) (now (news .entry)) (now (changed .entry)) ⌝ }
+{
+    if check_clauses::beyond(olds, old_count) {
+        return true;
+    }
+    if check_clauses::beyond(news, new_count) {
+        return true;
+    }
+    check_clauses::beyond(changed, new_count)
+}
+
+// The partners and the marks of the new elements; false where one is paired twice.
+fn write_claims(
+    olds: &[u32],
+    news: &[u32],
+    changed: &[u32],
+    partners: &mut [u32],
+    marks: &mut [u32],
+) -> bool
+    requires { ⌜ (length (now news) ≡ length (now olds)) × Below 4096 (now olds) × Below (length (now partners)) (now news) × Below (length (now marks)) (now changed) ⌝ }
+    ensures { λ r. ⌜ WritesClaims (zip (now (olds .entry)) (now (news .entry))) (now (changed .entry)) (length (now (partners .entry))) (length (now (marks .entry))) r (now (partners .exit)) (now (marks .exit)) ⌝ }
+{
+    words::clear(partners);
+    words::clear(marks);
+    check_clauses::mark_all(changed, marks);
+    check_clauses::pair_up(olds, news, partners)
+}
+
+// 19, then whether all clauses hold, of trees whose words stand in the tables.
+fn judge_claims(
+    olds: &[u32],
+    news: &[u32],
+    changed: &[u32],
+    old: &[u32],
+    new: &[u32],
+    old_text: &[u8],
+    new_text: &[u8],
+    old_count: usize,
+    new_count: usize,
+    partners: &mut [u32],
+    marks: &mut [u32],
+) -> Verdict
+    requires { ⌜ (length (now news) ≡ length (now olds)) × Telling (now old) (length (now «old_text»)) «old_count» × Telling (now new) (length (now «new_text»)) «new_count» × (4096 ≤ length (now partners)) × (4096 ≤ length (now marks)) ⌝ }
+    ensures { λ r. ⌜ answerOf r ≡ judging (now (old .entry)) (now (new .entry)) (now («old_text» .entry)) (now («new_text» .entry)) «old_count» «new_count» (length (now (partners .entry))) (length (now (marks .entry))) (now (olds .entry)) (now (news .entry)) (now (changed .entry)) ⌝ }
+{
+    if names_none(olds, news, changed, old_count, new_count) {
+        return Verdict::Refused(19);
+    }
+    if !write_claims(olds, news, changed, partners, marks) {
+        return Verdict::Rejected;
+    }
+    if check_clauses::judge(
+        olds,
+        news,
+        old,
+        new,
+        old_text,
+        new_text,
+        partners,
+        marks,
+        new_count,
+    ) {
+        return Verdict::Accepted;
+    }
+    Verdict::Rejected
+}
+
+// 1, 3, 4, 5 and 19, then accepted or rejected.
+fn check_lists(
+    old_kinds: &[u32],
+    old_measures: &[u32],
+    old_text: &[u8],
+    new_kinds: &[u32],
+    new_measures: &[u32],
+    new_text: &[u8],
+    olds: &[u32],
+    news: &[u32],
+    changed: &[u32],
+    old: &mut [u32],
+    new: &mut [u32],
+    partners: &mut [u32],
+    marks: &mut [u32],
+) -> Verdict
+    ensures { λ r. ⌜ answerOf r ≡ told (now (old .entry) ∷ now (new .entry) ∷ now (partners .entry) ∷ now (marks .entry) ∷ []) (claimsIn (now («old_kinds» .entry)) (now («old_measures» .entry)) (now («old_text» .entry)) (now («new_kinds» .entry)) (now («new_measures» .entry)) (now («new_text» .entry)) (now (olds .entry)) (now (news .entry)) (now (changed .entry))) ⌝ }
+{
+    if too_short(old, new, partners, marks) {
+        return Verdict::Refused(1);
+    }
+    let refusal = size_refusal(
+        old_kinds.len(),
+        old_measures.len(),
+        old_text.len(),
+        new_kinds.len(),
+        new_measures.len(),
+        new_text.len(),
+        olds.len(),
+        news.len(),
+    );
+    if refusal != 0 {
+        return Verdict::Refused(refusal);
+    }
+    if !read_both(
+        old_kinds,
+        old_measures,
+        old_text.len(),
+        new_kinds,
+        new_measures,
+        new_text.len(),
+        old,
+        new,
+    ) {
+        return Verdict::Refused(5);
+    }
+    judge_claims(
+        olds,
+        news,
+        changed,
+        old,
+        new,
+        old_text,
+        new_text,
+        old_kinds.len(),
+        new_kinds.len(),
+        partners,
+        marks,
+    )
+}
+
+// THE CHECKER: whether the new tree, with these pairs of kept elements (an old number and a new one each) and these changed elements, is an edit of the old tree.
+// The last four are work slices, which end as zeros.
+pub fn check(
+    old_kinds: &[u32],
+    old_measures: &[u32],
+    old_text: &[u8],
+    new_kinds: &[u32],
+    new_measures: &[u32],
+    new_text: &[u8],
+    olds: &[u32],
+    news: &[u32],
+    changed: &[u32],
+    old: &mut [u32],
+    new: &mut [u32],
+    partners: &mut [u32],
+    marks: &mut [u32],
+) -> Verdict
+    ensures { λ r. ⌜ Checks (claimsIn (now («old_kinds» .entry)) (now («old_measures» .entry)) (now («old_text» .entry)) (now («new_kinds» .entry)) (now («new_measures» .entry)) (now («new_text» .entry)) (now (olds .entry)) (now (news .entry)) (now (changed .entry))) (now (old .entry) ∷ now (new .entry) ∷ now (partners .entry) ∷ now (marks .entry) ∷ []) (answerOf r) (now (old .exit) ∷ now (new .exit) ∷ now (partners .exit) ∷ now (marks .exit) ∷ []) ⌝ }
+{
+    let verdict = check_lists(
+        old_kinds,
+        old_measures,
+        old_text,
+        new_kinds,
+        new_measures,
+        new_text,
+        olds,
+        news,
+        changed,
+        old,
+        new,
+        partners,
+        marks,
+    );
+    clear_work(old, new, partners, marks);
+    verdict
 }

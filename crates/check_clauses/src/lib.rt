@@ -1,8 +1,8 @@
 // The clauses of the checker, each in one pass over the pairs or the new elements.
-use check_table::KIND;
-use check_table::START;
 use check_table::END;
+use check_table::KIND;
 use check_table::PARENT;
+use check_table::START;
 ghost use mathlib.Core.Path.{_≡_};
 ghost use mathlib.Core.List.{zip};
 ghost use Prim.Native.Nat.{_+_, _*_, _≤_, _<_};
@@ -96,7 +96,14 @@ fn alike(old: &[u32], new: &[u32], old_text: &[u8], new_text: &[u8], x: usize, y
 }
 
 // 3, of all pairs.
-fn all_alike(olds: &[u32], news: &[u32], old: &[u32], new: &[u32], old_text: &[u8], new_text: &[u8]) -> bool
+fn all_alike(
+    olds: &[u32],
+    news: &[u32],
+    old: &[u32],
+    new: &[u32],
+    old_text: &[u8],
+    new_text: &[u8],
+) -> bool
     requires { ⌜ (length (now news) ≡ length (now olds)) × Reached (now old) (length (now «old_text»)) (now olds) × Reached (now new) (length (now «new_text»)) (now news) ⌝ }
     ensures { λ r. ⌜ r ≡ every (alikeIn (now (old .entry)) (now (new .entry)) (now («old_text» .entry)) (now («new_text» .entry))) (zip (now (olds .entry)) (now (news .entry))) ⌝ }
 {
