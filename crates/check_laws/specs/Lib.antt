@@ -2,6 +2,7 @@
 -- To know what is said, read:
 --     Check            THE CHECKER: what is claimed, each of the six clauses by name, and the order of the refusals (`checked`)
 --     Examples         claims that are accepted, claims that break one clause each, and the refusals, by computation
+--     Layout           claims as bytes, and what the program `check` prints of them (`claimsOf`, `claimPrinted`)
 --     Meaning          the six clauses as statements; the checker accepts exactly if they hold (`checked-exactly`)
 --     Claimed          our own output as claims: the old tree, the new tree, the surviving pairs, the changed elements
 --     Output           THE THEOREM: our own output is accepted if the root was not replaced and no dependent change ended in tree 0 (`own-accepted`)
@@ -13,6 +14,7 @@
 --     Own              each clause, of any performed changes (`own-1` to `own-6`, `own-accepts`)
 --     Formed           kind words keep their form, whatever steps are performed; so the new tree passes line 5
 pub mod Check
+pub mod Layout
 pub mod Examples
 pub mod ListLaws
 pub mod Meaning

@@ -60,7 +60,7 @@ pub record Says (os ns : List (Tree ℕ)) (P : List (ℕ × ℕ)) (changed : Lis
 
 -- ── Tests and statements ────────────────────────────────────────────────────────────────────────────────────
 
-every-mem : {A : Type 0} (p : A → Bool) (l : List A) (x : A) → every p l ≡ true → List·Memᴰ x l → p x ≡ true
+pub every-mem : {A : Type 0} (p : A → Bool) (l : List A) (x : A) → every p l ≡ true → List·Memᴰ x l → p x ≡ true
 unfolding every
 every-mem p [] x e m = absurd (List·Memᴰ·not-nil m)
 every-mem p (y ∷ l) x e m = let (a, b) = both-true (p y) (every p l) e in go a (List·Memᴰ·cases-cons m) (every-mem p l x b)
@@ -117,7 +117,7 @@ before-earlier : (T : Table) (x y : ℕ) → Before T x y → earlier T x y ≡ 
 unfolding earlier
 before-earlier T x y b = rw (b .0, parents-same (parent T y), lt-ltb (child T x) (child T y) (b .1))
 
-covered-told : (os ns : List (Tree ℕ)) (P : List (ℕ × ℕ)) (changed : List ℕ) (y : ℕ) → isCovered os ns P changed y ≡ true → Covered (table 0 0 ns) changed y
+pub covered-told : (os ns : List (Tree ℕ)) (P : List (ℕ × ℕ)) (changed : List ℕ) (y : ℕ) → isCovered os ns P changed y ≡ true → Covered (table 0 0 ns) changed y
 unfolding isCovered isSome
 covered-told os ns P changed y e =
     let (c, m, t) = any-mem (λ c. isSome (placeBelow (table 0 0 ns) c y)) changed e in
@@ -127,7 +127,7 @@ covered-told os ns P changed y e =
     go c m none z t = bool-absurd t refl
     go c m (some q) z t = record { by = c; one = m; place = q; under = z }
 
-told-covered : (os ns : List (Tree ℕ)) (P : List (ℕ × ℕ)) (changed : List ℕ) (y : ℕ) → Covered (table 0 0 ns) changed y → isCovered os ns P changed y ≡ true
+pub told-covered : (os ns : List (Tree ℕ)) (P : List (ℕ × ℕ)) (changed : List ℕ) (y : ℕ) → Covered (table 0 0 ns) changed y → isCovered os ns P changed y ≡ true
 unfolding isCovered isSome
 told-covered os ns P changed y c = mem-any (λ c. isSome (placeBelow (table 0 0 ns) c y)) changed (c .by) (c .one) (ap isSome (c .under))
 

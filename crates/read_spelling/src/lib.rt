@@ -25,7 +25,7 @@ pub fn length_of(kind: usize, measure: usize) -> usize
 }
 
 // Whether an element with this kind word may stand at this depth.
-fn stands(kind: usize, depth: usize) -> bool
+pub fn stands(kind: usize, depth: usize) -> bool
     ensures { λ r. ⌜ r ≡ standsAt kind depth ⌝ }
 {
     if 0x1_0000 <= kind % 0x8000_0000 {

@@ -1,0 +1,2 @@
+-- The checker's ways out.
+pub mod Ways

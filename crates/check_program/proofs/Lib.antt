@@ -1,0 +1,2 @@
+-- The program's ways out.
+pub mod Ways

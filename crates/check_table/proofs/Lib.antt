@@ -1,0 +1,2 @@
+-- The loop of `read_tree`.
+pub mod Reading

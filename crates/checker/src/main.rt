@@ -1,0 +1,4 @@
+// The program `check`.
+fn main() {
+    check_program::run();
+}
