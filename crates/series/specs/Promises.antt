@@ -35,6 +35,6 @@ unfolding started withWork tooShort lengths startNeeds zip any refuse _>>=_
 start-long l rows r h e = e ∙ sym (ap numberOf (rw (le-ltb (length rows) 12288 h)))
 
 -- the work slice is cleared whatever was told
-pub start-told : {l : Lent} {rows mid out : List ℕ} {r : ℕ} → r ≡ numberOf (started (lengths startNeeds (rows ∷ [])) l) → length mid ≡ length rows → out ≡ replicate (length mid) 0 → Starts l rows r out
+pub start-told : {l : Lent} {rows out : List ℕ} {r n : ℕ} → r ≡ numberOf (started (lengths startNeeds (rows ∷ [])) l) → n ≡ length rows → out ≡ replicate n 0 → Starts l rows r out
 unfolding Slices.zeros
 start-told a s z = record { answer = a; zeros = z ∙ ap (λ (n : ℕ). replicate n 0) s }

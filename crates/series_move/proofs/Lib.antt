@@ -1,1 +1,1 @@
--- None yet.
+-- Nothing beside the proofs of the functions.

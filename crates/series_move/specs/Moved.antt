@@ -49,7 +49,7 @@ put-told b to number path {at} {out} e l h w =
     let d : List ℕ = set b at number in
     let ld : length d ≡ length b = length-set b at number in
     let one : set d (at + 1) (length path) ≡ paste b at (number ∷ length path ∷ []) 2 =
-        set-paste d (at + 1) (length path) (omega arith) ∙ (ap (λ (x : List ℕ). paste x (at + 1) (length path ∷ []) 1) (set-paste b at number (omega arith)) ∙ paste-paste b at (number ∷ []) 1 (length path ∷ []) 1 (at + 1) 2 refl (omega arith) (omega arith) (omega arith) refl) in
+    set-paste d (at + 1) (length path) (omega arith) ∙ (ap (λ (x : List ℕ). paste x (at + 1) (length path ∷ []) 1) (set-paste b at number (omega arith)) ∙ paste-paste b at (number ∷ []) 1 (length path ∷ []) 1 (at + 1) 2 refl (omega arith) (omega arith) (omega arith) refl) in
     w ∙ (ap (λ (x : List ℕ). paste x (at + 2) path (length path)) one
     ∙ (paste-paste b at (number ∷ length path ∷ []) 2 path (length path) (at + 2) (2 + length path) refl refl (omega arith) (omega arith) refl ∙ ap (λ (a : ℕ). paste b a (number ∷ length path ∷ path) (2 + length path)) e))
 

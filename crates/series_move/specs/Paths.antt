@@ -86,9 +86,10 @@ writing-next {source} {e} {marks} {rows} {n} {path} {out₀} {out} {x} {j} v {i}
   same = length-set out j r ∙ v .same;
   told = λ s.
       let is : r ≡ getD (s .now) j 0 = number-is v s h ei c ea eb t in
-      let long : length (s .now) ≡ length path = path-long (s .stood) path (s .end) (s .leads) (s .now) (s .moves) in
-      (rw (add-one j) (child-place v s h ei c),
-        rw (add-one j) (take-suc-set out j r (omega (arith, v .same)) ∙ (ap (λ (p : List ℕ). p ++ (r ∷ [])) ((v .told s) .1) ∙ (ap (λ (k : ℕ). take j (s .now) ++ (k ∷ [])) is ∙ sym (more j (s .now) (omega arith))))));
+      let long : length (s .now) ≡ length path = path-long (s .stood) path (s .end) (s .leads) (s .now) (s .moves) in (
+        rw (add-one j) (child-place v s h ei c),
+        rw (add-one j) (take-suc-set out j r (omega (arith, v .same)) ∙ (ap (λ (p : List ℕ). p ++ (r ∷ [])) ((v .told s) .1) ∙ (ap (λ (k : ℕ). take j (s .now) ++ (k ∷ [])) is ∙ sym (more j (s .now) (omega arith))))),
+      );
 }
   where
     more : (j : ℕ) (p : Path) → j < length p → take (suc j) p ≡ take j p ++ (getD p j 0 ∷ [])

@@ -15,7 +15,7 @@ same-length : tie.Need-same-length
 same-length c = search needs
 
 returns : tie.Need-returns
-returns c = start-told (c .before .before .before .before .before .before .judge-start .ensures) (search needs) (c .before .before .clear .ensures)
+returns c = start-told (c .before .before .before .before .before .before .judge-start .ensures) (c .before .before .before .before .before .rows .given) (c .before .before .clear .ensures)
 
 pub start-spec : {M : Type 1} → statement M
 start-spec = tie.close (tie.spec judge-start-requires clear-requires same-length returns)
