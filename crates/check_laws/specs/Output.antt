@@ -50,7 +50,7 @@ flat-spelled c w s d m =
     rw (a, b, m, s, le-ltb 64 (deepest c) d)
 
 -- the old tree passes it
-old-spelled : (ts : List (Tree ℕ)) → 0 < length ts → All Worded ts → All (λ t. startsWithToken t ≡ false) ts → All (λ t. deepest t ≤ 64) ts → All (λ k. malformed k ≡ false) (map label (flatMap preorder ts)) → spelled (alone (flatOf (oldTree ts))) ≡ some (oldTree ts)
+pub old-spelled : (ts : List (Tree ℕ)) → 0 < length ts → All Worded ts → All (λ t. startsWithToken t ≡ false) ts → All (λ t. deepest t ≤ 64) ts → All (λ k. malformed k ≡ false) (map label (flatMap preorder ts)) → spelled (alone (flatOf (oldTree ts))) ≡ some (oldTree ts)
 unfolding oldTree
 old-spelled [] l w b d m = absurd (omega arith)
 old-spelled (c ∷ cs) l w b d m = flat-spelled c (w .0) (b .0) (d .0) (first-formed (c ∷ cs) (top (c ∷ cs)) (λ q. first-resolve (c ∷ cs) 2147483648 2147483648 q) (top-formed (c ∷ cs) m))
@@ -68,13 +68,13 @@ root-kind (node w ds) cs = refl
 root-kind (token w own) cs = refl
 
 -- the first of the current trees
-record NewTree (w : World) : Type 0 where
-  root : Tree ℕ
-  is : newTree w ≡ root ∷ []
-  worded : Worded root
-  shallow : deepest root ≤ 64
+pub record NewTree (w : World) : Type 0 where
+  pub root : Tree ℕ
+  pub is : newTree w ≡ root ∷ []
+  pub worded : Worded root
+  pub shallow : deepest root ≤ 64
 
-new-tree : (w : World) → 0 < length (list (children w.trees)) → Worded w.trees → deepestOf (children w.trees) ≤ 64 → NewTree w
+pub new-tree : (w : World) → 0 < length (list (children w.trees)) → Worded w.trees → deepestOf (children w.trees) ≤ 64 → NewTree w
 unfolding newTree list deepest children
 new-tree w l h d = go (children w.trees) refl l (below w.trees h) d
   where

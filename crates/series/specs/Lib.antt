@@ -1,0 +1,3 @@
+-- What the calls on a series promise.
+--     Promises  THE PROMISES of `start`
+pub mod Promises

@@ -1,0 +1,2 @@
+-- The loops over numbers: 20.
+pub mod Numbers

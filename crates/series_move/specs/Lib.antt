@@ -1,0 +1,9 @@
+-- Where bookmarks go.
+--     Standing  the path of a bookmark now, from the marks of the elements on its way
+--     Paths     that path written, child number by child number
+--     Moved     a bookmark moved, and its words in a slot
+--     Found     its element, by resolving its old path in the batch's own rows
+pub mod Standing
+pub mod Paths
+pub mod Found
+pub mod Moved

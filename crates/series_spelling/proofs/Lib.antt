@@ -1,0 +1,2 @@
+-- The loop of `spells`.
+pub mod Reading
