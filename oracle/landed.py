@@ -48,3 +48,9 @@ def result(batch):
 def find_element(batch, number, edge=0):
     """The element of the new tree, None, or a refusal."""
     return notes.find_element(batch, number, notes.arguments([str(edge)], LEVEL), level=LEVEL)
+
+
+def share_program(batch, edge=0):
+    """What the share program prints (document 02, Note 10, which stands on none of the notes between)."""
+    told = notes.share(batch[:65536], notes.arguments([str(edge)], LEVEL), level=LEVEL)
+    return "refused %d\n" % told.number if isinstance(told, notes.Refused) else "share %d %d\n" % told

@@ -128,6 +128,25 @@ int64_t syntax_account(
     uint32_t *rows, size_t rows_length,
     uint32_t *prepared, size_t prepared_length);
 
+/* The share of the new text that is rewritten, edited by an edge rule, as one number: 65,536 for each whole thousandth and the remainder of the division,
+ * which is exact (SYNTAX_THOUSANDTHS, SYNTAX_REMAINDER); or a refusal with a minus. There is no result slice. */
+int64_t syntax_share(
+    uint64_t edge,
+    const uint8_t *batch, size_t batch_length,
+    uint32_t *table, size_t table_length,
+    uint32_t *source, size_t source_length,
+    uint32_t *changes, size_t changes_length,
+    uint32_t *notes, size_t notes_length,
+    uint32_t *incoming, size_t incoming_length,
+    uint32_t *changed, size_t changed_length,
+    uint32_t *marks, size_t marks_length,
+    uint32_t *rows, size_t rows_length,
+    uint32_t *prepared, size_t prepared_length);
+
+/* The thousandths of a share, and its remainder, from the number that tells it. */
+#define SYNTAX_THOUSANDTHS(share) ((uint32_t)((share) / 65536))
+#define SYNTAX_REMAINDER(share) ((uint32_t)((share) % 65536))
+
 /* Writes a batch from its lists: its length, or a refusal (1, 14 or 15) with a minus. syntax_lists says what each list holds. */
 int64_t syntax_write(
     size_t trees,
@@ -148,6 +167,15 @@ int64_t syntax_write(
     uint32_t *table, size_t table_length,
     uint32_t *source, size_t source_length);
 
+/* Writes the load of a starting number (docs/LOAD.md): its length, at most SYNTAX_MOST_LOAD, or a refusal (1 or 15) with a minus. */
+enum { SYNTAX_MOST_LOAD = 8632 };
+int64_t syntax_load(
+    uint32_t start,
+    uint8_t *destination, size_t destination_length,
+    uint8_t *draft, size_t draft_length,
+    uint32_t *table, size_t table_length,
+    uint32_t *source, size_t source_length);
+
 /* All work memory, 234 KiB in nine slices; static or on the heap, and one for each thread that edits at the same time. It need not be cleared. */
 typedef struct syntax_work {
     uint32_t table[SYNTAX_TABLE];
@@ -161,7 +189,7 @@ typedef struct syntax_work {
     uint32_t prepared[SYNTAX_PREPARED];
 } syntax_work;
 
-/* The three calls over one struct of work memory. */
+/* The calls over one struct of work memory. */
 static inline int64_t syntax_edit_with(syntax_work *w, uint64_t edge, const uint8_t *batch, size_t batch_length, uint8_t *result, size_t result_length)
 {
     return syntax_edit(edge, batch, batch_length, result, result_length, w->table, SYNTAX_TABLE, w->source, SYNTAX_SOURCE, w->changes, SYNTAX_CHANGES,
@@ -179,6 +207,13 @@ static inline int64_t syntax_find_element_with(syntax_work *w, uint64_t edge, co
 static inline int64_t syntax_account_with(syntax_work *w, uint64_t edge, const uint8_t *batch, size_t batch_length, uint8_t *result, size_t result_length)
 {
     return syntax_account(edge, batch, batch_length, result, result_length, w->table, SYNTAX_TABLE, w->source, SYNTAX_SOURCE, w->changes, SYNTAX_CHANGES,
+        w->notes, SYNTAX_NOTES, w->incoming, SYNTAX_INCOMING, w->changed, SYNTAX_CHANGED, w->marks, SYNTAX_MARKS, w->rows, SYNTAX_ROWS,
+        w->prepared, SYNTAX_PREPARED);
+}
+
+static inline int64_t syntax_share_with(syntax_work *w, uint64_t edge, const uint8_t *batch, size_t batch_length)
+{
+    return syntax_share(edge, batch, batch_length, w->table, SYNTAX_TABLE, w->source, SYNTAX_SOURCE, w->changes, SYNTAX_CHANGES,
         w->notes, SYNTAX_NOTES, w->incoming, SYNTAX_INCOMING, w->changed, SYNTAX_CHANGED, w->marks, SYNTAX_MARKS, w->rows, SYNTAX_ROWS,
         w->prepared, SYNTAX_PREPARED);
 }
@@ -229,7 +264,13 @@ static inline int64_t syntax_write_with(syntax_writer_work *w, const syntax_list
         SYNTAX_DRAFT, w->table, SYNTAX_TABLE, w->source, SYNTAX_SOURCE);
 }
 
-/* The same with static work memory, for one thread at a time. */
+/* The load over the writer's work memory. */
+static inline int64_t syntax_load_with(syntax_writer_work *w, uint32_t start, uint8_t *destination, size_t destination_length)
+{
+    return syntax_load(start, destination, destination_length, w->draft, SYNTAX_DRAFT, w->table, SYNTAX_TABLE, w->source, SYNTAX_SOURCE);
+}
+
+/* The writer with static work memory, for one thread at a time. */
 static inline int64_t syntax_write_static(const syntax_lists *l, uint8_t *destination, size_t destination_length)
 {
     static syntax_writer_work work;

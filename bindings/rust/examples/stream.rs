@@ -1,10 +1,10 @@
-//! Plays batches through the static library:   stream [--stream | --accounts] [EDGE]
+//! Plays batches through the static library:   stream [--stream | --accounts | --shares] [EDGE]
 //!
 //! Without a word it reads one batch and prints the printed form. With `--stream` it reads batches, each with its length in front (a 32-bit
 //! little-endian word), and answers each with two parts, each with its length in front: the printed form, and what `find_element` gives, as
 //! `find 0:3 1: 2:` (the number asked for, a colon, the element found or nothing) if the batch was accepted. Of a batch of up to 64 elements every
 //! number is asked for, and one beyond the last; of a larger one as many, spread over it. With `--accounts` the first part is what the account program
-//! prints, told from the fates that the library gives as values, and the second is empty. EDGE is the edge rule, 0 without one.
+//! prints, told from the fates that the library gives as values, and the second is empty; with `--shares` what the share program prints. EDGE is the edge rule, 0 without one.
 
 use std::{
     fmt::Write as _,
@@ -34,6 +34,13 @@ fn accounted(editor: &mut Editor, batch: &[u8]) -> String {
         }),
         Err(Unaccounted::Overlap(first, second)) => format!("overlap {first} {second}\n"),
         Err(Unaccounted::Refused(refusal)) => format!("{}\n", refusal.number()),
+    }
+}
+
+fn shared(editor: &mut Editor, batch: &[u8]) -> String {
+    match editor.share_bytes(batch) {
+        Ok(share) => format!("share {} {}\n", share.thousandths, share.remainder),
+        Err(refusal) => format!("refused {}\n", refusal.number()),
     }
 }
 
@@ -68,15 +75,20 @@ fn main() -> io::Result<()> {
     let mut editor = Editor::by(Choices { edge });
     let (mut input, mut output) = (io::stdin().lock(), io::BufWriter::new(io::stdout().lock()));
     let word = std::env::args().nth(1);
-    if !matches!(word.as_deref(), Some("--stream" | "--accounts")) {
+    if !matches!(word.as_deref(), Some("--stream" | "--accounts" | "--shares")) {
         let mut batch = Vec::new();
         input.take(MOST_BYTES as u64).read_to_end(&mut batch)?;
         return output.write_all(printed(&mut editor, &batch).as_bytes());
     }
     while let Some(batch) = next_batch(&mut input)? {
         let batch = &batch[..batch.len().min(MOST_BYTES)];
-        if word.as_deref() == Some("--accounts") {
-            write_part(&mut output, &accounted(&mut editor, batch))?;
+        let alone = match word.as_deref() {
+            Some("--accounts") => Some(accounted(&mut editor, batch)),
+            Some("--shares") => Some(shared(&mut editor, batch)),
+            _ => None,
+        };
+        if let Some(text) = alone {
+            write_part(&mut output, &text)?;
             write_part(&mut output, "")?;
             output.flush()?;
             continue;

@@ -12,6 +12,14 @@ impl Batch {
     pub fn bytes(&self) -> &[u8] {
         &self.0
     }
+
+    /// The load of a starting number (docs/LOAD.md), which every editor accepts.
+    pub fn load(start: u32) -> Batch {
+        let mut bytes = vec![0; raw::MOST_LOAD];
+        let length = raw::load(start, &mut bytes, raw::WriterWork::new().slices());
+        bytes.truncate(usize::try_from(length).expect("a load has room"));
+        Batch(bytes)
+    }
 }
 
 /// Why a builder gives no batch.

@@ -29,6 +29,13 @@ pub struct Choices {
     pub edge: u64,
 }
 
+/// How much of a new text is rewritten, in thousandths: the exact share of `all` bytes is (`thousandths` + `remainder` / `all`) / 1,000. Of an empty text it is 0.
+#[derive(Clone, Copy, Debug, PartialEq, Eq, PartialOrd, Ord, Hash)]
+pub struct Share {
+    pub thousandths: usize,
+    pub remainder: usize,
+}
+
 /// Why a batch got no answer, or lists made no batch: a number of the list of refusals.
 #[derive(Clone, Copy, Debug, PartialEq, Eq, Hash)]
 pub struct Refusal(u8);
@@ -122,6 +129,17 @@ impl Editor {
         let length = told(raw::account(self.choices, batch, &mut self.result, self.work.slices()))?;
         let text = self.result.get(..length).expect("an account ends within the result buffer");
         account::read(std::str::from_utf8(text).expect("an account is plain text")).expect("an account is a line for each change, or a pair")
+    }
+
+    /// How much of the new text lies in changed elements, or the batch's refusal.
+    pub fn share(&mut self, batch: &Batch) -> Result<Share, Refusal> {
+        self.share_bytes(batch.bytes())
+    }
+
+    /// The same, of bytes that were laid out elsewhere.
+    pub fn share_bytes(&mut self, batch: &[u8]) -> Result<Share, Refusal> {
+        let number = told(raw::share(self.choices, batch, self.work.slices()))?;
+        Ok(Share { thousandths: number / raw::THOUSANDTH, remainder: number % raw::THOUSANDTH })
     }
 
     /// The element of the new tree that `find_element` gives for an element of the batch: the first node with its kind and text start.

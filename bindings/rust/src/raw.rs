@@ -12,6 +12,12 @@ pub const LENGTHS: [usize; 9] = [16_384, 6_147, 3_584, 3_072, 3_072, 1_024, 2_04
 /// The length in bytes of the writer's draft, which is also the most bytes of a batch. Its table and its source are the editor's first two.
 pub const DRAFT: usize = 49_180;
 
+/// The most bytes of a load.
+pub const MOST_LOAD: usize = 8_632;
+
+/// For how much a whole thousandth counts in the number of a share.
+pub const THOUSANDTH: usize = 65_536;
+
 /// What [`find_element`] answers if there is no such element.
 pub const NONE: i64 = -1000;
 
@@ -134,6 +140,20 @@ mod library {
             prepared: *mut u32, prepared_length: usize,
         ) -> i64;
 
+        pub fn syntax_share(
+            edge: u64,
+            batch: *const u8, batch_length: usize,
+            table: *mut u32, table_length: usize,
+            source: *mut u32, source_length: usize,
+            changes: *mut u32, changes_length: usize,
+            notes: *mut u32, notes_length: usize,
+            incoming: *mut u32, incoming_length: usize,
+            changed: *mut u32, changed_length: usize,
+            marks: *mut u32, marks_length: usize,
+            rows: *mut u32, rows_length: usize,
+            prepared: *mut u32, prepared_length: usize,
+        ) -> i64;
+
         pub fn syntax_write(
             trees: usize,
             kinds: *const u32, kinds_length: usize,
@@ -148,6 +168,14 @@ mod library {
             outputs: *const u32, outputs_length: usize,
             noted: *const u32, noted_length: usize,
             numbers: *const u32, numbers_length: usize,
+            destination: *mut u8, destination_length: usize,
+            draft: *mut u8, draft_length: usize,
+            table: *mut u32, table_length: usize,
+            source: *mut u32, source_length: usize,
+        ) -> i64;
+
+        pub fn syntax_load(
+            start: u32,
             destination: *mut u8, destination_length: usize,
             draft: *mut u8, draft_length: usize,
             table: *mut u32, table_length: usize,
@@ -226,6 +254,28 @@ pub fn account(choices: Choices, batch: &[u8], result: &mut [u8], work: Slices<'
     }
 }
 
+/// The share of the new text that is rewritten, [`THOUSANDTH`] times the whole thousandths and the remainder, or a refusal's number with a minus.
+#[rustfmt::skip]
+pub fn share(choices: Choices, batch: &[u8], work: Slices<'_>) -> i64 {
+    let [table, source, changes, notes, incoming, changed, marks, rows, prepared] = work;
+    // Safety: as in `edit`.
+    unsafe {
+        library::syntax_share(
+            choices.edge,
+            batch.as_ptr(), batch.len(),
+            table.as_mut_ptr(), table.len(),
+            source.as_mut_ptr(), source.len(),
+            changes.as_mut_ptr(), changes.len(),
+            notes.as_mut_ptr(), notes.len(),
+            incoming.as_mut_ptr(), incoming.len(),
+            changed.as_mut_ptr(), changed.len(),
+            marks.as_mut_ptr(), marks.len(),
+            rows.as_mut_ptr(), rows.len(),
+            prepared.as_mut_ptr(), prepared.len(),
+        )
+    }
+}
+
 /// The length of the batch that now stands at the start of `destination`, or a refusal's number (1, 14 or 15) with a minus.
 #[rustfmt::skip]
 pub fn write(lists: Lists<'_>, destination: &mut [u8], work: WriterSlices<'_>) -> i64 {
@@ -245,6 +295,21 @@ pub fn write(lists: Lists<'_>, destination: &mut [u8], work: WriterSlices<'_>) -
             lists.outputs.as_ptr(), lists.outputs.len(),
             lists.noted.as_ptr(), lists.noted.len(),
             lists.numbers.as_ptr(), lists.numbers.len(),
+            destination.as_mut_ptr(), destination.len(),
+            work.draft.as_mut_ptr(), work.draft.len(),
+            work.table.as_mut_ptr(), work.table.len(),
+            work.source.as_mut_ptr(), work.source.len(),
+        )
+    }
+}
+
+/// The length of the load of a starting number, which now stands at the start of `destination`, or a refusal's number (1 or 15) with a minus.
+#[rustfmt::skip]
+pub fn load(start: u32, destination: &mut [u8], work: WriterSlices<'_>) -> i64 {
+    // Safety: as in `edit`.
+    unsafe {
+        library::syntax_load(
+            start,
             destination.as_mut_ptr(), destination.len(),
             work.draft.as_mut_ptr(), work.draft.len(),
             work.table.as_mut_ptr(), work.table.len(),

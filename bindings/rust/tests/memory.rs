@@ -213,3 +213,29 @@ fn a_refused_write_leaves_the_destination() {
         refused(lists, 0, [0; 3], 14);
     }
 }
+
+#[test]
+fn a_share_leaves_its_work_as_zeros() {
+    for (batch, told) in [(DOSING, 513 * 65_536 + 19), (OVERLAP, -8), (&[][..], -2)] {
+        let mut memory = work(|_, least| least);
+        assert_eq!(raw::share(RULE_0, batch, lent(&mut memory)), told);
+        assert_zeros(&memory);
+        let mut memory = work(|i, least| if i == 4 { least - 1 } else { least });
+        assert_eq!(raw::share(RULE_0, batch, lent(&mut memory)), -1);
+        assert_zeros(&memory);
+    }
+}
+
+#[test]
+fn a_load_leaves_the_rest_of_the_destination() {
+    let mut work = raw::WriterWork::new();
+    let mut destination = vec![0xa5; raw::MOST_LOAD + 9];
+    let length = raw::load(u32::MAX, &mut destination, work.slices()) as usize;
+    assert!(destination[length..].iter().all(|&it| it == 0xa5));
+    let mut short = vec![0x5a; length - 1];
+    assert_eq!(raw::load(u32::MAX, &mut short, work.slices()), -15);
+    assert!(short.iter().all(|&it| it == 0x5a));
+    let mut result = vec![0; 65_560];
+    let mut memory = raw::Work::new();
+    assert!(raw::edit(RULE_0, &destination[..length], &mut result, memory.slices()) > 0);
+}

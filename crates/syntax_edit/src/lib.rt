@@ -4,6 +4,7 @@ use edit_algo::serve;
 use promises::Job;
 ghost use mathlib.Core.List.{_∷_, []};
 ghost use Rattle.write_layout.specs.Laying.{listsIn};
+ghost use Rattle.load_laws.specs.Load.{load};
 ghost use Rattle.edit_numbers.specs.Returned.{Returns, ReturnsElement, ReturnsAccount, ReturnsShare};
 ghost use Rattle.edit_numbers.specs.ReturnedBatch.{ReturnsBatch};
 
@@ -200,5 +201,21 @@ pub extern "C" fn syntax_write(
         table,
         source,
     );
+    edit_numbers::number_written(told)
+}
+
+// THE LOAD of a starting number: the length of the batch, which stands at the front of `destination`, or a refusal's number (1 or 15) with a minus.
+// The three others are work slices, which end as zeros.
+#[no_mangle]
+pub extern "C" fn syntax_load(
+    start: u32,
+    destination: &mut [u8],
+    draft: &mut [u8],
+    table: &mut [u32],
+    source: &mut [u32],
+) -> i64
+    ensures { λ r. ⌜ ReturnsBatch (load start) (now (destination .entry)) (now (draft .entry) ∷ now (table .entry) ∷ now (source .entry) ∷ []) r (now (destination .exit)) (now (draft .exit) ∷ now (table .exit) ∷ now (source .exit) ∷ []) ⌝ }
+{
+    let told = load_batch::load(start, destination, draft, table, source);
     edit_numbers::number_written(told)
 }
