@@ -6,29 +6,28 @@ use mathlib.Core.Bool.{false}
 use mathlib.Core.List as List
 use mathlib.Core.List.{List, [], _∷_, _++_, map, flatMap, zip}
 use mathlib.Core.Option.{some}
-use Prim.Native.Nat.{ℕ, zero, suc, _+_, _*_, _/_, _%_, _≤_, _<_}
+use Prim.Native.Nat.{ℕ, zero, suc, _+_, _*_, _%_, _≤_, _<_}
 use native.Mathlib.Omega.{arith}
 use lib.ListN.{length, length-append, length-map}
 use lib.Seq.{take-at, drop-at}
 use lib.Dec.{leb}
-use borrow.Author.Tests.{lt-leb, le-leb, le-ltb, lt-ltb, eq-eqb, ne-eqb}
+use borrow.Author.Tests.{lt-leb, le-leb, le-ltb, lt-ltb, ne-eqb}
 use Rattle.orders.specs.Lists.{All}
 use Rattle.orders.specs.ListLaws.{All-map, All-over, passes-none}
 use Rattle.definition.specs.Basics.{refused, gives, _>>=_, refuse, orRefuse, isRefused, any}
 use Rattle.definition.specs.Batch.{beyond, whole}
 use Rattle.definition.specs.Elements.{table}
 use Rattle.definition.specs.Refusals as Refusals
-use Rattle.definition.specs.Refusals.{Call, callWord, operationOf, countOf, listsTooMany, wrongCall, wrongMapping, wrongNote, Accepted, accepted}
-use Rattle.definition.specs.Writing.{sizesOf, callWords, laidOut, differ, outOfStep, unfitting, unlayable, wrongLists, write}
+use Rattle.definition.specs.Refusals.{Call, listsTooMany, wrongCall, wrongMapping, wrongNote, Accepted, accepted}
+use Rattle.definition.specs.Writing.{sizesOf, callWords, laidOut, wrongLists, write}
 use Rattle.definition_laws.specs.Basics.{All-append}
 use Rattle.definition_laws.specs.Accepted.{limited}
 use Rattle.words.specs.Bytes.{Words}
-use Rattle.write_laws.specs.CallWords.{Below, none-over, over-none}
-use Rattle.write_laws.specs.RoundTrip.{Worded, Layable}
-use Rattle.load_laws.specs.Load.{next, drawn, after, draws, block, copy, elements, kindAt, measureAt, byteAt, along, calls, noted, load}
-use Rattle.load_laws.specs.Laid.{arraysOf, laid-length, batch-laid}
+use Rattle.write_laws.specs.CallWords.{Below, none-over, parts}
+use Rattle.write_laws.specs.RoundTrip.{Worded, batchOf, arraysOf, laidBatch, Layable, lists-right, laid-length, batch-laid}
+use Rattle.load_laws.specs.Load.{next, drawn, after, draws, block, replaced, copy, elements, kindAt, measureAt, byteAt, along, calls, noted, load}
 use Rattle.load_laws.specs.Trees.{loadTrees, T, spells, many, group-told, copied}
-use Rattle.load_laws.specs.Calls.{Fine, block-low, calls-fine, calls-many, call-known, call-few}
+use Rattle.load_laws.specs.Calls.{Fine, replaced-low, block-low, calls-fine, calls-many, call-known, call-few}
 
 -- ── Lists of words ──────────────────────────────────────────────────────────────────────────────────────────
 
@@ -62,7 +61,7 @@ computed-words l e = none-over 4294967296 l (omega arith) e
 
 length-noted : (s : ℕ) → length (noted s) ≡ 8
 unfolding noted
-length-noted s = length-map (draws 8 (after 280 s)) (λ d. d % 769) ∙ length-draws 8 (after 280 s)
+length-noted s = length-map (draws 8 (after 187 s)) (λ d. d % 769) ∙ length-draws 8 (after 187 s)
 
 some-noted : (n s : ℕ) → All (λ e. e < 769) (map (λ d. d % 769) (draws n s))
 unfolding draws
@@ -71,28 +70,25 @@ some-noted (suc n) s = (omega arith, some-noted n (next s))
 
 all-noted : (s : ℕ) → All (λ e. e < 769) (noted s)
 unfolding noted
-all-noted s = some-noted 8 (after 280 s)
+all-noted s = some-noted 8 (after 187 s)
 
 -- ── The calls, laid out and read ────────────────────────────────────────────────────────────────────────────
 
 listed-few : (cs : List Call) → All Fine cs → length (flatMap (λ c. c .listed) cs) ≤ 2 * length cs
 unfolding flatMap
 listed-few [] h = omega arith
-listed-few (c ∷ cs) h = omega (arith, length-append (c .listed) (flatMap (λ c. c .listed) cs), listed-few cs (h .1), h .0 .1)
-
-parts : (o n : ℕ) → o < 256 → ((o + 256 * n) % 256 ≡ o) × ((o + 256 * n) / 256 ≡ n)
-parts o n h = (omega arith, omega arith)
+listed-few (c ∷ cs) h = omega (arith, length-append (c .listed) (flatMap (λ c. c .listed) cs), listed-few cs (h .1), h .0 .few)
 
 -- what calls are laid out as is read as them
-calls-again : (cs : List Call) → All (λ c. c .operation < 256) cs
-    → Refusals.calls (zip (callWords (map (λ c. c .operation) cs) (map (λ c. length (c .listed)) cs)) (map (λ c. c .target) cs)) (flatMap (λ c. c .listed) cs) ≡ some cs
-unfolding flatMap callWords List.zipWith callWord Refusals.calls operationOf countOf List.zip
+calls-again : (cs : List Call) → All Fine cs
+    → Refusals.calls (zip (callWords (map (λ c. c .operation) cs) (map (λ c. length (c .listed)) cs) (map (λ c. c .rule) cs)) (map (λ c. c .target) cs)) (flatMap (λ c. c .listed) cs) ≡ some cs
+unfolding flatMap callWords Refusals.calls List.zip
 calls-again [] h = refl
 calls-again (c ∷ cs) h =
     let l = c .listed in
     let r = flatMap (λ c. c .listed) cs in
-    let (a, b) = parts (c .operation) (length l) (h .0) in
-    rw (a, b, le-leb (length l) (length (l ++ r)) (omega (arith, length-append l r)), take-at l r (length l) refl, drop-at l r (length l) refl, calls-again cs (h .1)) refl
+    let w = parts (c .operation) (length l) (c .rule) ((call-known c (h .0)) .0) (omega (arith, h .0 .few)) (h .0 .rule) in
+    rw (w .operation, w .count, w .rule, le-leb (length l) (length (l ++ r)) (omega (arith, length-append l r)), take-at l r (length l) refl, drop-at l r (length l) refl, calls-again cs (h .1)) refl
 
 over-listed : (cs : List Call) → All Fine cs → All (λ e. e < 4294967296) (flatMap (λ c. c .listed) cs)
 unfolding flatMap
@@ -132,12 +128,14 @@ module _ (s : ℕ) where
       limits = limited (sizesOf (load s)) within;
       measures = length-along kindAt 0 elements ∙ sym (length-along measureAt 0 elements);
       counts = length-map (calls s) (λ c. c .operation) ∙ sym (length-map (calls s) (λ c. length (c .listed)));
+      rules = length-map (calls s) (λ c. c .operation) ∙ sym (length-map (calls s) (λ c. c .rule));
       targets = length-map (calls s) (λ c. c .operation) ∙ sym (length-map (calls s) (λ c. c .target));
       outputs = refl;
       numbers = length-noted s ∙ sym (length-along (λ n. n) 1 8);
     };
     operations = below-all 256 (omega arith) (map (λ c. c .operation) (calls s)) (All-over (λ c. c .operation) Fine (λ x. x < 256) (λ c f. (call-known c f) .0) (calls s) (calls-fine s));
-    few = below-all 16777216 (omega arith) (map (λ c. length (c .listed)) (calls s)) (All-over (λ c. length (c .listed)) Fine (λ x. x < 16777216) (λ c f. omega (arith, f .1)) (calls s) (calls-fine s));
+    few = below-all 4096 (omega arith) (map (λ c. length (c .listed)) (calls s)) (All-over (λ c. length (c .listed)) Fine (λ x. x < 4096) (λ c f. omega (arith, f .few)) (calls s) (calls-fine s));
+    ruled = below-all 4096 (omega arith) (map (λ c. c .rule) (calls s)) (All-over (λ c. c .rule) Fine (λ x. x < 4096) (λ c f. f .rule) (calls s) (calls-fine s));
   }
 
   worded : Worded (load s)
@@ -151,7 +149,7 @@ module _ (s : ℕ) where
         (
           all-words (flatMap (λ c. c .listed) (calls s)) (over-listed (calls s) (calls-fine s)),
           (
-            all-words (block (drawn s % 64) ∷ []) (let h = block-low (drawn s % 64) (omega arith) in omega arith, tt),
+            all-words (block (replaced (drawn s)) ∷ []) (let h = block-low (replaced (drawn s)) (omega (arith, replaced-low (drawn s))) in omega arith, tt),
             (
               all-words (copy ∷ []) (omega arith, tt),
               (
@@ -188,17 +186,17 @@ taken s = record {
   trees = loadTrees;
   table = T;
   calls = calls s;
-  mappings = (block (drawn s % 64), copy) ∷ [];
+  mappings = (block (replaced (drawn s)), copy) ∷ [];
   notes = zip (noted s) (along (λ n. n) 1 8);
 }
 
 module _ (s : ℕ) where
-  calls-read : Refusals.calls (zip ((arraysOf (load s)) .calls) ((arraysOf (load s)) .targets)) ((arraysOf (load s)) .listed) ≡ some (calls s)
-  unfolding arraysOf load
-  calls-read = calls-again (calls s) (All-map (λ c f. (call-known c f) .0) (calls s) (calls-fine s))
+  calls-read : Refusals.calls (zip ((laidBatch (load s)) .calls) ((laidBatch (load s)) .targets)) ((laidBatch (load s)) .listed) ≡ some (calls s)
+  unfolding batchOf arraysOf load
+  calls-read = calls-again (calls s) (calls-fine s)
 
-  pairs : (zip ((arraysOf (load s)) .inputs) ((arraysOf (load s)) .outputs) ≡ (block (drawn s % 64), copy) ∷ []) × (zip ((arraysOf (load s)) .noted) ((arraysOf (load s)) .numbers) ≡ zip (noted s) (along (λ n. n) 1 8))
-  unfolding arraysOf load List.zip
+  pairs : (zip ((laidBatch (load s)) .inputs) ((laidBatch (load s)) .outputs) ≡ (block (replaced (drawn s)), copy) ∷ []) × (zip ((laidBatch (load s)) .noted) ((laidBatch (load s)) .numbers) ≡ zip (noted s) (along (λ n. n) 1 8))
+  unfolding batchOf arraysOf load List.zip
   pairs = (refl, refl)
 
   -- EVERY LOAD PASSES LINES 2 TO 7, 16 among them.
@@ -209,36 +207,19 @@ module _ (s : ℕ) where
         batch-laid (load s) (layable s) (worded s) (within s),
         spells s,
         calls-read,
-        passes-none (wrongCall T) (calls s) (All-map (λ c f. f .0) (calls s) (calls-fine s)),
+        passes-none (wrongCall T) (calls s) (All-map (λ c f. f .right) (calls s) (calls-fine s)),
         passes-none listsTooMany (calls s) (All-map (λ c f. call-few c f) (calls s) (calls-fine s)),
         pairs .0,
         pairs .1,
-        mapping-fine (drawn s % 64) (omega arith),
+        mapping-fine (replaced (drawn s)) (omega (arith, replaced-low (drawn s))),
         some-notes (noted s) 1 8 (omega arith) (all-noted s),
       )
       refl
 
-  in-step : (l m : List ℕ) → length l ≡ length m → differ l m ≡ false
-  unfolding differ
-  in-step l m e = rw (eq-eqb (length l) (length m) e) refl
-
   -- "The writer lays it out": never 14.
   pub load-right : wrongLists (load s) ≡ false
-  unfolding wrongLists unlayable outOfStep unfitting isRefused
-  load-right =
-      let y = layable s in
-      rw (
-        in-step ((load s) .kinds) ((load s) .measures) (y .step .measures),
-        in-step ((load s) .operations) ((load s) .counts) (y .step .counts),
-        in-step ((load s) .operations) ((load s) .targets) (y .step .targets),
-        in-step ((load s) .inputs) ((load s) .outputs) (y .step .outputs),
-        in-step ((load s) .noted) ((load s) .numbers) (y .step .numbers),
-        within s,
-        over-none 256 _ (y .operations),
-        over-none 16777216 _ (y .few),
-        load-accepted,
-      )
-      refl
+  unfolding isRefused
+  load-right = lists-right (load s) (layable s) (within s) (rw load-accepted refl)
 
   -- how long it is: 8,632 bytes at most
   pub load-length : (length (laidOut (load s)) ≡ 7864 + 4 * length ((load s) .listed)) × (length (laidOut (load s)) ≤ 8632)

@@ -1,10 +1,10 @@
 -- Document 02, Note 12: the generator, and the load of a starting number. docs/LOAD.md says the same in words.
 -- Assumes nothing.
-use mathlib.Core.Bool.{cond, _&&_}
+use mathlib.Core.Bool.{Bool, true, false, cond}
 use mathlib.Core.List.{List, [], _∷_, _++_, map, flatMap}
 use Prim.Native.Nat.{ℕ, zero, suc, _+_, _-_, _*_, _/_, _%_}
 use lib.ListN.{length}
-use lib.Dec.{leb, ltb, eqb}
+use lib.Dec.{ltb, eqb}
 use Rattle.definition.specs.Refusals.{Call}
 use Rattle.definition.specs.Writing.{Lists}
 
@@ -97,47 +97,86 @@ along f k (suc n) = f k ∷ along f (suc k) n
 
 -- ── The calls ───────────────────────────────────────────────────────────────────────────────────────────────
 
-abbrev pub call : ℕ → ℕ → List ℕ → Call
-call operation target listed = record { operation = operation; target = target; listed = listed }
+-- a call, with its rule number first
+abbrev pub call : ℕ → ℕ → ℕ → List ℕ → Call
+call rule operation target listed = record { operation = operation; target = target; listed = listed; rule = rule }
 
--- calls 0, 1 and 2, from draw 1: bits 0 to 5 choose the block that is replaced; bits 6 and 7 its token after which donor 0 goes, "a change inside
--- a replaced node"; bits 8 and 9 the token, bits 10 to 15 its block, after which donor 1 goes
+-- which rule a draw names, from 0 to 4,095: its bits 4 to 15
+unfoldable pub ruleDrawn : ℕ → ℕ
+ruleDrawn d = d / 16
+
+-- the block that call 0 replaces, from draw 1: bits 0 to 5, so none of those that later calls delete
+unfoldable pub replaced : ℕ → ℕ
+replaced d = d % 64
+
+-- calls 0, 1 and 2, from draw 1: bits 6 and 7 choose the token of the replaced block after which donor 0 goes, "a change inside a replaced node"; bits 8
+-- and 9 the token, bits 10 to 15 its block, after which donor 1 goes
 unfoldable pub firstCalls : ℕ → List Call
 firstCalls d =
-    call 2 (block (d % 64)) (replacement ∷ [])
-    ∷ call 1 (blockToken (d % 64) (d / 64 % 4)) (donor 0 ∷ [])
-    ∷ call 1 (blockToken (d / 256 / 4) (d / 256 % 4)) (donor 1 ∷ [])
+    call (ruleDrawn d) 2 (block (replaced d)) (replacement ∷ [])
+    ∷ call (ruleDrawn d) 1 (blockToken (replaced d) (d / 64 % 4)) (donor 0 ∷ [])
+    ∷ call (ruleDrawn d) 1 (blockToken (d / 1024) (d / 256 % 4)) (donor 1 ∷ [])
     ∷ []
 
--- every further call, from three draws: what is done, at which place, with which donor. Place: bits 0 to 6 choose the block, bits 7 and 8 its token.
--- What, bits 0 to 2: 0 first child of the block; 1, 2, 3 after the token; 4, 5 the token replaced; 6 deleted, the whole block if bit 3 is set and it
--- is one of blocks 64 to 127, else the token; 7 the donor twice after the separator before the block
-unfoldable pub freeCall : ℕ → ℕ → ℕ → Call
-freeCall what place which =
+-- what the draw of the place chooses beside the block: bits 6 and 7 a token of it, bits 8 to 11 a donor, bits 12 to 15 another
+unfoldable pub tokenDrawn : ℕ → ℕ
+tokenDrawn place = place / 64 % 4
+
+unfoldable pub donorDrawn : ℕ → ℕ
+donorDrawn place = donor (place / 256 % 16)
+
+unfoldable pub otherDrawn : ℕ → ℕ
+otherDrawn place = donor (place / 4096)
+
+-- a call in block b, by bits 0 to 2 of what: 0 first child of the block; 1, 2 after the token; 3 two donors after the separator before the block; 4, 5 the
+-- token replaced; 6 the token deleted; 7 one donor after the separator or, of a later call, the block deleted
+unfoldable pub freeCall : Bool → ℕ → ℕ → ℕ → Call
+freeCall later b what place =
     let o = what % 8 in
-    let i = place % 128 in
-    let t = blockToken i (place / 128 % 4) in
-    let x = donor (which % 16) in
-    let wholly = leb 8 (what % 16) && leb 64 i in
-    cond (eqb o 0) (call 0 (block i) (x ∷ []))
-    (cond (ltb o 4) (call 1 t (x ∷ []))
-    (cond (ltb o 6) (call 2 t (x ∷ []))
-    (cond (eqb o 6) (call 3 (cond wholly (block i) t) []) (call 1 (separator i) (x ∷ x ∷ [])))))
+    let rule = ruleDrawn what in
+    let t = blockToken b (tokenDrawn place) in
+    let x = donorDrawn place in
+    cond (eqb o 0) (call rule 0 (block b) (x ∷ []))
+    (cond (ltb o 3) (call rule 1 t (x ∷ []))
+    (cond (eqb o 3) (call rule 1 (separator b) (x ∷ otherDrawn place ∷ []))
+    (cond (ltb o 6) (call rule 2 t (x ∷ []))
+    (cond (eqb o 6) (call rule 3 t [])
+    (cond later (call rule 3 (block b) []) (call rule 1 (separator b) (x ∷ [])))))))
 
--- n further calls, from what the generator holds
-unfoldable pub freeCalls : ℕ → ℕ → List Call
-freeCalls zero s = []
-freeCalls (suc n) s = freeCall (drawn s) (drawn (next s)) (drawn (next (next s))) ∷ freeCalls n (next (next (next s)))
+-- the only call in block b, by bit 0 of what: 0 the token replaced by two donors, 1 the run from token 0 to the token replaced by a donor
+unfoldable pub ownCall : ℕ → ℕ → ℕ → Call
+ownCall b what place =
+    let rule = ruleDrawn what in
+    let t = blockToken b (tokenDrawn place) in
+    let x = donorDrawn place in
+    cond (eqb (what % 2) 0) (call rule 4 t (x ∷ otherDrawn place ∷ [])) (call rule 5 (blockToken b 0) (t ∷ x ∷ []))
 
--- "a batch of at least 64 calls": 96; draw 1 gives calls 0 to 2, draws 3i − 7, 3i − 6 and 3i − 5 call i
+-- the start of a further editor, which has no rule
+abbrev pub furtherEditor : Call
+furtherEditor = call 0 6 0 []
+
+-- call i from 3 on, from two draws: calls to 31 in blocks 0 to 63, call 32 a further editor's start, calls to 63 in blocks 64 to 95, each later call in a
+-- block of its own, 96 to 127
+unfoldable pub callAt : ℕ → ℕ → ℕ → Call
+callAt i what place =
+    cond (ltb i 32) (freeCall false (place % 64) what place)
+    (cond (eqb i 32) furtherEditor
+    (cond (ltb i 64) (freeCall true (64 + place % 32) what place) (ownCall (i + 32) what place)))
+
+-- n calls from call i on, from what the generator holds
+unfoldable pub callsFrom : ℕ → ℕ → ℕ → List Call
+callsFrom i zero s = []
+callsFrom i (suc n) s = callAt i (drawn s) (drawn (next s)) ∷ callsFrom (suc i) n (next (next s))
+
+-- "a batch of at least 64 calls": 96; draw 1 gives calls 0 to 2, draws 2i − 4 and 2i − 3 call i
 unfoldable pub calls : ℕ → List Call
-calls start = firstCalls (drawn start) ++ freeCalls 93 (next start)
+calls start = firstCalls (drawn start) ++ callsFrom 3 93 (next start)
 
 -- ── The load ────────────────────────────────────────────────────────────────────────────────────────────────
 
--- the elements of notes 1 to 8, in tree 0: draws 281 to 288
+-- the elements of notes 1 to 8, in tree 0: draws 188 to 195
 unfoldable pub noted : ℕ → List ℕ
-noted start = map (λ d. d % ofTree0) (draws 8 (after 280 start))
+noted start = map (λ d. d % ofTree0) (draws 8 (after 187 start))
 
 -- THE LOAD of a starting number. The replaced block is mapped to the copy.
 unfoldable pub load : ℕ → Lists
@@ -150,9 +189,10 @@ load start =
       text = along byteAt 0 660;
       operations = map (λ c. c .operation) cs;
       counts = map (λ c. length c.listed) cs;
+      rules = map (λ c. c .rule) cs;
       targets = map (λ c. c .target) cs;
       listed = flatMap (λ c. c .listed) cs;
-      inputs = block (drawn start % 64) ∷ [];
+      inputs = block (replaced (drawn start)) ∷ [];
       outputs = copy ∷ [];
       noted = noted start;
       numbers = along (λ n. n) 1 8;

@@ -19,11 +19,11 @@ use Rattle.orders.specs.ListLaws.{both-true}
 use Rattle.definition.specs.Basics.{isSome}
 use Rattle.definition.specs.Batch.{Batch}
 use Rattle.definition.specs.Elements as Elements
-use Rattle.definition.specs.Elements.{Table, spelled, table, root?, node?, parent}
+use Rattle.definition.specs.Elements.{Table, spelled, table, root?, node?, parent, child}
 use Rattle.definition.specs.Refusals.{sameParent}
 use Rattle.definition_laws.specs.Right.{same-parent}
+use Rattle.write_laws.specs.RoundTrip.{batchOf, arraysOf, laidBatch}
 use Rattle.load_laws.specs.Load.{separator, block, blockToken, copy, elements, kindAt, measureAt, byteAt, along, load}
-use Rattle.load_laws.specs.Laid.{arraysOf}
 
 -- ── Tests on numbers in a row ───────────────────────────────────────────────────────────────────────────────
 
@@ -62,8 +62,8 @@ treesOnly = record {
 }
 
 -- line 5 reads nothing else
-same-trees : (s : ℕ) → spelled (arraysOf (load s)) ≡ spelled treesOnly
-unfolding spelled Elements.unspelled arraysOf load treesOnly
+same-trees : (s : ℕ) → spelled (laidBatch (load s)) ≡ spelled treesOnly
+unfolding spelled Elements.unspelled batchOf arraysOf load treesOnly
 same-trees s = refl
 
 unfoldable pub loadTrees : List (Tree ℕ)
@@ -82,7 +82,7 @@ there d none e = absurd (let z : _≡_ {A = ℕ} 0 1 = cc in omega arith)
 there d (some x) e = refl
 
 -- LINE 5 lets every load pass.
-pub spells : (s : ℕ) → spelled (arraysOf (load s)) ≡ some loadTrees
+pub spells : (s : ℕ) → spelled (laidBatch (load s)) ≡ some loadTrees
 unfolding loadTrees
 spells s = same-trees s ∙ there [] (spelled treesOnly) spelled-some
 
@@ -92,9 +92,9 @@ spells s = same-trees s ∙ there [] (spelled treesOnly) spelled-some
 unfoldable pub T : Table
 T = table 0 0 loadTrees
 
--- token j of block i stands below it
+-- token j of block i is its child j
 unfoldable pub inBlock : Table → ℕ → ℕ → Bool
-inBlock T i j = sameParent (parent T (blockToken i j)) (some (block i)) && not (root? T (blockToken i j))
+inBlock T i j = sameParent (parent T (blockToken i j)) (some (block i)) && (eqb (child T (blockToken i j)) j && not (root? T (blockToken i j)))
 
 -- separator i, block i and its tokens stand where they should
 unfoldable pub group : Table → ℕ → Bool
@@ -108,7 +108,7 @@ unfolding
     List.zip List.headD List.flatMap Option.bind Lists.any
     Tree.list Tree.forest Tree.deepest Tree.deepestOf Tree.last Tree.elements Tree.elementsOf Tree.text Tree.textOf
     Elements.isNode Elements.malformed Elements.pieces Elements.plant Elements.grow Elements.startsWithToken Elements.unspelled Elements.spelled
-    Elements.numbers Elements.rows Elements.rowsBelow Elements.table Elements.noRow Elements.row Elements.node? Elements.parent Elements.root?
+    Elements.numbers Elements.rows Elements.rowsBelow Elements.table Elements.noRow Elements.row Elements.node? Elements.parent Elements.child Elements.root?
     along kindAt measureAt byteAt separator block blockToken treesOnly loadTrees
     sameParent every inBlock group told T
 tells = refl
@@ -134,18 +134,25 @@ many = eqb-true (length T) elements (parts .0)
 pub copied : (node? T copy ≡ true) × (root? T copy ≡ false)
 copied = (parts .2, not-true _ (parts .3))
 
+-- what is known of token j of block i
+pub record Token (i j : ℕ) : Type 0 where
+  pub in-block : parent T (blockToken i j) ≡ some (block i)
+  pub at : child T (blockToken i j) ≡ j
+  pub hangs : root? T (blockToken i j) ≡ false
+
 -- what is known of separator i, block i and its tokens
 pub record Group (i : ℕ) : Type 0 where
   pub separator-hangs : root? T (separator i) ≡ false
   pub block-hangs : root? T (block i) ≡ false
   pub node : node? T (block i) ≡ true
-  pub tokens : (j : ℕ) → j < 4 → (parent T (blockToken i j) ≡ some (block i)) × (root? T (blockToken i j) ≡ false)
+  pub tokens : (j : ℕ) → j < 4 → Token i j
 
-token-told : (i j : ℕ) → inBlock T i j ≡ true → (parent T (blockToken i j) ≡ some (block i)) × (root? T (blockToken i j) ≡ false)
+token-told : (i j : ℕ) → inBlock T i j ≡ true → Token i j
 unfolding inBlock
 token-told i j e =
-    let (a, b) = both-true (sameParent (parent T (blockToken i j)) (some (block i))) (not (root? T (blockToken i j))) e in
-    (same-parent (parent T (blockToken i j)) (some (block i)) a, not-true _ b)
+    let (a, e) = both-true (sameParent (parent T (blockToken i j)) (some (block i))) _ e in
+    let (b, c) = both-true (eqb (child T (blockToken i j)) j) (not (root? T (blockToken i j))) e in
+    record { in-block = same-parent (parent T (blockToken i j)) (some (block i)) a; at = eqb-true (child T (blockToken i j)) j b; hangs = not-true _ c }
 
 pub group-told : (i : ℕ) → i < 128 → Group i
 unfolding group

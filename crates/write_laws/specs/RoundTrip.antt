@@ -1,4 +1,4 @@
--- "What it writes is read as the same lists, and any batch that passes lines 2 to 7 comes out byte for byte after reading and writing."
+-- Lists that can be laid out pass lines 2 to 4. "What it writes is read as the same lists, and any batch that passes lines 2 to 7 comes out byte for byte after reading and writing."
 -- Assumes nothing.
 use mathlib.Core.Path.{_≡_, refl, sym, ap, _∙_}
 use mathlib.Core.Bool.{false, not, _||_}
@@ -6,7 +6,7 @@ use mathlib.Core.List.{List, [], _∷_, _++_, map}
 use Prim.Native.Nat.{ℕ, zero, suc, _+_, _*_, _≤_}
 use native.Mathlib.Omega.{arith}
 use lib.Dec.{leb, ltb, eqb}
-use lib.ListN.{length, getD, drop, length-drop, length-map}
+use lib.ListN.{length, getD, drop, length-drop, length-map, length-append}
 use lib.Seq.{drop-at, drop-drop}
 use borrow.Author.Tests.{eqb-true, not-false, eq-eqb, le-ltb}
 use Rattle.orders.specs.Lists.{All}
@@ -33,7 +33,7 @@ counts : Sizes → List ℕ
 counts s = s .elements ∷ s .elements ∷ s .calls ∷ s .calls ∷ s .listed ∷ s .mappings ∷ s .mappings ∷ s .notes ∷ s .notes ∷ []
 
 -- the batch with these arrays
-batchOf : ℕ → List (List ℕ) → List ℕ → Batch
+unfoldable pub batchOf : ℕ → List (List ℕ) → List ℕ → Batch
 batchOf trees ls text = record {
   trees = trees;
   kinds = getD ls 0 [];
@@ -49,8 +49,12 @@ batchOf trees ls text = record {
 }
 
 -- the arrays that are laid out
-arraysOf : Lists → List (List ℕ)
+unfoldable pub arraysOf : Lists → List (List ℕ)
 arraysOf l = l .kinds ∷ l .measures ∷ callWords l.operations l.counts l.rules ∷ l .targets ∷ l .listed ∷ l .inputs ∷ l .outputs ∷ l .noted ∷ l .numbers ∷ []
+
+-- the batch that lists are laid out as
+abbrev pub laidBatch : Lists → Batch
+laidBatch l = batchOf l.trees (arraysOf l) l.text
 
 arrays-parted : (s : Sizes) (b : List ℕ) → arrays s b ≡ batchOf s.trees (parted (counts s) (drop 28 b)) (behind (counts s) (drop 28 b))
 unfolding arrays batchOf parted behind counts
@@ -135,6 +139,25 @@ layable l e =
       ruled = none-over 4096 l.rules (omega arith) ruled;
     }
 
+-- lists that can be laid out, and are not refused then, are not wrong
+pub lists-right : (l : Lists) → Layable l → beyond (sizesOf l) ≡ false → isRefused (accepted (laidOut l)) ≡ false → wrongLists l ≡ false
+unfolding wrongLists unlayable outOfStep unfitting
+lists-right l y small x =
+    rw (
+      in-step l.kinds l.measures (y .step .measures),
+      in-step l.operations l.counts (y .step .counts),
+      in-step l.operations l.rules (y .step .rules),
+      in-step l.operations l.targets (y .step .targets),
+      in-step l.inputs l.outputs (y .step .outputs),
+      in-step l.noted l.numbers (y .step .numbers),
+      small,
+      over-none 256 l.operations (y .operations),
+      over-none 4096 l.counts (y .few),
+      over-none 4096 l.rules (y .ruled),
+      x,
+    )
+    refl
+
 -- ── What is laid out is read ────────────────────────────────────────────────────────────────────────────────
 
 module _ (l : Lists) (y : Layable l) where
@@ -166,15 +189,35 @@ module _ (l : Lists) (y : Layable l) where
   arrays-worded w = (w .0, (w .1 .0, (calls-small l.operations l.counts l.rules (y .operations) (y .few) (y .ruled), w .1 .1)))
 
   -- the arrays that are read are those that were laid out
-  laid-arrays : Worded l → arrays (sizes (laidOut l)) (laidOut l) ≡ batchOf l.trees (arraysOf l) l.text
+  laid-arrays : Worded l → arrays (sizes (laidOut l)) (laidOut l) ≡ laidBatch l
   unfolding sizesOf
   laid-arrays w =
       rw (sizes-read, arrays-parted (sizesOf l) (laidOut l), front-passed, counts-told, parted-joined (arraysOf l) l.text (arrays-worded w), behind-joined (arraysOf l) l.text) refl
 
   -- and tell the same lists
-  told-lists : listsOf (batchOf l.trees (arraysOf l) l.text) ≡ l
+  told-lists : listsOf (laidBatch l) ≡ l
   unfolding listsOf batchOf arraysOf
   told-lists = let c = calls-read l.operations l.counts l.rules (y .step .counts) (y .step .rules) (y .operations) (y .few) (y .ruled) in rw (c .operations, c .counts, c .rules) refl
+
+  -- how long it is
+  pub laid-length : length (laidOut l) ≡ whole (sizesOf l)
+  unfolding laidOut whole sevenSizes sizesOf
+  laid-length =
+      simp (length-append, length-written)
+      (omega (arith, length-calls l.operations l.counts l.rules (y .step .counts) (y .step .rules), y .step .measures, y .step .targets, y .step .outputs, y .step .numbers))
+
+whole-28 : (s : Sizes) → 28 ≤ whole s
+unfolding whole
+whole-28 s = omega arith
+
+-- LINES 2 TO 4 LET PASS WHAT IS LAID OUT.
+pub batch-laid : (l : Lists) → Layable l → Worded l → beyond (sizesOf l) ≡ false → batch (laidOut l) ≡ gives (laidBatch l)
+unfolding batch _>>=_ refuse
+batch-laid l y w small =
+    let n = laid-length l y in
+    let e : ltb (length (laidOut l)) 28 ≡ false = le-ltb (length (laidOut l)) 28 (omega (arith, n, whole-28 (sizesOf l))) in
+    let f : not (eqb (length (laidOut l)) (whole (sizesOf l))) ≡ false = rw (eq-eqb (length (laidOut l)) (whole (sizesOf l)) n) refl in
+    rw (e, ← laid-arrays l y w, sizes-read l y, small, f) refl
 
 -- what lines 2 to 4 give
 batch-given : (b : List ℕ) (B : Batch) → batch b ≡ gives B → (arrays (sizes b) b ≡ B) × (length b ≡ whole (sizes b)) × (beyond (sizes b) ≡ false)
@@ -200,7 +243,7 @@ written-read l w room b e =
     let y = layable l right in
     let (a, g) = not-refused (accepted (laidOut l)) passes in
     let (B, h) = batch-there (laidOut l) a g in
-    let k : batchOf l.trees (arraysOf l) l.text ≡ B = sym (laid-arrays l y w) ∙ (batch-given (laidOut l) B h) .0 in
+    let k : laidBatch l ≡ B = sym (laid-arrays l y w) ∙ (batch-given (laidOut l) B h) .0 in
     rw (← gives-inj e, g, h) (ap gives (ap listsOf (sym k) ∙ told-lists l y))
 
 -- ── What is read is laid out ────────────────────────────────────────────────────────────────────────────────
@@ -235,30 +278,30 @@ module _ (b : List ℕ) (h : Bytes b) (q : length b ≡ whole (sizes b)) (z : Si
       let front = joined-parted (counts (sizes b)) (drop 28 b) (omega (arith, long, length-drop 28 b)) (drop-bytes 28 b h) in
       rw (laid-joined (listsOf (arrays (sizes b) b)), sizes-again, ← seven b, arrays-again, text-again, front) (rejoined 7 b (omega (arith, long)) h)
 
-  -- what is read is not wrong
-  read-right : beyond (sizes b) ≡ false → {a : Accepted} → accepted b ≡ gives a → wrongLists (listsOf (arrays (sizes b) b)) ≡ false
-  unfolding wrongLists unlayable outOfStep unfitting listsOf isRefused
-  read-right small x =
+  read-layable : beyond (sizes b) ≡ false → Layable (listsOf (arrays (sizes b) b))
+  unfolding listsOf
+  read-layable small =
       let B = arrays (sizes b) b in
       let operations = length-map B.calls operationOf ∙ z .calls in
-      let counts = length-map B.calls countOf ∙ z .calls in
-      let rules = length-map B.calls ruleOf ∙ z .calls in
-      rw (
-        in-step B.kinds B.measures (z .kinds ∙ sym (z .measures)),
-        in-step (map operationOf B.calls) (map countOf B.calls) (operations ∙ sym counts),
-        in-step (map operationOf B.calls) (map ruleOf B.calls) (operations ∙ sym rules),
-        in-step (map operationOf B.calls) B.targets (operations ∙ sym (z .targets)),
-        in-step B.inputs B.outputs (z .inputs ∙ sym (z .outputs)),
-        in-step B.noted B.numbers (z .noted ∙ sym (z .numbers)),
-        over-none 256 (map operationOf B.calls) (operations-small B.calls),
-        over-none 4096 (map countOf B.calls) (counts-small B.calls),
-        over-none 4096 (map ruleOf B.calls) (rules-small B.calls),
-        sizes-again,
-        small,
-        again,
-        x,
-      )
-      refl
+      record {
+        step = record {
+          limits = limited (sizesOf (listsOf B)) (rw sizes-again small);
+          measures = z .kinds ∙ sym (z .measures);
+          counts = operations ∙ sym (length-map B.calls countOf ∙ z .calls);
+          rules = operations ∙ sym (length-map B.calls ruleOf ∙ z .calls);
+          targets = operations ∙ sym (z .targets);
+          outputs = z .inputs ∙ sym (z .outputs);
+          numbers = z .noted ∙ sym (z .numbers);
+        };
+        operations = operations-small B.calls;
+        few = counts-small B.calls;
+        ruled = rules-small B.calls;
+      }
+
+  -- what is read is not wrong
+  read-right : beyond (sizes b) ≡ false → {a : Accepted} → accepted b ≡ gives a → wrongLists (listsOf (arrays (sizes b) b)) ≡ false
+  unfolding isRefused
+  read-right small x = lists-right (listsOf (arrays (sizes b) b)) (read-layable small) (rw sizes-again small) (rw (again, x) refl)
 
 -- ANY BATCH THAT PASSES LINES 2 TO 7 COMES OUT BYTE FOR BYTE AFTER READING AND WRITING.
 pub read-written : (b : List ℕ) → Bytes b → (l : Lists) → lists b ≡ gives l → (room : ℕ) → length b ≤ room → write l room ≡ gives b

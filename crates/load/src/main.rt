@@ -1,0 +1,4 @@
+// The load program.
+fn main() {
+    load_program::run();
+}

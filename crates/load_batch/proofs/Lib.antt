@@ -1,0 +1,2 @@
+-- Ways   what each stage hands on
+pub mod Ways

@@ -1,0 +1,2 @@
+-- A drawn call as the code holds it.
+pub mod Called

@@ -1,0 +1,2 @@
+-- Ways   the ways out of each choice
+pub mod Ways
