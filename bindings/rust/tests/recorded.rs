@@ -73,8 +73,21 @@ fn rewritten(batch: &[u8]) -> Option<Result<Vec<u8>, i64>> {
     let (operations, counts): (Vec<_>, Vec<_>) = call_words.iter().map(|it| (it % 256, it / 256 % 4096)).unzip();
     let rules = call_words.iter().map(|it| it >> 20).collect::<Vec<_>>();
     let text = &batch[batch.len() - text..];
-    let lists =
-        raw::Lists { trees, kinds, measures, text, operations: &operations, counts: &counts, rules: &rules, targets, listed, inputs, outputs, noted, numbers };
+    let lists = raw::Lists {
+        trees,
+        kinds,
+        measures,
+        text,
+        operations: &operations,
+        counts: &counts,
+        rules: &rules,
+        targets,
+        listed,
+        inputs,
+        outputs,
+        noted,
+        numbers,
+    };
     let mut bytes = vec![0; raw::DRAFT];
     Some(match raw::write(lists, &mut bytes, raw::WriterWork::new().slices()) {
         refused @ ..0 => Err(-refused),
