@@ -1,42 +1,29 @@
+-- `write_claims` meets its contract.
+-- Assumes nothing.
 use Rattle.check_claim.proofs.Ways.{below-cleared, writes-claims}
-use native.Mathlib.Omega.{arith}
-use lib.ListN.{length, getD, set, take, drop, replicate, length-set}
-use mathlib.Core.Path.{_≡_, refl, ap, sym, _∙_}
-use Prim.Native.Nat.{ℕ, suc, zero, _+_, _-_, _*_, _≤_, _<_}
+use lib.ListN.{length}
 use borrow.Author.Needs.{needs}
 use Rattle.check_claim.proofs.write_claims.Statement.{statement}
 use Rattle.check_claim.proofs.write_claims.Tie as tie
-use Rattle.check_claim.proofs.write_claims.Reads as reads
-use Rattle.check_claim.proofs.write_claims.Lts as lts
-use Rattle.check_clauses.proofs.mark_all.Reads as mark-all-reads
-use Rattle.check_clauses.proofs.pair_up.Reads as pair-up-reads
-use Rattle.words.proofs.clear.Reads as clear-reads
 
--- src/lib.rt:128:5
 clear-requires : tie.Need-clear-requires
 clear-requires c κs = search needs
 
--- src/lib.rt:129:5
 clear-requires-2 : tie.Need-clear-requires-2
 clear-requires-2 c κs = search needs
 
--- src/lib.rt:130:5
 mark-all-requires : tie.Need-mark-all-requires
 mark-all-requires c κs = below-cleared (length (c .before .before .before .before .before .before .before .before .before .before .before .before .before .before .args .marks .now)) (c .before .before .before .before .before .before .before .before .before .before .before .before .before .before .args .changed .now) (c .before .before .before .clear2 .ensures) (c .before .before .before .before .before .before .before .before .before .before .before .before .before .before .pre .3)
 
--- src/lib.rt:131:5
 pair-up-requires : tie.Need-pair-up-requires
 pair-up-requires c κs = (c .before .before .before .before .before .before .before .before .before .before .before .before .before .before .before .before .before .before .pre .0, c .before .before .before .before .before .before .before .before .before .before .before .before .before .before .before .before .before .before .pre .1, below-cleared (length (c .before .before .before .before .before .before .before .before .before .before .before .before .before .before .before .before .before .before .args .partners .now)) (c .before .before .before .before .before .before .before .before .before .before .before .before .before .before .before .before .before .before .args .news .now) (c .before .before .before .before .before .before .before .before .before .before .before .clear .ensures) (c .before .before .before .before .before .before .before .before .before .before .before .before .before .before .before .before .before .before .pre .2))
 
--- src/lib.rt:124:1
 same-length : tie.Need-same-length
 same-length c = search needs
 
--- src/lib.rt:124:1
 same-length-2 : tie.Need-same-length-2
 same-length-2 c = search needs
 
--- src/lib.rt:124:1
 returns : tie.Need-returns
 returns c = writes-claims (c .before .before .before .before .before .before .before .before .before .before .before .before .before .before .clear .ensures) (c .before .before .before .before .before .before .before .before .before .before .clear2 .ensures) (c .before .before .before .before .before .before .mark-all .ensures) (c .before .before .pair-up .ensures)
 

@@ -1,15 +1,12 @@
+-- `all_accounted` meets its contract.
+-- Assumes nothing.
 use Rattle.check_clauses.proofs.Turns.{climbs-in, Counting, counting-start, counting-no, counting-next, counting-end}
 use Rattle.check_model.specs.Clauses.{accounted}
 use borrow.Author.Needs.{needs}
 use native.Mathlib.Omega.{arith}
-use lib.ListN.{length, getD, set, take, drop, replicate, length-set}
-use mathlib.Core.Path.{_≡_, refl, ap, sym, _∙_}
-use Prim.Native.Nat.{ℕ, suc, zero, _+_, _-_, _*_, _≤_, _<_}
+use Prim.Native.Nat.{_-_}
 use Rattle.check_clauses.proofs.all_accounted.Statement.{statement}
 use Rattle.check_clauses.proofs.all_accounted.Tie as tie
-use Rattle.check_clauses.proofs.all_accounted.Reads as reads
-use Rattle.check_clauses.proofs.all_accounted.Lts as lts
-use Rattle.check_clauses.proofs.accounted.Reads as accounted-reads
 
 abbrev Inv-loop : tie.InvT-loop
 Inv-loop new partners marks n y₀ y = Counting (accounted new partners marks) n y
@@ -17,31 +14,24 @@ Inv-loop new partners marks n y₀ y = Counting (accounted new partners marks) n
 abbrev μ-loop : tie.MeasureT-loop
 μ-loop new partners marks n y₀ y = n - y
 
--- src/lib.rt:195:5
 loop-holds : tie.Need-loop-holds Inv-loop μ-loop
 loop-holds c = counting-start _ _
 
--- src/lib.rt:196:13
 accounted-requires : tie.Need-accounted-requires Inv-loop μ-loop
 accounted-requires c κs = (omega arith, omega arith, climbs-in (c .before .before .before .before .before .pre .2) (omega arith) (c .before .before .before .before .before .pre .0))
 
--- src/lib.rt:197:13
 returns : tie.Need-returns Inv-loop μ-loop
 returns c = search (counting-no, needs)
 
--- src/lib.rt:199:9
 add-y : tie.Need-add-y Inv-loop μ-loop
 add-y c = search needs
 
--- src/lib.rt:195:5
 loop-less : tie.Need-loop-less Inv-loop μ-loop
 loop-less c = search needs
 
--- src/lib.rt:195:5
 loop-again : tie.Need-loop-again Inv-loop μ-loop
 loop-again c = search (counting-next, needs)
 
--- src/lib.rt:190:1
 returns-2 : tie.Need-returns-2 Inv-loop μ-loop
 returns-2 c = search (counting-end, needs)
 

@@ -1,15 +1,13 @@
+-- `mark_all` meets its contract.
+-- Assumes nothing.
 use Rattle.check_clauses.proofs.Turns.{at-below}
 use Rattle.check_clauses.proofs.Turns.{Marking, marking-start, marking-next, marking-end}
 use borrow.Author.Needs.{needs}
 use native.Mathlib.Omega.{arith}
-use lib.ListN.{length, getD, set, take, drop, replicate, length-set}
-use mathlib.Core.Path.{_≡_, refl, ap, sym, _∙_}
-use Prim.Native.Nat.{ℕ, suc, zero, _+_, _-_, _*_, _≤_, _<_}
+use lib.ListN.{length}
+use Prim.Native.Nat.{_-_}
 use Rattle.check_clauses.proofs.mark_all.Statement.{statement}
 use Rattle.check_clauses.proofs.mark_all.Tie as tie
-use Rattle.check_clauses.proofs.mark_all.Reads as reads
-use Rattle.check_clauses.proofs.mark_all.Lts as lts
-use Rattle.words.proofs.word.Reads as word-reads
 
 abbrev Inv-loop : tie.InvT-loop
 Inv-loop changed marks₀ i₀ marks i = Marking changed marks₀ marks i
@@ -17,39 +15,30 @@ Inv-loop changed marks₀ i₀ marks i = Marking changed marks₀ marks i
 abbrev μ-loop : tie.MeasureT-loop
 μ-loop changed marks₀ i₀ marks i = length changed - i
 
--- src/lib.rt:55:5
 loop-holds : tie.Need-loop-holds Inv-loop μ-loop
 loop-holds c = marking-start _ _
 
--- src/lib.rt:56:13
 word-requires : tie.Need-word-requires Inv-loop μ-loop
 word-requires c κs = search needs
 
--- src/lib.rt:57:9
 mul-marks : tie.Need-mul-marks Inv-loop μ-loop
 mul-marks c = search needs
 
--- src/lib.rt:57:9
 slice-write-marks : tie.Need-slice-write-marks Inv-loop μ-loop
 slice-write-marks c = omega (arith, at-below (length (c .before .before .before .before .before .args .marks .now)) (c .before .before .before .before .before .args .changed .now) (c .before .before .loop .i) (c .word .result) (c .word .ensures .0) (c .before .before .before .before .before .pre) (omega arith), c .before .before .loop .inv .long)
 
--- src/lib.rt:58:9
 add-i : tie.Need-add-i Inv-loop μ-loop
 add-i c = search needs
 
--- src/lib.rt:55:5
 loop-less : tie.Need-loop-less Inv-loop μ-loop
 loop-less c = search needs
 
--- src/lib.rt:55:5
 loop-again : tie.Need-loop-again Inv-loop μ-loop
 loop-again c = search (marking-next, needs)
 
--- src/lib.rt:50:1
 same-length : tie.Need-same-length Inv-loop μ-loop
 same-length c = search needs
 
--- src/lib.rt:50:1
 returns : tie.Need-returns Inv-loop μ-loop
 returns c = search (marking-end, needs)
 

@@ -1,15 +1,13 @@
+-- `pair_up` meets its contract.
+-- Assumes nothing.
 use Rattle.check_clauses.proofs.Turns.{at-below}
 use Rattle.check_clauses.proofs.Turns.{Pairing, pairing-start, pairing-twice, pairing-next, pairing-end}
 use borrow.Author.Needs.{needs}
 use native.Mathlib.Omega.{arith}
-use lib.ListN.{length, getD, set, take, drop, replicate, length-set}
-use mathlib.Core.Path.{_≡_, refl, ap, sym, _∙_}
-use Prim.Native.Nat.{ℕ, suc, zero, _+_, _-_, _*_, _≤_, _<_}
+use lib.ListN.{length}
+use Prim.Native.Nat.{_-_}
 use Rattle.check_clauses.proofs.pair_up.Statement.{statement}
 use Rattle.check_clauses.proofs.pair_up.Tie as tie
-use Rattle.check_clauses.proofs.pair_up.Reads as reads
-use Rattle.check_clauses.proofs.pair_up.Lts as lts
-use Rattle.words.proofs.word.Reads as word-reads
 
 abbrev Inv-loop : tie.InvT-loop
 Inv-loop olds news partners₀ i₀ partners i = Pairing olds news partners₀ partners i
@@ -17,67 +15,51 @@ Inv-loop olds news partners₀ i₀ partners i = Pairing olds news partners₀ p
 abbrev μ-loop : tie.MeasureT-loop
 μ-loop olds news partners₀ i₀ partners i = length olds - i
 
--- src/lib.rt:37:5
 loop-holds : tie.Need-loop-holds Inv-loop μ-loop
 loop-holds c = pairing-start _ _ _
 
--- src/lib.rt:38:13
 word-requires : tie.Need-word-requires Inv-loop μ-loop
 word-requires c κs = search needs
 
--- src/lib.rt:39:13
 word-requires-2 : tie.Need-word-requires-2 Inv-loop μ-loop
 word-requires-2 c κs = search needs
 
--- src/lib.rt:40:12
 mul-if1 : tie.Need-mul-if1 Inv-loop μ-loop
 mul-if1 c = search needs
 
--- src/lib.rt:40:12
 slice-read-if1 : tie.Need-slice-read-if1 Inv-loop μ-loop
 slice-read-if1 c = omega (arith, at-below (length (c .before .before .before .before .before .before .before .before .args .partners .now)) (c .before .before .before .before .before .before .before .before .args .news .now) (c .before .before .before .before .loop .i) (c .before .word2 .result) (c .before .word2 .ensures .0) (c .before .before .before .before .before .before .before .before .pre .2) (omega arith), c .before .before .before .before .loop .inv .long)
 
--- src/lib.rt:41:13
 same-length : tie.Need-same-length Inv-loop μ-loop
 same-length c = search needs
 
--- src/lib.rt:41:13
 returns : tie.Need-returns Inv-loop μ-loop
 returns c = search (pairing-twice, needs)
 
--- src/lib.rt:43:24
 add-partners : tie.Need-add-partners Inv-loop μ-loop
 add-partners c = search needs
 
--- src/lib.rt:43:23
 cast-partners : tie.Need-cast-partners Inv-loop μ-loop
 cast-partners c = omega (arith, at-below 4096 (c .before .before .before .before .before .before .before .before .before .args .olds .now) (c .before .before .before .before .before .loop .i) (c .before .before .before .word .result) (c .before .before .before .word .ensures .0) (c .before .before .before .before .before .before .before .before .before .pre .1) (omega arith))
 
--- src/lib.rt:43:9
 mul-partners : tie.Need-mul-partners Inv-loop μ-loop
 mul-partners c = search needs
 
--- src/lib.rt:43:9
 slice-write-partners : tie.Need-slice-write-partners Inv-loop μ-loop
 slice-write-partners c = omega (arith, at-below (length (c .before .before .before .before .before .before .before .before .before .args .partners .now)) (c .before .before .before .before .before .before .before .before .before .args .news .now) (c .before .before .before .before .before .loop .i) (c .before .before .word2 .result) (c .before .before .word2 .ensures .0) (c .before .before .before .before .before .before .before .before .before .pre .2) (omega arith), c .before .before .before .before .before .loop .inv .long)
 
--- src/lib.rt:44:9
 add-i : tie.Need-add-i Inv-loop μ-loop
 add-i c = search needs
 
--- src/lib.rt:37:5
 loop-less : tie.Need-loop-less Inv-loop μ-loop
 loop-less c = search needs
 
--- src/lib.rt:37:5
 loop-again : tie.Need-loop-again Inv-loop μ-loop
 loop-again c = search (pairing-next, needs)
 
--- src/lib.rt:32:1
 same-length-2 : tie.Need-same-length-2 Inv-loop μ-loop
 same-length-2 c = search needs
 
--- src/lib.rt:32:1
 returns-2 : tie.Need-returns-2 Inv-loop μ-loop
 returns-2 c = search (pairing-end, needs)
 

@@ -1,14 +1,10 @@
+-- `rising` meets its contract.
+-- Assumes nothing.
 use Rattle.check_clauses.proofs.Turns.{Rising, rising-start, rising-none, rising-no, rising-next, rising-end}
 use borrow.Author.Needs.{needs}
-use native.Mathlib.Omega.{arith}
-use lib.ListN.{length, getD, set, take, drop, replicate, length-set}
-use mathlib.Core.Path.{_≡_, refl, ap, sym, _∙_}
-use Prim.Native.Nat.{ℕ, suc, zero, _+_, _-_, _*_, _≤_, _<_}
+use Prim.Native.Nat.{_-_}
 use Rattle.check_clauses.proofs.rising.Statement.{statement}
 use Rattle.check_clauses.proofs.rising.Tie as tie
-use Rattle.check_clauses.proofs.rising.Reads as reads
-use Rattle.check_clauses.proofs.rising.Lts as lts
-use Rattle.words.proofs.word.Reads as word-reads
 
 abbrev Inv-loop : tie.InvT-loop
 Inv-loop partners n last₀ i₀ last i = Rising n partners last i
@@ -16,43 +12,33 @@ Inv-loop partners n last₀ i₀ last i = Rising n partners last i
 abbrev μ-loop : tie.MeasureT-loop
 μ-loop partners n last₀ i₀ last i = n - i
 
--- src/lib.rt:155:5
 loop-holds : tie.Need-loop-holds Inv-loop μ-loop
 loop-holds c = rising-start _ _
 
--- src/lib.rt:156:13
 word-requires : tie.Need-word-requires Inv-loop μ-loop
 word-requires c κs = search needs
 
--- src/lib.rt:158:13
 add-i : tie.Need-add-i Inv-loop μ-loop
 add-i c = search needs
 
--- src/lib.rt:155:5
 loop-less : tie.Need-loop-less Inv-loop μ-loop
 loop-less c = search needs
 
--- src/lib.rt:155:5
 loop-again : tie.Need-loop-again Inv-loop μ-loop
 loop-again c = search (rising-none, needs)
 
--- src/lib.rt:161:17
 returns : tie.Need-returns Inv-loop μ-loop
 returns c = search (rising-no, needs)
 
--- src/lib.rt:164:13
 add-i-2 : tie.Need-add-i-2 Inv-loop μ-loop
 add-i-2 c = search needs
 
--- src/lib.rt:155:5
 loop-less-2 : tie.Need-loop-less-2 Inv-loop μ-loop
 loop-less-2 c = search needs
 
--- src/lib.rt:155:5
 loop-again-2 : tie.Need-loop-again-2 Inv-loop μ-loop
 loop-again-2 c = search (rising-next, needs)
 
--- src/lib.rt:149:1
 returns-2 : tie.Need-returns-2 Inv-loop μ-loop
 returns-2 c = search (rising-end, needs)
 

@@ -1,13 +1,11 @@
+-- `same_bytes` meets its contract.
+-- Assumes nothing.
 use Rattle.check_clauses.proofs.Turns.{Comparing, lengths-differ, comparing-start, comparing-other, comparing-next, comparing-end}
 use borrow.Author.Needs.{needs}
-use native.Mathlib.Omega.{arith}
-use lib.ListN.{length, getD, set, take, drop, replicate, length-set}
-use mathlib.Core.Path.{_≡_, refl, ap, sym, _∙_}
-use Prim.Native.Nat.{ℕ, suc, zero, _+_, _-_, _*_, _≤_, _<_}
+use lib.ListN.{length}
+use Prim.Native.Nat.{_-_}
 use Rattle.check_clauses.proofs.same_bytes.Statement.{statement}
 use Rattle.check_clauses.proofs.same_bytes.Tie as tie
-use Rattle.check_clauses.proofs.same_bytes.Reads as reads
-use Rattle.check_clauses.proofs.same_bytes.Lts as lts
 
 abbrev Inv-loop : tie.InvT-loop
 Inv-loop a b i₀ i = Comparing a b i
@@ -15,39 +13,30 @@ Inv-loop a b i₀ i = Comparing a b i
 abbrev μ-loop : tie.MeasureT-loop
 μ-loop a b i₀ i = length a - i
 
--- src/lib.rt:67:9
 returns : tie.Need-returns Inv-loop μ-loop
 returns c = search (lengths-differ, needs)
 
--- src/lib.rt:70:5
 loop-holds : tie.Need-loop-holds Inv-loop μ-loop
 loop-holds c = comparing-start _ _
 
--- src/lib.rt:71:12
 shared-slice-read-if2 : tie.Need-shared-slice-read-if2 Inv-loop μ-loop
 shared-slice-read-if2 c = search needs
 
--- src/lib.rt:71:20
 shared-slice-read-if2-2 : tie.Need-shared-slice-read-if2-2 Inv-loop μ-loop
 shared-slice-read-if2-2 c = search needs
 
--- src/lib.rt:72:13
 returns-2 : tie.Need-returns-2 Inv-loop μ-loop
 returns-2 c = search (comparing-other, needs)
 
--- src/lib.rt:74:9
 add-i : tie.Need-add-i Inv-loop μ-loop
 add-i c = search needs
 
--- src/lib.rt:70:5
 loop-less : tie.Need-loop-less Inv-loop μ-loop
 loop-less c = search needs
 
--- src/lib.rt:70:5
 loop-again : tie.Need-loop-again Inv-loop μ-loop
 loop-again c = search (comparing-next, needs)
 
--- src/lib.rt:63:1
 returns-3 : tie.Need-returns-3 Inv-loop μ-loop
 returns-3 c = search (comparing-end, needs)
 

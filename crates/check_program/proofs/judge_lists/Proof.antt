@@ -1,173 +1,132 @@
+-- `judge_lists` meets its contract.
+-- Assumes nothing.
 use Rattle.check_program.proofs.Ways.{whole, parts-claimed}
 use lib.Seq.{length-take-le}
 use native.Mathlib.Omega.{arith}
-use lib.ListN.{length, getD, set, take, drop, replicate, length-set}
-use mathlib.Core.Path.{_≡_, refl, ap, sym, _∙_}
-use Prim.Native.Nat.{ℕ, suc, zero, _+_, _-_, _*_, _≤_, _<_}
+use lib.ListN.{length}
+use mathlib.Core.Path.{sym}
+use Prim.Native.Nat.{_+_, _-_}
 use borrow.Author.Needs.{needs}
 use Rattle.check_program.proofs.judge_lists.Statement.{statement}
 use Rattle.check_program.proofs.judge_lists.Tie as tie
-use Rattle.check_program.proofs.judge_lists.Reads as reads
-use Rattle.check_program.proofs.judge_lists.Lts as lts
-use Rattle.check_claim.proofs.check.Reads as check-reads
 
--- src/lib.rt:22:16
 add-from : tie.Need-add-from
 add-from c = search needs
 
--- src/lib.rt:23:20
 add-measures : tie.Need-add-measures
 add-measures c = search needs
 
--- src/lib.rt:24:16
 add-olds : tie.Need-add-olds
 add-olds c = search needs
 
--- src/lib.rt:25:16
 add-news : tie.Need-add-news
 add-news c = search needs
 
--- src/lib.rt:26:19
 add-changed : tie.Need-add-changed
 add-changed c = search needs
 
--- src/lib.rt:28:9
 slice-aggregate-check : tie.Need-slice-aggregate-check
 slice-aggregate-check c = sym (length-take-le _ _ (omega arith))
 
--- src/lib.rt:29:9
 mul-check : tie.Need-mul-check
 mul-check c = search needs
 
--- src/lib.rt:29:9
 sub-check : tie.Need-sub-check
 sub-check c = search needs
 
--- src/lib.rt:29:9
 part-check-start : tie.Need-part-check-start
 part-check-start c = search needs
 
--- src/lib.rt:29:9
 part-check-end : tie.Need-part-check-end
 part-check-end c = search needs
 
--- src/lib.rt:30:9
 slice-aggregate-check-2 : tie.Need-slice-aggregate-check-2
 slice-aggregate-check-2 c = sym (length-take-le _ _ (omega arith))
 
--- src/lib.rt:31:9
 mul-check-2 : tie.Need-mul-check-2
 mul-check-2 c = search needs
 
--- src/lib.rt:31:9
 sub-check-2 : tie.Need-sub-check-2
 sub-check-2 c = search needs
 
--- src/lib.rt:31:9
 part-check-start-2 : tie.Need-part-check-start-2
 part-check-start-2 c = search needs
 
--- src/lib.rt:31:9
 part-check-end-2 : tie.Need-part-check-end-2
 part-check-end-2 c = search needs
 
--- src/lib.rt:32:9
 mul-check-3 : tie.Need-mul-check-3
 mul-check-3 c = search needs
 
--- src/lib.rt:32:9
 sub-check-3 : tie.Need-sub-check-3
 sub-check-3 c = search needs
 
--- src/lib.rt:32:9
 part-check-start-3 : tie.Need-part-check-start-3
 part-check-start-3 c = search needs
 
--- src/lib.rt:32:9
 part-check-end-3 : tie.Need-part-check-end-3
 part-check-end-3 c = search needs
 
--- src/lib.rt:33:9
 sub-check-4 : tie.Need-sub-check-4
 sub-check-4 c = search needs
 
--- src/lib.rt:33:9
 part-check-start-4 : tie.Need-part-check-start-4
 part-check-start-4 c = search needs
 
--- src/lib.rt:33:9
 part-check-end-4 : tie.Need-part-check-end-4
 part-check-end-4 c = search needs
 
--- src/lib.rt:34:9
 mul-check-4 : tie.Need-mul-check-4
 mul-check-4 c = search needs
 
--- src/lib.rt:34:9
 sub-check-5 : tie.Need-sub-check-5
 sub-check-5 c = search needs
 
--- src/lib.rt:34:9
 part-check-start-5 : tie.Need-part-check-start-5
 part-check-start-5 c = search needs
 
--- src/lib.rt:34:9
 part-check-end-5 : tie.Need-part-check-end-5
 part-check-end-5 c = search needs
 
--- src/lib.rt:35:9
 mul-check-5 : tie.Need-mul-check-5
 mul-check-5 c = search needs
 
--- src/lib.rt:35:9
 sub-check-6 : tie.Need-sub-check-6
 sub-check-6 c = search needs
 
--- src/lib.rt:35:9
 part-check-start-6 : tie.Need-part-check-start-6
 part-check-start-6 c = search needs
 
--- src/lib.rt:35:9
 part-check-end-6 : tie.Need-part-check-end-6
 part-check-end-6 c = search needs
 
--- src/lib.rt:36:9
 mul-check-6 : tie.Need-mul-check-6
 mul-check-6 c = search needs
 
--- src/lib.rt:36:9
 sub-check-7 : tie.Need-sub-check-7
 sub-check-7 c = search needs
 
--- src/lib.rt:36:9
 part-check-start-7 : tie.Need-part-check-start-7
 part-check-start-7 c = search needs
 
--- src/lib.rt:36:9
 part-check-end-7 : tie.Need-part-check-end-7
 part-check-end-7 c = search needs
 
--- src/lib.rt:37:9
 slice-aggregate-check-3 : tie.Need-slice-aggregate-check-3
 slice-aggregate-check-3 c = search needs
 
--- src/lib.rt:38:9
 slice-aggregate-check-4 : tie.Need-slice-aggregate-check-4
 slice-aggregate-check-4 c = search needs
 
--- src/lib.rt:39:9
 slice-aggregate-check-5 : tie.Need-slice-aggregate-check-5
 slice-aggregate-check-5 c = search needs
 
--- src/lib.rt:40:9
 slice-aggregate-check-6 : tie.Need-slice-aggregate-check-6
 slice-aggregate-check-6 c = search needs
 
--- src/lib.rt:27:5
 check-requires : tie.Need-check-requires
 check-requires c κs = search needs
 
--- src/lib.rt:14:1
 returns : tie.Need-returns
 returns c =
     let s = c .before .before .before .before .before .before .before .before .before .before .before .before .before .before .before .before .before .before .before .before in

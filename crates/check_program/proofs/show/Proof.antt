@@ -1,85 +1,61 @@
+-- `show` meets its contract.
+-- Assumes nothing.
 use Rattle.check_program.proofs.Ways.{refused-shown, accepted-shown, rejected-shown}
-use lib.Seq.{length-take-le}
-use native.Mathlib.Omega.{arith}
-use lib.ListN.{length, getD, set, take, drop, replicate, length-set}
-use mathlib.Core.Path.{_≡_, refl, ap, sym, _∙_}
-use Prim.Native.Nat.{ℕ, suc, zero, _+_, _-_, _*_, _≤_, _<_}
 use borrow.Author.Needs.{needs}
 use Rattle.check_program.proofs.show.Statement.{statement}
 use Rattle.check_program.proofs.show.Tie as tie
-use Rattle.check_program.proofs.show.Reads as reads
-use Rattle.check_program.proofs.show.Lts as lts
-use Rattle.edit_print.proofs.put_line.Reads as put-line-reads
 
--- src/lib.rt:76:26
 enum-known-verdict : tie.Need-enum-known-verdict
 enum-known-verdict c = search needs
 
--- src/lib.rt:76:66
 slice-aggregate-put-line : tie.Need-slice-aggregate-put-line
 slice-aggregate-put-line c = search needs
 
--- src/lib.rt:76:78
 slice-aggregate-put-line-2 : tie.Need-slice-aggregate-put-line-2
 slice-aggregate-put-line-2 c = search needs
 
--- src/lib.rt:76:37
 put-line-requires : tie.Need-put-line-requires
 put-line-requires c κs = search needs
 
--- src/lib.rt:77:51
 enum-told : tie.Need-enum-told
 enum-told c = search needs
 
--- src/lib.rt:77:59
 slice-aggregate-put-line-3 : tie.Need-slice-aggregate-put-line-3
 slice-aggregate-put-line-3 c = search needs
 
--- src/lib.rt:77:72
 slice-aggregate-put-line-4 : tie.Need-slice-aggregate-put-line-4
 slice-aggregate-put-line-4 c = search needs
 
--- src/lib.rt:77:30
 put-line-requires-2 : tie.Need-put-line-requires-2
 put-line-requires-2 c κs = search needs
 
--- src/lib.rt:78:51
 enum-told-2 : tie.Need-enum-told-2
 enum-told-2 c = search needs
 
--- src/lib.rt:78:59
 slice-aggregate-put-line-5 : tie.Need-slice-aggregate-put-line-5
 slice-aggregate-put-line-5 c = search needs
 
--- src/lib.rt:78:72
 slice-aggregate-put-line-6 : tie.Need-slice-aggregate-put-line-6
 slice-aggregate-put-line-6 c = search needs
 
--- src/lib.rt:78:30
 put-line-requires-3 : tie.Need-put-line-requires-3
 put-line-requires-3 c κs = search needs
 
--- src/lib.rt:71:1
 same-length : tie.Need-same-length
 same-length c = search needs
 
--- src/lib.rt:71:1
 returns : tie.Need-returns
 returns c = search (refused-shown, needs)
 
--- src/lib.rt:71:1
 same-length-2 : tie.Need-same-length-2
 same-length-2 c = search needs
 
--- src/lib.rt:71:1
 returns-2 : tie.Need-returns-2
 returns-2 c = search (accepted-shown, needs)
 
--- src/lib.rt:71:1
 same-length-3 : tie.Need-same-length-3
 same-length-3 c = search needs
 
--- src/lib.rt:71:1
 returns-3 : tie.Need-returns-3
 returns-3 c = search (rejected-shown, needs)
 
