@@ -152,6 +152,7 @@ fn is_answer(told: Outcome, refusal: usize, length: usize) -> bool {
         Outcome::Bytes(n) => { if refusal == 0 { n == length } else { false } }
         Outcome::Nothing => false,
         Outcome::At(n) => false,
+        Outcome::Of(quotient, remainder) => false,
     }
 }
 
@@ -162,6 +163,7 @@ fn is_element(told: Outcome, refusal: usize, found: usize) -> bool {
         Outcome::Bytes(n) => false,
         Outcome::Nothing => found == NONE,
         Outcome::At(at) => at == found,
+        Outcome::Of(quotient, remainder) => false,
     }
 }
 
