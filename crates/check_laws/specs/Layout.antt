@@ -29,7 +29,7 @@ claimsFrom l t a b c d e g = record {
   changed = drop (a + b + d + e + g + g) l;
 }
 
--- 2: "shorter than its sizes"; 4: "a length that differs from what the sizes add up to"
+-- 2: fewer bytes than the eight words; 4: "The length differs from what the sizes give."
 unfoldable pub claimsOf : List ℕ → Answer Claims
 claimsOf b = do
   _ ← refuse 2 (ltb (length b) 32)

@@ -43,7 +43,7 @@ pub fn stands(kind: usize, depth: usize) -> bool
 // Line 5: whether the `n` elements whose kind words and measures stand at `kinds` and `measures` spell `trees` trees with `bytes` bytes of text.
 // Each turn closes the innermost open element, if all its children have come, or opens the next one: a token has none.
 pub fn spells(b: &[u8], kinds: usize, measures: usize, n: usize, trees: usize, bytes: usize) -> bool
-    requires { ⌜ (kinds + 4 * n ≤ length (now b)) × (measures + 4 * n ≤ length (now b)) × (n ≤ 2048) ⌝ }
+    requires { ⌜ (kinds + 4 * n ≤ length (now b)) × (measures + 4 * n ≤ length (now b)) × (n ≤ 4096) ⌝ }
     ensures { λ r. ⌜ r ≡ accepts trees bytes (elementsAt (now (b .entry)) kinds measures n) ⌝ }
 {
     let mut left = [0usize; 65];

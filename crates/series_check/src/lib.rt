@@ -147,7 +147,7 @@ fn judge_memory(
     requires { ⌜ (8 + 8 * n + b ≤ length (now tree)) × (n ≤ 4096) × (b ≤ 16384) × (1 + 65 * k ≤ length (now bookmarks)) × (k < 2 ^ 32) × (12288 ≤ length (now rows)) ⌝ }
     ensures { λ r. ⌜ Remains (now (tree .entry)) n b (now (bookmarks .entry)) k r ⌝ }
 {
-    if !series_spelling::spells(tree, SIZES, SIZES + 4 * n, n, 1, b) {
+    if !read_spelling::spells(tree, SIZES, SIZES + 4 * n, n, 1, b) {
         return 5;
     }
     if MOST_BOOKMARKS < k {

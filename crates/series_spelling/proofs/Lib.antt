@@ -1,2 +1,0 @@
--- The loop of `spells`.
-pub mod Reading
