@@ -1,19 +1,24 @@
 //! The batches that are timed. All are accepted.
 
-use syntax_edit::BatchBuilder;
+use syntax_edit::{Batch, BatchBuilder};
 
 pub struct Case {
     pub name: String,
     pub elements: usize,
     pub calls: usize,
-    /// What the batch is written from.
-    pub builder: BatchBuilder,
+    /// What the batch is written from; none of a load.
+    pub builder: Option<BatchBuilder>,
     pub batch: Vec<u8>,
 }
 
 fn case(name: &str, elements: usize, calls: usize, builder: BatchBuilder) -> Case {
     let batch = builder.finish().unwrap_or_else(|fault| panic!("{name}: {fault}")).bytes().to_vec();
-    Case { name: name.to_owned(), elements, calls, builder, batch }
+    Case { name: name.to_owned(), elements, calls, builder: Some(builder), batch }
+}
+
+/// Loads that anyone can make again (docs/LOAD.md).
+pub fn loads() -> Vec<Case> {
+    [0, 1, 255, u32::MAX].map(|start| Case { name: format!("load {start}"), elements: 792, calls: 96, builder: None, batch: Batch::load(start).bytes().to_vec() }).into()
 }
 
 /// A tree of about `elements` (groups of a node and seven tokens) and one of four, with `calls` of four sorts spread over it: an insertion, a

@@ -73,10 +73,19 @@ fn floor(batch: &[u8]) -> Contestant<'_> {
     })
 }
 
-/// All must print the same before anything is timed, but for what is not watched: the last two numbers of the first line.
+/// A printed answer as the Rust tells it, which knows no rule numbers: `changed` lines have their first number alone.
+fn without_rules(printed: &str) -> String {
+    let told = |line: &str| match line.strip_prefix("changed ").and_then(|it| it.split_once(' ')) {
+        Some((element, _)) => format!("changed {element}\n"),
+        None => format!("{line}\n"),
+    };
+    printed.lines().map(told).collect()
+}
+
+/// All must print the same before anything is timed, but for rule numbers and for what is not watched: the last two numbers of the first line.
 fn agree(case: &Case) {
     let printed = match Editor::new().edit_bytes(&case.batch) {
-        Ok(answer) => answer.to_string(),
+        Ok(answer) => without_rules(&answer.to_string()),
         Err(refusal) => panic!("{}: {refusal}", case.name),
     };
     let unwatched = |it: &str| {
@@ -153,6 +162,7 @@ fn main() {
         ("Elements doubled, 32 calls", batches::by_elements()),
         ("Calls doubled, 1,024 elements", batches::by_calls()),
         ("Calls doubled, 2,048 elements", batches::few_calls()),
+        ("Loads (docs/LOAD.md)", batches::loads()),
     ];
     if options.iter().any(|it| it == "--writer") {
         return tables[..2].iter().for_each(|(what, cases)| writer::table(what, cases, effort));

@@ -12,8 +12,9 @@ use crate::{
 /// `syntax_write`: the lists are laid out, judged and copied, and the work slices are cleared.
 fn ours(case: &Case) -> Contestant<'_> {
     let (mut work, mut destination) = (WriterWork::new(), vec![0; DRAFT]);
+    let builder = case.builder.as_ref().expect("a batch that is written from lists");
     Box::new(move |clock| {
-        clock.time(|| write(black_box(case.builder.lists()), &mut destination, work.slices()));
+        clock.time(|| write(black_box(builder.lists()), &mut destination, work.slices()));
     })
 }
 
