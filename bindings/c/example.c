@@ -76,5 +76,14 @@ int main(void)
         printf("%" PRId64 "\n", -length);
     else
         fwrite(result, 1, (size_t)length, stdout);
+    int64_t share = syntax_share_with(&work, SYNTAX_EDGE_BY_OFFSET, batch, (size_t)written);
+    if (share < 0)
+        printf("refused %" PRId64 "\n", -share);
+    else
+        printf("share %" PRIu32 " %" PRIu32 "\n", SYNTAX_THOUSANDTHS(share), SYNTAX_REMAINDER(share));
+    static syntax_writer_work writer;
+    length = syntax_load_with(&writer, 0, batch, sizeof batch);    /* the load of 0, which is accepted */
+    length = syntax_edit_with(&work, SYNTAX_EDGE_BY_OFFSET, batch, (size_t)length, result, sizeof result);
+    printf(length < 0 ? "the load is refused\n" : "the load is edited\n");
     return 0;
 }
