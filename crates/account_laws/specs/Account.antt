@@ -24,14 +24,14 @@ use Rattle.definition.specs.EdgeRule.{regionDepth, fates1, fatesBy, planned, ju
 use Rattle.definition.specs.Rewriting.{mapping, rewritten, settled}
 use Rattle.definition.specs.Running.{World}
 use Rattle.definition.specs.Finishing.{Result, result, sixSizes}
-use Rattle.definition.specs.Answers.{judgeChanges, disjoint, rewriteChanges, Plan, plan, performed, ran, edit}
+use Rattle.definition.specs.Answers.{remaining, judgeChanges, disjoint, rewriteChanges, Plan, plan, performed, ran, edit}
 use Rattle.definition_laws.specs.Basics.{keep-yes, keep-no}
 use Rattle.definition_laws.specs.Answers.{given, gives-inj}
 use Rattle.definition_laws.specs.Kin.{path-leads, path-long, get-getD}
 use Rattle.definition_laws.specs.Right.{Right, Sits, right-sits}
 use Rattle.definition_laws.specs.Accepted.{Known, accepts}
 use Rattle.definition_laws.specs.Stages.{planned-fates, judge-fated, rewritten-all, fates-length, fates1-length, fatesBy-0, fatesBy-1}
-use Rattle.definition_laws.specs.Plans.{disjoint-fated, checked, sortedChanges, changes, changes-right}
+use Rattle.definition_laws.specs.Plans.{disjoint-fated, checked, changes, changes-right}
 use Rattle.definition_edge.specs.Depths.{taken-deeper}
 use Rattle.definition_edge.specs.Fates.{FateAt, Says, owns, fates-true, numbered-get}
 use Rattle.account_laws.specs.Words.{at, named, treeOf, InTrees, fateAt, Contains, Owns, Owner, Overlap}
@@ -62,8 +62,8 @@ target-within T (replaceAll x y l) s = s .0
 -- ── The changes of a batch ──────────────────────────────────────────────────────────────────────────────────
 
 -- "at most 16 trees": every change of an accepted batch is of one of the trees 0 to 15
-pub sorted-in-trees : (bytes : List ℕ) (a : Accepted) → accepted bytes ≡ gives a → InTrees a.table (changes a)
-sorted-in-trees bytes a e = let k = accepts bytes a e in All-map (λ c r. few k c r) (changes a) (changes-right a (checked bytes a k))
+pub sorted-in-trees : (h : Choices) (bytes : List ℕ) (a : Accepted) → accepted bytes ≡ gives a → InTrees a.table (changes h a)
+sorted-in-trees h bytes a e = let k = accepts bytes a e in All-map (λ c r. few k c r) (changes h a) (changes-right a (checked bytes a k) h)
   where
     few : Known bytes a → (c : Change) → Right a.table c → treeOf a.table c < 16
     few k c r =
@@ -95,31 +95,31 @@ fates-accounted T cs h = record {
 }
 
 -- what is judged without overlap has the definition's fates
-judged-fates : (h : Choices) (a : Accepted) (ps : List Planned) → judgeChanges h a ≡ fated ps → map (λ p. p .fate) ps ≡ fatesBy h a.table (changes a)
+judged-fates : (h : Choices) (a : Accepted) (ps : List Planned) → judgeChanges h a ≡ fated ps → map (λ p. p .fate) ps ≡ fatesBy h a.table (changes h a)
 unfolding judgeChanges
-judged-fates h a ps e = ap (map (λ p. p .fate)) ((judge-fated h a.table (sortedChanges a) ps e) .1) ∙ planned-fates h a.table (sortedChanges a)
+judged-fates h a ps e = ap (map (λ p. p .fate)) ((judge-fated h a.table (remaining h a) ps e) .1) ∙ planned-fates h a.table (remaining h a)
 
 -- WHAT IS SAID OF EACH CHANGE IS TRUE, by rule 0
-pub account-true : (h : Choices) (bytes : List ℕ) (a : Accepted) (ps : List Planned) → h .edge ≡ 0 → accepted bytes ≡ gives a → judgeChanges h a ≡ fated ps → Accounted a.table (changes a) (map (λ p. p .fate) ps)
-account-true h bytes a ps z e j = rw (judged-fates h a ps j, fatesBy-0 h a.table z (changes a)) (fates-accounted a.table (changes a) (sorted-in-trees bytes a e))
+pub account-true : (h : Choices) (bytes : List ℕ) (a : Accepted) (ps : List Planned) → h .edge ≡ 0 → accepted bytes ≡ gives a → judgeChanges h a ≡ fated ps → Accounted a.table (changes h a) (map (λ p. p .fate) ps)
+account-true h bytes a ps z e j = rw (judged-fates h a ps j, fatesBy-0 h a.table z (changes h a)) (fates-accounted a.table (changes h a) (sorted-in-trees h bytes a e))
 
 -- the changes of an accepted batch have their targets in its trees
-changes-sit : (bytes : List ℕ) (a : Accepted) → accepted bytes ≡ gives a → All (Sits a.table) (changes a)
-changes-sit bytes a e = All-map (λ c r. right-sits a.table c r) (changes a) (changes-right a (checked bytes a (accepts bytes a e)))
+changes-sit : (h : Choices) (bytes : List ℕ) (a : Accepted) → accepted bytes ≡ gives a → All (Sits a.table) (changes h a)
+changes-sit h bytes a e = All-map (λ c r. right-sits a.table c r) (changes h a) (changes-right a (checked bytes a (accepts bytes a e)) h)
 
 table-true : (ts : List (Tree ℕ)) (T : Table) → T ≡ table 0 0 ts → (cs : List Change) → All (Sits T) cs → (i : ℕ) (c : Change) → getElem? cs i ≡ some c → (f : Fate) → FateAt T cs i f ↔ Says T cs i c f
 table-true ts T q = rw q (λ cs s i c e f. fates-true ts cs s i c e f)
 
 -- AND BY RULE 1: "The account of Note 5 names that region instead.": the innermost that takes the change, and `own` exactly if none does
 pub account-true-1 : (h : Choices) (bytes : List ℕ) (a : Accepted) (ps : List Planned) → h .edge ≡ 1 → accepted bytes ≡ gives a → judgeChanges h a ≡ fated ps
-    → (i : ℕ) (c : Change) → getElem? (changes a) i ≡ some c → (f : Fate) → (getElem? (map (λ p. p .fate) ps) i ≡ some f) ↔ Says a.table (changes a) i c f
-account-true-1 h bytes a ps z e j = rw (judged-fates h a ps j, fatesBy-1 h a.table z (changes a)) (table-true a.trees a.table ((accepts bytes a e) .table) (changes a) (changes-sit bytes a e))
+    → (i : ℕ) (c : Change) → getElem? (changes h a) i ≡ some c → (f : Fate) → (getElem? (map (λ p. p .fate) ps) i ≡ some f) ↔ Says a.table (changes h a) i c f
+account-true-1 h bytes a ps z e j = rw (judged-fates h a ps j, fatesBy-1 h a.table z (changes h a)) (table-true a.trees a.table ((accepts bytes a e) .table) (changes h a) (changes-sit h bytes a e))
 
-judged-overlap : (h : Choices) (a : Accepted) (j k : ℕ) → judgeChanges h a ≡ overlaps j k → overlap a.table (changes a) ≡ some (j, k)
+judged-overlap : (h : Choices) (a : Accepted) (j k : ℕ) → judgeChanges h a ≡ overlaps j k → overlap a.table (changes h a) ≡ some (j, k)
 unfolding judgeChanges judge
-judged-overlap h a j k e = go (overlap a.table (changes a)) refl e
+judged-overlap h a j k e = go (overlap a.table (changes h a)) refl e
   where
-    go : (o : Option (ℕ × ℕ)) → overlap a.table (changes a) ≡ o → elim o as (λ _. Judgement) [ none ↦ fated (planned h a.table (sortedChanges a)) | some p ↦ overlaps (p .0) (p .1) ] ≡ overlaps j k → overlap a.table (changes a) ≡ some (j, k)
+    go : (o : Option (ℕ × ℕ)) → overlap a.table (changes h a) ≡ o → elim o as (λ _. Judgement) [ none ↦ fated (planned h a.table (remaining h a)) | some p ↦ overlaps (p .0) (p .1) ] ≡ overlaps j k → overlap a.table (changes h a) ≡ some (j, k)
     go none g e = absurd (let z : _≡_ {A = ℕ} 0 1 = cc in omega arith)
     go (some p) g e =
         let x : p .0 ≡ j = cc in
@@ -127,13 +127,13 @@ judged-overlap h a j k e = go (overlap a.table (changes a)) refl e
         g ∙ rw (← x, ← y)
 
 -- THE PAIR THAT IS TOLD OVERLAPS, and no pair overlaps whose later change comes before k
-pub overlap-told : (h : Choices) (a : Accepted) (j k : ℕ) → judgeChanges h a ≡ overlaps j k → Overlap a.table (changes a) j k × ((i m : ℕ) → Overlap a.table (changes a) i m → k ≤ m)
-overlap-told h a j k e = let o = judged-overlap h a j k e in (overlap-true a.table (changes a) j k o, λ i m. overlap-first a.table (changes a) j k o i m)
+pub overlap-told : (h : Choices) (a : Accepted) (j k : ℕ) → judgeChanges h a ≡ overlaps j k → Overlap a.table (changes h a) j k × ((i m : ℕ) → Overlap a.table (changes h a) i m → k ≤ m)
+overlap-told h a j k e = let o = judged-overlap h a j k e in (overlap-true a.table (changes h a) j k o, λ i m. overlap-first a.table (changes h a) j k o i m)
 
 -- what is judged without overlap has no pair that overlaps
-pub disjoint-told : (h : Choices) (a : Accepted) (ps : List Planned) → judgeChanges h a ≡ fated ps → (j k : ℕ) → ¬ Overlap a.table (changes a) j k
+pub disjoint-told : (h : Choices) (a : Accepted) (ps : List Planned) → judgeChanges h a ≡ fated ps → (j k : ℕ) → ¬ Overlap a.table (changes h a) j k
 unfolding judgeChanges
-disjoint-told h a ps e j k = overlap-none a.table (changes a) .0 ((judge-fated h a.table (sortedChanges a) ps e) .0) j k
+disjoint-told h a ps e j k = overlap-none a.table (changes h a) .0 ((judge-fated h a.table (remaining h a) ps e) .0) j k
 
 -- ── The edit itself ─────────────────────────────────────────────────────────────────────────────────────────
 
@@ -156,7 +156,7 @@ plan-judged h a p e =
     (ps, disjoint-fated (judgeChanges h a) ps x, rw (← gives-inj e) ((rewritten-all a.table (mapping a.mappings) ps r y) .fates))
 
 -- THE FATES SAID ARE THOSE OF THE PLAN
-pub plan-fates : (h : Choices) (a : Accepted) (p : Plan) → plan h a ≡ gives p → map (λ q. q .fate) p.changes ≡ fatesBy h a.table (changes a)
+pub plan-fates : (h : Choices) (a : Accepted) (p : Plan) → plan h a ≡ gives p → map (λ q. q .fate) p.changes ≡ fatesBy h a.table (changes h a)
 plan-fates h a p e = let (ps, j, s) = plan-judged h a p e in s ∙ judged-fates h a ps j
 
 -- of changes with the definition's fates, each dependent one's owner comes before it and is not discarded
@@ -206,13 +206,13 @@ fates1-led ts T z = rw z led
             (within, rw (get-getD cs y (u .region) (delete 0) r, get-getD cs x c (delete 0) g) (taken-deeper ts (y, u .region) (x, c) (sits y (u .region) r) (sits x c g) (u .innermost .belongs) whole), rw same (not-true _ stays))
 
 -- so by whatever choice
-by-led : (h : Choices) (bytes : List ℕ) (a : Accepted) → accepted bytes ≡ gives a → (qs : List Planned) → map (λ q. q .fate) qs ≡ fatesBy h a.table (changes a) → Led (fateOf qs) (length qs)
+by-led : (h : Choices) (bytes : List ℕ) (a : Accepted) → accepted bytes ≡ gives a → (qs : List Planned) → map (λ q. q .fate) qs ≡ fatesBy h a.table (changes h a) → Led (fateOf qs) (length qs)
 unfolding fatesBy
 by-led h bytes a x qs e = go (eqb h.edge 0) e
   where
-    go : (b : Bool) → map (λ q. q .fate) qs ≡ cond b (fates a.table (changes a)) (fates1 a.table (changes a)) → Led (fateOf qs) (length qs)
-    go true e = fates-led a.table (changes a) qs (sorted-in-trees bytes a x) e
-    go false e = fates1-led a.trees a.table ((accepts bytes a x) .table) (changes a) (changes-sit bytes a x) qs e
+    go : (b : Bool) → map (λ q. q .fate) qs ≡ cond b (fates a.table (changes h a)) (fates1 a.table (changes h a)) → Led (fateOf qs) (length qs)
+    go true e = fates-led a.table (changes h a) qs (sorted-in-trees h bytes a x) e
+    go false e = fates1-led a.trees a.table ((accepts bytes a x) .table) (changes h a) (changes-sit h bytes a x) qs e
 
 -- WHAT IS PERFORMED IS A PERMUTATION OF WHAT IS NOT DISCARDED
 pub performed-not-discarded : (h : Choices) (bytes : List ℕ) (a : Accepted) (p : Plan) → accepted bytes ≡ gives a → plan h a ≡ gives p → List·Permᴰ (keep (λ q. not (isDiscarded q.fate)) p.changes) (performed a p)
@@ -231,7 +231,7 @@ kept-fates (q ∷ qs) = go (isDiscarded q.fate) refl (kept-fates qs)
     go false e h = rw (keep-no (λ q. isDiscarded q.fate) q qs e, keep-no isDiscarded q.fate (map (λ q. q .fate) qs) e) h
 
 -- THE RESULT'S FIFTH SIZE COUNTS THE FATES THAT SAY `discarded`
-pub discards-counted : (h : Choices) (a : Accepted) (p : Plan) (w : World) → plan h a ≡ gives p → getD (sixSizes (result p.changes p.climbs w)) 4 0 ≡ length (keep isDiscarded (fatesBy h a.table (changes a)))
+pub discards-counted : (h : Choices) (a : Accepted) (p : Plan) (w : World) → plan h a ≡ gives p → getD (sixSizes (result p.changes p.climbs w)) 4 0 ≡ length (keep isDiscarded (fatesBy h a.table (changes h a)))
 unfolding sixSizes result
 discards-counted h a p w e = kept-fates p.changes ∙ ap (λ l. length (keep isDiscarded l)) (plan-fates h a p e)
 

@@ -6,6 +6,7 @@ use mathlib.Core.Option.{Option, none, some}
 use Prim.Native.Nat.{ℕ}
 use lib.ListN.{length}
 use Rattle.definition.specs.Basics.{Answer, gives, _>>=_}
+use Rattle.definition.specs.Choices.{byDefault}
 use Rattle.definition.specs.Refusals.{Call, accepted}
 use Rattle.definition.specs.Planning.{overlap, Fate, own, dependent, discarded, fates}
 use Rattle.definition.specs.Computing.{computed}
@@ -28,7 +29,7 @@ abbrev Shown : Type 0
 Shown = Option (ℕ × ℕ) × List Fate × List (Option ℕ)
 
 unfoldable pub shown : Told → Answer Shown
-shown b = accepted (inBytes b) >>= λ a. gives (overlap a.table (changes a), fates a.table (changes a), map (owner a.table (changes a)) (upFrom 0 (length (changes a))))
+shown b = accepted (inBytes b) >>= λ a. gives (overlap a.table (changes byDefault a), fates a.table (changes byDefault a), map (owner a.table (changes byDefault a)) (upFrom 0 (length (changes byDefault a))))
 
 -- each example, and what is told of it
 abbrev table : List (Told × Shown)

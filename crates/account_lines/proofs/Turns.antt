@@ -1,24 +1,24 @@
 -- What each way out and each turn of the loop has written.
 -- Assumes nothing.
 use mathlib.Core.Path.{_≡_, refl, sym, ap, _∙_}
-use mathlib.Core.List.{List, [], _∷_, _++_, flatMap, map}
-use Prim.Native.Nat.{ℕ, zero, suc, _+_, _*_, _≤_, _<_}
+use mathlib.Core.List.{List, [], _∷_, _++_, flatMap, append-nil, append-assoc}
+use Prim.Native.Nat.{ℕ, suc, _+_, _-_, _*_, _≤_, _<_}
 use native.Mathlib.Nat.{zero-add}
 use native.Mathlib.Numerals.{add-one}
 use native.Mathlib.Omega.{arith}
 use borrow.Author.Tests.{lt-ltb, le-ltb, ne-eqb}
-use lib.ListN.{length, getD, take, drop}
-use lib.Seq.{paste, paste-zero, take-all, length-take-le}
+use lib.ListN.{length, getD, take, drop, length-append, drop-of-length-le}
+use lib.Seq.{paste, paste-zero, take-all, length-take-le, drop-cons}
 use Rattle.definition.specs.Basics.{refused, refuse, numbered, _>>=_}
 use Rattle.definition.specs.Printed.{ascii, digits, decimal, line}
-use Rattle.definition.specs.Account.{after, fateLine, fateLines, overlapLine, inRoom, tell}
-use Rattle.record_changes.specs.ChangeRow.{rowsOf}
+use Rattle.definition.specs.Account.{Said, planned, withdrawn, after, fateLine, saidLine, saidLines, overlapLine, inRoom, tell}
+use Rattle.plan_withdraw.specs.Rule.{numberAt}
 use Rattle.edit_print.specs.Lines.{Put, put-more, put-front, digits-length, lineOf, spaced}
 use Rattle.promises.specs.Promises.{leftIn}
 use Rattle.promises.specs.Serving.{outcome, written, Tells}
 use Rattle.promises.specs.declared.Outcome.{Outcome}
 use Rattle.promises.specs.declared.Outcome.the-variants.{Refused, Bytes}
-use Rattle.account_lines.specs.Lines.{tellIn, fateIn, fate-in, lines-length, fatesTo, fates-length, rows-more}
+use Rattle.account_lines.specs.Lines.{tellIn, fateIn, saidFrom, saidRows, line-length, linesFrom, lines-cons}
 
 -- ── One line ────────────────────────────────────────────────────────────────────────────────────────────────
 
@@ -54,40 +54,66 @@ module _ {d : List ℕ} {at : ℕ} (n fate owner : ℕ) {l : List ℕ} {to : ℕ
   unfolding fateLine fateIn line lineOf ascii spaced
   discarded-put z e q = rw (ne-eqb fate 0 z, ne-eqb fate 1 e) (numbered-put q)
 
+-- one that is withdrawn
+pub withdrawn-put : {d : List ℕ} {at : ℕ} (n k : ℕ) {l : List ℕ} {to : ℕ} {l′ : List ℕ} {to′ : ℕ} → at + 32 ≤ length d → Put d at (digits 10 n) l to
+    → Put l to (lineOf (32 ∷ 119 ∷ 105 ∷ 116 ∷ 104 ∷ 100 ∷ 114 ∷ 97 ∷ 119 ∷ 110 ∷ []) (k ∷ [])) l′ to′ → Put d at (saidLine (n, withdrawn k)) l′ to′
+unfolding saidLine after decimal line lineOf ascii spaced
+withdrawn-put n k h p q = put-more p q (omega (arith, p .end, digits-length 10 n))
+
 -- ── Line after line ─────────────────────────────────────────────────────────────────────────────────────────
 
--- l is d with the lines of the first i rows at its front, up to `to`; there is room for those of c rows
-pub record Putting (w : List ℕ) (c : ℕ) (d l : List ℕ) (to i : ℕ) : Type 0 where
-  pub inside : i ≤ c
-  pub room : 32 * c ≤ length d
+-- l is d with the lines of the first i changes at its front, up to `to`; m of these stay. There is room for the lines of all
+pub record Putting (w ps d l : List ℕ) (to m i : ℕ) : Type 0 where
+  pub inside : i ≤ length ps
+  pub few : m ≤ i
+  pub room : 32 * length ps ≤ length d
   pub long : length l ≡ length d
-  pub put : Put d 0 (fateLines (fatesTo w i)) l to
+  pub done : List ℕ
+  pub put : Put d 0 done l to
+  pub short : length done ≤ 32 * i
+  pub left : done ++ linesFrom i (saidFrom w ps m (drop i ps)) ≡ saidLines (saidRows w ps)
 
-pub fates-start : (w : List ℕ) (c : ℕ) (d : List ℕ) → 32 * c ≤ length d → Putting w c d d 0 0
-unfolding fateLines rowsOf numbered flatMap
-fates-start w c d h = record { inside = omega arith; room = h; long = refl; put = record { end = refl; is = paste-zero d 0 [] } }
+pub account-start : (w ps d : List ℕ) → 32 * length ps ≤ length d → Putting w ps d d 0 0 0
+unfolding saidLines saidRows
+account-start w ps d h = record { inside = omega arith; few = omega arith; room = h; long = refl; done = []; put = record { end = refl; is = paste-zero d 0 [] }; short = omega arith; left = refl }
 
-module _ {w : List ℕ} {c : ℕ} {d l : List ℕ} {to i : ℕ} (v : Putting w c d l to i) where
+module _ {w ps d l : List ℕ} {to m i : ℕ} (v : Putting w ps d l to m i) where
   end-within : to ≤ 32 * i
-  end-within = omega (arith, v .put .end, lines-length (fatesTo w i), ap (λ (k : ℕ). 32 * k) (fates-length w i))
+  end-within = omega (arith, v .put .end, v .short)
 
   -- there is room for one line more
-  pub fates-room : i < c → to + 32 ≤ length l
-  fates-room h = omega (arith, end-within, v .room, v .long)
+  pub line-room : i < length ps → to + 32 ≤ length l
+  line-room h = omega (arith, end-within, v .room, v .long)
 
-  pub fates-next : {fate owner : ℕ} {l′ : List ℕ} {to′ : ℕ} → i < c → fate ≡ getD (drop (14 * i) w) 11 0 → owner ≡ getD (drop (14 * i) w) 12 0 → length l′ ≡ length l
-      → Put l to (fateLine (i, fateIn fate owner)) l′ to′ → Putting w c d l′ to′ (i + 1)
-  fates-next {fate} {owner} {l′} {to′} h e f m q =
-      let same : fateLines (fatesTo w (i + 1)) ≡ fateLines (fatesTo w i) ++ fateLine (i, fateIn fate owner) = rw (add-one i, e, f, ← fate-in w i) (rows-more w i) in
-      record {
-        inside = omega arith;
-        room = v .room;
-        long = m ∙ v .long;
-        put = rw same (put-more (v .put) q (omega (arith, end-within, v .room)));
-      }
+  -- one line more is put
+  more : {m′ : ℕ} {l′ : List ℕ} {to′ : ℕ} (s : Said) → i < length ps → m′ ≤ i + 1 → saidFrom w ps m (drop i ps) ≡ s ∷ saidFrom w ps m′ (drop (suc i) ps) → length l′ ≡ length l → Put l to (saidLine (i, s)) l′ to′ → Putting w ps d l′ to′ m′ (i + 1)
+  more {m′} s h k e f q = record {
+    inside = omega arith;
+    few = k;
+    room = v .room;
+    long = f ∙ v .long;
+    done = v .done ++ saidLine (i, s);
+    put = put-more (v .put) q (omega (arith, end-within, v .room));
+    short = omega (arith, length-append (v .done) (saidLine (i, s)), line-length i s, v .short);
+    left =
+        rw (add-one i) (append-assoc (v .done) (saidLine (i, s)) (linesFrom (suc i) (saidFrom w ps m′ (drop (suc i) ps)))
+        ∙ (ap (λ r. v .done ++ r) (sym (ap (linesFrom i) e ∙ lines-cons i s (saidFrom w ps m′ (drop (suc i) ps)))) ∙ v .left));
+  }
 
-  pub fates-done : c ≤ i → Put d 0 (fateLines (fatesTo w c)) l to
-  fates-done h = let e : c ≡ i = omega (arith, v .inside) in rw e (v .put)
+  pub account-stays : {under fate owner number : ℕ} {l′ : List ℕ} {to′ : ℕ} → i < length ps → under ≡ getD ps i 0 → under ≡ 0 → fate ≡ getD (drop (14 * m) w) 11 0 → owner ≡ getD (drop (14 * m) w) 12 0 → number ≡ numberAt 0 ps owner → length l′ ≡ length l
+      → Put l to (fateLine (i, fateIn fate number)) l′ to′ → Putting w ps d l′ to′ (m + 1) (i + 1)
+  unfolding saidFrom saidLine
+  account-stays {under} {fate} {owner} {number} h u z e g n f q =
+      let y : getD ps i 0 ≡ 0 = omega arith in
+      more (planned (fateIn fate number)) h (omega (arith, v .few)) (rw (drop-cons ps i 0 h, y, e, n, g, add-one m) refl) f q
+
+  pub account-leaves : {under : ℕ} {l′ : List ℕ} {to′ : ℕ} → i < length ps → under ≡ getD ps i 0 → (under ≡ 0 → ⊥) → length l′ ≡ length l → Put l to (saidLine (i, withdrawn (under - 1))) l′ to′ → Putting w ps d l′ to′ m (i + 1)
+  unfolding saidFrom
+  account-leaves {under} h u z f q = more (withdrawn (under - 1)) h (omega (arith, v .few)) (rw (drop-cons ps i 0 h, ← u, ne-eqb under 0 z) refl) f q
+
+  pub account-done : length ps ≤ i → Put d 0 (saidLines (saidRows w ps)) l to
+  unfolding saidFrom numbered flatMap
+  account-done h = rw (← v .left, drop-of-length-le ps h, append-nil) (v .put)
 
 -- ── The draft handed out ────────────────────────────────────────────────────────────────────────────────────
 

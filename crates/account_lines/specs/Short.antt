@@ -14,15 +14,17 @@ use Rattle.definition.specs.Basics.{refused, gives, _>>=_, refuse}
 use Rattle.definition.specs.Choices.{Choices}
 use Rattle.definition.specs.Refusals.{Call, callOf, countOf, calls, Accepted, accepted}
 use Rattle.definition.specs.Planning.{Fate, Judgement, overlaps, fated}
+use Rattle.definition.specs.Withdrawing.{numbersLeft}
 use Rattle.definition.specs.Finishing.{result, fitting}
-use Rattle.definition.specs.Answers.{judgeChanges, rewriteChanges, ran}
+use Rattle.definition.specs.Answers.{withdrawing, judgeChanges, rewriteChanges, ran}
 use Rattle.definition.specs.Printed.{ascii, line, programRoom}
-use Rattle.definition.specs.Account.{overlapLine, said, account, inRoom}
+use Rattle.definition.specs.Account.{renumbered, accountOf, overlapLine, said, account, inRoom}
 use Rattle.definition_laws.specs.Answers.{given, gives-inj}
 use Rattle.definition_laws.specs.Accepted.{Known, accepts}
-use Rattle.definition_laws.specs.Plans.{checked, judged-known}
+use Rattle.definition_laws.specs.Plans.{checked, sorted-count}
+use Rattle.withdraw_laws.specs.Choice.{withdrawing-length}
 use Rattle.edit_print.specs.Lines.{lineOf, lineOf-length, spaced}
-use Rattle.account_lines.specs.Lines.{lines-length}
+use Rattle.account_lines.specs.Lines.{lines-length, sayings-length}
 
 -- the most bytes that an account has: 256 lines of 32
 abbrev pub mostText : ℕ
@@ -59,17 +61,19 @@ overlap-length j k = omega (arith, lineOf-length (111 ∷ 118 ∷ 101 ∷ 114 �
 
 -- An account has at most 8,192 bytes.
 pub account-short : (h : Choices) (b text : List ℕ) → account h b ≡ gives text → length text ≤ mostText
-unfolding account said
-account-short h b text e = given (accepted b) _ e λ a x e. go a (accepts b a x) (judgeChanges h a) refl e
+unfolding account said accountOf
+account-short h b text e = given (accepted b) _ e λ a x e. go a (accepts b a x) (judgeChanges h a) e
   where
-    go : (a : Accepted) → Known b a → (j : Judgement) → judgeChanges h a ≡ j → said a j ≡ gives text → length text ≤ mostText
-    go a k (overlaps i j) z e = rw (← gives-inj e) (overlap-length i j)
-    go a k (fated ps) z e =
+    go : (a : Accepted) → Known b a → (j : Judgement) → said a (withdrawing h a) j ≡ gives text → length text ≤ mostText
+    go a k (overlaps i j) e = rw (← gives-inj e) (overlap-length _ _)
+    go a k (fated ps) e =
         given (rewriteChanges a ps) _ e λ p y e.
         given (ran a p) _ e λ w y e.
         given (fitting programRoom (result (p .changes) (p .climbs) w)) _ e λ r y e.
+        let ws = withdrawing h a in
         let fs : List Fate = map (λ q. q .fate) ps in
-        rw (← gives-inj e) (omega (arith, lines-length fs, length-map ps (λ q. q .fate), (judged-known a (checked b a k) h ps z) .count, few-calls b a k))
+        rw (← gives-inj e)
+        (omega (arith, lines-length (accountOf ws fs), sayings-length ws (map (renumbered (numbersLeft ws)) fs), withdrawing-length h a, sorted-count a (checked b a k), few-calls b a k))
 
 -- With that much room 13 never comes of it.
 pub room-enough : (room : ℕ) (text : List ℕ) → mostText ≤ room → length text ≤ mostText → inRoom room text ≡ gives text

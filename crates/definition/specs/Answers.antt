@@ -1,26 +1,39 @@
--- The public calls: from a batch to its answer; refusals 17 and 1.
+-- The public calls: from a batch to its answer; refusals 17, 18 and 1.
 -- Assumes nothing.
 use mathlib.Core.Bool.{Bool}
 use mathlib.Core.List.{List}
-use mathlib.Core.Option.{none}
+use mathlib.Core.Option.{Option, none}
 use Prim.Native.Nat.{ℕ}
 use lib.ListN.{length}
 use lib.Dec.{ltb}
 use Rattle.definition.specs.Basics.{Answer, refused, gives, _>>=_, refuse, any}
 use Rattle.definition.specs.Choices.{Choices, chosen}
 use Rattle.definition.specs.Refusals.{Accepted, accepted}
-use Rattle.definition.specs.Recording.{recorded}
+use Rattle.definition.specs.Recording.{Recorded, recorded}
 use Rattle.definition.specs.Planning.{Planned, sorted, Judgement, overlaps, fated}
 use Rattle.definition.specs.EdgeRule.{judge}
+use Rattle.definition.specs.Withdrawing.{withdrawalsBy, staying}
 use Rattle.definition.specs.Rewriting.{Note, mapping, rewritten, settled}
 use Rattle.definition.specs.Running.{World, begin, ranked, order, steps}
 use Rattle.definition.specs.Finishing.{Result, result, fitting, encoded}
 
 -- ── Planning ────────────────────────────────────────────────────────────────────────────────────────────────
 
--- THE FIRST STAGE: what is recorded, in sorted order, is judged
+-- what is recorded, in sorted order
+unfoldable pub sortedChanges : Accepted → List Recorded
+sortedChanges a = sorted a.table (recorded a.calls)
+
+-- under which of them each is withdrawn, by the choice
+unfoldable pub withdrawing : Choices → Accepted → List (Option ℕ)
+withdrawing h a = withdrawalsBy h a.table (sortedChanges a)
+
+-- "Withdrawn changes leave before planning": those that stay
+unfoldable pub remaining : Choices → Accepted → List Recorded
+remaining h a = staying (withdrawing h a) (sortedChanges a)
+
+-- THE FIRST STAGE: what stays is judged; "Line 8 then concerns what is left."
 unfoldable pub judgeChanges : Choices → Accepted → Judgement
-judgeChanges h a = judge h a.table (sorted a.table (recorded a.calls))
+judgeChanges h a = judge h a.table (remaining h a)
 
 -- 8: "Replacements overlap."
 unfoldable pub disjoint : Judgement → Answer (List Planned)
@@ -81,13 +94,13 @@ withWork work answer = do
   _ ← refuse 1 (tooShort work)
   answer
 
--- an answer that is given by choices: 17 is "checked before line 1"
+-- an answer that is given by choices: 17, and 18 after it, are "checked before line 1"
 unfoldable pub withChoices : {A : Type 0} → Choices → List (ℕ × ℕ) → Answer A → Answer A
 withChoices h work answer = do
   _ ← chosen h
   withWork work answer
 
--- THE EDIT: the bytes of the result, in a buffer of `room` bytes, or the refusal out of 1 to 13, 16 and 17
+-- THE EDIT: the bytes of the result, in a buffer of `room` bytes, or the refusal out of 1 to 13 and 16 to 18
 unfoldable pub edited : Choices → List (ℕ × ℕ) → List ℕ → ℕ → Answer (List ℕ)
 edited h work bytes room = withChoices h work (do
   r ← edit h bytes

@@ -16,6 +16,7 @@ use Rattle.definition.specs.Writing
 use Rattle.definition.specs.Recording
 use Rattle.definition.specs.Planning
 use Rattle.definition.specs.EdgeRule
+use Rattle.definition.specs.Withdrawing
 use Rattle.definition.specs.Rewriting
 use Rattle.definition.specs.Running
 use Rattle.definition.specs.Finishing
@@ -41,12 +42,13 @@ unfolding
     Recording.run Recording.change Recording.call Recording.merges Recording.replacesBy Recording.idle Recording.merged Recording.merge Recording.queued Recording.recordCall Recording.recorded
     Planning.target Planning.rank Planning.from Planning.to Planning.above Planning.parentDepth Planning.key Planning.sorted Planning.peers Planning.exceeds Planning.overlapping Planning.overlap Planning.isDiscarded Planning.around Planning.fate Planning.addsRegion Planning.nodeByNode Planning.inner Planning.pushed Planning.fatesFrom Planning.fates Planning.changesOf Planning.withFates
     EdgeRule.inRun EdgeRule.atOrBelow EdgeRule.parentOrRoot EdgeRule.targetParent EdgeRule.ofRoot EdgeRule.removes EdgeRule.onlyIn EdgeRule.isRunOf EdgeRule.inside EdgeRule.takes EdgeRule.regionDepth EdgeRule.innermost EdgeRule.regionOf EdgeRule.fateIn EdgeRule.fateWithin EdgeRule.fateAmong EdgeRule.fates1 EdgeRule.fatesBy EdgeRule.planned EdgeRule.judge
+    Withdrawing.replaces Withdrawing.crosses Withdrawing.shares Withdrawing.overlapping Withdrawing.givesWay Withdrawing.stronger Withdrawing.keeping Withdrawing.kept Withdrawing.withdrawnBy Withdrawing.withdrawals Withdrawing.withdrawalsBy Withdrawing.staying Withdrawing.numbersLeft
     Rewriting.mapping Rewriting.replacement Rewriting.mappedOr Rewriting.climb Rewriting.trail Rewriting.land Rewriting.moved Rewriting.retarget Rewriting.rewriteInto Rewriting.rewriteOne Rewriting.rewriting Rewriting.rewritten Rewriting.nearest Rewriting.isParent Rewriting.noteFrom Rewriting.settle Rewriting.settled
     Running.owned Running.ranked Running.order Running.begin Running.present Running.withPath Running.notesAt Running.yieldAt Running.yield Running.news Running.fromTo Running.emptyAt Running.place Running.placed Running.spliced Running.tooLarge Running.records Running.recordedBy Running.step Running.steps
     Finishing.newTree Finishing.newTable Finishing.numberAt Finishing.changedElements Finishing.noteElements Finishing.result Finishing.sixSizes Finishing.encoded Finishing.fitting
-    Answers.judgeChanges Answers.disjoint Answers.rewriteChanges Answers.plan Answers.performed Answers.atFirst Answers.ran Answers.edit Answers.tooShort Answers.withWork Answers.withChoices Answers.edited
+    Answers.sortedChanges Answers.withdrawing Answers.remaining Answers.judgeChanges Answers.disjoint Answers.rewriteChanges Answers.plan Answers.performed Answers.atFirst Answers.ran Answers.edit Answers.tooShort Answers.withWork Answers.withChoices Answers.edited
     FindElement.alike FindElement.findIn FindElement.findElement
     Performed.inTree0 Performed.toSplice Performed.met Performed.yields Performed.told Performed.splices Performed.splicesOf
     Printed.ascii Printed.digits Printed.decimal Printed.hexDigit Printed.hex Printed.line Printed.elementLine Printed.textLine Printed.print Printed.printed
-    Account.after Account.fateLine Account.fateLines Account.overlapLine Account.said Account.account Account.inRoom Account.accounted Account.tell Account.accountPrinted
+    Account.renumbered Account.sayings Account.accountOf Account.after Account.fateLine Account.saidLine Account.saidLines Account.overlapLine Account.said Account.account Account.inRoom Account.accounted Account.tell Account.accountPrinted
 computed input = Printed.printed Choices.byDefault input

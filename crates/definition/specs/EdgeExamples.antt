@@ -1,4 +1,4 @@
--- Both edge rules on the cases where they part: one table, by computation.
+-- Both edge rules on the cases where they part: one table, by computation; and the choices as numbers and as arguments.
 -- Assumes nothing.
 use mathlib.Core.Path.{_≡_, refl}
 use mathlib.Core.List.{List, [], _∷_, _++_, map}
@@ -7,7 +7,7 @@ use Prim.Native.String.{String}
 use lib.ListN.{replicate}
 use Rattle.orders.specs.Tree.{Tree}
 use Rattle.definition.specs.Basics.{Answer, refused, gives, _>>=_}
-use Rattle.definition.specs.Choices.{Choices, noRule, given}
+use Rattle.definition.specs.Choices.{Choices, noChoice, given}
 use Rattle.definition.specs.Refusals.{Call, accepted}
 use Rattle.definition.specs.Recording.{recorded}
 use Rattle.definition.specs.Planning.{Fate, own, dependent, discarded, sorted, changesOf}
@@ -23,7 +23,7 @@ use Rattle.definition.specs.Examples.{Told, inLists, inBytes, nodeOf, to
 -- ── Batches ─────────────────────────────────────────────────────────────────────────────────────────────────
 
 -- calls on these trees
-abbrev on : List (Tree ℕ) → List Call → Told
+abbrev pub on : List (Tree ℕ) → List Call → Told
 on trees calls = record { trees = trees; calls = calls; mappings = []; notes = [] }
 
 -- calls on S (Examples) with an element mapped to another
@@ -39,11 +39,11 @@ abbrev pub closingCall : Told
 closingCall = onBlock (call 3 4 [] ∷ call 1 1 (8 ∷ []) ∷ [])
 
 -- calls on root(A(a), B(b), C(c), d): A is 1, B 3, C 5, d 7; x is 9, y 10
-abbrev onRow : List Call → Told
+abbrev pub onRow : List Call → Told
 onRow = on (nodeOf 1 (nodeOf 2 (tokenOf 3 "a" ∷ []) ∷ nodeOf 2 (tokenOf 3 "b" ∷ []) ∷ nodeOf 2 (tokenOf 3 "c" ∷ []) ∷ tokenOf 3 "d" ∷ []) ∷ nodeOf 5 (tokenOf 6 "x" ∷ tokenOf 6 "y" ∷ []) ∷ [])
 
 -- calls on root(Y, Z, V, b), Y, Z and V empty: Y is 1, Z 2, V 3; c is 6, d 7
-abbrev onEmpty : List Call → Told
+abbrev pub onEmpty : List Call → Told
 onEmpty = on (nodeOf 1 (nodeOf 2 [] ∷ nodeOf 2 [] ∷ nodeOf 2 [] ∷ tokenOf 4 "b" ∷ []) ∷ nodeOf 5 (tokenOf 6 "c" ∷ tokenOf 6 "d" ∷ []) ∷ [])
 
 -- calls on root(X(Y(a)), b): X is 1, Y 2, a 3; c is 6, its root 5
@@ -60,7 +60,7 @@ nestedOwners calls =
 
 -- an edge rule chosen
 abbrev pub edge : ℕ → Choices
-edge n = record { edge = n }
+edge n = record { edge = n; stronger = 0 }
 
 -- the fates by a choice, in sorted order
 unfoldable pub fatesOf : Choices → Told → Answer (List Fate)
@@ -144,22 +144,33 @@ pub both-rules : (map (λ c. fatesOf (edge 1) c.batch) cases ≡ map (λ c. give
 unfolding computed inLists inBytes fatesOf textBy
 both-rules = (refl, refl, refl)
 
--- 17 comes before 1 and before a batch of no bytes, for the edit, for `find_element` and for the account; else 1 before the batch.
-pub wrong-choice : (map (λ n. edited (edge n) ((0, 1) ∷ []) [] 0) (0 ∷ 1 ∷ 2 ∷ []) ≡ refused 1 ∷ refused 1 ∷ refused 17 ∷ [])
-    × (map (λ n. findElement (edge n) ((0, 1) ∷ []) [] 0) (0 ∷ 1 ∷ 2 ∷ []) ≡ refused 1 ∷ refused 1 ∷ refused 17 ∷ [])
-    × (map (λ n. accounted (edge n) ((0, 1) ∷ []) [] 0) (0 ∷ 1 ∷ 2 ∷ []) ≡ refused 1 ∷ refused 1 ∷ refused 17 ∷ [])
-    × (map (λ n. printed (edge n) []) (0 ∷ 1 ∷ 2 ∷ []) ≡ map ascii ("refused 2\n" ∷ "refused 2\n" ∷ "refused 17\n" ∷ []))
-    × (map (λ n. accountPrinted (edge n) []) (0 ∷ 1 ∷ 2 ∷ []) ≡ map ascii ("2\n" ∷ "2\n" ∷ "17\n" ∷ []))
+-- two numbers as choices
+abbrev choose : ℕ × ℕ → Choices
+choose n = record { edge = n .0; stronger = n .1 }
+
+-- right and wrong numbers, and by what each pair is refused before line 1
+abbrev numbers : List (ℕ × ℕ)
+numbers = (0, 0) ∷ (1, 1) ∷ (2, 0) ∷ (2, 2) ∷ (0, 2) ∷ []
+
+-- 17, and 18 after it, come before 1 and before a batch of no bytes, for the edit, for `find_element` and for the account; else 1 before the batch.
+pub wrong-choice : (map (λ n. edited (choose n) ((0, 1) ∷ []) [] 0) numbers ≡ refused 1 ∷ refused 1 ∷ refused 17 ∷ refused 17 ∷ refused 18 ∷ [])
+    × (map (λ n. findElement (choose n) ((0, 1) ∷ []) [] 0) numbers ≡ refused 1 ∷ refused 1 ∷ refused 17 ∷ refused 17 ∷ refused 18 ∷ [])
+    × (map (λ n. accounted (choose n) ((0, 1) ∷ []) [] 0) numbers ≡ refused 1 ∷ refused 1 ∷ refused 17 ∷ refused 17 ∷ refused 18 ∷ [])
+    × (map (λ n. printed (choose n) []) numbers ≡ map ascii ("refused 2\n" ∷ "refused 2\n" ∷ "refused 17\n" ∷ "refused 17\n" ∷ "refused 18\n" ∷ []))
+    × (map (λ n. accountPrinted (choose n) []) numbers ≡ map ascii ("2\n" ∷ "2\n" ∷ "17\n" ∷ "17\n" ∷ "18\n" ∷ []))
 unfolding computed
 wrong-choice = (refl, refl, refl, refl, refl)
 
--- The programs' arguments, beside a batch of no bytes (2): without one, and with `0` or `1`; any other first argument is 17.
+-- The programs' arguments, beside a batch of no bytes (2): without one, and with `0` or `1`; any other first argument is 17, any other second one 18.
 pub arguments-told : (map (λ a. printed (given a) []) ([] ∷ map (λ a. ascii a ∷ []) ("0" ∷ "1" ∷ [])) ≡ map ascii ("refused 2\n" ∷ "refused 2\n" ∷ "refused 2\n" ∷ []))
     × (map (λ a. printed (given (ascii a ∷ [])) []) ("2" ∷ "9" ∷ "01" ∷ "10" ∷ "x" ∷ "/" ∷ ":" ∷ "-1" ∷ " 1" ∷ "" ∷ []) ≡ replicate 10 (ascii "refused 17\n"))
-    × (map (λ a. (given a) .edge) ([] ∷ map (λ a. ascii a ∷ []) ("0" ∷ "1" ∷ "2" ∷ "01" ∷ "x" ∷ "" ∷ [])) ≡ 0 ∷ 0 ∷ 1 ∷ 2 ∷ noRule ∷ noRule ∷ noRule ∷ [])
-    × ((given (ascii "1" ∷ ascii "0" ∷ [])) .edge ≡ 1)
+    × (map (λ a. (given a) .edge) ([] ∷ map (λ a. ascii a ∷ []) ("0" ∷ "1" ∷ "2" ∷ "01" ∷ "x" ∷ "" ∷ [])) ≡ 0 ∷ 0 ∷ 1 ∷ 2 ∷ noChoice ∷ noChoice ∷ noChoice ∷ [])
+    × (map (λ a. printed (given (ascii "1" ∷ ascii a ∷ ascii "x" ∷ [])) []) ("0" ∷ "1" ∷ "2" ∷ "01" ∷ "x" ∷ "" ∷ []) ≡ map ascii ("refused 2\n" ∷ "refused 2\n" ∷ "refused 18\n" ∷ "refused 18\n" ∷ "refused 18\n" ∷ "refused 18\n" ∷ []))
+    × (printed (given (ascii "2" ∷ ascii "2" ∷ [])) [] ≡ ascii "refused 17\n")
+    × (given (ascii "1" ∷ ascii "0" ∷ []) ≡ record { edge = 1; stronger = 0 })
+    × (given (ascii "0" ∷ ascii "1" ∷ []) ≡ record { edge = 0; stronger = 1 })
 unfolding computed
-arguments-told = (refl, refl, refl, refl)
+arguments-told = (refl, refl, refl, refl, refl, refl, refl)
 
 -- The account of the closing call by either rule: "The account of Note 5 names that region instead."
 pub closing-call-told : map (λ n. accountPrinted (edge n) (inBytes closingCall)) (0 ∷ 1 ∷ []) ≡ map ascii ("0 own\n1 discarded 0\n" ∷ "0 own\n1 own\n" ∷ [])

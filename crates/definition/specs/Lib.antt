@@ -1,7 +1,7 @@
 -- Document 01, as definitions that compute, on the trees, paths and splices of `orders`. In reading order:
 --     Basics       an answer or a refusal, tests on lists, the stable sort
 --     Words        the batch: words in bytes
---     Choices      the edge rule by which a batch is edited                                  17
+--     Choices      how a batch is edited: the edge rule, stronger rules first or not     17, 18
 --     Batch        the batch: sizes, limits, arrays                                  refusals 2, 3, 4
 --     Elements     the batch: the trees it spells, and what is known of each element            5
 --     Refusals     calls, mappings, notes; a batch accepted                              6, 16, 7
@@ -9,6 +9,7 @@
 --     Recording    from calls to changes
 --     Planning     sorting, overlap, owners and discarded changes                               8
 --     EdgeRule     owners and discarded changes by edge rule 1; by either, as chosen
+--     Withdrawing  stronger rules first: what is withdrawn before planning, as chosen
 --     Rewriting    a dependent's targets, and the notes                                     9, 10
 --     Running      the order, and one step                                                 11, 12
 --     Finishing    the result and its bytes                                                    13
@@ -19,7 +20,8 @@
 --     Account      what becomes of each change, as the account program prints it
 --     Computing    every definition opened, for examples
 --     Examples     the printed case and the marked examples, one table
---     EdgeExamples both edge rules where they part, one table
+--     EdgeExamples both edge rules where they part, one table; the choices' numbers and arguments
+--     WithdrawExamples  stronger rules first, off and on, where they part, one table
 pub mod Basics
 pub mod Words
 pub mod Choices
@@ -30,6 +32,7 @@ pub mod Writing
 pub mod Recording
 pub mod Planning
 pub mod EdgeRule
+pub mod Withdrawing
 pub mod Rewriting
 pub mod Running
 pub mod Finishing
@@ -41,3 +44,4 @@ pub mod Account
 pub mod Computing
 pub mod Examples
 pub mod EdgeExamples
+pub mod WithdrawExamples

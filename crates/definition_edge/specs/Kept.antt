@@ -25,12 +25,12 @@ use Rattle.definition.specs.Rewriting.{Note}
 use Rattle.definition.specs.EdgeRule.{targetParent, fates1, planned}
 use Rattle.definition.specs.Running.{World, Run, begin, present, place, fromTo, emptyAt, step, steps}
 use Rattle.definition.specs.Finishing.{newTree, result}
-use Rattle.definition.specs.Answers.{Plan, plan, performed, atFirst, ran, edit}
+use Rattle.definition.specs.Answers.{remaining, Plan, plan, performed, atFirst, ran, edit}
 use Rattle.definition.specs.Performed.{inTree0, toSplice, met, told, yields, splices}
 use Rattle.definition_laws.specs.Answers.{given}
 use Rattle.definition_laws.specs.Accepted.{Known, accepts}
 use Rattle.definition_laws.specs.Kin.{path-long, not-root}
-use Rattle.definition_laws.specs.Plans.{checked, sortedChanges, changes, changes-right, plan-parts}
+use Rattle.definition_laws.specs.Plans.{checked, changes, changes-right, plan-parts}
 use Rattle.definition_laws.specs.Stages.{fatesBy-1}
 use Rattle.definition_laws.specs.Right.{Right, Sits, right-sits}
 use Rattle.definition_demand.specs.Aims.{replacesRoot}
@@ -128,9 +128,9 @@ table-stood notes old ps w T ts e = rw e (λ d h. stood ts notes old ps w d h)
 -- ── Planned by rule 1 ───────────────────────────────────────────────────────────────────────────────────────
 
 -- a batch's plan by rule 1 is that of its changes with the fates of rule 1
-plan-by-1 : (h : Choices) (a : Accepted) (p : Plan) → h .edge ≡ 1 → plan h a ≡ gives p → planned1 a (sortedChanges a) ≡ gives p
+plan-by-1 : (h : Choices) (a : Accepted) (p : Plan) → h .edge ≡ 1 → plan h a ≡ gives p → planned1 a (remaining h a) ≡ gives p
 unfolding planned
-plan-by-1 h a p e y = ap (plannedBy a (sortedChanges a)) (sym (fatesBy-1 h a.table e (changes a))) ∙ (plan-parts h a p y) .1
+plan-by-1 h a p e y = ap (plannedBy a (remaining h a)) (sym (fatesBy-1 h a.table e (changes h a))) ∙ (plan-parts h a p y) .1
 
 -- AN ACCEPTED BATCH UNDER RULE 1, its run not refused, that does not replace the root of tree 0 and has no dependent change ending there
 pub record Ran1 (h : Choices) (bytes : List ℕ) (a : Accepted) (p : Plan) (w : World) : Type 0 where
@@ -152,20 +152,20 @@ pub record Kept1 (h : Choices) (bytes : List ℕ) (a : Accepted) (p : Plan) (w :
   -- AND WHAT EACH CHANGE PERFORMED IN TREE 0 PUTS IN STANDS THERE
   pub stood : (q : Planned) → List·Memᴰ q (performed a p) → tree a.table (target q.change) ≡ 0 → Stood a.table (atFirst a p) (performed a p) w q
   -- so does what a change that the account calls own puts into tree 0: no own insertion is lost
-  pub own : (i : ℕ) (c : Recorded) → getElem? (sortedChanges a) i ≡ some c → FateAt a.table (changes a) i own → tree a.table (target c.change) ≡ 0 → Stood a.table (atFirst a p) (performed a p) w (alone c)
+  pub own : (i : ℕ) (c : Recorded) → getElem? (remaining h a) i ≡ some c → FateAt a.table (changes h a) i own → tree a.table (target c.change) ≡ 0 → Stood a.table (atFirst a p) (performed a p) w (alone c)
 
 module _ (h : Choices) (bytes : List ℕ) (a : Accepted) (p : Plan) (w : World) (g : Ran1 h bytes a p w) where
   abbrev known : Known bytes a
   known = accepts bytes a (g .accepted)
 
-  abbrev right : All (Right a.table) (changes a)
-  right = changes-right a (checked bytes a known)
+  abbrev right : All (Right a.table) (changes h a)
+  right = changes-right a (checked bytes a known) h
 
-  by-1 : planned1 a (sortedChanges a) ≡ gives p
+  by-1 : planned1 a (remaining h a) ≡ gives p
   by-1 = plan-by-1 h a p (g .rule) (g .planned)
 
   splices-apart : (old : Tree ℕ) × ApartIn old a p
-  splices-apart = apart-by-rule-1 bytes a (g .accepted) (sortedChanges a) right p by-1 w (g .ran) (g .unreplaced) (g .aside)
+  splices-apart = apart-by-rule-1 bytes a (g .accepted) (remaining h a) right p by-1 w (g .ran) (g .unreplaced) (g .aside)
 
   edits-so : edit h bytes ≡ gives (result p.changes p.climbs w)
   unfolding edit _>>=_
@@ -176,7 +176,7 @@ module _ (h : Choices) (bytes : List ℕ) (a : Accepted) (p : Plan) (w : World) 
   stands-so =
       let (old, x) = splices-apart in
       let d = ran-demanded h old bytes a p w (g .accepted) (g .planned) (g .ran) x in
-      let sits = All-map (λ q c. right-sits a.table q.change c) (performed a p) (performed-right a (sortedChanges a) (fates1 a.table (changes a)) p by-1 right) in
+      let sits = All-map (λ q c. right-sits a.table q.change c) (performed a p) (performed-right a (remaining h a) (fates1 a.table (changes h a)) p by-1 right) in
       table-stood p.notes old (performed a p) w a.table a.trees (known .table) d (x .apart) sits (x .unreplaced) (g .ran)
 
   -- UNDER RULE 1 NO OWN INSERTION IS LOST
@@ -189,5 +189,5 @@ module _ (h : Choices) (bytes : List ℕ) (a : Accepted) (p : Plan) (w : World) 
         apart = x;
         answers = answers-one-go h bytes (result p.changes p.climbs w) edits-so a p (g .accepted) (g .planned) old x;
         stood = stands-so;
-        own = λ i c e f z. stands-so (alone c) (own-performed a (sortedChanges a) p by-1 i c e f) z;
+        own = λ i c e f z. stands-so (alone c) (own-performed a (remaining h a) p by-1 i c e f) z;
       }

@@ -11,6 +11,7 @@
 --     Sorting    the sorted order is a stable permutation, also where places are sorted and not the elements
 --     Searching  where an element is put in a sorted list, found by halves
 --     Regions    the last region that contains a change is the one that popping finds
+--     Staying    what stays where some are withdrawn: a part of it in its order, all of it where none is
 --     Stages     what each stage from calls to performed changes keeps of every change
 --     Accepted   what is known of a batch that lines 2 to 7 accept
 --     Plans      what is known of its plan: changes, climb steps, notes
@@ -30,6 +31,7 @@ pub mod Intervals
 pub mod Sorting
 pub mod Searching
 pub mod Regions
+pub mod Staying
 pub mod Stages
 pub mod Accepted
 pub mod Plans

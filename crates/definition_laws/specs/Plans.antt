@@ -18,15 +18,16 @@ use Rattle.definition.specs.Elements.{Table, table, row, node?, placeBelow, des
 use Rattle.definition.specs.Refusals.{Call, callOf, countOf, ruleOf, calls, mostListed, listsTooMany, wrongCall, wrongMapping, wrongNote, Accepted}
 use Rattle.definition.specs.Recording.{Recorded, Change, change, recorded}
 use Rattle.definition.specs.EdgeRule.{planned}
-use Rattle.definition.specs.Planning.{Planned, changesOf, sorted, overlap, Judgement, overlaps, fated}
+use Rattle.definition.specs.Planning.{Planned, changesOf, overlap, Judgement, overlaps, fated}
 use Rattle.definition.specs.Rewriting.{mapping, mappedOr, land, rewritten, nearest, isParent, noteFrom, settle, Note, settled}
 use Rattle.definition.specs.Running.{news, ranked}
-use Rattle.definition.specs.Answers.{judgeChanges, disjoint, Plan, rewriteChanges, plan, performed}
+use Rattle.definition.specs.Answers.{sortedChanges, withdrawing, remaining, judgeChanges, disjoint, Plan, rewriteChanges, plan, performed}
 use Rattle.definition_laws.specs.Basics.{map-All, total-length, total-map, first-passes}
 use Rattle.definition_laws.specs.Answers.{gives-inj, refused-gives, given, is-there}
 use Rattle.definition_laws.specs.Kin.{descends-place}
 use Rattle.definition_laws.specs.Accepted.{Known}
 use Rattle.definition_laws.specs.Right.{Right, neither, none-passes, change-right, change-lists, change-few}
+use Rattle.definition_laws.specs.Staying.{staying-all, staying-total, staying-length}
 use Rattle.definition_laws.specs.Stages.{lists, listsAll, recorded-all, recorded-total, sorted-all, sorted-total, planned-changes, planned-rules, judge-fated, RewroteAll, rewritten-all, order-all, ranked-all}
 
 -- ── Notes ───────────────────────────────────────────────────────────────────────────────────────────────────
@@ -139,59 +140,70 @@ pub plan-fated : (h : Choices) (a : Accepted) (ps : List Planned) → judgeChang
 unfolding plan disjoint _>>=_
 plan-fated h a ps e = rw (e, disjoint)
 
--- what is recorded of a batch, sorted
-abbrev pub sortedChanges : Accepted → List Recorded
-sortedChanges a = sorted a.table (recorded a.calls)
+-- the changes that stay, as sorted, before they are rewritten
+abbrev pub changes : Choices → Accepted → List Change
+changes h a = changesOf (remaining h a)
 
--- its changes as sorted, before they are rewritten
-abbrev pub changes : Accepted → List Change
-changes a = changesOf (sortedChanges a)
+module _ (h : Choices) (a : Accepted) where
+  -- what each recorded change has, each that stays has; and no sum grows
+  pub remaining-all : (P : Recorded → Type 0) → All P (recorded a.calls) → All P (remaining h a)
+  unfolding remaining sortedChanges
+  remaining-all P k = staying-all P (withdrawing h a) (sortedChanges a) (sorted-all a.table P (recorded a.calls) k)
 
--- a plan's changes were judged so, and then rewritten
-pub plan-parts : (h : Choices) (a : Accepted) (p : Plan) → plan h a ≡ gives p → (overlap a.table (changes a) ≡ none) × (rewriteChanges a (planned h a.table (sortedChanges a)) ≡ gives p)
-unfolding plan judgeChanges
-plan-parts h a p e =
-    given (disjoint (judgeChanges h a)) _ e λ ps x e.
-    let (apart, same) = judge-fated h a.table (sortedChanges a) ps (disjoint-fated (judgeChanges h a) ps x) in
-    (apart, ap (rewriteChanges a) (sym same) ∙ e)
+  pub remaining-total : (f : Recorded → ℕ) → total (λ r. true) f (remaining h a) ≤ total (λ r. true) f (recorded a.calls)
+  unfolding remaining sortedChanges
+  remaining-total f = omega (arith, staying-total (λ r. true) f (withdrawing h a) (sortedChanges a), sorted-total a.table (λ r. true) f (recorded a.calls))
+
+  -- a plan's changes were judged so, and then rewritten
+  pub plan-parts : (p : Plan) → plan h a ≡ gives p → (overlap a.table (changes h a) ≡ none) × (rewriteChanges a (planned h a.table (remaining h a)) ≡ gives p)
+  unfolding plan judgeChanges
+  plan-parts p e =
+      given (disjoint (judgeChanges h a)) _ e λ ps x e.
+      let (apart, same) = judge-fated h a.table (remaining h a) ps (disjoint-fated (judgeChanges h a) ps x) in
+      (apart, ap (rewriteChanges a) (sym same) ∙ e)
 
 module _ (a : Accepted) (k : Checked a) where
-  pub changes-right : All (Right a.table) (changes a)
+  pub changes-right : (h : Choices) → All (Right a.table) (changes h a)
   unfolding changesOf
-  changes-right =
-      All-over (λ r. r .change) (λ (r : Recorded). Right a.table r.change) (Right a.table) (λ r h. h) (sortedChanges a)
-      (sorted-all a.table (λ r. Right a.table r.change) (recorded a.calls)
-      (recorded-all (λ r. Right a.table r.change) a.calls (All-map (λ c e h. change-right a.table c e h) a.calls (k .calls))))
+  changes-right h =
+      All-over (λ r. r .change) (λ (r : Recorded). Right a.table r.change) (Right a.table) (λ r g. g) (remaining h a)
+      (remaining-all h a (λ r. Right a.table r.change)
+      (recorded-all (λ r. Right a.table r.change) a.calls (All-map (λ c e g. change-right a.table c e g) a.calls (k .calls))))
 
-  changes-few : All (λ c. lists c ≤ mostListed) (changes a)
+  changes-few : (h : Choices) → All (λ c. lists c ≤ mostListed) (changes h a)
   unfolding changesOf
-  changes-few =
-      All-over (λ r. r .change) (λ (r : Recorded). lists r.change ≤ mostListed) (λ c. lists c ≤ mostListed) (λ r h. h) (sortedChanges a)
-      (sorted-all a.table (λ r. lists r.change ≤ mostListed) (recorded a.calls)
-      (recorded-all (λ r. lists r.change ≤ mostListed) a.calls (All-map (λ c e h. change-few c e) a.calls (k .few))))
+  changes-few h =
+      All-over (λ r. r .change) (λ (r : Recorded). lists r.change ≤ mostListed) (λ c. lists c ≤ mostListed) (λ r g. g) (remaining h a)
+      (remaining-all h a (λ r. lists r.change ≤ mostListed)
+      (recorded-all (λ r. lists r.change ≤ mostListed) a.calls (All-map (λ c e g. change-few c e) a.calls (k .few))))
 
-  changes-listed : listsAll (changes a) ≤ total (λ c. true) (λ c. length c.listed) a.calls
+  changes-listed : (h : Choices) → listsAll (changes h a) ≤ total (λ c. true) (λ c. length c.listed) a.calls
   unfolding changesOf
-  changes-listed =
-      rw (← total-map (λ r. r .change) lists (sortedChanges a), sorted-total a.table (λ c. true) (λ r. lists r.change) (recorded a.calls))
-      (recorded-total (λ r. lists r.change) (λ c. length c.listed) a.calls (All-map (λ c e h. change-lists a.table c e) a.calls (k .calls)))
+  changes-listed h =
+      rw (← total-map (λ r. r .change) lists (remaining h a))
+      (omega (arith, remaining-total h a (λ r. lists r.change), recorded-total (λ r. lists r.change) (λ c. length c.listed) a.calls (All-map (λ c e g. change-lists a.table c e) a.calls (k .calls))))
 
-  changes-count : length (changes a) ≤ length a.calls
-  unfolding changesOf
-  changes-count =
-      let one : total (λ c. true) (λ (c : Recorded). 1) (recorded a.calls) ≤ total (λ c. true) (λ (c : Call). 1) a.calls = recorded-total (λ c. 1) (λ c. 1) a.calls (All-map (λ c e h. omega arith) a.calls (k .calls)) in
-      omega (arith, length-map (sortedChanges a) (λ r. r .change), total-length (sortedChanges a), sorted-total a.table (λ c. true) (λ c. 1) (recorded a.calls), one, total-length a.calls)
+  -- there are no more changes than calls, withdrawn ones among them or not
+  pub sorted-count : length (sortedChanges a) ≤ length a.calls
+  unfolding sortedChanges
+  sorted-count =
+      let one : total (λ c. true) (λ (c : Recorded). 1) (recorded a.calls) ≤ total (λ c. true) (λ (c : Call). 1) a.calls = recorded-total (λ c. 1) (λ c. 1) a.calls (All-map (λ c e g. omega arith) a.calls (k .calls)) in
+      omega (arith, total-length (sortedChanges a), sorted-total a.table (λ c. true) (λ c. 1) (recorded a.calls), one, total-length a.calls)
 
-  -- the changes that are judged are those that were sorted
+  changes-count : (h : Choices) → length (changes h a) ≤ length a.calls
+  unfolding changesOf remaining
+  changes-count h = omega (arith, length-map (remaining h a) (λ r. r .change), staying-length (withdrawing h a) (sortedChanges a), sorted-count)
+
+  -- the changes that are judged are those that stay
   pub judged-known : (h : Choices) (ps : List Planned) → judgeChanges h a ≡ fated ps → Judging a ps
   unfolding judgeChanges
   judged-known h ps e =
       let T = a .table in
-      let cs = changes a in
-      let same : map (λ q. q .change) ps ≡ cs = ap (map (λ q. q .change)) ((judge-fated h T (sortedChanges a) ps e) .1) ∙ planned-changes h T (sortedChanges a) in
+      let cs = changes h a in
+      let same : map (λ q. q .change) ps ≡ cs = ap (map (λ q. q .change)) ((judge-fated h T (remaining h a) ps e) .1) ∙ planned-changes h T (remaining h a) in
       let long : length ps ≡ length cs = sym (length-map ps (λ q. q .change)) ∙ ap length same in
       let sum : total (λ q. true) (λ q. lists q.change) ps ≡ listsAll cs = total-map (λ q. q .change) lists ps ∙ ap listsAll same in
-      record { right = map-All (Right T) (λ q. q .change) ps (rw same changes-right); few = map-All (λ c. lists c ≤ mostListed) (λ q. q .change) ps (rw same changes-few); count = omega (arith, changes-count); listed = omega (arith, changes-listed) }
+      record { right = map-All (Right T) (λ q. q .change) ps (rw same (changes-right h)); few = map-All (λ c. lists c ≤ mostListed) (λ q. q .change) ps (rw same (changes-few h)); count = omega (arith, changes-count h); listed = omega (arith, changes-listed h) }
 
   -- what holds of the rewritten changes, from what holds of the judged ones
   rewritten-known : (ps : List Planned) (r : List Planned × ℕ) (notes : List Note) → RewroteAll a.table (mapping a.mappings) ps r → Judging a ps
@@ -259,9 +271,9 @@ pub plan-ruled : (h : Choices) (bytes : List ℕ) (a : Accepted) (p : Plan) → 
 unfolding rewriteChanges
 plan-ruled h bytes a p k e =
     let T = a .table in
-    let rs = sortedChanges a in
+    let rs = remaining h a in
     let small : All (λ r. r .rule < 4096) rs =
-    sorted-all T (λ r. r .rule < 4096) (recorded a.calls) (recorded-all (λ r. r .rule < 4096) a.calls (All-map (λ c s z. s) a.calls (calls-ruled _ _ a.calls (k .parted)))) in
+    remaining-all h a (λ r. r .rule < 4096) (recorded-all (λ r. r .rule < 4096) a.calls (All-map (λ c s z. s) a.calls (calls-ruled _ _ a.calls (k .parted)))) in
     given (rewritten T (mapping a.mappings) (planned h T rs)) _ ((plan-parts h a p e) .1) λ r y g.
     given (settled T (mapping a.mappings) 0 a.notes) _ g λ notes z g.
     rw (← gives-inj g)

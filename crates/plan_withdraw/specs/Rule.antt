@@ -9,7 +9,7 @@ use lib.ListN.{getD, take, drop}
 use lib.Dec.{ltb, eqb}
 use Rattle.definition.specs.Basics.{insertBy}
 use Rattle.definition_laws.specs.Basics.{upFrom}
-use Rattle.withdraw_laws.specs.Withdrawing.{staying}
+use Rattle.definition.specs.Withdrawing.{staying}
 use Rattle.record_changes.specs.ChangeRow.{ChangeRow, rowsOf}
 use Rattle.record_changes.specs.ChangeRowLaws.{rowAt}
 

@@ -21,8 +21,8 @@ use Rattle.definition_laws.specs.Basics.{upFrom, All-append, All-keep}
 use Rattle.definition_laws.specs.Sorting.{map-insert, map-sort, sort-all}
 use Rattle.definition_laws.specs.Right.{Sits, parent-same}
 use Rattle.definition_laws.specs.Stages.{numbered-all}
-use Rattle.withdraw_laws.specs.Withdrawing as rule
-use Rattle.withdraw_laws.specs.Withdrawing.{Numbered, replaces, numbersLeft}
+use Rattle.definition.specs.Withdrawing as rule
+use Rattle.definition.specs.Withdrawing.{Numbered, replaces, numbersLeft}
 use Rattle.withdraw_laws.specs.Lists.{keep-passes}
 use Rattle.withdraw_laws.specs.Kept.{shares-element}
 use Rattle.withdraw_laws.specs.Numbers.{numbersFrom, numbers-are}

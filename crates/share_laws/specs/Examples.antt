@@ -55,10 +55,10 @@ pub shares-told : map (λ e. shared byDefault [] (inBytes (e .0))) shares ≡ ma
 unfolding computed inLists inBytes liesIn liesInOne bytesIn newText changedIn rewrittenBytes thousandths shareIn share shared
 shares-told = refl
 
--- 17 comes before 1, and 1 before all else: a work slice of 3 words that needs 4
-pub refusals-first : (shared (record { edge = 2 }) ((3, 4) ∷ []) [] ≡ refused 17) × (shared byDefault ((3, 4) ∷ []) [] ≡ refused 1) × (shared byDefault ((4, 4) ∷ []) [] ≡ refused 2)
+-- 17 comes before 18, 18 before 1, and 1 before all else: a work slice of 3 words that needs 4
+pub refusals-first : (shared (record { edge = 2; stronger = 2 }) ((3, 4) ∷ []) [] ≡ refused 17) × (shared (record { edge = 1; stronger = 2 }) ((3, 4) ∷ []) [] ≡ refused 18) × (shared byDefault ((3, 4) ∷ []) [] ≡ refused 1) × (shared byDefault ((4, 4) ∷ []) [] ≡ refused 2)
 unfolding computed inLists inBytes liesIn liesInOne bytesIn newText changedIn rewrittenBytes thousandths shareIn share shared
-refusals-first = (refl, refl, refl)
+refusals-first = (refl, refl, refl, refl)
 
 -- Two editors replace an empty root, the first by itself: the second one's change is a dependent that ends at the root of tree 0, and `ownRoots` is false. Such a root has no text, so the share is 0 and 0.
 abbrev emptyRoot : Told

@@ -20,7 +20,7 @@ use Rattle.definition.specs.EdgeRule.{removes}
 use Rattle.definition_laws.specs.Basics.{keep-yes, keep-no, All-append, append-All, All-keep, first-passes}
 use Rattle.definition_laws.specs.Sorting.{insert-first, insert-later, insert-perm, sort-all, falling-perm, at-first, at-rest, lower-why, lower-not-why}
 use Rattle.definition_laws.specs.Performed.{numbered-rising}
-use Rattle.withdraw_laws.specs.Withdrawing.{Numbered, replaces, crosses, shares, overlapping, givesWay, stronger, keeping, kept, withdrawnBy, withdrawals}
+use Rattle.definition.specs.Withdrawing.{Numbered, replaces, crosses, shares, overlapping, givesWay, stronger, keeping, kept, withdrawnBy, withdrawals}
 use Rattle.withdraw_laws.specs.Lists.{keep-passes, first-none, none-first, first-mem, first-before, get-map, get-numbered, numbered-get}
 use Rattle.withdraw_laws.specs.Words.{Overlapping, GivesWay, Kept, Under}
 

@@ -10,10 +10,9 @@ use Rattle.orders.specs.Lists.{All, Pairs}
 use Rattle.orders.specs.ListLaws.{some-inj, none-some, get-mem, All-map, All-mem}
 use Rattle.definition.specs.Basics.{numbered}
 use Rattle.definition.specs.Planning.{Fate, own, dependent, discarded}
-use Rattle.definition.specs.Account.{fateLine, fateLines}
 use Rattle.definition_laws.specs.Basics.{upFrom, up-at}
-use Rattle.withdraw_laws.specs.Withdrawing.{staying, numbersLeft}
-use Rattle.withdraw_laws.specs.Said.{Said, planned, withdrawn, renumbered, sayings, accountOf, saidLine, saidLines}
+use Rattle.definition.specs.Withdrawing.{staying, numbersLeft}
+use Rattle.definition.specs.Account.{fateLine, Said, planned, withdrawn, renumbered, sayings, accountOf, saidLine, saidLines}
 use Rattle.withdraw_laws.specs.Lists.{get-map}
 
 -- ── Places and numbers ──────────────────────────────────────────────────────────────────────────────────────
@@ -190,6 +189,6 @@ unfolding numbered saidLine flatMap
 lines-from n [] = refl
 lines-from n (f ∷ fs) = ap (λ r. fateLine (n, f) ++ r) (lines-from (suc n) fs)
 
-pub lines-same : (fs : List Fate) → saidLines (map planned fs) ≡ fateLines fs
-unfolding saidLines fateLines
+pub lines-same : (fs : List Fate) → saidLines (map planned fs) ≡ flatMap fateLine (numbered 0 fs)
+unfolding saidLines
 lines-same fs = lines-from 0 fs

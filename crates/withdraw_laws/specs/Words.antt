@@ -11,7 +11,7 @@ use Rattle.definition.specs.Elements.{Table, tree}
 use Rattle.definition.specs.Recording.{Recorded, Change}
 use Rattle.definition.specs.Planning.{target, from, to, parentDepth}
 use Rattle.definition.specs.EdgeRule.{removes}
-use Rattle.withdraw_laws.specs.Withdrawing.{replaces, withdrawals}
+use Rattle.definition.specs.Withdrawing.{replaces, withdrawals}
 
 module _ (T : Table) where
   -- "Overlap means that each starts before the other ends, or that both remove the same element, those below included."

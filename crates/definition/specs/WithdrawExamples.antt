@@ -1,47 +1,24 @@
 -- Stronger rules first, off and on, on the cases where they part: one table, by computation.
 -- Assumes nothing.
 use mathlib.Core.Path.{_≡_, refl}
-use mathlib.Core.Bool.{Bool, true, false}
 use mathlib.Core.List.{List, [], _∷_, map}
-use mathlib.Core.Option.{Option}
 use Prim.Native.Nat.{ℕ}
 use Prim.Native.String.{String}
-use lib.ListN.{getD}
-use Rattle.orders.specs.Tree.{Tree}
 use Rattle.definition.specs.Basics.{Answer, refused, gives, _>>=_}
 use Rattle.definition.specs.Choices.{Choices}
-use Rattle.definition.specs.Refusals.{Call, Accepted, accepted}
-use Rattle.definition.specs.Recording.{recorded}
-use Rattle.definition.specs.Planning.{sorted, Judgement, overlaps, fated}
-use Rattle.definition.specs.EdgeRule.{judge}
-use Rattle.definition.specs.Finishing.{result}
-use Rattle.definition.specs.Answers.{disjoint, rewriteChanges, ran}
+use Rattle.definition.specs.Refusals.{Call}
+use Rattle.definition.specs.Answers.{edit}
 use Rattle.definition.specs.Printed.{ascii}
-use Rattle.definition.specs.Account.{overlapLine, tell}
+use Rattle.definition.specs.Account.{accountPrinted}
 use Rattle.definition.specs.Computing.{computed}
 use Rattle.definition.specs.Examples.{Told, inLists, inBytes, nodeOf, tokenOf, call, callBy, onS}
-use Rattle.withdraw_laws.specs.Withdrawing
-use Rattle.withdraw_laws.specs.Withdrawing.{withdrawalsBy, staying, numbersLeft}
-use Rattle.withdraw_laws.specs.Said
-use Rattle.withdraw_laws.specs.Said.{accountOf, saidLines}
+use Rattle.definition.specs.EdgeExamples.{on, onRow, onEmpty}
 
 -- ── Batches ─────────────────────────────────────────────────────────────────────────────────────────────────
-
--- calls on these trees
-abbrev on : List (Tree ℕ) → List Call → Told
-on trees calls = record { trees = trees; calls = calls; mappings = []; notes = [] }
 
 -- calls on root(z, b), z empty: z is 1, b 2
 abbrev onZ : List Call → Told
 onZ = on (nodeOf 1 (nodeOf 2 [] ∷ tokenOf 4 "b" ∷ []) ∷ nodeOf 5 (tokenOf 6 "c" ∷ []) ∷ [])
-
--- calls on root(A(a), B(b), C(c), d): A is 1, B 3, C 5, d 7; x is 9, y 10
-abbrev onRow : List Call → Told
-onRow = on (nodeOf 1 (nodeOf 2 (tokenOf 3 "a" ∷ []) ∷ nodeOf 2 (tokenOf 3 "b" ∷ []) ∷ nodeOf 2 (tokenOf 3 "c" ∷ []) ∷ tokenOf 3 "d" ∷ []) ∷ nodeOf 5 (tokenOf 6 "x" ∷ tokenOf 6 "y" ∷ []) ∷ [])
-
--- calls on root(Y, Z, V, b), Y, Z and V empty: Y is 1, Z 2, V 3; c is 6, d 7
-abbrev onEmpty : List Call → Told
-onEmpty = on (nodeOf 1 (nodeOf 2 [] ∷ nodeOf 2 [] ∷ nodeOf 2 [] ∷ tokenOf 4 "b" ∷ []) ∷ nodeOf 5 (tokenOf 6 "c" ∷ tokenOf 6 "d" ∷ []) ∷ [])
 
 -- "Two rule books, each with an editor of its own, often replace the same node, and the whole batch is refused.": X by c, and X by d
 abbrev pub twoBooks : ℕ → ℕ → Told
@@ -49,37 +26,17 @@ twoBooks first second = onS (callBy first 2 1 (5 ∷ []) ∷ call 6 0 [] ∷ cal
 
 -- ── What is told of each case ───────────────────────────────────────────────────────────────────────────────
 
--- an edge rule
-abbrev edge : ℕ → Choices
-edge n = record { edge = n }
+-- an edge rule without the choice
+abbrev off : ℕ → Choices
+off edge = record { edge = edge; stronger = 0 }
 
--- under which change each sorted change of a batch is withdrawn, the choice off or on; and the judgement of what is left
-unfoldable pub withdrawing : Bool → Accepted → List (Option ℕ)
-withdrawing choice a = withdrawalsBy choice a.table (sorted a.table (recorded a.calls))
+-- and with it: stronger rules first
+abbrev first : ℕ → Choices
+first edge = record { edge = edge; stronger = 1 }
 
-unfoldable pub judged : Choices → Bool → Accepted → Judgement
-judged h choice a = judge h a.table (staying (withdrawing choice a) (sorted a.table (recorded a.calls)))
-
--- the text that the edit gives of what is left, and how many changes it counts as discarded
-unfoldable pub outcome : Choices → Bool → Told → Answer (List ℕ × ℕ)
-outcome h choice b = do
-  a ← accepted (inBytes b)
-  ps ← disjoint (judged h choice a)
-  p ← rewriteChanges a ps
-  w ← ran a p
-  let r = result p.changes p.climbs w
-  gives (r .text, r .discarded)
-
--- what the account says
-unfoldable pub said : Accepted → List (Option ℕ) → Judgement → Answer (List ℕ)
-said a ws (overlaps j k) = let ns = numbersLeft ws in gives (overlapLine (getD ns j 0) (getD ns k 0))
-said a ws (fated ps) = do
-  p ← rewriteChanges a ps
-  w ← ran a p
-  gives (saidLines (accountOf ws (map (λ q. q .fate) ps)))
-
-unfoldable pub account : Choices → Bool → Told → List ℕ
-account h choice b = tell (accepted (inBytes b) >>= λ a. said a (withdrawing choice a) (judged h choice a))
+-- the text that the edit gives, and how many changes it counts as discarded
+unfoldable pub outcome : Choices → Told → Answer (List ℕ × ℕ)
+outcome h b = edit h (inBytes b) >>= λ r. gives (r .text, r .discarded)
 
 -- a text, and a count
 abbrev text : String → ℕ → Answer (List ℕ × ℕ)
@@ -126,25 +83,17 @@ cases =
     ∷ case (onEmpty (callBy 1 3 1 [] ∷ call 6 0 [] ∷ callBy 2 2 1 (5 ∷ []) ∷ call 0 1 (6 ∷ []) ∷ [])) (text "b" 2) (refused 9) "9\n"
     ∷ []
 
--- the choice's definitions opened
-unfoldable opened : Told → List ℕ
-unfolding
-    Withdrawing.replaces Withdrawing.crosses Withdrawing.shares Withdrawing.overlapping Withdrawing.givesWay Withdrawing.stronger Withdrawing.keeping Withdrawing.kept Withdrawing.withdrawnBy Withdrawing.withdrawals Withdrawing.withdrawalsBy Withdrawing.staying Withdrawing.numbersLeft
-    Said.renumbered Said.sayings Said.accountOf Said.saidLine Said.saidLines
-    withdrawing judged outcome said account
-opened b = account (edge 0) true b
-
 -- Each case is as told: what the edit gives with the choice off, what it gives with it on, and the account of that.
-pub off-and-on : (map (λ c. outcome (edge 0) false c.batch) cases ≡ map (λ c. c .off) cases)
-    × (map (λ c. outcome (edge 0) true c.batch) cases ≡ map (λ c. c .on) cases)
-    × (map (λ c. account (edge 0) true c.batch) cases ≡ map (λ c. ascii c.account) cases)
-unfolding computed inLists inBytes opened
+pub off-and-on : (map (λ c. outcome (off 0) c.batch) cases ≡ map (λ c. c .off) cases)
+    × (map (λ c. outcome (first 0) c.batch) cases ≡ map (λ c. c .on) cases)
+    × (map (λ c. accountPrinted (first 0) (inBytes c.batch)) cases ≡ map (λ c. ascii c.account) cases)
+unfolding computed inLists inBytes outcome
 off-and-on = (refl, refl, refl)
 
 -- The run from A to B by rule 1, A deleted by rule 2, x after A: a region that is withdrawn is none, so under edge rule 1 x is its own.
 abbrev pub regionGone : Told
 regionGone = onRow (callBy 1 5 1 (3 ∷ []) ∷ callBy 2 3 1 [] ∷ call 1 1 (9 ∷ []) ∷ [])
 
-pub no-region : (outcome (edge 1) true regionGone ≡ text "xbcd" 0) × (account (edge 1) true regionGone ≡ ascii "0 withdrawn 1\n1 own\n2 own\n")
-unfolding computed inLists inBytes opened
+pub no-region : (outcome (first 1) regionGone ≡ text "xbcd" 0) × (accountPrinted (first 1) (inBytes regionGone) ≡ ascii "0 withdrawn 1\n1 own\n2 own\n")
+unfolding computed inLists inBytes outcome
 no-region = (refl, refl)

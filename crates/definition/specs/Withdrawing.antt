@@ -5,11 +5,12 @@ use mathlib.Core.List.{List, [], _∷_, _++_, map}
 use mathlib.Core.Option.{Option, none, some, Option·map}
 use Prim.Native.Nat.{ℕ}
 use lib.Dec.{ltb, eqb}
 use Rattle.definition.specs.Basics.{any, isSome, keep, first, numbered, falling}
+use Rattle.definition.specs.Choices.{Choices}
 use Rattle.definition.specs.Elements.{Table}
 use Rattle.definition.specs.Recording.{Recorded, Change}
 use Rattle.definition.specs.Planning.{rank, from, to, peers}
 use Rattle.definition.specs.EdgeRule.{removes}
 
 -- a change with its number, "in sorted order, from 0"
 abbrev pub Numbered : Type 0
@@ -65,8 +66,8 @@ module _ (T : Table) where
 -- ── By the choice ───────────────────────────────────────────────────────────────────────────────────────────
 
 -- "This is a choice wherever a batch is edited, off (0) by default or on (1)": off, nothing is withdrawn
-unfoldable pub withdrawalsBy : Bool → Table → List Recorded → List (Option ℕ)
-withdrawalsBy on T rs = cond on (withdrawals T rs) (map (λ r. none) rs)
+unfoldable pub withdrawalsBy : Choices → Table → List Recorded → List (Option ℕ)
+withdrawalsBy h T rs = cond (eqb h.stronger 0) (map (λ r. none) rs) (withdrawals T rs)
 
 -- ── What stays ──────────────────────────────────────────────────────────────────────────────────────────────
 

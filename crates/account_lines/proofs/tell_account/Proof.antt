@@ -1,16 +1,16 @@
--- `tell_fates` meets its contract.
+-- `tell_account` meets its contract.
 -- Assumes nothing.
 use borrow.Author.Needs.{needs}
 use Rattle.edit_print.specs.Lines.{put-fits}
 use Rattle.account_lines.proofs.Turns.{text-handed}
-use Rattle.account_lines.proofs.tell_fates.Statement.{statement}
-use Rattle.account_lines.proofs.tell_fates.Tie as tie
+use Rattle.account_lines.proofs.tell_account.Statement.{statement}
+use Rattle.account_lines.proofs.tell_account.Tie as tie
 
-slice-aggregate-put-fates : tie.Need-slice-aggregate-put-fates
-slice-aggregate-put-fates c = search needs
+slice-aggregate-put-account : tie.Need-slice-aggregate-put-account
+slice-aggregate-put-account c = search needs
 
-put-fates-requires : tie.Need-put-fates-requires
-put-fates-requires c κs = search needs
+put-account-requires : tie.Need-put-account-requires
+put-account-requires c κs = search needs
 
 slice-aggregate-hand-out : tie.Need-slice-aggregate-hand-out
 slice-aggregate-hand-out c = search needs
@@ -24,12 +24,12 @@ same-length c = search needs
 returns : tie.Need-returns
 returns c = search (text-handed, needs)
 
-pub tell-fates-spec : {M : Type 1} → statement M
-tell-fates-spec =
+pub tell-account-spec : {M : Type 1} → statement M
+tell-account-spec =
     tie.close
     (tie.spec
-    slice-aggregate-put-fates
-    put-fates-requires
+    slice-aggregate-put-account
+    put-account-requires
     slice-aggregate-hand-out
     hand-out-requires
     same-length

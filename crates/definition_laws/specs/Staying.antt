@@ -8,8 +8,8 @@ use Prim.Native.Nat.{ℕ, _≤_}
 use native.Mathlib.Omega.{arith}
 use lib.ListN.{length}
 use Rattle.orders.specs.Lists.{All, total}
 use Rattle.definition_laws.specs.Basics.{total-length}
-use Rattle.withdraw_laws.specs.Withdrawing.{staying}
+use Rattle.definition.specs.Withdrawing.{staying}
 
 module _ {A : Type 0} where
   -- one that stays, and one that does not
