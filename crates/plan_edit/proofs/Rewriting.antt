@@ -20,9 +20,8 @@ use Rattle.read_layout.specs.declared.Layout.{Layout}
 use Rattle.plan_model.specs.Fated.{RowsFated, rewritable}
 use Rattle.plan_model.specs.Ready.{listedIn, mappingsIn, tableIn, Ready, Facts, ready-facts}
 use Rattle.plan_model.specs.Outcome.{judging, out-dependents}
-use Rattle.plan_edit.specs.Stages.{judgedBy, ChangesJudged, Rewriting, Rewrote}
+use Rattle.plan_edit.specs.Stages.{ChangesFated, Rewriting, Rewrote}
 use Rattle.plan_edit.specs.Answers.{plannedBy, PlanMade}
-use Rattle.plan_edit.specs.declared.Judgement.the-variants.{Fated}
 use Rattle.plan_edit.specs.declared.Planned.the-variants.{Refused}
 
 module _ {b : List ℕ} {l : Layout} {t s : List ℕ} (r : Ready b l t s) where
@@ -66,9 +65,8 @@ module _ {b : List ℕ} {l : Layout} {t s : List ℕ} (r : Ready b l t s) where
       unfolding wordsAt
       rows-rewriting R = record { mapped = map-mapped; mappings = map-told; rows = R .rows ∙ rw map-told; climbs = omega (arith, R .few, F .few) }
 
-module _ {h : Choices} {b : List ℕ} {l : Layout} {t s : List ℕ} {c : ℕ} {w : List ℕ} (F : ChangesJudged h b l t s w (Fated c)) {m out : List ℕ} {q : Rewritten} (R : Rewriting b l t s m (rowsOf c w) c out q) where
+module _ {h : Choices} {b : List ℕ} {l : Layout} {t s : List ℕ} {c : ℕ} {w : List ℕ} (F : ChangesFated h b l t s w c) {m out : List ℕ} {q : Rewritten} (R : Rewriting b l t s m (rowsOf c w) c out q) where
   were : judging h b ≡ gives (fated (map (planOf (listedIn l b)) (rowsOf c w)))
-  unfolding judgedBy
   were = sym (F .answer)
 
   -- 9 or 10 of a dependent

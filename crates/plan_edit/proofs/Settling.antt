@@ -84,7 +84,7 @@ module _ {h : Choices} {b : List ℕ} {l : Layout} {t s : List ℕ} (r : Ready b
     module _ (e : q ≡ Settled) {runs discarded : ℕ} {running : List ℕ} (rest : List ℕ) (er : runs ≡ length (runningPlaces w c)) (ew : running ≡ runningPlaces w c ++ rest)
         (ed : (discarded ≡ discardedOf (rowsOf c w)) × (discarded ≤ c)) where
       abbrev counts : Counts
-      counts = record { changes = c; runs = runs; discarded = discarded; climbs = steps }
+      counts = record { recorded = c; changes = c; runs = runs; discarded = discarded; climbs = steps }
 
       settled-notes : (ns : List (ℕ × ℕ × ℕ)) × (settles ≡ gives ns) × (after ≡ paste before 0 (noteWords ns) (3 * l .sizes .notes))
       unfolding notesBy

@@ -3,7 +3,7 @@
 use mathlib.Core.List.{List, map}
 use mathlib.Core.Path.{_≡_}
 use Prim.Native.Nat.{ℕ, _≤_, _<_}
-use lib.ListN.{take}
+use lib.ListN.{take, drop}
 use Rattle.orders.specs.Lists.{All}
 use Rattle.definition.specs.Basics.{Answer, refused, gives}
 use Rattle.definition.specs.Choices.{Choices}
@@ -17,6 +17,7 @@ use Rattle.run_annotations.specs.Notes.{notesOf}
 use Rattle.read_layout.specs.declared.Layout.{Layout}
 use Rattle.plan_model.specs.Ready.{listedIn, tableIn}
 use Rattle.plan_model.specs.Outcome.{Outcome, judging, planning}
+use Rattle.plan_edit.specs.Stages.{Withdrew}
 use Rattle.plan_edit.specs.declared.Counts.{Counts}
 use Rattle.plan_edit.specs.declared.Planned.{Planned}
 use Rattle.plan_edit.specs.declared.Planned.the-variants.{Refused, Overlap, Made}
@@ -61,8 +62,27 @@ FoundFirst h b (Refused k) = AllFated h b
 FoundFirst h b (Overlap j k) = judging h b ≡ gives (overlaps j k)
 FoundFirst h b (Made c) = AllFated h b
 
--- THE PROMISE of planning, by the choices h, of the batch b with the layout l, the words t and s telling of its elements
+-- what is planned by the choices h of the batch b with the layout l, the words t and s telling of its elements
 pub record PlanMade (h : Choices) (b : List ℕ) (l : Layout) (t s changes running first : List ℕ) (r : Planned) : Type 0 where
   pub answer : plannedBy l b changes running first r ≡ planning h b
   pub within : PlanWithin b l t s changes running r
   pub found : FoundFirst h b r
+
+-- ── With those withdrawn ────────────────────────────────────────────────────────────────────────────────────
+
+-- the answer with the count of all changes that are recorded
+unfoldable pub recordedAs : ℕ → Planned → Planned
+recordedAs n (Refused k) = Refused k
+recordedAs n (Overlap j k) = Overlap j k
+recordedAs n (Made c) = Made (record { recorded = n; changes = c .changes; runs = c .runs; discarded = c .discarded; climbs = c .climbs })
+
+-- behind the change rows stands which of them are withdrawn
+abbrev pub KeptWithdrawn : Choices → List ℕ → List ℕ → Planned → Type 0
+KeptWithdrawn h b changes (Refused k) = Unit {0}
+KeptWithdrawn h b changes (Overlap j k) = Unit {0}
+KeptWithdrawn h b changes (Made c) = Withdrew h b (c .recorded) (drop 3584 changes)
+
+-- THE PROMISE of planning, whole
+pub record Planning (h : Choices) (b : List ℕ) (l : Layout) (t s changes running first : List ℕ) (r : Planned) : Type 0 where
+  pub made : PlanMade h b l t s changes running first r
+  pub withdrew : KeptWithdrawn h b changes r

@@ -3,14 +3,15 @@
 use mathlib.Core.List.{List, map}
 use mathlib.Core.Path.{_≡_, sym, ap, _∙_}
 use Prim.Native.Nat.{ℕ}
-use lib.ListN.{length, take}
+use lib.ListN.{length, take, getD}
 use Rattle.definition.specs.Basics.{Answer, refused, gives, _>>=_, keep}
 use Rattle.definition.specs.Choices.{Choices}
 use Rattle.definition.specs.Planning as rules
 use Rattle.definition.specs.Planning.{Fate, isDiscarded, Judgement, overlaps, fated}
 use Rattle.definition.specs.Rewriting.{mapping, rewritten, settled}
 use Rattle.definition.specs.Refusals.{Accepted, accepted}
-use Rattle.definition.specs.Answers.{Plan, judgeChanges, rewriteChanges, plan, performed, atFirst}
+use Rattle.definition.specs.Withdrawing.{numbersLeft}
+use Rattle.definition.specs.Answers.{Plan, withdrawing, judgeChanges, rewriteChanges, plan, performed, atFirst}
 use Rattle.definition_laws.specs.Answers.{gives-inj, refused-gives, both-given, given}
 use Rattle.definition_laws.specs.Stages.{rewritten-all}
 use Rattle.record_changes.specs.ChangeRow.{rowsOf}
@@ -20,7 +21,7 @@ use Rattle.run_annotations.specs.Notes.{notesOf}
 use Rattle.run_model.specs.Store.{store}
 use Rattle.read_layout.specs.declared.Layout.{Layout}
 use Rattle.plan_model.specs.Ready.{listedIn}
-use Rattle.plan_model.specs.Outcome.{Outcome, outcome, judging, planning}
+use Rattle.plan_model.specs.Outcome.{Outcome, outcome, byNumbers, judging, planning, fated-by, overlaps-by}
 use Rattle.plan_edit.specs.Answers.{plannedBy, outcomeIn, AllFated, PlanMade}
 use Rattle.plan_edit.specs.declared.Counts.{Counts}
 use Rattle.plan_edit.specs.declared.Planned.the-variants.{Refused, Made}
@@ -67,9 +68,25 @@ plan-told {h} {b} {l} {t} {s} {changes} {running} {first} {c} a e m =
 -- ── What the first stage found ──────────────────────────────────────────────────────────────────────────────
 
 -- of an accepted batch
-pub judged-accepted : (h : Choices) (b : List ℕ) {j : Judgement} (a : Accepted) → accepted b ≡ gives a → judging h b ≡ gives j → judgeChanges h a ≡ j
+judged-accepted : (h : Choices) (b : List ℕ) {j : Judgement} (a : Accepted) → accepted b ≡ gives a → judging h b ≡ gives j → byNumbers (withdrawing h a) (judgeChanges h a) ≡ j
 unfolding judging _>>=_
-judged-accepted h b {j} a e z = gives-inj (let y : judging h b ≡ gives (judgeChanges h a) = rw e in sym y ∙ z)
+judged-accepted h b {j} a e z = gives-inj (let y : judging h b ≡ gives (byNumbers (withdrawing h a) (judgeChanges h a)) = rw e in sym y ∙ z)
+
+pub fated-accepted : (h : Choices) (b : List ℕ) (ps : List rules.Planned) (a : Accepted) → accepted b ≡ gives a → judging h b ≡ gives (fated ps) → judgeChanges h a ≡ fated ps
+fated-accepted h b ps a e z = fated-by (withdrawing h a) (judgeChanges h a) ps (judged-accepted h b a e z)
+
+-- two that overlap, at the places p and q of those that stay, have the numbers j and k
+pub record Overlapping (h : Choices) (a : Accepted) (j k : ℕ) : Type 0 where
+  pub p : ℕ
+  pub q : ℕ
+  pub judged : judgeChanges h a ≡ overlaps p q
+  pub first : getD (numbersLeft (withdrawing h a)) p 0 ≡ j
+  pub second : getD (numbersLeft (withdrawing h a)) q 0 ≡ k
+
+pub overlap-accepted : (h : Choices) (b : List ℕ) (j k : ℕ) (a : Accepted) → accepted b ≡ gives a → judging h b ≡ gives (overlaps j k) → Overlapping h a j k
+overlap-accepted h b j k a e z =
+    let (p, q, x, f, g) = overlaps-by (withdrawing h a) (judgeChanges h a) j k (judged-accepted h b a e z) in
+    record { p = p; q = q; judged = x; first = f; second = g }
 
 -- rewriting keeps the fates
 pub rewrite-fates : (a : Accepted) (ps : List rules.Planned) (p : Plan) → rewriteChanges a ps ≡ gives p → map (λ q. q .fate) (p .changes) ≡ map (λ q. q .fate) ps

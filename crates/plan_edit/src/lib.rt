@@ -1,14 +1,16 @@
-// Planning: from an accepted batch to the changes that run, in order, and the notes where they settle; refusals 8, 9 and 10. In two stages: what becomes of
-// each change (`judge_changes`), then where dependents and notes go. Nothing is edited meanwhile: the run need not think of overlaps, owners or order again.
+// Planning: from an accepted batch to the changes that run, in order, and the notes where they settle; refusals 8, 9 and 10. In two stages: what is withdrawn and
+// what becomes of each other change (`judge_changes`), then where dependents and notes go. Nothing is edited meanwhile: the run need not think of overlaps, owners or order again.
 use choices::Choices;
 use plan_notes::Notes;
 use plan_overlap::Replacements;
 use plan_rewrite::Rewritten;
+use plan_withdraw::number_of;
 use read_layout::Layout;
 ghost use mathlib.Core.Path.{_≡_};
 ghost use mathlib.Core.List.{_++_};
-ghost use Prim.Native.Nat.{_*_, _≤_};
-ghost use lib.ListN.{length, drop};
+ghost use Prim.Native.Nat.{_+_, _*_, _≤_};
+ghost use lib.ListN.{length, drop, replicate};
+ghost use lib.Seq.{paste};
 ghost use Rattle.choices.specs.Meant.{meant};
 ghost use Rattle.record_changes.specs.ChangeRow.{rowsOf};
 ghost use Rattle.record_changes.specs.ChangeRowLaws.{rowsWords};
@@ -17,25 +19,28 @@ ghost use Rattle.plan_notes.specs.Answers.{NotesSettled};
 ghost use Rattle.plan_model.specs.Ready.{listedIn, notesIn, tableIn, Ready};
 ghost use Rattle.plan_model.specs.Fated.{RowsFated};
 ghost use Rattle.plan_edit.specs.Counted.{discardedOf};
-ghost use Rattle.plan_edit.specs.Stages.{Sorted, ruleRows, ChangesJudged, Rewriting, Rewrote};
-ghost use Rattle.plan_edit.specs.Answers.{PlanMade};
-ghost use Rattle.plan_edit.specs.declared.Judgement.the-variants.{Fated};
+ghost use Rattle.plan_edit.specs.Stages.{Sorted, LeftBy, ruleRows, RowsJudged, ChangesJudged, ChangesFated, Rewriting, Rewrote};
+ghost use Rattle.plan_edit.specs.Answers.{PlanMade, recordedAs, Planning};
 
-// Of a plan: how many change rows, how many of them run, how many are discarded, and the climb steps.
+// Where the words stand that tell which changes are withdrawn: behind the change rows.
+pub const WITHDRAWN: usize = 3584;
+
+// Of a plan: how many changes are recorded, how many of them stay, with a row each, how many run, how many are discarded, and the climb steps.
 pub struct Counts {
+    pub recorded: usize,
     pub changes: usize,
     pub runs: usize,
     pub discarded: usize,
     pub climbs: usize,
 }
 
-// What the first stage finds: two changes overlap, at these places of the sorted order, or each of so many changes has its fate.
+// What the first stage finds: two changes overlap, told by their numbers; or of so many recorded changes so many stay, and each of these has its fate.
 pub enum Judgement {
     Overlap(usize, usize),
-    Fated(usize),
+    Fated(usize, usize),
 }
 
-// A refusal, by its number; 8 with the places of the two that overlap; or a plan.
+// A refusal, by its number; 8 with the numbers of the two that overlap; or a plan.
 pub enum Planned {
     Refused(usize),
     Overlap(usize, usize),
@@ -103,8 +108,48 @@ fn state_fates(choices: Choices, sorted: &mut [u32], c: usize, table: &[u32])
     plan_edge::plan_edge_fates(sorted, c, table);
 }
 
-// Rust: EditPlan::build, up to the fates. The first stage: the recorded changes in sorted order are judged, and unless two overlap, `sorted` holds their
-// rows with what becomes of each.
+// Stronger rules first, if chosen: of `n` sorted changes the withdrawn ones leave. How many stay.
+fn leave_weaker(
+    choices: Choices,
+    sorted: &mut [u32],
+    n: usize,
+    table: &[u32],
+    withdrawn: &mut [u32],
+) -> usize
+    requires { ⌜ (n ≤ 256) × (14 * n ≤ length (now sorted)) × (now withdrawn ≡ replicate 256 0) ⌝ }
+    ensures { λ r. ⌜ LeftBy (meant choices) (now (table .entry)) n (now (sorted .entry)) (now (sorted .exit)) (now (withdrawn .exit)) r ⌝ }
+{
+    if choices.stronger == 0 {
+        return n;
+    }
+    plan_withdraw::withdraw(sorted, n, table, withdrawn)
+}
+
+// Of `n` sorted changes `c` stay: two of these overlap, or each gets its fate.
+fn judge_rest(
+    choices: Choices,
+    sorted: &mut [u32],
+    n: usize,
+    c: usize,
+    table: &[u32],
+    withdrawn: &[u32],
+) -> Judgement
+    requires { ⌜ (c ≤ 256) × (14 * c ≤ length (now sorted)) × (n ≤ length (now withdrawn)) ⌝ }
+    ensures { λ r. ⌜ RowsJudged (meant choices) (now (table .entry)) n c (now (sorted .entry)) (now (sorted .exit)) (now (withdrawn .entry)) r ⌝ }
+{
+    match plan_overlap::replacements_are_disjoint(sorted, c) {
+        Replacements::Overlap(j, k) => {
+            Judgement::Overlap(number_of(&withdrawn[..n], j), number_of(&withdrawn[..n], k))
+        }
+        Replacements::Disjoint => {
+            state_fates(choices, sorted, c, table);
+            Judgement::Fated(n, c)
+        }
+    }
+}
+
+// Rust: EditPlan::build, up to the fates. The first stage: the recorded changes in sorted order are judged. `withdrawn` tells which leave; unless two of the
+// others overlap, `sorted` holds their rows with what becomes of each.
 pub fn judge_changes(
     choices: Choices,
     b: &[u8],
@@ -114,19 +159,15 @@ pub fn judge_changes(
     recorded: &mut [u32],
     order: &mut [u32],
     sorted: &mut [u32],
+    withdrawn: &mut [u32],
 ) -> Judgement
     requires { ⌜ Ready (now b) l (now table) (now source) ⌝ }
-    requires { ⌜ (3584 ≤ length (now recorded)) × (256 ≤ length (now order)) × (3584 ≤ length (now sorted)) ⌝ }
-    ensures { λ r. ⌜ ChangesJudged (meant choices) (now (b .entry)) l (now (table .entry)) (now (source .entry)) (now (sorted .exit)) r ⌝ }
+    requires { ⌜ (3584 ≤ length (now recorded)) × (256 ≤ length (now order)) × (3584 ≤ length (now sorted)) × (now withdrawn ≡ replicate 256 0) ⌝ }
+    ensures { λ r. ⌜ ChangesJudged (meant choices) (now (b .entry)) l (now (table .entry)) (now (source .entry)) (now (sorted .exit)) (now (withdrawn .exit)) r ⌝ }
 {
-    let c = record_and_sort(b, l, table, source, recorded, order, sorted);
-    match plan_overlap::replacements_are_disjoint(sorted, c) {
-        Replacements::Overlap(j, k) => Judgement::Overlap(j, k),
-        Replacements::Disjoint => {
-            state_fates(choices, sorted, c, table);
-            Judgement::Fated(c)
-        }
-    }
+    let n = record_and_sort(b, l, table, source, recorded, order, sorted);
+    let c = leave_weaker(choices, sorted, n, table, withdrawn);
+    judge_rest(choices, sorted, n, c, table, withdrawn)
 }
 
 // The notes of a batch with this layout settle, and are written to `first`.
@@ -182,6 +223,7 @@ fn settle_and_order(
             let runs = plan_postorder::running_order(changes, c, order, running);
             let discarded = count_discarded(changes, c);
             Planned::Made(Counts {
+                recorded: c,
                 changes: c,
                 runs,
                 discarded,
@@ -239,7 +281,7 @@ fn rewrite_and_settle(
     first: &mut [u32],
 ) -> Planned
     requires { ⌜ Ready (now b) l (now table) (now source) ⌝ }
-    requires { ⌜ ChangesJudged (meant choices) (now b) l (now table) (now source) (now sorted) (Fated c) ⌝ }
+    requires { ⌜ ChangesFated (meant choices) (now b) l (now table) (now source) (now sorted) c ⌝ }
     requires { ⌜ (3584 ≤ length (now sorted)) × (3584 ≤ length (now rewritten)) × (256 ≤ length (now order)) × (256 ≤ length (now running)) × (2048 ≤ length (now map)) × (768 ≤ length (now first)) ⌝ }
     ensures { λ r. ⌜ PlanMade (meant choices) (now (b .entry)) l (now (table .entry)) (now (source .entry)) (now (rewritten .exit)) (now (running .exit)) (now (first .exit)) r ⌝ }
 {
@@ -264,8 +306,27 @@ fn rewrite_and_settle(
     }
 }
 
+// The plan of those that stay, with the count of all `n` that are recorded; which of them are withdrawn is kept behind the rows.
+fn keep_withdrawn(planned: Planned, n: usize, withdrawn: &[u32], changes: &mut [u32]) -> Planned
+    requires { ⌜ 3584 + length (now withdrawn) ≤ length (now changes) ⌝ }
+    ensures { λ r. ⌜ (r ≡ recordedAs n planned) × (now (changes .exit) ≡ paste (now (changes .entry)) 3584 (now (withdrawn .entry)) (length (now (withdrawn .entry)))) ⌝ }
+{
+    words::copy_in(changes, WITHDRAWN, withdrawn);
+    match planned {
+        Planned::Refused(number) => Planned::Refused(number),
+        Planned::Overlap(j, k) => Planned::Overlap(j, k),
+        Planned::Made(c) => Planned::Made(Counts {
+            recorded: n,
+            changes: c.changes,
+            runs: c.runs,
+            discarded: c.discarded,
+            climbs: c.climbs,
+        }),
+    }
+}
+
 // Rust: EditPlan::build, with TreeStore::with_annotations. Planning of an accepted batch: the change rows as they run, the places in running order and the
-// notes where they settle, or the first refusal out of 8, 9 and 10.
+// notes where they settle, or the first refusal out of 8, 9 and 10. Behind the change rows stands which changes are withdrawn.
 pub fn plan(
     choices: Choices,
     b: &[u8],
@@ -281,13 +342,25 @@ pub fn plan(
     first: &mut [u32],
 ) -> Planned
     requires { ⌜ Ready (now b) l (now table) (now source) ⌝ }
-    requires { ⌜ (3584 ≤ length (now recorded)) × (3584 ≤ length (now sorted)) × (3584 ≤ length (now changes)) × (256 ≤ length (now order)) × (256 ≤ length (now running)) × (2048 ≤ length (now map)) × (768 ≤ length (now first)) ⌝ }
-    ensures { λ r. ⌜ PlanMade (meant choices) (now (b .entry)) l (now (table .entry)) (now (source .entry)) (now (changes .exit)) (now (running .exit)) (now (first .exit)) r ⌝ }
+    requires { ⌜ (3584 ≤ length (now recorded)) × (3584 ≤ length (now sorted)) × (3840 ≤ length (now changes)) × (256 ≤ length (now order)) × (256 ≤ length (now running)) × (2048 ≤ length (now map)) × (768 ≤ length (now first)) ⌝ }
+    ensures { λ r. ⌜ Planning (meant choices) (now (b .entry)) l (now (table .entry)) (now (source .entry)) (now (changes .exit)) (now (running .exit)) (now (first .exit)) r ⌝ }
 {
-    match judge_changes(choices, b, l, table, source, recorded, order, sorted) {
+    let mut withdrawn = [0u32; 256];
+    let judged = judge_changes(
+        choices,
+        b,
+        l,
+        table,
+        source,
+        recorded,
+        order,
+        sorted,
+        &mut withdrawn,
+    );
+    match judged {
         Judgement::Overlap(j, k) => Planned::Overlap(j, k),
-        Judgement::Fated(c) => {
-            rewrite_and_settle(
+        Judgement::Fated(n, c) => {
+            let planned = rewrite_and_settle(
                 choices,
                 b,
                 l,
@@ -300,7 +373,8 @@ pub fn plan(
                 running,
                 map,
                 first,
-            )
+            );
+            keep_withdrawn(planned, n, &withdrawn, changes)
         }
     }
 }

@@ -1,7 +1,8 @@
--- The sorted rows and their fates: the definition's planned changes, and what rewriting asks of them.
+-- The sorted rows, those that stay, and their fates: the definition's planned changes, and what rewriting asks of them.
 -- Assumes nothing.
 use mathlib.Core.Bool.{true}
 use mathlib.Core.List.{List, [], _∷_, map, zipWith, map-map}
+use mathlib.Core.Option.{Option}
 use mathlib.Core.Path.{_≡_, refl, sym, ap, _∙_, subst}
 use Prim.Native.Nat.{ℕ, zero, suc, _+_, _*_, _≤_, _<_}
 use native.Mathlib.Omega.{arith}
@@ -17,9 +18,11 @@ use Rattle.definition.specs.Refusals.{Call}
 use Rattle.definition.specs.Recording.{Recorded, firstChild, after, Change, insert, replace, delete, replaceWithMany, replaceAll, call, recorded}
 use Rattle.definition.specs.Planning.{Fate, dependent, Planned, target, key, sorted, overlap, nodeByNode, changesOf, withFates}
 use Rattle.definition.specs.EdgeRule.{fates1, fatesBy, planned}
+use Rattle.definition.specs.Withdrawing.{withdrawalsBy, staying}
 use Rattle.definition_laws.specs.Basics.{map-All, getD-map}
 use Rattle.definition_laws.specs.Right.{Right, right-sits, judged, below-E}
 use Rattle.definition_laws.specs.Sorting.{sort-all}
+use Rattle.definition_laws.specs.Staying.{staying-all, staying-map}
 use Rattle.definition_laws.specs.Stages.{planned-changes, planned-fates, fatesBy-0}
 use Rattle.read_element_table.specs.View.{view}
 use Rattle.read_element_table.specs.Wellformed.{Wellformed}
@@ -35,6 +38,8 @@ use Rattle.plan_changed_region.specs.Fates.{plannedRows, fates-told}
 use Rattle.plan_edge.specs.Rule.{edgeRows}
 use Rattle.plan_edge.specs.Taking.{row-placed}
 use Rattle.plan_edge.specs.Told.{RowTells, edge-fates-told}
+use Rattle.plan_withdraw.specs.Rule.{told, withdrawals}
+use Rattle.plan_withdraw.specs.Told.{row-ruled, withdrawals-told}
 use Rattle.record_rewritten.specs.Stated.{changeBy, newOf, changeOf, planOf, Rewritable, fate-dependent}
 use Rattle.record_rewritten.specs.Exact.{recorded-states, recorded-exact, exact-stated}
 use Rattle.plan_rewrite.specs.Rewritten.{noChange}
@@ -53,9 +58,24 @@ module _ (T : Table) (cs : List Call) where
   unfoldable pub sortedRows : List ChangeRow
   sortedRows = rising rowKey (changeRows T cs)
 
-  -- and with their fates, by a choice
+  -- under which change each is withdrawn, by the choices; and the changes that stay
+  abbrev pub gone : Choices → List (Option ℕ)
+  gone h = withdrawalsBy h T (sorted T (recorded cs))
+
+  abbrev pub left : Choices → List Recorded
+  left h = staying (gone h) (sorted T (recorded cs))
+
+  -- these with the places where their elements start
+  unfoldable pub leftAt : Choices → List (ℕ × Recorded)
+  leftAt h = staying (gone h) sortedAt
+
+  -- THE ROWS of those that stay
+  unfoldable pub leftRows : Choices → List ChangeRow
+  leftRows h = staying (gone h) sortedRows
+
+  -- and with their fates
   unfoldable pub fatedRows : Choices → List ChangeRow
-  fatedRows h = zipWith withFate sortedRows (fatesBy h T (changesOf (sorted T (recorded cs))))
+  fatedRows h = zipWith withFate (leftRows h) (fatesBy h T (changesOf (left h)))
 
   rows-sorted : sortedRows ≡ map (rowFor T) sortedAt
   unfolding sortedRows sortedAt changeRows
@@ -65,17 +85,30 @@ module _ (T : Table) (cs : List Call) where
   unfolding sortedAt
   recorded-sorted = ap (sorted T) (sym (recorded-changes cs)) ∙ sorted-changes T (rowFor T) snd (λ x. key-told (row-tells T (x .0) (x .1 .rule) (x .1 .change))) (recordedAt cs)
 
+  -- a row a change
+  pub rows-many : length sortedRows ≡ length (sorted T (recorded cs))
+  rows-many = rw (rows-sorted, recorded-sorted) (length-map sortedAt (rowFor T) ∙ sym (length-map sortedAt snd))
+
   -- its changes
   abbrev changeAt : ℕ × Recorded → Change
   changeAt p = p .1 .change
 
-  changes-sorted : changesOf (sorted T (recorded cs)) ≡ map changeAt sortedAt
-  unfolding changesOf
-  changes-sorted = rw recorded-sorted (map-map (λ r. r .change) snd sortedAt)
+  module _ (h : Choices) where
+    rows-left : leftRows h ≡ map (rowFor T) (leftAt h)
+    unfolding leftRows leftAt
+    rows-left = ap (staying (gone h)) rows-sorted ∙ staying-map (rowFor T) (gone h) sortedAt
 
-  -- refusal 8 is the definition's
-  pub overlap-sorted : rowsOverlap sortedRows ≡ overlap T (changesOf (sorted T (recorded cs)))
-  overlap-sorted = rw (rows-sorted, changes-sorted) (overlap-told T (rowFor T) changeAt (λ x. row-tells T (x .0) (x .1 .rule) (x .1 .change)) sortedAt)
+    recorded-left : left h ≡ map snd (leftAt h)
+    unfolding leftAt
+    recorded-left = ap (staying (gone h)) recorded-sorted ∙ staying-map snd (gone h) sortedAt
+
+    changes-left : changesOf (left h) ≡ map changeAt (leftAt h)
+    unfolding changesOf
+    changes-left = ap (map (λ r. r .change)) recorded-left ∙ map-map (λ r. r .change) snd (leftAt h)
+
+    -- refusal 8 is the definition's
+    pub overlap-left : rowsOverlap (leftRows h) ≡ overlap T (changesOf (left h))
+    overlap-left = rw (rows-left, changes-left) (overlap-told T (rowFor T) changeAt (λ x. row-tells T (x .0) (x .1 .rule) (x .1 .change)) (leftAt h))
 
 -- ── Fated ───────────────────────────────────────────────────────────────────────────────────────────────────
 
@@ -171,30 +204,34 @@ module _ (n : ℕ) (T : Table) (listed : List ℕ) (long : length T ≡ n) where
     unfolding sortedAt rising
     known-sorted = sort-all (λ (x y : ℕ × Recorded). lower (key T (x .1 .change)) (key T (y .1 .change))) (Known T listed) (recordedAt cs) known
 
-    -- what becomes of the sorted changes
-    abbrev fs : List Fate
-    fs = fatesBy h T (map (changeAt T cs) (sortedAt T cs))
+    known-left : All (Known T listed) (leftAt T cs h)
+    unfolding leftAt
+    known-left = staying-all (Known T listed) (gone T cs h) (sortedAt T cs) known-sorted
 
-    rows-fated : fatedRows T cs h ≡ zipWith fatedRow (sortedAt T cs) fs
+    -- what becomes of the changes that stay
+    abbrev fs : List Fate
+    fs = fatesBy h T (map (changeAt T cs) (leftAt T cs h))
+
+    rows-fated : fatedRows T cs h ≡ zipWith fatedRow (leftAt T cs h) fs
     unfolding fatedRows
-    rows-fated = rw (rows-sorted T cs, changes-sorted T cs) (zip-map (rowFor T) (sortedAt T cs) fs)
+    rows-fated = rw (rows-left T cs h, changes-left T cs h) (zip-map (rowFor T) (leftAt T cs h) fs)
 
     -- by rule 0 the stacks of regions give them
-    pub rule-0 : h .edge ≡ 0 → plannedRows (sortedRows T cs) ≡ fatedRows T cs h
-    rule-0 e = rw (rows-sorted T cs, rows-fated, fatesBy-0 h T e (map (changeAt T cs) (sortedAt T cs))) (fates-told T (rowFor T) (changeAt T cs) (λ x. row-tells T (x .0) (x .1 .rule) (x .1 .change)) (sortedAt T cs))
+    pub rule-0 : h .edge ≡ 0 → plannedRows (leftRows T cs h) ≡ fatedRows T cs h
+    rule-0 e = rw (rows-left T cs h, rows-fated, fatesBy-0 h T e (map (changeAt T cs) (leftAt T cs h))) (fates-told T (rowFor T) (changeAt T cs) (λ x. row-tells T (x .0) (x .1 .rule) (x .1 .change)) (leftAt T cs h))
 
     -- every row is exact and states a change of elements
     pub fated-kept : All (Kept n T listed) (fatedRows T cs h)
-    fated-kept = rw rows-fated (zip-kept (sortedAt T cs) fs known-sorted)
+    fated-kept = rw rows-fated (zip-kept (leftAt T cs h) fs known-left)
 
     -- the rows tell the definition's planned changes
-    pub fated-planned : map (planOf listed) (fatedRows T cs h) ≡ planned h T (sorted T (recorded cs))
+    pub fated-planned : map (planOf listed) (fatedRows T cs h) ≡ planned h T (left T cs h)
     unfolding planned
-    fated-planned = rw (rows-fated, changes-sorted T cs, recorded-sorted T cs) (zip-planned (sortedAt T cs) fs known-sorted)
+    fated-planned = rw (rows-fated, changes-left T cs h, recorded-left T cs h) (zip-planned (leftAt T cs h) fs known-left)
 
     module _ (w : List ℕ) (c : ℕ) (rows : rowsOf c w ≡ fatedRows T cs h) where
       abbrev R : List Recorded
-      R = sorted T (recorded cs)
+      R = left T cs h
 
       abbrev S : List Change
       S = changesOf R
@@ -244,9 +281,21 @@ module _ (n : ℕ) (t s : List ℕ) (W : Wellformed n t s) (listed : List ℕ) (
   row-known : (y : ℕ × Recorded) → Known (view n t s) listed y → RowTells n t s W (rowFor (view n t s)) (changeAt (view n t s) cs) y
   row-known y k = record { placed = row-placed (view n t s) (y .0) (y .1 .rule) (y .1 .change); sits = right-sits (view n t s) (y .1 .change) (k .right) }
 
-  pub rule-1 : ¬ (h .edge ≡ 0) → (c : ℕ) (v : List ℕ) → rowsOf c v ≡ sortedRows (view n t s) cs → edgeRows t c v ≡ fatedRows (view n t s) cs h
+  pub rule-1 : ¬ (h .edge ≡ 0) → (c : ℕ) (v : List ℕ) → rowsOf c v ≡ leftRows (view n t s) cs h → edgeRows t c v ≡ fatedRows (view n t s) cs h
   rule-1 e c v rows =
       let T : Table = view n t s in
-      let ys : List (ℕ × Recorded) = sortedAt T cs in
+      let ys : List (ℕ × Recorded) = leftAt T cs h in
       rw (rows-fated n T listed (length-view n t s) h cs known, rule-else h T e (map (changeAt T cs) ys))
-      (edge-fates-told n t s W (rowFor T) (changeAt T cs) c v ys (rows ∙ rows-sorted T cs) (All-map row-known ys (known-sorted n T listed (length-view n t s) h cs known)))
+      (edge-fates-told n t s W (rowFor T) (changeAt T cs) c v ys (rows ∙ rows-left T cs h) (All-map row-known ys (known-left n T listed (length-view n t s) h cs known)))
+
+  -- ── Stronger rules first ──
+
+  -- with the choice on the words of the rows and of the table tell what is withdrawn
+  pub gone-on : ¬ (h .stronger ≡ 0) → (c : ℕ) (v : List ℕ) → rowsOf c v ≡ sortedRows (view n t s) cs → map told (withdrawals t v c) ≡ gone (view n t s) cs h
+  unfolding withdrawalsBy
+  gone-on e c v rows =
+      let T : Table = view n t s in
+      let ys : List (ℕ × Recorded) = sortedAt T cs in
+      rw (ne-eqb (h .stronger) 0 e, recorded-sorted T cs)
+      (withdrawals-told n t s W (rowFor T) snd (λ y. row-ruled T (y .0) (y .1)) v c ys (rows ∙ rows-sorted T cs)
+      (All-map (λ y k. right-sits T (y .1 .change) (k .right)) ys (known-sorted n T listed (length-view n t s) h cs known)))

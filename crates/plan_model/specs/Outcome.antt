@@ -4,7 +4,8 @@ use mathlib.Core.List.{List, map, map-map}
 use mathlib.Core.Option.{Option, none, some}
 use mathlib.Core.Path.{_≡_, refl, sym, ap, _∙_, subst}
 use Prim.Native.Nat.{ℕ, _<_}
-use lib.ListN.{length}
+use native.Mathlib.Omega.{arith}
+use lib.ListN.{length, getD}
 use Rattle.orders.specs.Lists.{All}
 use Rattle.orders.specs.ListLaws.{All-map}
 use Rattle.orders.specs.Tree.{node, forest}
@@ -12,11 +13,11 @@ use Rattle.definition.specs.Basics.{Answer, refused, gives, _>>=_, keep}
 use Rattle.definition.specs.Choices.{Choices}
 use Rattle.definition.specs.Elements.{Table, table}
 use Rattle.definition.specs.Refusals.{Accepted, accepted}
-use Rattle.definition.specs.Recording.{recorded}
-use Rattle.definition.specs.Planning.{Planned, isDiscarded, sorted, Judgement, overlaps, fated}
+use Rattle.definition.specs.Planning.{Planned, isDiscarded, Judgement, overlaps, fated}
+use Rattle.definition.specs.Withdrawing.{numbersLeft}
 use Rattle.definition.specs.Rewriting.{Note, mapping, rewritten}
 use Rattle.definition.specs.Running.{begin, ranked, order}
-use Rattle.definition.specs.Answers.{judgeChanges, Plan, rewriteChanges, plan, performed, atFirst}
+use Rattle.definition.specs.Answers.{sortedChanges, withdrawing, remaining, judgeChanges, Plan, rewriteChanges, plan, performed, atFirst}
 use Rattle.definition_laws.specs.Answers.{gives-inj}
 use Rattle.definition_laws.specs.Stages.{judge-overlap, judge-disjoint}
 use Rattle.definition_laws.specs.Plans.{plan-overlap, plan-fated}
@@ -29,7 +30,7 @@ use Rattle.record_rewritten.specs.Stated.{planOf}
 use Rattle.plan_rewrite.specs.Kept.{Kept}
 use Rattle.plan_rewrite.specs.Rewritten.{rewriteRows, toldRows, rewrite-told}
 use Rattle.run_model.specs.Store.{HeldNote, heldNote, store}
-use Rattle.plan_model.specs.Fated.{sortedRows, fatedRows, overlap-sorted, fated-planned}
+use Rattle.plan_model.specs.Fated.{gone, left, leftRows, fatedRows, overlap-left, fated-planned}
 use Rattle.plan_model.specs.Noted.{noteHeld, notes-held}
 use Rattle.plan_model.specs.Ready.{listedIn, callsIn, mappingsIn, notesIn, tableIn, acceptedIn, Facts}
 
@@ -53,11 +54,27 @@ outcome a p = record {
   climbs = p .climbs;
 }
 
+-- "numbers count withdrawn changes too": two that overlap, told by their numbers and not by their places among those that stay
+unfoldable pub byNumbers : List (Option ℕ) → Judgement → Judgement
+byNumbers ws (overlaps j k) = overlaps (getD (numbersLeft ws) j 0) (getD (numbersLeft ws) k 0)
+byNumbers ws (fated ps) = fated ps
+
 -- what the first stage finds of a batch, or its refusal out of 2 to 7 and 16
 unfoldable pub judging : Choices → List ℕ → Answer Judgement
 judging h b = do
   a ← accepted b
-  gives (judgeChanges h a)
+  gives (byNumbers (withdrawing h a) (judgeChanges h a))
+
+-- what is told by numbers, told by places
+pub fated-by : (ws : List (Option ℕ)) (j : Judgement) (ps : List Planned) → byNumbers ws j ≡ fated ps → j ≡ fated ps
+unfolding byNumbers
+fated-by ws (overlaps j k) ps e = absurd (let z : _≡_ {A = ℕ} 0 1 = cc in omega arith)
+fated-by ws (fated qs) ps e = e
+
+pub overlaps-by : (ws : List (Option ℕ)) (j : Judgement) (x y : ℕ) → byNumbers ws j ≡ overlaps x y → (p : ℕ) × (q : ℕ) × (j ≡ overlaps p q) × (getD (numbersLeft ws) p 0 ≡ x) × (getD (numbersLeft ws) q 0 ≡ y)
+unfolding byNumbers
+overlaps-by ws (overlaps p q) x y e = (p, q, refl, cc, cc)
+overlaps-by ws (fated qs) x y e = absurd (let z : _≡_ {A = ℕ} 0 1 = cc in omega arith)
 
 -- THE PLAN of a batch, or its refusal out of 2 to 10 and 16
 unfoldable pub planning : Choices → List ℕ → Answer Outcome
@@ -109,27 +126,35 @@ module _ (h : Choices) {b : List ℕ} {l : Layout} {t s : List ℕ} (f : Facts b
 
   -- ── The first stage ──
 
-  judging-is : judging h b ≡ gives (judgeChanges h a)
+  judging-is : judging h b ≡ gives (byNumbers (withdrawing h a) (judgeChanges h a))
   unfolding judging _>>=_
   judging-is = rw (f .accepted)
 
-  pub judged-overlap : (j k : ℕ) → rowsOverlap (sortedRows T (callsIn l b)) ≡ some (j, k) → judging h b ≡ gives (overlaps j k)
-  unfolding judgeChanges
-  judged-overlap j k e = judging-is ∙ ap gives (judge-overlap h T (sorted T (recorded (callsIn l b))) j k (sym (overlap-sorted T (callsIn l b)) ∙ e))
+  -- what is withdrawn of the accepted batch
+  pub gone-is : withdrawing h a ≡ gone T (callsIn l b) h
+  unfolding withdrawing sortedChanges
+  gone-is = refl
 
-  pub judged-fated : rowsOverlap (sortedRows T (callsIn l b)) ≡ none → judging h b ≡ gives (fated (map (planOf listed) (fatedRows T (callsIn l b) h)))
-  unfolding judgeChanges
+  pub judged-overlap : (j k : ℕ) → rowsOverlap (leftRows T (callsIn l b) h) ≡ some (j, k)
+      → judging h b ≡ gives (overlaps (getD (numbersLeft (gone T (callsIn l b) h)) j 0) (getD (numbersLeft (gone T (callsIn l b) h)) k 0))
+  unfolding judgeChanges remaining withdrawing sortedChanges byNumbers
+  judged-overlap j k e = judging-is ∙ ap (λ q. gives (byNumbers (withdrawing h a) q)) (judge-overlap h T (left T (callsIn l b) h) j k (sym (overlap-left T (callsIn l b) h) ∙ e))
+
+  pub judged-fated : rowsOverlap (leftRows T (callsIn l b) h) ≡ none → judging h b ≡ gives (fated (map (planOf listed) (fatedRows T (callsIn l b) h)))
+  unfolding judgeChanges remaining withdrawing sortedChanges byNumbers
   judged-fated e =
       let n : ℕ = l .sizes .elements in
       let told = fated-planned n T listed (length-view n t s) h (callsIn l b) (f .recorded) in
-      judging-is ∙ ap gives (judge-disjoint h T (sorted T (recorded (callsIn l b))) (sym (overlap-sorted T (callsIn l b)) ∙ e) ∙ ap fated (sym told))
+      judging-is ∙ ap (λ q. gives (byNumbers (withdrawing h a) q)) (judge-disjoint h T (left T (callsIn l b) h) (sym (overlap-left T (callsIn l b) h) ∙ e) ∙ ap fated (sym told))
 
   -- ── The second stage ──
 
   -- 8
   pub out-overlap : (j k : ℕ) → judging h b ≡ gives (overlaps j k) → planning h b ≡ refused 8
   unfolding planning _>>=_
-  out-overlap j k e = rw (f .accepted, plan-overlap h a j k (gives-inj (sym judging-is ∙ e)))
+  out-overlap j k e =
+      let (p, q, z, _, _) = overlaps-by (withdrawing h a) (judgeChanges h a) j k (gives-inj (sym judging-is ∙ e)) in
+      rw (f .accepted, plan-overlap h a p q z)
 
   -- whatever rows are fated, if they state changes of elements
   module _ (rows : List ChangeRow) (judged : judging h b ≡ gives (fated (map (planOf listed) rows))) (kept : All (Kept (l .sizes .elements) T listed) rows) where
@@ -140,7 +165,7 @@ module _ (h : Choices) {b : List ℕ} {l : Layout} {t s : List ℕ} (f : Facts b
     plan-rows : plan h a ≡ rewriteFated T listed mapped rows (notesIn l b)
     unfolding rewriteChanges rewriteFated
     plan-rows =
-        rw (plan-fated h a (map (planOf listed) rows) (gives-inj (sym judging-is ∙ judged)), rewriting-told, settled-told T mapped 0 (notesIn l b))
+        rw (plan-fated h a (map (planOf listed) rows) (fated-by (withdrawing h a) (judgeChanges h a) _ (gives-inj (sym judging-is ∙ judged))), rewriting-told, settled-told T mapped 0 (notesIn l b))
         (rows-alike T listed (rewriteRows T mapped listed rows rows) (settledAt T mapped 0 (notesIn l b)))
 
     -- 9 or 10 of a dependent

@@ -1,24 +1,34 @@
--- `plan` meets its contract. One law for refusal 8, one for what is left to the second stage.
+-- `plan` meets its contract. One law for refusal 8, one for what is left to the second stage, one for what is kept of those withdrawn.
 -- Assumes nothing.
 use borrow.Author.Needs.{needs}
-use Rattle.plan_edit.proofs.Judging.{overlap-refused, judged-fates}
+use native.Mathlib.Omega.{arith}
+use Rattle.plan_edit.proofs.Judging.{overlap-refused, judged-fates, plan-kept}
 use Rattle.plan_edit.proofs.plan.Statement.{statement}
 use Rattle.plan_edit.proofs.plan.Tie as tie
+
+slice-aggregate-judge-changes : tie.Need-slice-aggregate-judge-changes
+slice-aggregate-judge-changes c = search needs
 
 judge-changes-requires : tie.Need-judge-changes-requires
 judge-changes-requires c κs = search needs
 
-enum-known-j : tie.Need-enum-known-j
-enum-known-j c = search needs
+enum-known-judged : tie.Need-enum-known-judged
+enum-known-judged c = search needs
 
-enum-known-c : tie.Need-enum-known-c
-enum-known-c c = search needs
+enum-known-judged-2 : tie.Need-enum-known-judged-2
+enum-known-judged-2 c = search needs
 
 rewrite-and-settle-requires : tie.Need-rewrite-and-settle-requires
-rewrite-and-settle-requires c κs =
-    let p = c .before .before .before .before .before .before .before .before .before .before .before .before .before .before .before .before .before .before .before .before .before .before .before .before .before .before .before .before .before .pre in
-    let J = judged-fates _ _ (c .before .before .before .before .before .before .before .before .before .before .before .before .before .before .before .judge-changes .ensures) (c .before .before .before .before .before .before .before .c .given .1) in
-    (p .0, (J, (search needs, p .1 .2, search needs, p .1 .4, p .1 .5, p .1 .6)))
+rewrite-and-settle-requires c κs = 
+    let p = c .before .before .before .before .before .before .before .before .before .before .before .before .before .before .before .before .before .before .before .before .before .before .before .before .before .before .before .before .before .before .before .pre in
+    let J = judged-fates _ _ _ (c .before .before .before .before .before .before .before .before .before .before .before .before .before .before .before .before .judge-changes .ensures) (c .before .before .before .before .before .before .before .judged2 .given .1) in
+    (p .0, (J .0, (search needs, search needs, search needs, p .1 .4, p .1 .5, p .1 .6)))
+
+slice-aggregate-keep-withdrawn : tie.Need-slice-aggregate-keep-withdrawn
+slice-aggregate-keep-withdrawn c = search needs
+
+keep-withdrawn-requires : tie.Need-keep-withdrawn-requires
+keep-withdrawn-requires c κs = omega (arith, c .before .before .before .before .before .before .before .before .before .before .before .before .before .before .before .before .before .before .before .before .before .before .before .before .before .before .before .before .before .before .before .before .before .before .before .before .before .before .before .before .before .before .before .before .pre .1 .2)
 
 same-length : tie.Need-same-length
 same-length c = search needs
@@ -30,7 +40,7 @@ same-length-3 : tie.Need-same-length-3
 same-length-3 c = search needs
 
 returns : tie.Need-returns
-returns c = overlap-refused (c .before .before .before .before .before .before .before .before .before .before .before .before .before .before .before .before .before .before .before .before .before .before .before .pre .0) _ _ _ (c .before .before .before .before .before .before .before .before .before .judge-changes .ensures) (c .before .j .given .1) _ _ _
+returns c = overlap-refused (c .before .before .before .before .before .before .before .before .before .before .before .before .before .before .before .before .before .before .before .before .before .before .before .before .before .pre .0) _ _ _ (c .before .before .before .before .before .before .before .before .before .before .judge-changes .ensures) (c .before .judged .given .1) _ _ _
 
 same-length-4 : tie.Need-same-length-4
 same-length-4 c = search needs
@@ -54,16 +64,21 @@ same-length-10 : tie.Need-same-length-10
 same-length-10 c = search needs
 
 returns-2 : tie.Need-returns-2
-returns-2 c = search needs
+returns-2 c = 
+    let J = judged-fates _ _ _ (c .before .before .before .before .before .before .before .before .before .before .before .before .before .before .before .before .before .before .before .before .before .before .before .before .before .before .before .before .before .before .before .before .judge-changes .ensures) (c .before .before .before .before .before .before .before .before .before .before .before .before .before .before .before .before .before .before .before .before .before .before .before .judged2 .given .1) in
+    plan-kept _ _ _ (omega (arith, c .before .before .before .before .before .before .before .before .before .before .before .before .before .before .before .before .before .before .before .before .before .before .before .before .before .before .before .before .before .before .before .before .before .before .before .before .before .before .before .before .before .before .before .before .before .before .before .pre .1 .2)) (search needs) (c .before .before .keep-withdrawn .ensures .1) (J .1) _ (c .before .before .before .before .before .before .before .before .before .before .before .before .before .before .before .rewrite-and-settle .ensures) (c .before .before .keep-withdrawn .ensures .0)
 
 pub plan-spec : {M : Type 1} → statement M
 plan-spec =
     tie.close
     (tie.spec
+    slice-aggregate-judge-changes
     judge-changes-requires
-    enum-known-j
-    enum-known-c
+    enum-known-judged
+    enum-known-judged-2
     rewrite-and-settle-requires
+    slice-aggregate-keep-withdrawn
+    keep-withdrawn-requires
     same-length
     same-length-2
     same-length-3
