@@ -14,7 +14,7 @@ fn account_batch(choices: Choices, batch: &[u8], out: &mut [u8]) -> Answer
 {
     let mut table = [0u32; 16384];
     let mut source = [0u32; 6147];
-    let mut changes = [0u32; 3584];
+    let mut changes = [0u32; 3840];
     let mut notes = [0u32; 3072];
     let mut incoming = [0u32; 3072];
     let mut changed = [0u32; 1024];

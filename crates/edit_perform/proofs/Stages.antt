@@ -27,8 +27,8 @@ use Rattle.read_batch.specs.Accepting.{judged-refuses}
 use Rattle.read_batch.specs.Leaving.{Judged}
 use Rattle.run_prepare.specs.Parts as parts
 use Rattle.run_prepare.specs.Parts.{wordsIn, words-part}
-use Rattle.plan_edit.specs.Answers.{PlanMade}
-use Rattle.plan_edit.specs.Left.{plan-refused, judged-accepted}
+use Rattle.plan_edit.specs.Answers.{Planning}
+use Rattle.plan_edit.specs.Left.{plan-refused, fated-accepted, overlap-accepted}
 use Rattle.plan_edit.specs.declared.Counts.{Counts}
 use Rattle.plan_edit.specs.declared.Planned.{Planned}
 use Rattle.plan_edit.specs.declared.Planned.the-variants.{Refused as Unplanned, Overlap as Overlapping, Made}
@@ -83,7 +83,7 @@ told-of {b} {l} L =
 
 -- ── The steps ───────────────────────────────────────────────────────────────────────────────────────────────
 
-module _ {h : definition.Choices} {b : List ℕ} {l : Layout} {t s changes running first : List ℕ} {c : Counts} (L : LaidOut b l t s) (P : PlanMade h b l t s changes running first (Made c)) (n : ℕ) (q : n ≡ l .sizes .elements) where
+module _ {h : definition.Choices} {b : List ℕ} {l : Layout} {t s changes running first : List ℕ} {c : Counts} (L : LaidOut b l t s) (P : Planning h b l t s changes running first (Made c)) (n : ℕ) (q : n ≡ l .sizes .elements) where
   abbrev settled : List ℕ
   settled = take (3 * l .sizes .notes) first
 
@@ -96,19 +96,19 @@ module _ {h : definition.Choices} {b : List ℕ} {l : Layout} {t s changes runni
   told = words-part b (l .list) (l .sizes .listed) (l .list + 4 * l .sizes .listed) refl (L .leaves .within .list)
 
   pub may-begin : 6147 ≤ length s → 768 ≤ length first → Begun n t s settled
-  may-begin ls lf = subst (λ (k : ℕ). Begun k t s settled) (sym q) (begins (L .leaves) P (L .long) (L .longRows) ls lf)
+  may-begin ls lf = subst (λ (k : ℕ). Begun k t s settled) (sym q) (begins (L .leaves) (P .made) (L .long) (L .longRows) ls lf)
 
   pub may-list : (length part ≤ 4096) × All (λ e. e < n) (wordsIn part)
   may-list =
       let w = L .leaves .within in
-      (omega (arith, parts.part-long b (l .list) (l .sizes .listed) (l .list + 4 * l .sizes .listed) refl (w .list), w .limits .listed), rw (told, q) (all-elements (L .leaves) P))
+      (omega (arith, parts.part-long b (l .list) (l .sizes .listed) (l .list + 4 * l .sizes .listed) refl (w .list), w .limits .listed), rw (told, q) (all-elements (L .leaves) (P .made)))
 
   pub may-run : All (λ k. RowPerforms n (view n t s) (wordsIn part) (rowAt changes k)) (take (c .runs) running)
-  may-run = rw (told, q) (all-perform (L .leaves) P)
+  may-run = rw (told, q) (all-perform (L .leaves) (P .made))
 
   pub may-record : (room : ℕ) → 1024 ≤ room → listsAll (view n t s) (wordsIn part) changes (take (c .runs) running) ≤ room
   may-record room h =
-      let z : listsAll (view n t s) (wordsIn part) changes (take (c .runs) running) ≤ 1024 = rw (told, q) (room-recorded (L .leaves) P) in
+      let z : listsAll (view n t s) (wordsIn part) changes (take (c .runs) running) ≤ 1024 = rw (told, q) (room-recorded (L .leaves) (P .made)) in
       omega arith
 
   -- what is cut out is there
@@ -116,7 +116,7 @@ module _ {h : definition.Choices} {b : List ℕ} {l : Layout} {t s changes runni
   notes-within lf = omega (arith, L .leaves .within .limits .notes)
 
   pub runs-within : 256 ≤ length running → c .runs ≤ length running
-  runs-within lr = omega (arith, P .within .most, P .within .few)
+  runs-within lr = omega (arith, P .made .within .most, P .made .within .few)
 
   pub list-within : l .list + 4 * l .sizes .listed ≤ length b
   list-within = L .leaves .within .list
@@ -129,23 +129,23 @@ module _ {h : definition.Choices} {b : List ℕ} {l : Layout} {t s changes runni
         (subst (λ (k : ℕ). Ran k t s settled (wordsIn part) changes (take (c .runs) running) rows marks notes changed x) q R)
 
     pub steps-refused : (k : ℕ) → x ≡ Stopped k → Performs h b t s changes rows notes changed marks (Refused k)
-    steps-refused k e = performs-refused k (run-refused (L .leaves) P (L .long) (L .longRows) ls lf same k e)
+    steps-refused k e = performs-refused k (run-refused (L .leaves) (P .made) (L .long) (L .longRows) ls lf same k e)
 
     pub steps-ended : (r : TreeState) → x ≡ Ran-through r → 3072 ≤ length notes
         → Performs h b t s changes rows notes changed marks
-        (Done (record { text = l .text; elements = l .sizes .elements; recorded = c .changes; root = r .root; rows = r .rows; notes = r .notes; changed = r .changed; discarded = c .discarded; climbs = c .climbs }))
+        (Done (record { text = l .text; elements = l .sizes .elements; recorded = c .recorded; root = r .root; rows = r .rows; notes = r .notes; changed = r .changed; discarded = c .discarded; climbs = c .climbs }))
     steps-ended r e ln =
-        let d : Ended = record { text = l .text; elements = l .sizes .elements; recorded = c .changes; root = r .root; rows = r .rows; notes = r .notes; changed = r .changed; discarded = c .discarded; climbs = c .climbs } in
+        let d : Ended = record { text = l .text; elements = l .sizes .elements; recorded = c .recorded; root = r .root; rows = r .rows; notes = r .notes; changed = r .changed; discarded = c .discarded; climbs = c .climbs } in
         let v = L .leaves in
         record {
           refuses = λ k i. absurd (let z : _≡_ {A = ℕ} 0 1 = cc in omega arith);
           overlaps = λ j k i. absurd (let z : _≡_ {A = ℕ} 0 1 = cc in omega arith);
-          ends = λ y i. let same-end : d ≡ y = cc in subst (AtEnd h b rows notes changed) same-end (run-ended v P (L .long) (L .longRows) ls lf same r e ln);
+          ends = λ y i. let same-end : d ≡ y = cc in subst (AtEnd h b rows notes changed) same-end (run-ended v (P .made) (L .long) (L .longRows) ls lf same r e ln);
           tells = λ y i.
               let same-end : d ≡ y = cc in
               subst (λ (z : Ended). Told b t s (z .elements)) same-end (told-of L);
-          marked = λ y i. let same-end : d ≡ y = cc in run-marked v P (L .long) (L .longRows) ls lf same r e y (ap (λ (z : Ended). z .elements) (sym same-end));
-          recounts = λ y i. let same-end : d ≡ y = cc in run-recounted v P (L .long) (L .longRows) ls lf same r e y (ap (λ (z : Ended). z .recorded) (sym same-end));
+          marked = λ y i. let same-end : d ≡ y = cc in run-marked v (P .made) (L .long) (L .longRows) ls lf same r e y (ap (λ (z : Ended). z .elements) (sym same-end));
+          recounts = λ y i. let same-end : d ≡ y = cc in run-recounted v (P .made) (L .long) (L .longRows) ls lf same (P .withdrew .1) (P .withdrew .0) r e y (ap (λ (z : Ended). z .recorded) (sym same-end));
         }
 
 -- what stands behind the marks of the batch's elements says nothing
@@ -161,24 +161,24 @@ marks-behind {marks = marks} behind p = record {
 
 -- ── Refused before them ─────────────────────────────────────────────────────────────────────────────────────
 
-module _ {h : definition.Choices} {b : List ℕ} {l : Layout} {t s changes running first : List ℕ} {r : Planned} (P : PlanMade h b l t s changes running first r) where
+module _ {h : definition.Choices} {b : List ℕ} {l : Layout} {t s changes running first : List ℕ} {r : Planned} (P : Planning h b l t s changes running first r) where
   pub plan-stops : {rows notes changed marks : List ℕ} → LaidOut b l t s → (k : ℕ) → r ≡ Unplanned k → Performs h b t s changes rows notes changed marks (Refused k)
   plan-stops L k e =
-      let Q : PlanMade h b l t s changes running first (Unplanned k) = subst (PlanMade h b l t s changes running first) e P in
+      let Q : Planning h b l t s changes running first (Unplanned k) = subst (Planning h b l t s changes running first) e P in
       let a = L .leaves .what in
       let x = L .leaves .accepted in
-      performs-refused k (not-planned h b a x (Q .found .changes) (judged-accepted h b a x (Q .found .judged)) k (plan-refused a x Q))
+      performs-refused k (not-planned h b a x (Q .made .found .changes) (fated-accepted h b (Q .made .found .changes) a x (Q .made .found .judged)) k (plan-refused a x (Q .made)))
 
   pub plan-overlaps : {rows notes changed marks : List ℕ} → LaidOut b l t s → (j k : ℕ) → r ≡ Overlapping j k → Performs h b t s changes rows notes changed marks (Overlap j k)
   plan-overlaps L j k e =
-      let Q : PlanMade h b l t s changes running first (Overlapping j k) = subst (PlanMade h b l t s changes running first) e P in
+      let Q : Planning h b l t s changes running first (Overlapping j k) = subst (Planning h b l t s changes running first) e P in
       let a = L .leaves .what in
       let x = L .leaves .accepted in
-      let o = overlapping h b a x j k (judged-accepted h b a x (Q .found)) in
+      let o = overlapping h b a x j k (overlap-accepted h b j k a x (Q .made .found)) in
       performs-overlap j k (record { refused8 = o .0; text = o .1 })
 
-  pub plan-made : (c : Counts) → r ≡ Made c → PlanMade h b l t s changes running first (Made c)
-  plan-made c e = subst (PlanMade h b l t s changes running first) e P
+  pub plan-made : (c : Counts) → r ≡ Made c → Planning h b l t s changes running first (Made c)
+  plan-made c e = subst (Planning h b l t s changes running first) e P
 
 module _ {h : definition.Choices} {b t₀ s₀ t s : List ℕ} {r : Laid} (J : Judged b t₀ s₀ t s r) where
   pub judged-stops : {changes rows notes changed marks : List ℕ} (k : ℕ) → r ≡ Unlaid k → Performs h b t s changes rows notes changed marks (Refused k)
@@ -192,9 +192,9 @@ judged-laid {t₀ = t₀} {s₀ = s₀} J l e lt ls = record { before = t₀; be
 
 -- 17, 1, or neither
 module _ (c : Choices) (work : List (ℕ × ℕ)) (k : ℕ) (e : k ≡ refusalOf (chosen (meant c))) where
-  pub refused-17 : ¬ (k ≡ 0) → k ≡ refusalOf (withChoices (meant c) work (gives tt))
+  pub wrong-choice : ¬ (k ≡ 0) → k ≡ refusalOf (withChoices (meant c) work (gives tt))
   unfolding refusalOf withChoices _>>=_
-  refused-17 n = rw (wrongly-chosen c k e n) refl
+  wrong-choice n = rw (wrongly-chosen c k e n) refl
 
   module _ (z : k ≡ 0) (t : Bool) (f : t ≡ tooShort work) where
     pub refused-1 : t ≡ true → 1 ≡ refusalOf (withChoices (meant c) work (gives tt))
@@ -217,9 +217,10 @@ module _ (h : definition.Choices) (work : List (ℕ × ℕ)) (k : ℕ) (e : k �
 
   pub nothing-wrong : k ≡ 0 → (chosen h ≡ gives tt) × (tooShort work ≡ false)
   unfolding refusalOf withChoices withWork chosen refuse _>>=_
-  nothing-wrong z = go (ltb 1 (h .edge)) refl (tooShort work) refl
+  nothing-wrong z = go (ltb 1 (h .edge)) refl (ltb 1 (h .stronger)) refl (tooShort work) refl
     where
-      go : (c : Bool) → ltb 1 (h .edge) ≡ c → (t : Bool) → tooShort work ≡ t → (chosen h ≡ gives tt) × (tooShort work ≡ false)
-      go true c t f = absurd (let y : k ≡ 17 = e ∙ rw c refl in omega arith)
-      go false c true f = absurd (let y : k ≡ 1 = e ∙ rw (c, f) refl in omega arith)
-      go false c false f = (rw c refl, f)
+      go : (c : Bool) → ltb 1 (h .edge) ≡ c → (d : Bool) → ltb 1 (h .stronger) ≡ d → (t : Bool) → tooShort work ≡ t → (chosen h ≡ gives tt) × (tooShort work ≡ false)
+      go true c d g t f = absurd (let y : k ≡ 17 = e ∙ rw c refl in omega arith)
+      go false c true g t f = absurd (let y : k ≡ 18 = e ∙ rw (c, g) refl in omega arith)
+      go false c false g true f = absurd (let y : k ≡ 1 = e ∙ rw (c, g, f) refl in omega arith)
+      go false c false g false f = (rw (c, g) refl, f)

@@ -1,28 +1,34 @@
 -- The account of a batch, by how far its run comes.
 -- Assumes nothing.
 use mathlib.Core.Path.{_≡_, refl, sym, ap, _∙_}
-use mathlib.Core.List.{List, map}
-use Prim.Native.Nat.{ℕ}
+use mathlib.Core.List.{List, [], _∷_, map}
+use mathlib.Core.Option.{Option, none, some}
+use Prim.Native.Nat.{ℕ, suc}
+use native.Mathlib.Omega.{arith}
+use lib.ListN.{length, length-map}
 use Rattle.definition.specs.Basics.{Answer, refused, gives, _>>=_}
 use Rattle.definition.specs.Choices.{Choices}
 use Rattle.definition.specs.Refusals.{Accepted, accepted}
-use Rattle.definition.specs.Planning.{Fate, Planned, overlaps, fated}
+use Rattle.definition.specs.Planning.{Fate, Planned, changesOf, fated}
+use Rattle.definition.specs.EdgeRule.{planned}
+use Rattle.definition.specs.Withdrawing.{staying}
 use Rattle.definition.specs.Running.{World}
 use Rattle.definition.specs.Finishing.{result, fitting}
-use Rattle.definition.specs.Answers.{judgeChanges, Plan, rewriteChanges, plan, ran}
+use Rattle.definition.specs.Answers.{withdrawing, remaining, judgeChanges, Plan, rewriteChanges, plan, ran}
 use Rattle.definition.specs.Printed.{programRoom}
-use Rattle.definition.specs.Account.{fateLines, overlapLine, said, account}
-use Rattle.definition_laws.specs.Plans.{plan-overlap, plan-fated}
-use Rattle.plan_edit.specs.Left.{rewrite-fates}
+use Rattle.definition.specs.Account.{accountOf, saidLines, overlapLine, said, account}
+use Rattle.definition_laws.specs.Stages.{planned-changes}
+use Rattle.definition_laws.specs.Plans.{plan-overlap, plan-fated, plan-parts}
+use Rattle.plan_edit.specs.Left.{Overlapping, rewrite-fates}
 use Rattle.edit_perform.specs.Ending.{ending}
 
--- what the account says of changes
-abbrev pub linesOf : List Planned → List ℕ
-linesOf ps = fateLines (map (λ q. q .fate) ps)
+-- what the account says of changes of which these are withdrawn and the others planned
+abbrev pub linesOf : List (Option ℕ) → List Planned → List ℕ
+linesOf ws ps = saidLines (accountOf ws (map (λ q. q .fate) ps))
 
--- what is told of a plan after its run: its fates, where the edit program's buffer can hold the result
-abbrev pub toldOf : Plan → World → Answer (List ℕ)
-toldOf p w = fitting programRoom (result (p .changes) (p .climbs) w) >>= λ r. gives (linesOf (p .changes))
+-- what is told of a plan after its run, where the edit program's buffer can hold the result
+abbrev pub toldOf : List (Option ℕ) → Plan → World → Answer (List ℕ)
+toldOf ws p w = fitting programRoom (result (p .changes) (p .climbs) w) >>= λ r. gives (linesOf ws (p .changes))
 
 pub not-accepted : (h : Choices) (b : List ℕ) (k : ℕ) → accepted b ≡ refused k → (ending h b ≡ refused k) × (account h b ≡ refused k)
 unfolding ending account _>>=_
@@ -30,9 +36,9 @@ not-accepted h b k e = (rw e, rw e)
 
 module _ (h : Choices) (b : List ℕ) (a : Accepted) (e : accepted b ≡ gives a) where
   -- two changes overlap
-  pub overlapping : (j k : ℕ) → judgeChanges h a ≡ overlaps j k → (ending h b ≡ refused 8) × (account h b ≡ gives (overlapLine j k))
+  pub overlapping : (j k : ℕ) → Overlapping h a j k → (ending h b ≡ refused 8) × (account h b ≡ gives (overlapLine j k))
   unfolding ending account said _>>=_
-  overlapping j k z = (rw (e, plan-overlap h a j k z), rw (e, z))
+  overlapping j k o = (rw (e, plan-overlap h a (o .p) (o .q) (o .judged)), rw (e, o .judged, o .first, o .second))
 
   -- none do
   module _ (ps : List Planned) (z : judgeChanges h a ≡ fated ps) where
@@ -45,8 +51,30 @@ module _ (h : Choices) (b : List ℕ) (a : Accepted) (e : accepted b ≡ gives a
 
     module _ (p : Plan) (g : plan h a ≡ gives p) where
       -- with a plan, the run and its result decide whether its fates are told
-      pub planned-account : account h b ≡ (ran a p >>= λ w. toldOf p w)
+      pub planned-account : account h b ≡ (ran a p >>= λ w. toldOf (withdrawing h a) p w)
       unfolding account said _>>=_
       planned-account =
           rw (e, z, rewriting, g)
-          (ap (λ (fs : List Fate). ran a p >>= λ w. fitting programRoom (result (p .changes) (p .climbs) w) >>= λ r. gives (fateLines fs)) (sym (rewrite-fates a ps p (rewriting ∙ g))))
+          (ap (λ (fs : List Fate). ran a p >>= λ w. fitting programRoom (result (p .changes) (p .climbs) w) >>= λ r. gives (saidLines (accountOf (withdrawing h a) fs))) (sym (rewrite-fates a ps p (rewriting ∙ g))))
+
+-- ── How many stay ───────────────────────────────────────────────────────────────────────────────────────────
+
+-- how many stay is told of any list in step
+pub staying-alike : {A B : Type 0} (ws : List (Option ℕ)) (l : List A) (m : List B) → length l ≡ length m → length (staying ws l) ≡ length (staying ws m)
+unfolding staying
+staying-alike [] l m e = refl
+staying-alike (w ∷ ws) [] [] e = refl
+staying-alike (w ∷ ws) [] (y ∷ m) e = absurd (omega arith)
+staying-alike (w ∷ ws) (x ∷ l) [] e = absurd (omega arith)
+staying-alike (none ∷ ws) (x ∷ l) (y ∷ m) e = ap suc (staying-alike ws l m (omega arith))
+staying-alike (some k ∷ ws) (x ∷ l) (y ∷ m) e = staying-alike ws l m (omega arith)
+
+-- a plan has a change for each
+pub planned-length : (h : Choices) (a : Accepted) (p : Plan) → plan h a ≡ gives p → length (p .changes) ≡ length (remaining h a)
+unfolding changesOf
+planned-length h a p e =
+    let rs = remaining h a in
+    let ps = planned h (a .table) rs in
+    sym (length-map (p .changes) (λ q. q .fate))
+    ∙ (ap length (rewrite-fates a ps p ((plan-parts h a p e) .1))
+    ∙ (length-map ps (λ q. q .fate) ∙ (sym (length-map ps (λ q. q .change)) ∙ (ap length (planned-changes h (a .table) rs) ∙ length-map rs (λ r. r .change)))))

@@ -13,12 +13,14 @@ use Rattle.definition.specs.Refusals.{Accepted, accepted}
 use Rattle.definition.specs.Answers.{tooShort, withChoices}
 use Rattle.definition.specs.Finishing.{fitting}
 use Rattle.definition.specs.Printed.{programRoom}
-use Rattle.definition.specs.Account.{fateLines, overlapLine, account}
+use Rattle.definition.specs.Withdrawing.{staying}
+use Rattle.definition.specs.Account.{accountOf, saidLines, overlapLine, account}
 use Rattle.definition_laws.specs.Held.{Holds}
 use Rattle.read_element_table.specs.View.{view}
 use Rattle.read_element_table.specs.Wellformed.{Wellformed}
 use Rattle.record_changes.specs.ChangeRow.{rowsOf}
 use Rattle.plan_sort.specs.Rows.{rowFate}
+use Rattle.plan_withdraw.specs.Rule.{told}
 use Rattle.rows_model.specs.Row.{firstRows, rowsOf as treeRows, bytes}
 use Rattle.rows_model.specs.Place.{markOf}
 use Rattle.run_annotations.specs.Notes.{notesOf}
@@ -72,10 +74,19 @@ pub record Marked (h : Choices) (b marks : List ℕ) (d : Ended) : Type 0 where
   pub long : d .elements ≤ length marks
   pub told : take (d .elements) marks ≡ map (markOf (end .world .trees)) (end .world .paths)
 
+-- the words behind the rows that tell which of the recorded changes are withdrawn
+abbrev pub withdrawnIn : ℕ → List ℕ → List ℕ
+withdrawnIn n changes = take n (drop 3584 changes)
+
 -- the words hold what became of each recorded change of the batch b: the account, unless the edit program's buffer cannot hold the result
 pub record Recounted (h : Choices) (b changes : List ℕ) (d : Ended) : Type 0 where
   pub few : d .recorded ≤ 256
-  pub text : (e : End) → ending h b ≡ gives e → account h b ≡ (fitting programRoom (resultAt e) >>= λ r. gives (fateLines (map rowFate (rowsOf (d .recorded) changes))))
+  pub long : 3584 + d .recorded ≤ length changes
+  -- so many stay, with a row each
+  pub rows : ℕ
+  pub stay : rows ≡ length (staying (map told (withdrawnIn (d .recorded) changes)) (withdrawnIn (d .recorded) changes))
+  pub text : (e : End) → ending h b ≡ gives e
+      → account h b ≡ (fitting programRoom (resultAt e) >>= λ r. gives (saidLines (accountOf (map told (withdrawnIn (d .recorded) changes)) (map rowFate (rowsOf rows changes)))))
 
 -- the changes j and k of the batch b overlap
 pub record Overlapped (h : Choices) (b : List ℕ) (j k : ℕ) : Type 0 where
@@ -91,7 +102,7 @@ pub record Performs (h : Choices) (b t s changes rows notes changed marks : List
   pub marked : (d : Ended) → r ≡ Done d → Marked h b marks d
   pub recounts : (d : Ended) → r ≡ Done d → Recounted h b changes d
 
--- THE PROMISE of performing by the choices h with the work slices `work`: 17 where there is no such edge rule, 1 where a slice is too short, or what a run answers
+-- THE PROMISE of performing by the choices h with the work slices `work`: 17 or 18 where there is no such choice, 1 where a slice is too short, or what a run answers
 pub data PerformsWith (h : Choices) (work : List (List ℕ)) (b t s changes rows notes changed marks : List ℕ) (r : Performed) : Type 0 where
   early : (k : ℕ) → _≡_ {A = Answer (Unit {0})} (withChoices h (lengths needed work) (gives tt)) (refused k) → r ≡ Refused k → PerformsWith h work b t s changes rows notes changed marks r
   long : chosen h ≡ gives tt → tooShort (lengths needed work) ≡ false → Performs h b t s changes rows notes changed marks r → PerformsWith h work b t s changes rows notes changed marks r

@@ -14,20 +14,22 @@ use Rattle.definition.specs.Elements.{Table, table}
 use Rattle.definition.specs.Planning.{Fate, Planned}
 use Rattle.definition.specs.Running.{World, begin, news, records}
 use Rattle.orders.specs.Lists.{total}
-use Rattle.definition.specs.Answers.{Plan, plan, atFirst, performed, ran}
+use Rattle.definition.specs.Answers.{sortedChanges, withdrawing, remaining, Plan, plan, atFirst, performed, ran}
 use Rattle.definition.specs.Refusals.{mostListed, Accepted, accepted}
 use Rattle.definition.specs.Finishing.{fitting}
 use Rattle.definition.specs.Printed.{programRoom}
-use Rattle.definition.specs.Account.{fateLines, account}
+use Rattle.definition.specs.Withdrawing.{staying}
+use Rattle.definition.specs.Account.{accountOf, saidLines, account}
 use Rattle.definition_laws.specs.Answers.{gives-inj, refused-gives}
 use Rattle.definition_laws.specs.Basics.{map-All}
 use Rattle.definition_laws.specs.Plans.{performed-right, performed-few, performed-ruled}
 use Rattle.definition_laws.specs.Right.{Right}
+use Rattle.withdraw_laws.specs.Choice.{withdrawing-length}
 use Rattle.definition_laws.specs.Limits.{performed-records, ran-changed, ran-known}
 use Rattle.read_element_table.specs.View.{view}
 use Rattle.plan_mapping.specs.Mapped.{wordsAt}
 use Rattle.record_changes.specs.ChangeRow.{rowsOf}
-use Rattle.record_changes.specs.ChangeRowLaws.{rowAt}
+use Rattle.record_changes.specs.ChangeRowLaws.{rowAt, length-rowsOf}
 use Rattle.plan_sort.specs.Rows.{rowFate}
 use Rattle.record_rewritten.specs.Stated.{changeOf, planOf}
 use Rattle.plan_rewrite.specs.Kept.{Kept}
@@ -40,8 +42,10 @@ use Rattle.run_model.specs.Step.{inRows, ran-store}
 use Rattle.run_tree_store.specs.Stored.{stored, storedFirst}
 use Rattle.plan_model.specs.Ready.{listedIn, leaves-ready, ready-facts}
 use Rattle.plan_model.specs.Fated.{rows-each}
+use Rattle.plan_withdraw.specs.Rule.{told}
+use Rattle.plan_edit.specs.Stages.{Withdrew}
 use Rattle.plan_edit.specs.Answers.{PlanMade}
-use Rattle.plan_edit.specs.Left.{TellsPlan, plan-told, judged-accepted}
+use Rattle.plan_edit.specs.Left.{TellsPlan, plan-told, fated-accepted}
 use Rattle.plan_edit.specs.declared.Counts.{Counts}
 use Rattle.plan_edit.specs.declared.Planned.the-variants.{Made as PlanIs}
 use Rattle.run_tree_state.specs.Applied.{executedIn}
@@ -55,8 +59,8 @@ use Rattle.run_execute.specs.Stepping.{Performs}
 use Rattle.run_execute.specs.Running.{plansIn, listsAll, lists-total, Ran, marks-many}
 use Rattle.edit_perform.specs.Ending.{End, ending, resultAt}
 use Rattle.edit_perform.specs.Beginning.{known, planned, begun}
-use Rattle.edit_perform.specs.Accounting.{toldOf, planned-account}
-use Rattle.edit_perform.specs.AtEnd.{AtEnd, Marked, Recounted}
+use Rattle.edit_perform.specs.Accounting.{toldOf, planned-account, staying-alike, planned-length}
+use Rattle.edit_perform.specs.AtEnd.{AtEnd, Marked, withdrawnIn, Recounted}
 use Rattle.edit_perform.specs.declared.Ended.{Ended}
 
 module _ {h : Choices} {b : List ℕ} {l : Layout} {t₀ s₀ t s : List ℕ} (v : Leaves b l t₀ s₀ t s) {changes running first : List ℕ} {c : Counts} (P : PlanMade h b l t s changes running first (PlanIs c)) where
@@ -162,8 +166,8 @@ module _ {h : Choices} {b : List ℕ} {l : Layout} {t₀ s₀ t s : List ℕ} (v
     ended-by o e = rw (v .accepted, m .plan, e) refl
 
     -- and so is the account
-    accounted-by : account h b ≡ (ran a p >>= λ w. toldOf p w)
-    accounted-by = planned-account h b a (v .accepted) (P .found .changes) (judged-accepted h b a (v .accepted) (P .found .judged)) p (m .plan)
+    accounted-by : account h b ≡ (ran a p >>= λ w. toldOf (withdrawing h a) p w)
+    accounted-by = planned-account h b a (v .accepted) (P .found .changes) (fated-accepted h b (P .found .changes) a (v .accepted) (P .found .judged)) p (m .plan)
 
     -- refused at the same step
     pub run-refused : (k : ℕ) → x ≡ Refused k → (ending h b ≡ refused k) × (account h b ≡ refused k)
@@ -173,12 +177,12 @@ module _ {h : Choices} {b : List ℕ} {l : Layout} {t₀ s₀ t s : List ℕ} (v
         go : (o : Answer World) → ran a p ≡ o → refused k ≡ inRows o → (ending h b ≡ refused k) × (account h b ≡ refused k)
         go (refused n) i j =
             let same : n ≡ k = cc in
-            (ended-by (refused n) i ∙ ap refused same, accounted-by ∙ (ap (λ (o : Answer World). o >>= λ w. toldOf p w) i ∙ ap refused same))
+            (ended-by (refused n) i ∙ ap refused same, accounted-by ∙ (ap (λ (o : Answer World). o >>= λ w. toldOf (withdrawing h a) p w) i ∙ ap refused same))
         go (gives w) i j = refused-gives j
 
     -- or what is held at the end is the definition's
     pub run-ended : (r : TreeState) → x ≡ Done r → 3072 ≤ length notes
-        → AtEnd h b rows notes changed (record { text = l .text; elements = E; recorded = c .changes; root = r .root; rows = r .rows; notes = r .notes; changed = r .changed; discarded = c .discarded; climbs = c .climbs })
+        → AtEnd h b rows notes changed (record { text = l .text; elements = E; recorded = c .recorded; root = r .root; rows = r .rows; notes = r .notes; changed = r .changed; discarded = c .discarded; climbs = c .climbs })
     unfolding executedIn _>>=_ text store stored
     run-ended r e ln = go (ran a p) refl (sym (ap (executedIn text rows marks notes changed) e) ∙ ran-told)
       where
@@ -186,7 +190,7 @@ module _ {h : Choices} {b : List ℕ} {l : Layout} {t₀ s₀ t s : List ℕ} (v
         S = R .standing r e
 
         go : (o : Answer World) → ran a p ≡ o → gives (heldIn text r rows marks notes changed) ≡ inRows o
-            → AtEnd h b rows notes changed (record { text = l .text; elements = E; recorded = c .changes; root = r .root; rows = r .rows; notes = r .notes; changed = r .changed; discarded = c .discarded; climbs = c .climbs })
+            → AtEnd h b rows notes changed (record { text = l .text; elements = E; recorded = c .recorded; root = r .root; rows = r .rows; notes = r .notes; changed = r .changed; discarded = c .discarded; climbs = c .climbs })
         go (refused n) i j = refused-gives (sym j)
         go (gives w) i j =
             let K = ran-known h b a p w (v .accepted) (m .plan) i in
@@ -236,21 +240,39 @@ module _ {h : Choices} {b : List ℕ} {l : Layout} {t₀ s₀ t s : List ℕ} (v
     unfolding planOf
     fates-told = sym (ap (map (λ (q : Planned). q .fate)) (sym (m .changes)) ∙ map-map (λ (q : Planned). q .fate) (planOf (listedIn l b)) (rowsOf (c .changes) changes))
 
+    -- as many rows as changes that stay
+    rows-stay : Withdrew h b (c .recorded) (drop 3584 changes)
+        → c .changes ≡ length (staying (map told (withdrawnIn (c .recorded) changes)) (withdrawnIn (c .recorded) changes))
+    unfolding remaining
+    rows-stay W =
+        let ps = withdrawnIn (c .recorded) changes in
+        let ws = W .told a (v .accepted) in
+        let many : length ps ≡ length (sortedChanges a) = sym (length-map ps told) ∙ (ap length ws ∙ withdrawing-length h a) in
+        sym (length-rowsOf (c .changes) changes)
+        ∙ (sym (length-map (rowsOf (c .changes) changes) (planOf (listedIn l b)))
+        ∙ (ap length (m .changes) ∙ (planned-length h a p (m .plan) ∙ (sym (staying-alike (withdrawing h a) ps (sortedChanges a) many) ∙ ap (λ us. length (staying us ps)) (sym ws)))))
+
     -- so that the account is told by them
-    pub run-recounted : (r : TreeState) → x ≡ Done r → (d : Ended) → d .recorded ≡ c .changes → Recounted h b changes d
+    pub run-recounted : Withdrew h b (c .recorded) (drop 3584 changes) → 3840 ≤ length changes → (r : TreeState) → x ≡ Done r → (d : Ended) → d .recorded ≡ c .recorded → Recounted h b changes d
     unfolding executedIn resultAt _>>=_
-    run-recounted r e d q = go (ran a p) refl (sym (ap (executedIn text rows marks notes changed) e) ∙ ran-told)
+    run-recounted W long r e d q = go (ran a p) refl (sym (ap (executedIn text rows marks notes changed) e) ∙ ran-told)
       where
+        ws : map told (withdrawnIn (d .recorded) changes) ≡ withdrawing h a
+        ws = ap (λ (n : ℕ). map told (withdrawnIn n changes)) q ∙ W .told a (v .accepted)
+
         go : (o : Answer World) → ran a p ≡ o → gives (heldIn text r rows marks notes changed) ≡ inRows o → Recounted h b changes d
         go (refused n) i j = refused-gives (sym j)
         go (gives w) i j = record {
-          few = omega (arith, P .within .few);
+          few = omega (arith, W .few);
+          long = omega (arith, W .few);
+          rows = c .changes;
+          stay = rows-stay W ∙ ap (λ (n : ℕ). length (staying (map told (withdrawnIn n changes)) (withdrawnIn n changes))) (sym q);
           text = λ y z.
               let last : End = record { batch = a; planned = p; world = w } in
               let same : last ≡ y = gives-inj (sym (ended-by (gives w) i) ∙ z) in
-              let fates : map (λ f. f .fate) (p .changes) ≡ map rowFate (rowsOf (d .recorded) changes) = sym (ap (λ (n : ℕ). map rowFate (rowsOf n changes)) q ∙ fates-told) in
               accounted-by
-              ∙ (ap (λ (o : Answer World). o >>= λ w. toldOf p w) i
-              ∙ (ap (λ (fs : List Fate). fitting programRoom (resultAt last) >>= λ r. gives (fateLines fs)) fates
-              ∙ ap (λ (e : End). fitting programRoom (resultAt e) >>= λ r. gives (fateLines (map rowFate (rowsOf (d .recorded) changes)))) same));
+              ∙ (ap (λ (o : Answer World). o >>= λ w. toldOf (withdrawing h a) p w) i
+              ∙ (ap (λ us. fitting programRoom (resultAt last) >>= λ r. gives (saidLines (accountOf us (map (λ f. f .fate) (p .changes))))) (sym ws)
+              ∙ (ap (λ (fs : List Fate). fitting programRoom (resultAt last) >>= λ r. gives (saidLines (accountOf (map told (withdrawnIn (d .recorded) changes)) fs))) (sym fates-told)
+              ∙ ap (λ (e : End). fitting programRoom (resultAt e) >>= λ r. gives (saidLines (accountOf (map told (withdrawnIn (d .recorded) changes)) (map rowFate (rowsOf (c .changes) changes))))) same)));
         }

@@ -1,4 +1,4 @@
-// From a batch to what its run leaves: refusal 17, lines 1 to 7, planning, and the steps.
+// From a batch to what its run leaves: refusals 17 and 18, lines 1 to 7, planning, and the steps.
 use choices::Choices;
 use plan_edit::Counts;
 use plan_edit::Planned;
@@ -17,12 +17,12 @@ ghost use Rattle.definition.specs.Basics.{gives};
 ghost use Rattle.definition.specs.Answers.{withChoices};
 ghost use Rattle.choices.specs.Meant.{meant, refusalOf};
 ghost use Rattle.promises.specs.Slices.{needed, lengths};
-ghost use Rattle.plan_edit.specs.Answers.{PlanMade};
+ghost use Rattle.plan_edit.specs.Answers.{Planning};
 ghost use Rattle.plan_edit.specs.declared.Planned.the-variants.{Made};
 ghost use Rattle.edit_perform.specs.Beginning.{LaidOut};
 ghost use Rattle.edit_perform.specs.AtEnd.{Performs, PerformsWith};
 
-// What a run leaves: where the batch's text starts, how many elements it has, how many changes are recorded, where the root of tree 0 stands, the rows, notes and changed elements that are held, and two numbers of the result.
+// What a run leaves: where the batch's text starts, how many elements it has, how many changes are recorded (withdrawn ones among them), where the root of tree 0 stands, the rows, notes and changed elements that are held, and two numbers of the result.
 pub struct Ended {
     pub text: usize,
     pub elements: usize,
@@ -35,7 +35,7 @@ pub struct Ended {
     pub climbs: usize,
 }
 
-// A refusal, by its number; 8 with the places of the two changes that overlap; or what the run leaves.
+// A refusal, by its number; 8 with the numbers of the two changes that overlap; or what the run leaves.
 pub enum Performed {
     Refused(usize),
     Overlap(usize, usize),
@@ -61,7 +61,7 @@ fn run_plan(
     prepared: &mut [u32],
 ) -> Performed
     requires { ⌜ LaidOut (now b) l (now table) (now source) ⌝ }
-    requires { ⌜ PlanMade (meant choices) (now b) l (now table) (now source) (now changes) (now running) (now first) (Made c) ⌝ }
+    requires { ⌜ Planning (meant choices) (now b) l (now table) (now source) (now changes) (now running) (now first) (Made c) ⌝ }
     requires { ⌜ (6147 ≤ length (now source)) × (256 ≤ length (now running)) × (768 ≤ length (now first)) ⌝ }
     requires { ⌜ (length (now marks) ≡ l .sizes .elements) × (3072 ≤ length (now notes)) × (3072 ≤ length (now incoming)) × (1024 ≤ length (now changed)) × (12291 ≤ length (now rows)) × (12288 ≤ length (now prepared)) ⌝ }
     ensures { λ r. ⌜ Performs (meant choices) (now (b .entry)) (now (table .entry)) (now (source .entry)) (now (changes .entry)) (now (rows .exit)) (now (notes .exit)) (now (changed .exit)) (now (marks .exit)) r ⌝ }
@@ -93,7 +93,7 @@ fn run_plan(
         Executed::Done(t) => Performed::Done(Ended {
             text: l.text,
             elements: s.elements,
-            recorded: c.changes,
+            recorded: c.recorded,
             root: t.root,
             rows: t.rows,
             notes: t.notes,
@@ -120,7 +120,7 @@ fn plan_and_run(
     prepared: &mut [u32],
 ) -> Performed
     requires { ⌜ LaidOut (now b) l (now table) (now source) ⌝ }
-    requires { ⌜ (6147 ≤ length (now source)) × (3584 ≤ length (now changes)) ⌝ }
+    requires { ⌜ (6147 ≤ length (now source)) × (3840 ≤ length (now changes)) ⌝ }
     requires { ⌜ (2048 ≤ length (now marks)) × (3072 ≤ length (now notes)) × (3072 ≤ length (now incoming)) × (1024 ≤ length (now changed)) × (12291 ≤ length (now rows)) × (12288 ≤ length (now prepared)) ⌝ }
     ensures { λ r. ⌜ Performs (meant choices) (now (b .entry)) (now (table .entry)) (now (source .entry)) (now (changes .exit)) (now (rows .exit)) (now (notes .exit)) (now (changed .exit)) (now (marks .exit)) r ⌝ }
 {
@@ -165,7 +165,7 @@ fn plan_and_run(
     }
 }
 
-// 17 where there is no such edge rule, 1 where a work slice is too short, else 0.
+// 17 or 18 where there is no such choice, 1 where a work slice is too short, else 0.
 fn refused_first(
     choices: Choices,
     table: &[u32],
@@ -200,7 +200,7 @@ fn refused_first(
     0
 }
 
-// From a batch to what its run leaves, or the first refusal out of 17, 1 to 12 and 16.
+// From a batch to what its run leaves, or the first refusal out of 17, 18, 1 to 12 and 16.
 pub fn perform(
     choices: Choices,
     b: &[u8],

@@ -253,12 +253,14 @@ module _ (changes p changes′ : List ℕ) (long : 3840 ≤ length changes) (few
       let z : 3584 + length p ≡ 3840 = omega arith in
       e ∙ (rw (z, take-all (length p) p (omega arith)) (append-assoc (take 3584 changes) p (drop 3840 changes)))
 
+  long-still : length changes′ ≡ length changes
+  long-still = ap length e ∙ length-paste changes 3584 p (length p) (omega arith) (omega arith)
+
   rows-stand : (c : ℕ) → c ≤ 256 → rowsOf c changes′ ≡ rowsOf c changes
   rows-stand c h =
       let front : take (14 * c) changes′ ≡ take (14 * c) changes =
       ap (take (14 * c)) behind ∙ (take-append-le (14 * c) (take 3584 changes) (p ++ drop 3840 changes) (rw (length-take-le 3584 changes (omega arith)) (omega arith)) ∙ take-take (14 * c) 3584 changes (omega arith)) in
-      let long′ : length changes′ ≡ length changes = ap length e ∙ length-paste changes 3584 p (length p) (omega arith) (omega arith) in
-      sym (rows-front c changes′ [] (omega arith)) ∙ (ap (λ k. rowsOf c (k ++ [])) front ∙ rows-front c changes [] (omega arith))
+      sym (rows-front c changes′ [] (omega (arith, long-still))) ∙ (ap (λ k. rowsOf c (k ++ [])) front ∙ rows-front c changes [] (omega arith))
 
   words-stand : (n : ℕ) → n ≤ 256 → take n (drop 3584 changes′) ≡ take n p
   words-stand n h =
@@ -288,5 +290,5 @@ module _ (changes p changes′ : List ℕ) (long : 3840 ≤ length changes) (few
             within = record { few = w .few; most = w .most; fewer = w .fewer; climbs = w .climbs; kept = rw (rows-stand (c .changes) (w .few)) (w .kept); low = w .low };
             found = M .found;
           };
-          withdrew = withdrew-behind W;
+          withdrew = (omega (arith, long-still), withdrew-behind W);
         })

@@ -3,7 +3,7 @@
 use mathlib.Core.List.{List, map}
 use mathlib.Core.Path.{_≡_}
 use Prim.Native.Nat.{ℕ, _≤_, _<_}
-use lib.ListN.{take, drop}
+use lib.ListN.{length, take, drop}
 use Rattle.orders.specs.Lists.{All}
 use Rattle.definition.specs.Basics.{Answer, refused, gives}
 use Rattle.definition.specs.Choices.{Choices}
@@ -80,7 +80,7 @@ recordedAs n (Made c) = Made (record { recorded = n; changes = c .changes; runs 
 abbrev pub KeptWithdrawn : Choices → List ℕ → List ℕ → Planned → Type 0
 KeptWithdrawn h b changes (Refused k) = Unit {0}
 KeptWithdrawn h b changes (Overlap j k) = Unit {0}
-KeptWithdrawn h b changes (Made c) = Withdrew h b (c .recorded) (drop 3584 changes)
+KeptWithdrawn h b changes (Made c) = (3840 ≤ length changes) × Withdrew h b (c .recorded) (drop 3584 changes)
 
 -- THE PROMISE of planning, whole
 pub record Planning (h : Choices) (b : List ℕ) (l : Layout) (t s changes running first : List ℕ) (r : Planned) : Type 0 where

@@ -44,7 +44,7 @@ short-append (s ∷ l) m = rw (short-append l m) (go (ltb (s .0) (s .1)))
     go false = refl
 
 -- all nine, three by three
-module _ (a b c d e f g h i : List ℕ) (t : Bool) (p : t ≡ tooShort (asked a 16384 ∷ asked b 6147 ∷ asked c 3584 ∷ [])) where
+module _ (a b c d e f g h i : List ℕ) (t : Bool) (p : t ≡ tooShort (asked a 16384 ∷ asked b 6147 ∷ asked c 3840 ∷ [])) where
   abbrev Nine : Bool → Type 0
   Nine r = r ≡ tooShort (lengths needed (a ∷ b ∷ c ∷ d ∷ e ∷ f ∷ g ∷ h ∷ i ∷ []))
 
@@ -56,7 +56,7 @@ module _ (a b c d e f g h i : List ℕ) (t : Bool) (p : t ≡ tooShort (asked a 
 
   parted : tooShort (lengths needed (a ∷ b ∷ c ∷ d ∷ e ∷ f ∷ g ∷ h ∷ i ∷ [])) ≡ (t || (tooShort second || tooShort third))
   unfolding lengths needed tooShort mathlib.Core.List.zip
-  parted = short-append (asked a 16384 ∷ asked b 6147 ∷ asked c 3584 ∷ []) (second ++ third) ∙ rw (p, short-append second third)
+  parted = short-append (asked a 16384 ∷ asked b 6147 ∷ asked c 3840 ∷ []) (second ++ third) ∙ rw (p, short-append second third)
 
   pub short-in-first : t ≡ true → Nine true
   short-in-first q = sym (parted ∙ rw q refl)

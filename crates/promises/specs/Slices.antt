@@ -13,7 +13,7 @@ use Rattle.definition.specs.Answers.{tooShort}
 
 -- "its length in docs/": table, source, changes, notes, incoming, changed, marks, rows, prepared
 unfoldable pub needed : List ℕ
-needed = 16384 ∷ 6147 ∷ 3584 ∷ 3072 ∷ 3072 ∷ 1024 ∷ 2048 ∷ 12291 ∷ 12288 ∷ []
+needed = 16384 ∷ 6147 ∷ 3840 ∷ 3072 ∷ 3072 ∷ 1024 ∷ 2048 ∷ 12291 ∷ 12288 ∷ []
 
 -- each slice as its length and the length that it needs
 unfoldable pub lengths : List ℕ → List (List ℕ) → List (ℕ × ℕ)
@@ -41,7 +41,7 @@ short-first n m l e = let h = either-false (ltb n m) (any (λ s. ltb (s .0) (s .
 -- each work slice has the length that it needs
 module _ (a b c d e f g h i : List ℕ) where
   pub long-enough : tooShort (lengths needed (a ∷ b ∷ c ∷ d ∷ e ∷ f ∷ g ∷ h ∷ i ∷ [])) ≡ false
-      → ((16384 ≤ length a) × (6147 ≤ length b) × (3584 ≤ length c))
+      → ((16384 ≤ length a) × (6147 ≤ length b) × (3840 ≤ length c))
       × ((2048 ≤ length g) × (3072 ≤ length d) × (3072 ≤ length e) × (1024 ≤ length f) × (12291 ≤ length h) × (12288 ≤ length i))
   unfolding lengths needed zip zipWith
   long-enough q =
@@ -57,7 +57,7 @@ module _ (a b c d e f g h i : List ℕ) where
       ((a₁, b₁, c₁), (g₁, d₁, e₁, f₁, h₁, i₁))
 
 -- slices of the lengths of docs/WORK.md are long enough
-pub lengths-suffice : (a b c d e f g h i : List ℕ) → 16384 ≡ length a → 6147 ≡ length b → 3584 ≡ length c → 3072 ≡ length d → 3072 ≡ length e → 1024 ≡ length f → 2048 ≡ length g
+pub lengths-suffice : (a b c d e f g h i : List ℕ) → 16384 ≡ length a → 6147 ≡ length b → 3840 ≡ length c → 3072 ≡ length d → 3072 ≡ length e → 1024 ≡ length f → 2048 ≡ length g
     → 12291 ≡ length h → 12288 ≡ length i → tooShort (lengths needed (a ∷ b ∷ c ∷ d ∷ e ∷ f ∷ g ∷ h ∷ i ∷ [])) ≡ false
 unfolding tooShort lengths needed zip any
 lengths-suffice a b c d e f g h i p₁ p₂ p₃ p₄ p₅ p₆ p₇ p₈ p₉ = rw (← p₁, ← p₂, ← p₃, ← p₄, ← p₅, ← p₆, ← p₇, ← p₈, ← p₉)

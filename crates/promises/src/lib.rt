@@ -57,7 +57,7 @@ pub fn too_short(
 ) -> bool
     ensures { λ r. ⌜ r ≡ tooShort (lengths needed (now (table .entry) ∷ now (source .entry) ∷ now (changes .entry) ∷ now (notes .entry) ∷ now (incoming .entry) ∷ now (changed .entry) ∷ now (marks .entry) ∷ now (rows .entry) ∷ now (prepared .entry) ∷ [])) ⌝ }
 {
-    if short_of_three(table, 16384, source, 6147, changes, 3584) {
+    if short_of_three(table, 16384, source, 6147, changes, 3840) {
         return true;
     }
     if short_of_three(notes, 3072, incoming, 3072, changed, 1024) {

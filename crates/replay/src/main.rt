@@ -179,7 +179,7 @@ fn is_recorded(told: Outcome, result: &[u8], refusal: usize, expected: &[u8]) ->
 fn run_job(job: Job, batch: &[u8], result: &mut [u8]) -> Served {
     let mut table = [WORD; 16384];
     let mut source = [WORD; 6147];
-    let mut changes = [WORD; 3584];
+    let mut changes = [WORD; 3840];
     let mut notes = [WORD; 3072];
     let mut incoming = [WORD; 3072];
     let mut changed = [WORD; 1024];

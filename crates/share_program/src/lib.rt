@@ -13,7 +13,7 @@ fn share_batch(choices: Choices, batch: &[u8]) -> Shared
 {
     let mut table = [0u32; 16384];
     let mut source = [0u32; 6147];
-    let mut changes = [0u32; 3584];
+    let mut changes = [0u32; 3840];
     let mut notes = [0u32; 3072];
     let mut incoming = [0u32; 3072];
     let mut changed = [0u32; 1024];

@@ -1,7 +1,7 @@
 -- `refused_first` meets its contract: 17, 1, or nothing.
 -- Assumes nothing.
 use borrow.Author.Needs.{needs}
-use Rattle.edit_perform.proofs.Stages.{refused-17, refused-1, refused-0}
+use Rattle.edit_perform.proofs.Stages.{wrong-choice, refused-1, refused-0}
 use Rattle.edit_perform.proofs.refused_first.Statement.{statement}
 use Rattle.edit_perform.proofs.refused_first.Tie as tie
 
@@ -9,7 +9,7 @@ refusal-requires : tie.Need-refusal-requires
 refusal-requires c κs = search needs
 
 returns : tie.Need-returns
-returns c = search (refused-17, needs)
+returns c = search (wrong-choice, needs)
 
 too-short-requires : tie.Need-too-short-requires
 too-short-requires c κs = search needs
