@@ -15,10 +15,8 @@ use Rattle.definition.specs.Basics as basics
 use Rattle.definition.specs.Basics.{gives, _>>=_}
 use Rattle.definition.specs.Choices.{Choices}
 use Rattle.definition.specs.Elements.{isNode, row, tree}
-use Rattle.definition.specs.Account.{fateLines, overlapLine}
-use Rattle.record_changes.specs.ChangeRow.{rowsOf as changeRows}
-use Rattle.plan_sort.specs.Rows.{rowFate}
-use Rattle.account_lines.specs.Lines.{tellIn}
+use Rattle.definition.specs.Account.{saidLines, overlapLine}
+use Rattle.account_lines.specs.Lines.{tellIn, saidRows}
 use Rattle.read_element_table.specs.View.{view}
 use Rattle.read_element_table.specs.Wellformed.{Wellformed}
 use Rattle.rows_model.specs.Row.{firstRows}
@@ -34,7 +32,7 @@ use Rattle.finish_result.specs.Weighed.{Weighs}
 use Rattle.finish_result.specs.Answered.{lengthOf, Answered}
 use Rattle.finish_result.specs.declared.Finished.{Finished}
 use Rattle.finish_result.specs.declared.Finished.the-variants.{Short, Bytes}
-use Rattle.edit_perform.specs.AtEnd.{AtEnd, Told, Recounted}
+use Rattle.edit_perform.specs.AtEnd.{AtEnd, Told, withdrawnIn, Recounted}
 use Rattle.edit_perform.specs.declared.Ended.{Ended}
 use Rattle.edit_perform.specs.declared.Performed.{Performed}
 use Rattle.edit_perform.specs.declared.Performed.the-variants.{Refused as Stopped, Overlap, Done}
@@ -47,11 +45,15 @@ use Rattle.promises.specs.declared.Job.{Job}
 use Rattle.promises.specs.declared.Job.the-variants.{Edit, Find, Account, Share}
 use Rattle.promises.specs.declared.Outcome.{Outcome}
 use Rattle.promises.specs.declared.Outcome.the-variants.{Refused, Bytes as Written, Nothing as NoElement, At as Stands, Of}
-use Rattle.edit_answer.specs.AtEnd.{RowsAtEnd, answered-edit, oldNode, none-there, no-node, node-there, old-tree, no-old-node, old-node, unless, unless-refused, unless-done, unless-overlap, overlapTold, overlap-answers, account-13, fates-answer, share-told, ToAnswer}
+use Rattle.edit_answer.specs.AtEnd.{RowsAtEnd, answered-edit, oldNode, none-there, no-node, node-there, old-tree, no-old-node, old-node, unless, unless-refused, unless-done, unless-overlap, overlapTold, overlap-answers, account-13, account-answer, share-told, ToAnswer}
 
 -- what is behind a place, as a part is told
 pub whole-rest : (k : ℕ) (b : List ℕ) → take (length b - k) (drop k b) ≡ drop k b
 whole-rest k b = take-all (length b - k) (drop k b) (omega (arith, length-drop k b))
+
+-- the words behind the rows are cut out
+pub behind-cut : (n : ℕ) (changes : List ℕ) → take (3584 + n - 3584) (drop 3584 changes) ≡ withdrawnIn n changes
+behind-cut n changes = let e : 3584 + n - 3584 ≡ n = omega arith in rw e refl
 
 -- ── The result's bytes ──────────────────────────────────────────────────────────────────────────────────────
 
@@ -111,8 +113,9 @@ module _ {h : Choices} {b changes rows notes changed : List ℕ} {d : Ended} (v 
   unfolding outcome written leftIn
   account-refused l = rw (account-13 (v .0) (v .1) (rw t at w) (length held) l) (record { answer = refl; result = refl })
 
-  pub account-told : {out : List ℕ} {r : Outcome} → size ≤ 65536 → Tells (tellIn (length held) (fateLines (map rowFate (changeRows (d .recorded) changes)))) held r out → Tells (reached h Account b (length held)) held r out
-  account-told {out} {r} l q = subst (λ (x : basics.Answer (Outcome × List ℕ)). Tells x held r out) (fates-answer (v .0) (v .1) (rw t at w) (length held) l) q
+  -- the words that tell which changes are withdrawn are cut out behind the rows
+  pub account-told : {part out : List ℕ} {r : Outcome} → part ≡ withdrawnIn (d .recorded) changes → size ≤ 65536 → Tells (tellIn (length held) (saidLines (saidRows changes part))) held r out → Tells (reached h Account b (length held)) held r out
+  account-told {part} {out} {r} e l q = subst (λ (x : basics.Answer (Outcome × List ℕ)). Tells x held r out) (ap (λ (ps : List ℕ). tellIn (length held) (saidLines (saidRows changes ps))) e ∙ account-answer (v .0) (v .1) (rw t at w) (length held) l) q
 
 -- a job that is refused by 8 leaves the result slice as it was
 tells-8 : (job : Job) (j k room : ℕ) (held : List ℕ) → overlapTold job j k room ≡ basics.refused 8 → Tells (overlapTold job j k room) held (Refused 8) held

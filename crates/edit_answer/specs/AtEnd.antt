@@ -20,12 +20,10 @@ use Rattle.definition.specs.Answers.{Plan, plan, ran}
 use Rattle.definition.specs.Running.{World}
 use Rattle.definition.specs.Finishing.{fitting, encoded}
 use Rattle.definition.specs.Printed.{programRoom}
-use Rattle.definition.specs.Account.{fateLines, overlapLine}
+use Rattle.definition.specs.Account.{saidLines, overlapLine}
 use Rattle.definition_laws.specs.Accepted.{accepts}
 use Rattle.definition_laws.specs.Answers.{gives-inj, given}
-use Rattle.record_changes.specs.ChangeRow.{rowsOf as changeRows}
-use Rattle.plan_sort.specs.Rows.{rowFate}
-use Rattle.account_lines.specs.Lines.{tellIn}
+use Rattle.account_lines.specs.Lines.{tellIn, saidRows, said-rows}
 use Rattle.read_element_table.specs.View.{view, rowAt, kindWord}
 use Rattle.read_element_table.specs.Wellformed.{Lines}
 use Rattle.read_element_table.specs.Told.{length-view, row-view, node-told, tree-told}
@@ -45,7 +43,7 @@ use Rattle.finish_result.specs.Weighed.{Weighs}
 use Rattle.finish_result.specs.Answered.{lengthOf, fitted, overFront, Answered, answered-result}
 use Rattle.finish_result.specs.declared.Finished.{Finished}
 use Rattle.edit_perform.specs.Ending.{End, ending, resultAt, edit-ending, foundAt, found-ending}
-use Rattle.edit_perform.specs.AtEnd.{AtEnd, Told, Overlapped, Recounted}
+use Rattle.edit_perform.specs.AtEnd.{AtEnd, Told, Overlapped, withdrawnIn, Recounted}
 use Rattle.edit_perform.specs.declared.Ended.{Ended}
 use Rattle.edit_perform.specs.declared.Performed.{Performed}
 use Rattle.edit_perform.specs.declared.Performed.the-variants.{Refused, Overlap, Done}
@@ -257,10 +255,11 @@ module _ {h : Choices} {b changes rows notes changed : List ℕ} {d : Ended} (v 
   unfolding reached recounted fitting refuse _>>=_
   account-13 room l = rw (w .text (v .end) (v .ends), lt-ltb programRoom (length (encoded (resultAt (v .end)))) (omega (arith, result-weighs))) refl
 
-  -- or the fates in the rows
-  pub fates-answer : (room : ℕ) → size ≤ programRoom → tellIn room (fateLines (map rowFate (changeRows (d .recorded) changes))) ≡ reached h Account b room
+  -- or what the rows and the words behind them say
+  pub account-answer : (room : ℕ) → size ≤ programRoom → tellIn room (saidLines (saidRows changes (withdrawnIn (d .recorded) changes))) ≡ reached h Account b room
   unfolding reached recounted fitting refuse _>>=_
-  fates-answer room l = sym (rw (w .text (v .end) (v .ends), le-ltb programRoom (length (encoded (resultAt (v .end)))) (omega (arith, result-weighs))) refl)
+  account-answer room l =
+      sym (rw (w .text (v .end) (v .ends), le-ltb programRoom (length (encoded (resultAt (v .end)))) (omega (arith, result-weighs)), said-rows changes (withdrawnIn (d .recorded) changes) (w .rows) (w .stay)) refl)
 
 -- where the run has ended, every job can be answered
 pub record ToAnswer (h : Choices) (b t s changes rows notes changed starts : List ℕ) (p : Performed) : Type 0 where

@@ -128,7 +128,9 @@ fn account_from(
     if PROGRAM_ROOM < size {
         return Outcome::Refused(13);
     }
-    account_lines::tell_fates(changes, d.recorded, result)
+    let behind = plan_edit::WITHDRAWN;
+    let end = behind + d.recorded;
+    account_lines::tell_account(changes, &changes[behind..end], result)
 }
 
 // The share of text rewritten, from what the run of the batch leaves.

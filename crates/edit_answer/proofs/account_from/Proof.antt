@@ -1,8 +1,8 @@
--- `account_from` meets its contract: 13, or the fates.
+-- `account_from` meets its contract: 13, or what is said of each change.
 -- Assumes nothing.
-use native.Mathlib.Omega.{arith}
 use borrow.Author.Needs.{needs}
-use Rattle.edit_answer.proofs.Ends.{whole-rest, account-refused, account-told}
+use native.Mathlib.Omega.{arith}
+use Rattle.edit_answer.proofs.Ends.{whole-rest, behind-cut, account-refused, account-told}
 use Rattle.edit_answer.proofs.account_from.Statement.{statement}
 use Rattle.edit_answer.proofs.account_from.Tie as tie
 
@@ -21,14 +21,29 @@ result-size-requires c κs = let v = c .before .before .before .before .before .
 returns : tie.Need-returns
 returns c = account-refused (c .before .before .before .before .before .before .before .before .before .pre) _ _ (whole-rest (c .before .before .before .before .before .before .before .before .before .args .d .text) (c .before .before .before .before .before .before .before .before .before .args .batch .now)) (c .before .result-size .ensures) (c .if1 .taken)
 
-tell-fates-requires : tie.Need-tell-fates-requires
-tell-fates-requires c κs = search needs
+add-end : tie.Need-add-end
+add-end c = search needs
+
+mul-tell-account : tie.Need-mul-tell-account
+mul-tell-account c = search needs
+
+sub-tell-account : tie.Need-sub-tell-account
+sub-tell-account c = search needs
+
+part-tell-account-start : tie.Need-part-tell-account-start
+part-tell-account-start c = search needs
+
+part-tell-account-end : tie.Need-part-tell-account-end
+part-tell-account-end c = search needs
+
+tell-account-requires : tie.Need-tell-account-requires
+tell-account-requires c κs = search needs
 
 same-length : tie.Need-same-length
 same-length c = search needs
 
 returns-2 : tie.Need-returns-2
-returns-2 c = account-told (c .before .before .before .before .before .before .before .before .before .before .before .before .before .pre) _ _ (whole-rest (c .before .before .before .before .before .before .before .before .before .before .before .before .before .args .d .text) (c .before .before .before .before .before .before .before .before .before .before .before .before .before .args .batch .now)) (c .before .before .before .before .before .result-size .ensures) (c .before .before .before .before .if1 .left) (c .before .before .tell-fates .ensures)
+returns-2 c = account-told (c .before .before .before .before .before .before .before .before .before .before .before .before .before .before .before .pre) _ _ (whole-rest (c .before .before .before .before .before .before .before .before .before .before .before .before .before .before .before .args .d .text) (c .before .before .before .before .before .before .before .before .before .before .before .before .before .before .before .args .batch .now)) (c .before .before .before .before .before .before .before .result-size .ensures) (behind-cut (c .before .before .before .before .before .before .before .before .before .before .before .before .before .before .before .args .d .recorded) (c .before .before .before .before .before .before .before .before .before .before .before .before .before .before .before .args .changes .now)) (c .before .before .before .before .before .before .if1 .left) (c .before .before .tell-account .ensures)
 
 pub account-from-spec : {M : Type 1} → statement M
 account-from-spec =
@@ -39,6 +54,11 @@ account-from-spec =
     part-text-end
     result-size-requires
     returns
-    tell-fates-requires
+    add-end
+    mul-tell-account
+    sub-tell-account
+    part-tell-account-start
+    part-tell-account-end
+    tell-account-requires
     same-length
     returns-2)
