@@ -1,4 +1,4 @@
-// The account program: reads the edge rule, its first argument, and a batch on standard input, and prints what becomes of each change.
+// The account program: reads its choices, the first two arguments, and a batch on standard input, and prints what becomes of each change.
 use choices::Choices;
 use edit_algo::Answer;
 ghost use mathlib.Core.Path.{_≡_};

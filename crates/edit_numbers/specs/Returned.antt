@@ -75,7 +75,7 @@ pub record ReturnsShare (h : Choices) (b : List ℕ) (work : List (List ℕ)) (r
 -- what tells the length of a text is small, if the text is and its refusal is
 bytes-small : (o : Answer (List ℕ)) → By editNumbers o → ((bytes : List ℕ) → o ≡ gives bytes → length bytes ≤ 134217728) → Small (ofLength (o >>= λ bytes. gives (length bytes)))
 unfolding Small ofLength _>>=_ any
-bytes-small (refused n) h k = omega (arith, (by-number {A = List ℕ} editNumbers 1 17 n (refused n) refl h refl) .1)
+bytes-small (refused n) h k = omega (arith, (by-number {A = List ℕ} editNumbers 1 18 n (refused n) refl h refl) .1)
 bytes-small (gives bytes) h k = k bytes refl
 
 -- and its number is what is returned
@@ -129,9 +129,9 @@ module _ {h : Choices} {b held holds : List ℕ} {n : ℕ} {work left : List (Li
   -- what is told of an element is small
   pub find-small : Small r
   unfolding Small ofPlace place any
-  find-small = rw place-told (go y (λ m. by-number findNumbers 1 17 m y refl (found-by h (lengths needed work) b n)) (found-short h (lengths needed work) b n))
+  find-small = rw place-told (go y (λ m. by-number findNumbers 1 18 m y refl (found-by h (lengths needed work) b n)) (found-short h (lengths needed work) b n))
     where
-      go : (o : Answer (Option ℕ)) → ((m : ℕ) → o ≡ refused m → (1 ≤ m) × (m ≤ 17)) → ((e : ℕ) → o ≡ gives (some e) → e < 4096) → Small (ofPlace o)
+      go : (o : Answer (Option ℕ)) → ((m : ℕ) → o ≡ refused m → (1 ≤ m) × (m ≤ 18)) → ((e : ℕ) → o ≡ gives (some e) → e < 4096) → Small (ofPlace o)
       go (refused m) h k = omega (arith, (h m refl) .1)
       go (gives none) h k = tt
       go (gives (some e)) h k = omega (arith, k e refl)
@@ -158,9 +158,9 @@ module _ {h : Choices} {b held holds : List ℕ} {work left : List (List ℕ)} {
   -- what is told of a share is small
   pub share-fits : Small r
   unfolding Small ofShare any
-  share-fits = rw part-told (go part (λ m. by-number findNumbers 1 17 m part refl (shared-by h (lengths needed work) b)) (shared-few h (lengths needed work) b))
+  share-fits = rw part-told (go part (λ m. by-number findNumbers 1 18 m part refl (shared-by h (lengths needed work) b)) (shared-few h (lengths needed work) b))
     where
-      go : (o : Answer (ℕ × ℕ)) → ((m : ℕ) → o ≡ refused m → (1 ≤ m) × (m ≤ 17)) → ((q : ℕ × ℕ) → o ≡ gives q → (q .0 ≤ 1000) × (q .1 < 65536)) → Small (ofShare o)
+      go : (o : Answer (ℕ × ℕ)) → ((m : ℕ) → o ≡ refused m → (1 ≤ m) × (m ≤ 18)) → ((q : ℕ × ℕ) → o ≡ gives q → (q .0 ≤ 1000) × (q .1 < 65536)) → Small (ofShare o)
       go (refused m) h k = omega (arith, (h m refl) .1)
       go (gives q) h k = k q refl
 

@@ -1,4 +1,4 @@
-// The edit program: reads the edge rule, its first argument, and a batch on standard input, and prints the batch's answer.
+// The edit program: reads its choices, the first two arguments, and a batch on standard input, and prints the batch's answer.
 use choices::Choices;
 use edit_algo::Answer;
 ghost use mathlib.Core.Path.{_≡_};

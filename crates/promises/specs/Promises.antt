@@ -54,7 +54,7 @@ pub record Shares (h : Choices) (b : List ℕ) (work : List (List ℕ)) (r : Ans
   pub share : r ≡ shared h (lengths needed work) b
   pub zeros : left ≡ zeroed work
 
--- ── Refusals 17 and 1 ───────────────────────────────────────────────────────────────────────────────────────
+-- ── Refusals 17, 18 and 1 ───────────────────────────────────────────────────────────────────────────────────
 
 -- the bytes of the result, in a slice of `room` bytes, where neither refuses
 unfoldable pub applied : Choices → List ℕ → ℕ → Answer (List ℕ)
@@ -77,7 +77,7 @@ recounted h b room = do
   text ← account h b
   inRoom room text
 
--- 17 comes first, then 1, then the answer
+-- 17 comes first, then 18, then 1, then the answer
 module _ {A : Type 0} (h : Choices) (work : List (ℕ × ℕ)) (answer : Answer A) where
   pub wrongly-chosen : (k : ℕ) → chosen h ≡ refused k → withChoices h work answer ≡ refused k
   unfolding withChoices _>>=_

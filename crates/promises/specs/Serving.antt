@@ -1,4 +1,4 @@
--- One promise for every job of `serve`: refusals 17 and 1, what is answered, and that work slices end as zeros. The promises of the public calls follow from it.
+-- One promise for every job of `serve`: refusals 17, 18 and 1, what is answered, and that work slices end as zeros. The promises of the public calls follow from it.
 -- Assumes nothing.
 use mathlib.Core.Path.{_≡_, refl, ap, _∙_}
 use mathlib.Core.Bool.{Bool, true, false}
@@ -39,14 +39,14 @@ tellPlace e = gives (place e, [])
 abbrev pub tellShare : ℕ × ℕ → Answer (Outcome × List ℕ)
 tellShare s = gives (Of (s .0) (s .1), [])
 
--- what a job answers where neither 17 nor 1 refuses: how it is told, and the bytes that it writes
+-- what a job answers where none of 17, 18 and 1 refuses: how it is told, and the bytes that it writes
 unfoldable pub reached : Choices → Job → List ℕ → ℕ → Answer (Outcome × List ℕ)
 reached h Edit b room = applied h b room >>= tellBytes
 reached h (Find n) b room = found h b n >>= tellPlace
 reached h Account b room = recounted h b room >>= tellBytes
 reached h Share b room = share h b >>= tellShare
 
--- refusals 17 and 1 come before every job
+-- refusals 17, 18 and 1 come before every job
 unfoldable pub served : Choices → Job → List (ℕ × ℕ) → List ℕ → ℕ → Answer (Outcome × List ℕ)
 served h j work b room = withChoices h work (reached h j b room)
 
@@ -125,7 +125,7 @@ share-written held (gives s) = refl
 
 -- ── What follows ────────────────────────────────────────────────────────────────────────────────────────────
 
--- refusals 17 and 1 before what comes of an answer are those before the answer
+-- refusals 17, 18 and 1 before what comes of an answer are those before the answer
 with-then : {A B : Type 0} (h : Choices) (work : List (ℕ × ℕ)) (x : Answer A) (f : A → Answer B) → withChoices h work (x >>= f) ≡ (withChoices h work x >>= f)
 unfolding withChoices withWork refuse _>>=_
 with-then h work x f = go (chosen h) refl (tooShort work) refl
@@ -172,7 +172,8 @@ tells-refused : {want : Answer (Outcome × List ℕ)} {held holds : List ℕ} {r
 unfolding outcome written leftIn
 tells-refused k e t = let u = rw e at t in (u .answer, u .result)
 
--- EVERY JOB IS REFUSED BY 17 FIRST, where an edge rule is neither 0 nor 1, and then by 1, where a work slice is too short.
+-- EVERY JOB IS REFUSED BY 17 FIRST, where an edge rule is neither 0 nor 1, by 18 where the choice of stronger rules first is neither, and then by 1, where a work slice is
+-- too short.
 pub serves-wrong : {h : Choices} {j : Job} {b held holds : List ℕ} {work left : List (List ℕ)} {r : Outcome} (k : ℕ) → Serves h j b held work r holds left → chosen h ≡ refused k → (r ≡ Refused k) × (holds ≡ held)
 unfolding served
 serves-wrong {h} {j} {b} {held} {holds} {work} k s e = tells-refused k (wrongly-chosen h (lengths needed work) (reached h j b (length held)) k e) (s .told)

@@ -1,4 +1,4 @@
--- Refused: by which numbers each stage refuses; so 13 comes only where the result slice has no room, 1 only where a work slice is too short, and 17 only where there is no such edge rule.
+-- Refused: by which numbers each stage refuses; so 13 comes only where the result slice has no room, 1 only where a work slice is too short, and 17 and 18 only where there is no such edge rule.
 -- Assumes nothing.
 use mathlib.Core.Path.{_≡_, refl, sym, ap, _∙_}
 use mathlib.Core.Bool.{Bool, true, false, not, _&&_, _||_}
@@ -21,7 +21,7 @@ use Rattle.definition.specs.Planning.{Fate, own, dependent, discarded, Planned,
 use Rattle.definition.specs.Rewriting.{mapping, replacement, mappedOr, climb, trail, land, moved, retarget, rewriteInto, rewriteOne, rewriting, rewritten, nearest, isParent, noteFrom, settle, settled}
 use Rattle.definition.specs.Running.{World, place, yield, news, spliced, tooLarge, recordedBy, step, steps}
 use Rattle.definition.specs.Finishing.{Result, result, encoded, fitting}
-use Rattle.definition.specs.Answers.{judgeChanges, disjoint, rewriteChanges, Plan, plan, performed, atFirst, ran, edit, edited, tooShort, withWork, withChoices}
+use Rattle.definition.specs.Answers.{withdrawing, judgeChanges, disjoint, rewriteChanges, Plan, plan, performed, atFirst, ran, edit, edited, tooShort, withWork, withChoices}
 use Rattle.definition.specs.FindElement.{findIn, findElement}
 use Rattle.definition.specs.Printed.{programRoom}
 use Rattle.definition.specs.Account.{said, account, inRoom, accounted}
@@ -55,16 +55,16 @@ stepLines = 11 ∷ 12 ∷ []
 abbrev pub editLines : List ℕ
 editLines = batchLines ++ planLines ++ stepLines
 
--- THE NUMBERS that each public call can give: 17 for the edge rule, 1 for a work slice, 13 for the result slice
+-- THE NUMBERS that each public call can give: 17 for the edge rule, 18 for stronger rules first, 1 for a work slice, 13 for the result slice
 abbrev pub editNumbers : List ℕ
-editNumbers = 17 ∷ 1 ∷ 13 ∷ editLines
+editNumbers = 17 ∷ 18 ∷ 1 ∷ 13 ∷ editLines
 
 -- of `account`: 8 is none of them
 abbrev pub accountNumbers : List ℕ
-accountNumbers = 17 ∷ 1 ∷ 13 ∷ batchLines ++ rewriteLines ++ stepLines
+accountNumbers = 17 ∷ 18 ∷ 1 ∷ 13 ∷ batchLines ++ rewriteLines ++ stepLines
 
 abbrev pub findNumbers : List ℕ
-findNumbers = 17 ∷ 1 ∷ editLines
+findNumbers = 17 ∷ 18 ∷ 1 ∷ editLines
 
 pub refused-inj : {A : Type 0} {j k : ℕ} → _≡_ {A = Answer A} (refused j) (refused k) → j ≡ k
 refused-inj e = cc
@@ -288,30 +288,30 @@ fitting-by : (ns : List ℕ) → among ns 13 ≡ true → (room : ℕ) (r : Resu
 unfolding fitting among any
 fitting-by ns h room r = by-then ns (refuse 13 (ltb room (length (encoded r)))) _ (by-refuse ns 13 _ h) λ u. tt
 
--- what refuses by 17 and 1, before an answer that refuses by others
-module _ {A : Type 0} (ns : List ℕ) (seventeen : among ns 17 ≡ true) (one : among ns 1 ≡ true) where
+-- what refuses by 17, 18 and 1, before an answer that refuses by others
+module _ {A : Type 0} (ns : List ℕ) (seventeen : among ns 17 ≡ true) (eighteen : among ns 18 ≡ true) (one : among ns 1 ≡ true) where
   with-by : (h : Choices) (work : List (ℕ × ℕ)) (o : Answer A) → By ns o → By ns (withChoices h work o)
   unfolding withChoices withWork chosen
   with-by h work o k =
-      by-then ns (chosen h) _ (by-refuse ns 17 _ seventeen) λ u.
+      by-then ns (refuse 17 (ltb 1 h.edge) >>= λ u. refuse 18 (ltb 1 h.stronger)) _ (by-then ns (refuse 17 (ltb 1 h.edge)) _ (by-refuse ns 17 _ seventeen) λ u. by-refuse ns 18 _ eighteen) λ u.
       by-then ns (refuse 1 (tooShort work)) _ (by-refuse ns 1 _ one) λ u. k
 
 -- `edit` refuses by one of its numbers.
 pub edited-by : (h : Choices) (work : List (ℕ × ℕ)) (b : List ℕ) (room : ℕ) → By editNumbers (edited h work b room)
 unfolding edited among any
 edited-by h work b room =
-    with-by editNumbers refl refl h work _
+    with-by editNumbers refl refl refl h work _
     (by-then editNumbers (edit h b) _ (by-more editLines editNumbers (edit h b) refl (edit-by h b)) λ r.
     by-then editNumbers (fitting room r) _ (fitting-by editNumbers refl room r) λ r. tt)
 
--- So they are 1 to 13, 16 and 17.
+-- So they are 1 to 13 and 16 to 18.
 pub edited-numbered : (h : Choices) (work : List (ℕ × ℕ)) (b : List ℕ) (room k : ℕ) → edited h work b room ≡ refused k → among editNumbers k ≡ true
 edited-numbered h work b room k e = let by = edited-by h work b room in rw e at by
 
-said-by : (a : Accepted) (j : Judgement) → By accountNumbers (said a j)
+said-by : (a : Accepted) (ws : List (Option ℕ)) (j : Judgement) → By accountNumbers (said a ws j)
 unfolding said among any
-said-by a (overlaps i k) = tt
-said-by a (fated ps) =
+said-by a ws (overlaps i k) = tt
+said-by a ws (fated ps) =
     by-then accountNumbers (rewriteChanges a ps) _ (by-more rewriteLines accountNumbers (rewriteChanges a ps) refl (rewrite-by a ps)) λ p.
     by-then accountNumbers (ran a p) _ (by-more stepLines accountNumbers (ran a p) refl (ran-by a p)) λ w.
     by-then accountNumbers (fitting programRoom (result p.changes p.climbs w)) _ (fitting-by accountNumbers refl programRoom (result p.changes p.climbs w)) λ r. tt
@@ -320,27 +320,28 @@ said-by a (fated ps) =
 pub accounted-by : (h : Choices) (work : List (ℕ × ℕ)) (b : List ℕ) (room : ℕ) → By accountNumbers (accounted h work b room)
 unfolding accounted account inRoom among any
 accounted-by h work b room =
-    with-by accountNumbers refl refl h work _
-    (by-then accountNumbers (account h b) _ (by-then accountNumbers (accepted b) _ (by-more batchLines accountNumbers (accepted b) refl (accepted-by b)) λ a. said-by a (judgeChanges h a)) λ text.
+    with-by accountNumbers refl refl refl h work _
+    (by-then accountNumbers (account h b) _ (by-then accountNumbers (accepted b) _ (by-more batchLines accountNumbers (accepted b) refl (accepted-by b)) λ a. said-by a (withdrawing h a) (judgeChanges h a)) λ text.
     by-then accountNumbers (refuse 13 (ltb room (length text))) _ (by-refuse accountNumbers 13 _ refl) λ u. tt)
 
 -- `find_element` refuses by one of its numbers.
 pub found-by : (h : Choices) (work : List (ℕ × ℕ)) (b : List ℕ) (n : ℕ) → By findNumbers (findElement h work b n)
 unfolding findElement found among any
-found-by h work b n = with-by findNumbers refl refl h work _ (by-more editLines findNumbers (found h b n) refl (stages-by h b (λ a p w. findIn a.table w n)))
+found-by h work b n = with-by findNumbers refl refl refl h work _ (by-more editLines findNumbers (found h b n) refl (stages-by h b (λ a p w. findIn a.table w n)))
 
--- So they are 1 to 12, 16 and 17.
+-- So they are 1 to 12 and 16 to 18.
 pub found-numbered : (h : Choices) (work : List (ℕ × ℕ)) (b : List ℕ) (n k : ℕ) → findElement h work b n ≡ refused k → among findNumbers k ≡ true
 found-numbered h work b n k e = let by = found-by h work b n in rw e at by
 
 -- `share` refuses by one of these too: it has no result slice, so never by 13.
 pub shared-by : (h : Choices) (work : List (ℕ × ℕ)) (b : List ℕ) → By findNumbers (shared h work b)
 unfolding shared share among any
-shared-by h work b = with-by findNumbers refl refl h work _ (by-more editLines findNumbers (share h b) refl (stages-by h b (λ a p w. shareIn w)))
+shared-by h work b = with-by findNumbers refl refl refl h work _ (by-more editLines findNumbers (share h b) refl (stages-by h b (λ a p w. shareIn w)))
 
--- why a call is refused: for the edge rule, for a work slice, for the batch, or for the result slice
+-- why a call is refused: for the edge rule, for the choice of stronger rules first, for a work slice, for the batch, or for the result slice
 pub data Why (h : Choices) (b held : List ℕ) (work : List (List ℕ)) : ℕ → Type 0 where
   noSuchRule : 1 < h .edge → Why h b held work 17
+  neitherOnNorOff : h .edge ≤ 1 → 1 < h .stronger → Why h b held work 18
   workShort : tooShort (lengths needed work) ≡ true → Why h b held work 1
   wrong : {k : ℕ} → among editLines k ≡ true → edit h b ≡ refused k → Why h b held work k
   resultShort : (R : Result) → edit h b ≡ gives R → length held < length (encoded R) → Why h b held work 13
@@ -348,7 +349,7 @@ pub data Why (h : Choices) (b held : List ℕ) (work : List (List ℕ)) : ℕ �
 -- A call that keeps its promise and refuses has one of these reasons.
 pub refused-why : (h : Choices) (b held : List ℕ) (work : List (List ℕ)) (r : Answer ℕ) (holds : List ℕ) (left : List (List ℕ)) → Edits h b held work r holds left → (k : ℕ) → r ≡ refused k → Why h b held work k
 unfolding edited withChoices chosen applied fitting refuse any _>>=_
-refused-why h b held work r holds left p k e = rule (ltb 1 h.edge) refl
+refused-why h b held work r holds left p k e = rule (ltb 1 h.edge) (ltb 1 h.stronger) refl refl
   where
     -- the number, from the bytes that are wanted
     number : (want : Answer (List ℕ)) → edited h (lengths needed work) b (length held) ≡ want → (want >>= λ bytes. gives (length bytes)) ≡ refused k
@@ -372,9 +373,10 @@ refused-why h b held work r holds left p k e = rule (ltb 1 h.edge) refl
     go c true t = rw (← refused-inj (number (refused 1) (short-edited h c work b (length held) t))) (workShort t)
     go c false t = answer (edit h b) refl (long-edited h c work b (length held) t)
 
-    rule : (t : Bool) → ltb 1 h.edge ≡ t → Why h b held work k
-    rule true t = rw (← refused-inj (number (refused 17) (rw t refl))) (noSuchRule (ltb-true 1 h.edge t))
-    rule false t = go (rw t refl) (tooShort (lengths needed work)) refl
+    rule : (t s : Bool) → ltb 1 h.edge ≡ t → ltb 1 h.stronger ≡ s → Why h b held work k
+    rule true s t u = rw (← refused-inj (number (refused 17) (rw t refl))) (noSuchRule (ltb-true 1 h.edge t))
+    rule false true t u = rw (← refused-inj (number (refused 18) (rw (t, u) refl))) (neitherOnNorOff (ltb-false 1 h.edge t) (ltb-true 1 h.stronger u))
+    rule false false t u = go (rw (t, u) refl) (tooShort (lengths needed work)) refl
 
 -- With room for the most bytes that a result has, 65,560, 13 never comes. (The edit program's buffer has 65,536.)
 pub never-13 : (h : Choices) (b held : List ℕ) (work : List (List ℕ)) (r : Answer ℕ) (holds : List ℕ) (left : List (List ℕ)) → Edits h b held work r holds left → mostBytes ≤ length held → r ≡ refused 13 → ⊥
@@ -383,10 +385,11 @@ never-13 h b held work r holds left p m e = go 13 refl (refused-why h b held wor
   where
     go : (k : ℕ) → k ≡ 13 → Why h b held work k → ⊥
     go k z (noSuchRule t) = omega arith
+    go k z (neitherOnNorOff s t) = omega arith
     go k z (workShort t) = omega arith
     go k z (wrong by x) = bool-absurd (rw z at by) refl
     go k z (resultShort R x l) = omega (arith, encoded-within h b R x)
 
--- So every call of `find_element` that keeps its promise, with an edge rule of 0 or 1 and no work slice too short, is refused just where the edit of the batch is.
+-- So every call of `find_element` that keeps its promise, with choices of 0 or 1 and no work slice too short, is refused just where the edit of the batch is.
 pub find-refused : (h : Choices) (b : List ℕ) (n : ℕ) (work : List (List ℕ)) (r : Answer (Option ℕ)) (left : List (List ℕ)) → Finds h b n work r left → chosen h ≡ gives tt → tooShort (lengths needed work) ≡ false → Alike r (edit h b)
 find-refused h b n work r left p c w = rw (p .element, long-found h c work b n w) (found-alike h b n)

@@ -19,8 +19,11 @@ const NONE: usize = 0xffff_ffff;
 // What a batch comes to that is written again with other bytes.
 const OTHERWISE: usize = 0xffff_ffff;
 
-// The choices of every recorded case: edge rule 0.
-const RECORDED: Choices = Choices { edge: 0 };
+// The choices of every recorded case: edge rule 0, stronger rules first off.
+const RECORDED: Choices = Choices {
+    edge: 0,
+    stronger: 0,
+};
 
 // A number that is read, or the input's end.
 enum Read {

@@ -175,7 +175,7 @@ refused-alike h bytes = by-batch (accepted bytes)
     by-batch (refused n) = refl
     by-batch (gives a) = by-plan a (plan h a)
 
--- the public call too, with 17 and 1 before that: what `edited` refuses but for 13
+-- the public call too, with 17, 18 and 1 before that: what `edited` refuses but for 13
 pub shared-alike : (h : Choices) (work : List (ℕ × ℕ)) (bytes : List ℕ) → refusal (shared h work bytes) ≡ refusal (withChoices h work (edit h bytes))
 unfolding shared withChoices withWork refusal _>>=_
 shared-alike h work bytes = go (chosen h) (refuse 1 (tooShort work))

@@ -52,6 +52,6 @@ share h bytes = do
   w ← ran a p
   gives (shareIn w)
 
--- THE SHARE as a public call gives it: 17, then 1, then those
+-- THE SHARE as a public call gives it: 17, 18, then 1, then those
 unfoldable pub shared : Choices → List (ℕ × ℕ) → List ℕ → Answer (ℕ × ℕ)
 shared h work bytes = withChoices h work (share h bytes)

@@ -13,6 +13,7 @@ ghost use Rattle.edit_numbers.specs.ReturnedBatch.{ReturnsBatch};
 #[no_mangle]
 pub extern "C" fn syntax_edit(
     edge: usize,
+    stronger: usize,
     batch: &[u8],
     result: &mut [u8],
     table: &mut [u32],
@@ -25,10 +26,10 @@ pub extern "C" fn syntax_edit(
     rows: &mut [u32],
     prepared: &mut [u32],
 ) -> i64
-    ensures { λ r. ⌜ Returns (record { edge = edge }) (now (batch .entry)) (now (result .entry)) (now (table .entry) ∷ now (source .entry) ∷ now (changes .entry) ∷ now (notes .entry) ∷ now (incoming .entry) ∷ now (changed .entry) ∷ now (marks .entry) ∷ now (rows .entry) ∷ now (prepared .entry) ∷ []) r (now (result .exit)) (now (table .exit) ∷ now (source .exit) ∷ now (changes .exit) ∷ now (notes .exit) ∷ now (incoming .exit) ∷ now (changed .exit) ∷ now (marks .exit) ∷ now (rows .exit) ∷ now (prepared .exit) ∷ []) ⌝ }
+    ensures { λ r. ⌜ Returns (record { edge = edge; stronger = stronger }) (now (batch .entry)) (now (result .entry)) (now (table .entry) ∷ now (source .entry) ∷ now (changes .entry) ∷ now (notes .entry) ∷ now (incoming .entry) ∷ now (changed .entry) ∷ now (marks .entry) ∷ now (rows .entry) ∷ now (prepared .entry) ∷ []) r (now (result .exit)) (now (table .exit) ∷ now (source .exit) ∷ now (changes .exit) ∷ now (notes .exit) ∷ now (incoming .exit) ∷ now (changed .exit) ∷ now (marks .exit) ∷ now (rows .exit) ∷ now (prepared .exit) ∷ []) ⌝ }
 {
     let told = serve(
-        Choices { edge },
+        Choices { edge, stronger },
         Job::Edit,
         batch,
         result,
@@ -50,6 +51,7 @@ pub extern "C" fn syntax_edit(
 #[no_mangle]
 pub extern "C" fn syntax_find_element(
     edge: usize,
+    stronger: usize,
     batch: &[u8],
     number: usize,
     table: &mut [u32],
@@ -62,11 +64,11 @@ pub extern "C" fn syntax_find_element(
     rows: &mut [u32],
     prepared: &mut [u32],
 ) -> i64
-    ensures { λ r. ⌜ ReturnsElement (record { edge = edge }) (now (batch .entry)) number (now (table .entry) ∷ now (source .entry) ∷ now (changes .entry) ∷ now (notes .entry) ∷ now (incoming .entry) ∷ now (changed .entry) ∷ now (marks .entry) ∷ now (rows .entry) ∷ now (prepared .entry) ∷ []) r (now (table .exit) ∷ now (source .exit) ∷ now (changes .exit) ∷ now (notes .exit) ∷ now (incoming .exit) ∷ now (changed .exit) ∷ now (marks .exit) ∷ now (rows .exit) ∷ now (prepared .exit) ∷ []) ⌝ }
+    ensures { λ r. ⌜ ReturnsElement (record { edge = edge; stronger = stronger }) (now (batch .entry)) number (now (table .entry) ∷ now (source .entry) ∷ now (changes .entry) ∷ now (notes .entry) ∷ now (incoming .entry) ∷ now (changed .entry) ∷ now (marks .entry) ∷ now (rows .entry) ∷ now (prepared .entry) ∷ []) r (now (table .exit) ∷ now (source .exit) ∷ now (changes .exit) ∷ now (notes .exit) ∷ now (incoming .exit) ∷ now (changed .exit) ∷ now (marks .exit) ∷ now (rows .exit) ∷ now (prepared .exit) ∷ []) ⌝ }
 {
     let mut none = [0u8; 0];
     let told = serve(
-        Choices { edge },
+        Choices { edge, stronger },
         Job::Find(number),
         batch,
         &mut none,
@@ -89,6 +91,7 @@ pub extern "C" fn syntax_find_element(
 #[no_mangle]
 pub extern "C" fn syntax_account(
     edge: usize,
+    stronger: usize,
     batch: &[u8],
     result: &mut [u8],
     table: &mut [u32],
@@ -101,10 +104,10 @@ pub extern "C" fn syntax_account(
     rows: &mut [u32],
     prepared: &mut [u32],
 ) -> i64
-    ensures { λ r. ⌜ ReturnsAccount (record { edge = edge }) (now (batch .entry)) (now (result .entry)) (now (table .entry) ∷ now (source .entry) ∷ now (changes .entry) ∷ now (notes .entry) ∷ now (incoming .entry) ∷ now (changed .entry) ∷ now (marks .entry) ∷ now (rows .entry) ∷ now (prepared .entry) ∷ []) r (now (result .exit)) (now (table .exit) ∷ now (source .exit) ∷ now (changes .exit) ∷ now (notes .exit) ∷ now (incoming .exit) ∷ now (changed .exit) ∷ now (marks .exit) ∷ now (rows .exit) ∷ now (prepared .exit) ∷ []) ⌝ }
+    ensures { λ r. ⌜ ReturnsAccount (record { edge = edge; stronger = stronger }) (now (batch .entry)) (now (result .entry)) (now (table .entry) ∷ now (source .entry) ∷ now (changes .entry) ∷ now (notes .entry) ∷ now (incoming .entry) ∷ now (changed .entry) ∷ now (marks .entry) ∷ now (rows .entry) ∷ now (prepared .entry) ∷ []) r (now (result .exit)) (now (table .exit) ∷ now (source .exit) ∷ now (changes .exit) ∷ now (notes .exit) ∷ now (incoming .exit) ∷ now (changed .exit) ∷ now (marks .exit) ∷ now (rows .exit) ∷ now (prepared .exit) ∷ []) ⌝ }
 {
     let told = serve(
-        Choices { edge },
+        Choices { edge, stronger },
         Job::Account,
         batch,
         result,
@@ -126,6 +129,7 @@ pub extern "C" fn syntax_account(
 #[no_mangle]
 pub extern "C" fn syntax_share(
     edge: usize,
+    stronger: usize,
     batch: &[u8],
     table: &mut [u32],
     source: &mut [u32],
@@ -137,11 +141,11 @@ pub extern "C" fn syntax_share(
     rows: &mut [u32],
     prepared: &mut [u32],
 ) -> i64
-    ensures { λ r. ⌜ ReturnsShare (record { edge = edge }) (now (batch .entry)) (now (table .entry) ∷ now (source .entry) ∷ now (changes .entry) ∷ now (notes .entry) ∷ now (incoming .entry) ∷ now (changed .entry) ∷ now (marks .entry) ∷ now (rows .entry) ∷ now (prepared .entry) ∷ []) r (now (table .exit) ∷ now (source .exit) ∷ now (changes .exit) ∷ now (notes .exit) ∷ now (incoming .exit) ∷ now (changed .exit) ∷ now (marks .exit) ∷ now (rows .exit) ∷ now (prepared .exit) ∷ []) ⌝ }
+    ensures { λ r. ⌜ ReturnsShare (record { edge = edge; stronger = stronger }) (now (batch .entry)) (now (table .entry) ∷ now (source .entry) ∷ now (changes .entry) ∷ now (notes .entry) ∷ now (incoming .entry) ∷ now (changed .entry) ∷ now (marks .entry) ∷ now (rows .entry) ∷ now (prepared .entry) ∷ []) r (now (table .exit) ∷ now (source .exit) ∷ now (changes .exit) ∷ now (notes .exit) ∷ now (incoming .exit) ∷ now (changed .exit) ∷ now (marks .exit) ∷ now (rows .exit) ∷ now (prepared .exit) ∷ []) ⌝ }
 {
     let mut none = [0u8; 0];
     let told = serve(
-        Choices { edge },
+        Choices { edge, stronger },
         Job::Share,
         batch,
         &mut none,
