@@ -136,9 +136,9 @@ def ours(r, seed):
     return c
 
 
-def drawn(r, seed):
+def drawn(r, seed, base=ours):
     """The names of the damage, and our own output of a drawn batch with it."""
-    c = ours(r, seed)
+    c = base(r, seed)
     names = [r.choice(list(DAMAGE)) for _ in range(1 if r.random() < 0.8 else 2)]
     for name in names:
         if c.olds and c.news and c.new.kinds and c.old.kinds:
