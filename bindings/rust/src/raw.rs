@@ -1,10 +1,10 @@
-//! The static library's own calls, over slices of any length.
+//! The static libraries' own calls, over slices of any length.
 //!
-//! What is promised of them (and proved of the library): the batch and the lists are only read; the result slice (of the writer: the destination) holds
+//! What is promised of them (and proved of the libraries): the batch and the lists are only read; the result slice (of the writer: the destination) holds
 //! the answer (the batch) and beyond it what it held, or, on refusal, all that it held; every work slice ends as zeros of its own length, whatever it
 //! held and however long it is.
 
-use crate::Choices;
+use crate::{Choices, Claim};
 
 /// The lengths in words that the work slices need, in the order in which they are lent.
 pub const LENGTHS: [usize; 9] = [16_384, 6_147, 3_584, 3_072, 3_072, 1_024, 2_048, 12_291, 12_288];
@@ -89,6 +89,34 @@ impl WriterWork {
 
     pub fn slices(&mut self) -> WriterSlices<'_> {
         WriterSlices { draft: &mut self.draft, table: &mut self.table, source: &mut self.source }
+    }
+}
+
+/// The lengths in words that the checker's work slices need: the old elements, the new ones, partners, marks.
+pub const CHECKER_LENGTHS: [usize; 4] = [16_384, 16_384, 4_096, 4_096];
+
+/// What [`check`] answers of a claim that is accepted; 0 is rejected.
+pub const ACCEPTED: usize = 1;
+
+/// The checker's work slices.
+pub type CheckerSlices<'a> = [&'a mut [u32]; 4];
+
+/// Work memory of the lengths that the checker needs.
+pub struct CheckerWork([Vec<u32>; 4]);
+
+impl Default for CheckerWork {
+    fn default() -> Self {
+        Self::new()
+    }
+}
+
+impl CheckerWork {
+    pub fn new() -> CheckerWork {
+        CheckerWork(CHECKER_LENGTHS.map(|length| vec![0; length]))
+    }
+
+    pub fn slices(&mut self) -> CheckerSlices<'_> {
+        self.0.each_mut().map(Vec::as_mut_slice)
     }
 }
 
@@ -180,6 +208,22 @@ mod library {
             draft: *mut u8, draft_length: usize,
             table: *mut u32, table_length: usize,
             source: *mut u32, source_length: usize,
+        ) -> i64;
+
+        pub fn syntax_check(
+            old_kinds: *const u32, old_kinds_length: usize,
+            old_measures: *const u32, old_measures_length: usize,
+            old_text: *const u8, old_text_length: usize,
+            new_kinds: *const u32, new_kinds_length: usize,
+            new_measures: *const u32, new_measures_length: usize,
+            new_text: *const u8, new_text_length: usize,
+            olds: *const u32, olds_length: usize,
+            news: *const u32, news_length: usize,
+            changed: *const u32, changed_length: usize,
+            old: *mut u32, old_length: usize,
+            new: *mut u32, new_length: usize,
+            partners: *mut u32, partners_length: usize,
+            marks: *mut u32, marks_length: usize,
         ) -> i64;
     }
 }
@@ -314,6 +358,30 @@ pub fn load(start: u32, destination: &mut [u8], work: WriterSlices<'_>) -> i64 {
             work.draft.as_mut_ptr(), work.draft.len(),
             work.table.as_mut_ptr(), work.table.len(),
             work.source.as_mut_ptr(), work.source.len(),
+        )
+    }
+}
+
+/// [`ACCEPTED`] or 0 for a claim, or a refusal's number (1, 3, 4, 5 or 19) with a minus.
+#[rustfmt::skip]
+pub fn check(claim: &Claim<'_>, work: CheckerSlices<'_>) -> i64 {
+    let [old, new, partners, marks] = work;
+    // Safety: as in `edit`; the claim's lists, which are only read, may overlap one another.
+    unsafe {
+        library::syntax_check(
+            claim.old.kinds.as_ptr(), claim.old.kinds.len(),
+            claim.old.measures.as_ptr(), claim.old.measures.len(),
+            claim.old.text.as_ptr(), claim.old.text.len(),
+            claim.new.kinds.as_ptr(), claim.new.kinds.len(),
+            claim.new.measures.as_ptr(), claim.new.measures.len(),
+            claim.new.text.as_ptr(), claim.new.text.len(),
+            claim.olds.as_ptr(), claim.olds.len(),
+            claim.news.as_ptr(), claim.news.len(),
+            claim.changed.as_ptr(), claim.changed.len(),
+            old.as_mut_ptr(), old.len(),
+            new.as_mut_ptr(), new.len(),
+            partners.as_mut_ptr(), partners.len(),
+            marks.as_mut_ptr(), marks.len(),
         )
     }
 }
