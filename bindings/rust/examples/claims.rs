@@ -4,7 +4,7 @@
 //! front (the texts in bytes, the others in words). Before the call the work slices hold numbers drawn from the seed, none of them 0. The answer is what the call
 //! returned (64 bits) and how many words of the work slices are not 0.
 //!
-//! With `--own` a request is a seed, an edge rule, a batch with its length in front, the old tree's three lists and the two of the pairs; the new tree and the changed
+//! With `--own` a request is a seed, an edge rule, the choice of stronger rules first, a batch with its length in front, the old tree's three lists and the two of the pairs; the new tree and the changed
 //! elements are what the library's editor answers. A batch that it refuses is answered with 2 in the place of a verdict.
 
 use std::{
@@ -75,10 +75,11 @@ fn kind_word(element: Element<'_>) -> u32 {
 
 fn own(seed: u32, input: &mut impl Read) -> io::Result<(i64, usize)> {
     let mut it = Request(input);
-    let (edge, batch) = (u64::from(it.word()?), it.text()?);
+    let choices = Choices { edge: u64::from(it.word()?), stronger: u64::from(it.word()?) };
+    let batch = it.text()?;
     let (old_kinds, old_measures, old_text) = (it.list()?, it.list()?, it.text()?);
     let [olds, news] = [it.list()?, it.list()?];
-    let mut editor = Editor::by(Choices { edge });
+    let mut editor = Editor::by(choices);
     let Ok(answer) = editor.edit_bytes(&batch) else { return Ok((2, 0)) };
     let kinds = answer.elements().map(kind_word).collect::<Vec<_>>();
     let measures = answer.elements().map(|it| it.measure() as u32).collect::<Vec<_>>();

@@ -2,7 +2,7 @@
 //!
 //! A [`Batch`] (trees, calls, mappings, notes) is told to a [`BatchBuilder`] and laid out by the library's writer; an [`Editor`], which owns the work memory, answers it with an
 //! [`Answer`] (the new tree, its changed elements, its notes) or a [`Refusal`]: every batch of bytes gets one of the two. The library's calls have no
-//! precondition but that lent buffers do not overlap, which references see to here. An editor has 234 KiB of work memory in nine slices. A [`Checker`] judges a [`Claim`], what another editor says of its own output.
+//! precondition but that lent buffers do not overlap, which references see to here. An editor has 235 KiB of work memory in nine slices. A [`Checker`] judges a [`Claim`], what another editor says of its own output.
 
 mod account;
 mod answer;
@@ -29,6 +29,9 @@ pub struct Choices {
     /// The edge rule, to which replacement or run a change at its edge belongs: 0 by text ranges, 1 by where elements stand in the tree. Any other number is
     /// refused (17), before anything else is looked at.
     pub edge: u64,
+    /// Stronger rules first, off (0) or on (1): whether a replacement or run is withdrawn that overlaps a kept one of a higher rule number. Any other number is refused
+    /// (18), right after 17.
+    pub stronger: u64,
 }
 
 /// How much of a new text is rewritten, in thousandths: the exact share of `all` bytes is (`thousandths` + `remainder` / `all`) / 1,000. Of an empty text it is 0.
@@ -43,7 +46,7 @@ pub struct Share {
 pub struct Refusal(u8);
 
 /// The refusals, each with its number.
-const MEANINGS: [(u8, &str); 18] = [
+const MEANINGS: [(u8, &str); 19] = [
     (1, "a work slice is too short"),
     (2, "the batch has under 28 bytes"),
     (3, "a size is out of its limits"),
@@ -61,6 +64,7 @@ const MEANINGS: [(u8, &str); 18] = [
     (15, "the destination is too short"),
     (16, "a call lists more than 41 elements"),
     (17, "an edge rule is neither 0 nor 1"),
+    (18, "the choice of stronger rules first is neither 0 nor 1"),
     (19, "a claim names no element of its tree"),
 ];
 
@@ -159,6 +163,6 @@ impl Editor {
 fn told(answer: i64) -> Result<usize, Refusal> {
     match usize::try_from(answer) {
         Ok(number) => Ok(number),
-        Err(_) => Err(Refusal::numbered(-answer).expect("a refusal is numbered 1 to 17 or 19")),
+        Err(_) => Err(Refusal::numbered(-answer).expect("a refusal is numbered 1 to 19")),
     }
 }

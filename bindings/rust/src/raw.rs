@@ -7,7 +7,7 @@
 use crate::{Choices, Claim};
 
 /// The lengths in words that the work slices need, in the order in which they are lent.
-pub const LENGTHS: [usize; 9] = [16_384, 6_147, 3_584, 3_072, 3_072, 1_024, 2_048, 12_291, 12_288];
+pub const LENGTHS: [usize; 9] = [16_384, 6_147, 3_840, 3_072, 3_072, 1_024, 2_048, 12_291, 12_288];
 
 /// The length in bytes of the writer's draft, which is also the most bytes of a batch. Its table and its source are the editor's first two.
 pub const DRAFT: usize = 49_180;
@@ -124,7 +124,7 @@ impl CheckerWork {
 mod library {
     unsafe extern "C" {
         pub fn syntax_edit(
-            edge: u64,
+            edge: u64, stronger: u64,
             batch: *const u8, batch_length: usize,
             result: *mut u8, result_length: usize,
             table: *mut u32, table_length: usize,
@@ -139,7 +139,7 @@ mod library {
         ) -> i64;
 
         pub fn syntax_find_element(
-            edge: u64,
+            edge: u64, stronger: u64,
             batch: *const u8, batch_length: usize,
             number: u64,
             table: *mut u32, table_length: usize,
@@ -154,7 +154,7 @@ mod library {
         ) -> i64;
 
         pub fn syntax_account(
-            edge: u64,
+            edge: u64, stronger: u64,
             batch: *const u8, batch_length: usize,
             result: *mut u8, result_length: usize,
             table: *mut u32, table_length: usize,
@@ -169,7 +169,7 @@ mod library {
         ) -> i64;
 
         pub fn syntax_share(
-            edge: u64,
+            edge: u64, stronger: u64,
             batch: *const u8, batch_length: usize,
             table: *mut u32, table_length: usize,
             source: *mut u32, source_length: usize,
@@ -236,7 +236,7 @@ pub fn edit(choices: Choices, batch: &[u8], result: &mut [u8], work: Slices<'_>)
     // references. The library reads and writes nothing else, and keeps none of them.
     unsafe {
         library::syntax_edit(
-            choices.edge,
+            choices.edge, choices.stronger,
             batch.as_ptr(), batch.len(),
             result.as_mut_ptr(), result.len(),
             table.as_mut_ptr(), table.len(),
@@ -259,7 +259,7 @@ pub fn find_element(choices: Choices, batch: &[u8], number: u64, work: Slices<'_
     // Safety: as in `edit`.
     unsafe {
         library::syntax_find_element(
-            choices.edge,
+            choices.edge, choices.stronger,
             batch.as_ptr(), batch.len(),
             number,
             table.as_mut_ptr(), table.len(),
@@ -282,7 +282,7 @@ pub fn account(choices: Choices, batch: &[u8], result: &mut [u8], work: Slices<'
     // Safety: as in `edit`.
     unsafe {
         library::syntax_account(
-            choices.edge,
+            choices.edge, choices.stronger,
             batch.as_ptr(), batch.len(),
             result.as_mut_ptr(), result.len(),
             table.as_mut_ptr(), table.len(),
@@ -305,7 +305,7 @@ pub fn share(choices: Choices, batch: &[u8], work: Slices<'_>) -> i64 {
     // Safety: as in `edit`.
     unsafe {
         library::syntax_share(
-            choices.edge,
+            choices.edge, choices.stronger,
             batch.as_ptr(), batch.len(),
             table.as_mut_ptr(), table.len(),
             source.as_mut_ptr(), source.len(),
