@@ -68,7 +68,7 @@ def two_books(seed, number):
     d = Draws(seed, BOOKS + number)
     batch = d.weighted(FIRST_BOOKS)(d)
     books = [batch.calls]
-    for _ in range(d.weighted(((1, 5), (2, 1)))):
+    for _ in range(d.weighted(((1, 3), (2, 1)))):
         books.append(next_book(d, batch, [call for book in books for call in book]))
     batch.calls, batch.rules = joined(d, d.shuffled(books))
     add_notes(d, batch)
