@@ -63,8 +63,8 @@ enum {
 /* Stronger rules first, which every call that edits takes right after the edge rule: whether a replacement or run leaves the batch where it overlaps a kept one of a higher
  * rule number. Any other number is refused (18). */
 enum {
-    SYNTAX_STRONGER_OFF = 0,    /* off: all stay, and SYNTAX_OVERLAP refuses the batch; as rust-analyzer does: the usual one */
-    SYNTAX_STRONGER_FIRST = 1   /* on: the weaker one is withdrawn, and SYNTAX_OVERLAP concerns what is left */
+    SYNTAX_STRONGER_OFF = 0,    /* none leaves, and a batch in which two overlap is refused (8), as rust-analyzer does: the usual one */
+    SYNTAX_STRONGER_FIRST = 1   /* the weaker ones leave before planning, and 8 concerns what is left */
 };
 
 /* Refusals. A call returns one of these with a minus. */
