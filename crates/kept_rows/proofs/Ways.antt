@@ -7,14 +7,14 @@ use Prim.Native.Nat.{ℕ, zero, suc, _+_, _-_, _*_, _/_, _^_, _≤_, _<_}
 use native.Mathlib.Nat.{zero-add}
 use native.Mathlib.Numerals.{add-one}
 use native.Mathlib.Omega.{arith}
-use lib.ListN.{length, getD, take, drop, take-append-drop, length-append, length-map, length-drop}
+use lib.ListN.{length, getD, take, drop, take-append-drop, length-append, length-map}
 use lib.Seq.{paste, paste-zero, length-paste, length-take-le, take-suc, take-all}
 use borrow.Author.Tests.{lt-ltb, le-ltb}
 use Rattle.orders.specs.ListLaws.{zone-before, zone-inside, zone-after, map-append}
 use Rattle.definition.specs.Basics.{_>>=_, refuse}
 use Rattle.definition.specs.Words.{bytes, written}
 use Rattle.definition.specs.Account.{inRoom}
-use Rattle.words.specs.Bytes.{length-bytes, length-written, written-cons, written-append}
+use Rattle.words.specs.Bytes.{length-written, written-append}
 use Rattle.words.specs.Parts.{paste-paste, paste-swap}
 use Rattle.rows_model.specs.Row.{firstRows}
 use Rattle.rows_model.specs.Place.{inRun, rowsAfter, subtree}

@@ -6,11 +6,11 @@ use mathlib.Core.Option.{Option, none, some, Option·map, bind}
 use Prim.Native.Nat.{ℕ, zero, suc, _+_, _-_, _≤_, _<_}
 use native.Mathlib.Nat.{add-zero, zero-add}
 use native.Mathlib.Omega.{arith}
-use lib.ListN.{length, getD, take, length-map, length-append, length-drop}
+use lib.ListN.{length, getD, take, length-map}
 use lib.Seq.{length-take-le, getD-take}
 use Rattle.orders.specs.Lists.{pick}
 use Rattle.orders.specs.ListLaws.{zone-before}
-use Rattle.orders.specs.Tree.{Tree, node, forest, list, children, elementsOf, Path}
+use Rattle.orders.specs.Tree.{Tree, forest, list, children, elementsOf, Path}
 use Rattle.orders.specs.TreeLaws.{list-forest}
 use Rattle.definition.specs.Basics.{gives, numbered}
 use Rattle.definition.specs.Choices.{Choices}
@@ -21,7 +21,7 @@ use Rattle.definition.specs.Finishing.{newTable, numberAt}
 use Rattle.definition.specs.Answers.{Plan, plan, performed, ran}
 use Rattle.definition_laws.specs.Basics.{getD-map}
 use Rattle.definition_laws.specs.Rows.{table-length}
-use Rattle.definition_laws.specs.Running.{top, Follows}
+use Rattle.definition_laws.specs.Running.{top}
 use Rattle.definition_laws.specs.Held.{Holds}
 use Rattle.definition_account.specs.Words.{wentTo}
 use Rattle.definition_account.specs.Run.{Kept}
@@ -29,11 +29,10 @@ use Rattle.definition_account.specs.Numbers.{present-leads}
 use Rattle.definition_account.specs.Account.{ran-performed}
 use Rattle.check_laws.specs.ListLaws.{numbersOf}
 use Rattle.check_laws.specs.Claimed.{oldTree, ownPairs}
-use Rattle.check_laws.specs.Alone.{first-row}
 use Rattle.check_laws.specs.Own as own
 use Rattle.rows_model.specs.Row.{Row, rowsOf, rowsAll}
 use Rattle.rows_model.specs.RowLaws.{sizeAll-elements, size-below}
-use Rattle.rows_model.specs.Place.{rowsAfter, inRun, mark, markOf, place}
+use Rattle.rows_model.specs.Place.{rowsAfter, inRun, mark, markOf}
 use Rattle.finish_model.specs.Finished.{firstTree, numberOf}
 use Rattle.finish_model.specs.Numbers.{first-tree, tree-few, number-row}
 
