@@ -127,17 +127,29 @@ DAMAGE = {
 }
 
 
-def draw(seed, number):
-    """The name of the damage and the claims as bytes."""
-    r = Random("claims %d %d" % (seed, number))
+def ours(r, seed):
+    """Our own output of a drawn batch."""
     c = None
     while c is None:
         _, batch = generate(seed, r.randrange(10**9))
         c = own(batch)
+    return c
+
+
+def drawn(r, seed, base=ours):
+    """The names of the damage, and our own output of a drawn batch with it."""
+    c = base(r, seed)
     names = [r.choice(list(DAMAGE)) for _ in range(1 if r.random() < 0.8 else 2)]
     for name in names:
         if c.olds and c.news and c.new.kinds and c.old.kinds:
             c = DAMAGE[name](r, c)
+    return names, c
+
+
+def draw(seed, number):
+    """The name of the damage and the claims as bytes."""
+    r = Random("claims %d %d" % (seed, number))
+    names, c = drawn(r, seed)
     data = laid_out(c)
     if r.random() < 0.04:
         at = some(r, data)

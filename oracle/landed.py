@@ -8,7 +8,7 @@ from pathlib import Path
 from types import ModuleType
 
 # Notes 1 to LEVEL of document 02 have landed.
-LEVEL = 8
+LEVEL = 9
 TOOLS = Path(__file__).resolve().parent.parent.parent / "shared" / "tools"
 
 
@@ -22,8 +22,9 @@ def built(texts):
     for name, text in texts.items():
         module = sys.modules[name] = ModuleType(name)
         exec(compile(text, name, "exec"), module.__dict__)
-    # Printing a batch's answer and finding elements in it take one edit.
+    # Printing a batch's answer and finding elements in it take one edit; edits of a batch by several choices read it once.
     module.edit = lru_cache(maxsize=1)(module.edit)
+    module.check = lru_cache(maxsize=1)(module.check)
     return module
 
 
@@ -45,12 +46,18 @@ def result(batch):
     return notes.result(batch, level=LEVEL)
 
 
-def find_element(batch, number, edge=0):
+def find_element(batch, number, arguments=()):
     """The element of the new tree, None, or a refusal."""
-    return notes.find_element(batch, number, notes.arguments([str(edge)], LEVEL), level=LEVEL)
+    return notes.find_element(batch, number, notes.arguments(arguments, LEVEL), level=LEVEL)
 
 
-def share_program(batch, edge=0):
-    """What the share program prints (document 02, Note 10, which stands on none of the notes between)."""
-    told = notes.share(batch[:65536], notes.arguments([str(edge)], LEVEL), level=LEVEL)
+def share_program(batch, arguments=()):
+    """What the share program prints (document 02, Note 10)."""
+    told = notes.share(batch[:65536], notes.arguments(arguments, LEVEL), level=LEVEL)
     return "refused %d\n" % told.number if isinstance(told, notes.Refused) else "share %d %d\n" % told
+
+
+def sorted_rules(batch):
+    """The rule numbers of the recorded changes of a batch that passes lines 2 to 7, in sorted order."""
+    batch, shape = notes.check(batch[:65536], LEVEL)
+    return [change.rule for change in notes.m.sort_changes(shape, notes.record(batch, LEVEL))]

@@ -1,5 +1,5 @@
 /* The printed case of document 01: the token "c" goes in after "a", with note 9 on it. Writes the batch from lists, edits it, and prints the answer as
- * document 01 prints it. */
+ * document 01 prints it; then its account, its share, a load, and two rule books that replace one node. */
 #include <inttypes.h>
 #include <stdio.h>
 
@@ -41,6 +41,28 @@ static int64_t build(void)
     return syntax_write_static(&lists, batch, sizeof batch);
 }
 
+/* Two rule books, each an editor of its own: rule 1 replaces X in root(X(a), b) by c, rule 2 by d. */
+static int64_t build_books(void)
+{
+    static const uint32_t kinds[] = {NODE | 1, NODE | 2, 3, 3, NODE | 1, 3, 3};    /* tree 0: node 0 of X, 1, and the token 3; tree 1: node 4 of c, 5, and d, 6 */
+    static const uint32_t measures[] = {2, 1, 1, 1, 2, 1, 1};
+    static const uint8_t text[] = {'a', 'b', 'c', 'd'};
+    static const uint32_t operation[] = {2, 6, 2}, count[] = {1, 0, 1}, target[] = {1, 0, 1}, listed[] = {5, 6};
+    static const uint32_t rule[] = {1, 0, 2};                         /* a further editor's start, operation 6, has none */
+    const syntax_lists lists = {
+        .trees = 2,
+        .kinds = kinds, .kinds_length = COUNT(kinds),
+        .measures = measures, .measures_length = COUNT(measures),
+        .text = text, .text_length = COUNT(text),
+        .operations = operation, .operations_length = COUNT(operation),
+        .counts = count, .counts_length = COUNT(count),
+        .rules = rule, .rules_length = COUNT(rule),
+        .targets = target, .targets_length = COUNT(target),
+        .listed = listed, .listed_length = COUNT(listed)
+    };
+    return syntax_write_static(&lists, batch, sizeof batch);
+}
+
 static void print(void)
 {
     uint32_t elements = word(0), bytes = word(1), changed = word(2), notes = word(3);
@@ -60,30 +82,46 @@ static void print(void)
         printf("note %" PRIu32 " %" PRIu32 "\n", word(at + 2 * changed + i), word(at + 2 * changed + notes + i));
 }
 
-int main(void)
+static void edited(uint64_t stronger, size_t batch_length)
 {
-    int64_t written = build(), length = written;
-    if (length >= 0)
-        length = syntax_edit_with(&work, SYNTAX_EDGE_BY_OFFSET, batch, (size_t)written, result, sizeof result);
+    int64_t length = syntax_edit_with(&work, SYNTAX_EDGE_BY_OFFSET, stronger, batch, batch_length, result, sizeof result);
     if (length < 0)
         printf("refused %" PRId64 "\n", -length);
     else
         print();
-    if (written < 0)
-        return 0;
-    length = syntax_account_with(&work, SYNTAX_EDGE_BY_OFFSET, batch, (size_t)written, result, sizeof result);
+}
+
+static void accounted(uint64_t stronger, size_t batch_length)
+{
+    int64_t length = syntax_account_with(&work, SYNTAX_EDGE_BY_OFFSET, stronger, batch, batch_length, result, sizeof result);
     if (length < 0)
         printf("%" PRId64 "\n", -length);
     else
         fwrite(result, 1, (size_t)length, stdout);
-    int64_t share = syntax_share_with(&work, SYNTAX_EDGE_BY_OFFSET, batch, (size_t)written);
+}
+
+int main(void)
+{
+    int64_t length = build();
+    if (length < 0)
+        return 1;
+    edited(SYNTAX_STRONGER_OFF, (size_t)length);
+    accounted(SYNTAX_STRONGER_OFF, (size_t)length);
+    int64_t share = syntax_share_with(&work, SYNTAX_EDGE_BY_OFFSET, SYNTAX_STRONGER_OFF, batch, (size_t)length);
     if (share < 0)
         printf("refused %" PRId64 "\n", -share);
     else
         printf("share %" PRIu32 " %" PRIu32 "\n", SYNTAX_THOUSANDTHS(share), SYNTAX_REMAINDER(share));
     static syntax_writer_work writer;
     length = syntax_load_with(&writer, 0, batch, sizeof batch);    /* the load of 0, which is accepted */
-    length = syntax_edit_with(&work, SYNTAX_EDGE_BY_OFFSET, batch, (size_t)length, result, sizeof result);
+    length = syntax_edit_with(&work, SYNTAX_EDGE_BY_OFFSET, SYNTAX_STRONGER_OFF, batch, (size_t)length, result, sizeof result);
     printf(length < 0 ? "the load is refused\n" : "the load is edited\n");
+    length = build_books();
+    if (length < 0)
+        return 1;
+    for (uint64_t stronger = SYNTAX_STRONGER_OFF; stronger <= SYNTAX_STRONGER_FIRST + 1; stronger++) {    /* the last is neither off nor on */
+        edited(stronger, (size_t)length);
+        accounted(stronger, (size_t)length);
+    }
     return 0;
 }

@@ -29,7 +29,7 @@ extern "C" {
 enum {
     SYNTAX_TABLE = 16384,
     SYNTAX_SOURCE = 6147,
-    SYNTAX_CHANGES = 3584,
+    SYNTAX_CHANGES = 3840,
     SYNTAX_NOTES = 3072,
     SYNTAX_INCOMING = 3072,
     SYNTAX_CHANGED = 1024,
@@ -60,6 +60,13 @@ enum {
     SYNTAX_EDGE_BY_TREE = 1     /* by where elements stand: an insertion after a node is not lost with the node's last child */
 };
 
+/* Stronger rules first, which every call that edits takes right after the edge rule: whether a replacement or run leaves the batch where it overlaps a kept one of a higher
+ * rule number. Any other number is refused (18). */
+enum {
+    SYNTAX_STRONGER_OFF = 0,    /* none leaves, and a batch in which two overlap is refused (8), as rust-analyzer does: the usual one */
+    SYNTAX_STRONGER_FIRST = 1   /* the weaker ones leave before planning, and 8 concerns what is left */
+};
+
 /* Refusals. A call returns one of these with a minus. */
 enum {
     SYNTAX_SHORT_WORK = 1,      /* a work slice is too short */
@@ -78,12 +85,13 @@ enum {
     SYNTAX_LISTS = 14,          /* lists in step differ in length, an operation, a count or a rule number does not fit the call word, or the lists make a batch that 3 to 7 or 16 would refuse */
     SYNTAX_SHORT_DESTINATION = 15,  /* the destination is too short, checked after 14 */
     SYNTAX_LISTED = 16,         /* a call lists more than 41 elements, a run's end not counted; checked right after 6 */
-    SYNTAX_EDGE = 17            /* an edge rule other than 0 or 1; checked before 1 */
+    SYNTAX_EDGE = 17,           /* an edge rule other than 0 or 1; checked before 1 */
+    SYNTAX_STRONGER = 18        /* the choice of stronger rules first is neither 0 nor 1; checked after 17, before 1 */
 };
 
-/* Edits by an edge rule: the length of the answer that now stands at the start of the result, or a refusal with a minus. */
+/* Edits by an edge rule and the choice of stronger rules first: the length of the answer that now stands at the start of the result, or a refusal with a minus. */
 int64_t syntax_edit(
-    uint64_t edge,
+    uint64_t edge, uint64_t stronger,
     const uint8_t *batch, size_t batch_length,
     uint8_t *result, size_t result_length,
     uint32_t *table, size_t table_length,
@@ -96,9 +104,9 @@ int64_t syntax_edit(
     uint32_t *rows, size_t rows_length,
     uint32_t *prepared, size_t prepared_length);
 
-/* The first node of the new tree, edited by an edge rule, with the kind and the text start of node `number` of tree 0: its number, SYNTAX_NONE, or a refusal with a minus. */
+/* The first node of the new tree, edited so, with the kind and the text start of node `number` of tree 0: its number, SYNTAX_NONE, or a refusal with a minus. */
 int64_t syntax_find_element(
-    uint64_t edge,
+    uint64_t edge, uint64_t stronger,
     const uint8_t *batch, size_t batch_length,
     uint64_t number,
     uint32_t *table, size_t table_length,
@@ -111,11 +119,11 @@ int64_t syntax_find_element(
     uint32_t *rows, size_t rows_length,
     uint32_t *prepared, size_t prepared_length);
 
-/* Accounts by an edge rule: the length of the text that now stands at the start of the result, or a refusal with a minus, never SYNTAX_OVERLAP. The text has a line for each
- * recorded change in sorted order: its number, from 0, then `own`, `dependent k` or `discarded k`, k being the number of a change; or, where replacements
+/* Accounts for what an edit so does: the length of the text that now stands at the start of the result, or a refusal with a minus, never SYNTAX_OVERLAP. The text has a line for each
+ * recorded change in sorted order: its number, from 0, then `own`, `dependent k`, `discarded k` or `withdrawn k`, k being the number of a change; or, where replacements
  * overlap, the one line `overlap j k`. */
 int64_t syntax_account(
-    uint64_t edge,
+    uint64_t edge, uint64_t stronger,
     const uint8_t *batch, size_t batch_length,
     uint8_t *result, size_t result_length,
     uint32_t *table, size_t table_length,
@@ -128,10 +136,10 @@ int64_t syntax_account(
     uint32_t *rows, size_t rows_length,
     uint32_t *prepared, size_t prepared_length);
 
-/* The share of the new text that is rewritten, edited by an edge rule, as one number: 65,536 for each whole thousandth and the remainder of the division,
+/* The share of the new text that is rewritten, edited so, as one number: 65,536 for each whole thousandth and the remainder of the division,
  * which is exact (SYNTAX_THOUSANDTHS, SYNTAX_REMAINDER); or a refusal with a minus. There is no result slice. */
 int64_t syntax_share(
-    uint64_t edge,
+    uint64_t edge, uint64_t stronger,
     const uint8_t *batch, size_t batch_length,
     uint32_t *table, size_t table_length,
     uint32_t *source, size_t source_length,
@@ -176,7 +184,7 @@ int64_t syntax_load(
     uint32_t *table, size_t table_length,
     uint32_t *source, size_t source_length);
 
-/* All work memory, 234 KiB in nine slices; static or on the heap, and one for each thread that edits at the same time. It need not be cleared. */
+/* All work memory, 235 KiB in nine slices; static or on the heap, and one for each thread that edits at the same time. It need not be cleared. */
 typedef struct syntax_work {
     uint32_t table[SYNTAX_TABLE];
     uint32_t source[SYNTAX_SOURCE];
@@ -190,30 +198,30 @@ typedef struct syntax_work {
 } syntax_work;
 
 /* The calls over one struct of work memory. */
-static inline int64_t syntax_edit_with(syntax_work *w, uint64_t edge, const uint8_t *batch, size_t batch_length, uint8_t *result, size_t result_length)
+static inline int64_t syntax_edit_with(syntax_work *w, uint64_t edge, uint64_t stronger, const uint8_t *batch, size_t batch_length, uint8_t *result, size_t result_length)
 {
-    return syntax_edit(edge, batch, batch_length, result, result_length, w->table, SYNTAX_TABLE, w->source, SYNTAX_SOURCE, w->changes, SYNTAX_CHANGES,
+    return syntax_edit(edge, stronger, batch, batch_length, result, result_length, w->table, SYNTAX_TABLE, w->source, SYNTAX_SOURCE, w->changes, SYNTAX_CHANGES,
         w->notes, SYNTAX_NOTES, w->incoming, SYNTAX_INCOMING, w->changed, SYNTAX_CHANGED, w->marks, SYNTAX_MARKS, w->rows, SYNTAX_ROWS,
         w->prepared, SYNTAX_PREPARED);
 }
 
-static inline int64_t syntax_find_element_with(syntax_work *w, uint64_t edge, const uint8_t *batch, size_t batch_length, uint64_t number)
+static inline int64_t syntax_find_element_with(syntax_work *w, uint64_t edge, uint64_t stronger, const uint8_t *batch, size_t batch_length, uint64_t number)
 {
-    return syntax_find_element(edge, batch, batch_length, number, w->table, SYNTAX_TABLE, w->source, SYNTAX_SOURCE, w->changes, SYNTAX_CHANGES,
+    return syntax_find_element(edge, stronger, batch, batch_length, number, w->table, SYNTAX_TABLE, w->source, SYNTAX_SOURCE, w->changes, SYNTAX_CHANGES,
         w->notes, SYNTAX_NOTES, w->incoming, SYNTAX_INCOMING, w->changed, SYNTAX_CHANGED, w->marks, SYNTAX_MARKS, w->rows, SYNTAX_ROWS,
         w->prepared, SYNTAX_PREPARED);
 }
 
-static inline int64_t syntax_account_with(syntax_work *w, uint64_t edge, const uint8_t *batch, size_t batch_length, uint8_t *result, size_t result_length)
+static inline int64_t syntax_account_with(syntax_work *w, uint64_t edge, uint64_t stronger, const uint8_t *batch, size_t batch_length, uint8_t *result, size_t result_length)
 {
-    return syntax_account(edge, batch, batch_length, result, result_length, w->table, SYNTAX_TABLE, w->source, SYNTAX_SOURCE, w->changes, SYNTAX_CHANGES,
+    return syntax_account(edge, stronger, batch, batch_length, result, result_length, w->table, SYNTAX_TABLE, w->source, SYNTAX_SOURCE, w->changes, SYNTAX_CHANGES,
         w->notes, SYNTAX_NOTES, w->incoming, SYNTAX_INCOMING, w->changed, SYNTAX_CHANGED, w->marks, SYNTAX_MARKS, w->rows, SYNTAX_ROWS,
         w->prepared, SYNTAX_PREPARED);
 }
 
-static inline int64_t syntax_share_with(syntax_work *w, uint64_t edge, const uint8_t *batch, size_t batch_length)
+static inline int64_t syntax_share_with(syntax_work *w, uint64_t edge, uint64_t stronger, const uint8_t *batch, size_t batch_length)
 {
-    return syntax_share(edge, batch, batch_length, w->table, SYNTAX_TABLE, w->source, SYNTAX_SOURCE, w->changes, SYNTAX_CHANGES,
+    return syntax_share(edge, stronger, batch, batch_length, w->table, SYNTAX_TABLE, w->source, SYNTAX_SOURCE, w->changes, SYNTAX_CHANGES,
         w->notes, SYNTAX_NOTES, w->incoming, SYNTAX_INCOMING, w->changed, SYNTAX_CHANGED, w->marks, SYNTAX_MARKS, w->rows, SYNTAX_ROWS,
         w->prepared, SYNTAX_PREPARED);
 }

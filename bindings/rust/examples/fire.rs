@@ -1,7 +1,7 @@
 //! Fires damaged and random batches at the static library:   fire [COUNT [SEED]]   fire --exact COUNT [SEED]
 //!
 //! Each call gets buffers full of a pattern between guard words, work slices of the lengths needed, longer or too short, and a result of any length.
-//! Checked after each: no guard is changed, the batch is unchanged, the answer is one that its length tells or a refusal from 1 to 13, 16 or 17, every work
+//! Checked after each: no guard is changed, the batch is unchanged, the answer is one that its length tells or a refusal from 1 to 13 or 16 to 18, every work
 //! slice is zeros, the result beyond the answer (or all of it, if refused) still holds the pattern; and, by a second call with another pattern, that
 //! the answer depends on the batch alone. First come all prefixes and single-byte changes of the seeds (the example batches), then COUNT batches:
 //! recorded cases with some words changed, parts of two joined, and random bytes.
@@ -66,7 +66,7 @@ impl<T: Copy + PartialEq> Buffer<T> {
 struct Fire {
     random: Random,
     guard: usize,
-    told: [u64; 18],
+    told: [u64; 19],
     calls: u64,
 }
 
@@ -85,9 +85,10 @@ impl Fire {
         })
     }
 
-    /// Either edge rule, seldom a wrong one.
+    /// Either edge rule, with stronger rules first or without; seldom a wrong number.
     fn choices(&mut self) -> Choices {
-        Choices { edge: if self.random.one_in(50) { self.random.next().max(2) } else { self.random.below(2) as u64 } }
+        let mut number = || if self.random.one_in(50) { self.random.next().max(2) } else { self.random.below(2) as u64 };
+        Choices { edge: number(), stronger: number() }
     }
 
     /// One call, with every check on memory; the answer's bytes, or the refusal.
@@ -103,9 +104,10 @@ impl Fire {
         assert!(result.guards_stand(), "a byte beside the result is written");
         assert!(work.iter().all(Buffer::guards_stand), "a word beside a work slice is written");
         assert!(work.iter().all(|it| it.held().iter().all(|&it| it == 0)), "a work slice is not zeros");
-        assert!((-17..=MOST_ANSWER as i64).contains(&answer) && answer != 0, "no answer: {answer}");
+        assert!((-18..=MOST_ANSWER as i64).contains(&answer) && answer != 0, "no answer: {answer}");
         assert_eq!(choices.edge > 1, answer == -17, "a wrong edge rule, and it alone, is refused by 17");
-        assert_eq!(short && choices.edge <= 1, answer == -1, "a short work slice, and it alone, is refused by 1");
+        assert_eq!(choices.edge <= 1 && choices.stronger > 1, answer == -18, "a wrong choice, and it alone, is refused by 18");
+        assert_eq!(short && choices.edge.max(choices.stronger) <= 1, answer == -1, "a short work slice, and it alone, is refused by 1");
         let length = usize::try_from(answer).unwrap_or(0);
         assert!(length <= room, "the answer is longer than the result");
         assert!(result.held()[length..].iter().all(|&it| it == pattern as u8), "the result is written beyond the answer");
@@ -125,7 +127,7 @@ impl Fire {
         assert!(input.held() == batch && input.guards_stand(), "the batch is changed");
         assert!(work.iter().all(Buffer::guards_stand), "a word beside a work slice is written");
         assert!(work.iter().all(|it| it.held().iter().all(|&it| it == 0)), "a work slice is not zeros");
-        assert!(answer == raw::NONE || (-17..=4_095).contains(&answer), "no answer: {answer}");
+        assert!(answer == raw::NONE || (-18..=4_095).contains(&answer), "no answer: {answer}");
         answer
     }
 
@@ -257,7 +259,7 @@ fn main() {
     let root = PathBuf::from(concat!(env!("CARGO_MANIFEST_DIR"), "/../.."));
     let read = |path: &str| fs::read(root.join(path)).expect(path);
     let cases = recorded(&read("crates/replay/stdin"), if exact { 1_000 } else { 65_536 });
-    let mut fire = Fire { random: Random(seed), guard: if exact { 0 } else { GUARD }, told: [0; 18], calls: 0 };
+    let mut fire = Fire { random: Random(seed), guard: if exact { 0 } else { GUARD }, told: [0; 19], calls: 0 };
     let seeds = ["examples/printed_case.batch", "examples/dosing.batch", "examples/overlap.batch"];
     for path in &seeds[..if exact { 1 } else { 3 }] {
         fire.damage(&read(path));

@@ -1,10 +1,10 @@
-//! Plays batches through the static library:   stream [--stream | --accounts | --shares] [EDGE]
+//! Plays batches through the static library:   stream [--stream | --accounts | --shares] [EDGE [CHOICE]]
 //!
 //! Without a word it reads one batch and prints the printed form. With `--stream` it reads batches, each with its length in front (a 32-bit
 //! little-endian word), and answers each with two parts, each with its length in front: the printed form, and what `find_element` gives, as
 //! `find 0:3 1: 2:` (the number asked for, a colon, the element found or nothing) if the batch was accepted. Of a batch of up to 64 elements every
 //! number is asked for, and one beyond the last; of a larger one as many, spread over it. With `--accounts` the first part is what the account program
-//! prints, told from the fates that the library gives as values, and the second is empty; with `--shares` what the share program prints. EDGE is the edge rule, 0 without one.
+//! prints, told from the fates that the library gives as values, and the second is empty; with `--shares` what the share program prints. EDGE is the edge rule and CHOICE that of stronger rules first, 0 without one.
 
 use std::{
     fmt::Write as _,
@@ -29,6 +29,7 @@ fn accounted(editor: &mut Editor, batch: &[u8]) -> String {
                 Fate::Own => writeln!(out, "{number} own"),
                 Fate::Dependent(change) => writeln!(out, "{number} dependent {change}"),
                 Fate::Discarded(change) => writeln!(out, "{number} discarded {change}"),
+                Fate::Withdrawn(change) => writeln!(out, "{number} withdrawn {change}"),
             };
             out
         }),
@@ -71,8 +72,9 @@ fn write_part(output: &mut impl Write, part: &str) -> io::Result<()> {
 }
 
 fn main() -> io::Result<()> {
-    let edge = std::env::args().last().and_then(|it| it.parse().ok()).unwrap_or(0);
-    let mut editor = Editor::by(Choices { edge });
+    let mut numbers = std::env::args().skip(1).filter_map(|it| it.parse().ok());
+    let (edge, stronger) = (numbers.next().unwrap_or(0), numbers.next().unwrap_or(0));
+    let mut editor = Editor::by(Choices { edge, stronger });
     let (mut input, mut output) = (io::stdin().lock(), io::BufWriter::new(io::stdout().lock()));
     let word = std::env::args().nth(1);
     if !matches!(word.as_deref(), Some("--stream" | "--accounts" | "--shares")) {

@@ -13,6 +13,8 @@ pub enum Fate {
     Dependent(usize),
     /// It is discarded under this change.
     Discarded(usize),
+    /// It is withdrawn under this change, which has a higher rule number; only with stronger rules first.
+    Withdrawn(usize),
 }
 
 /// Why there is no fate to tell.
@@ -61,6 +63,7 @@ fn fate(number: usize, line: &str) -> Option<Fate> {
         ("own", None) => Some(Fate::Own),
         ("dependent", Some(change)) => Some(Fate::Dependent(change)),
         ("discarded", Some(change)) => Some(Fate::Discarded(change)),
+        ("withdrawn", Some(change)) => Some(Fate::Withdrawn(change)),
         _ => None,
     }
 }

@@ -1,12 +1,13 @@
-//! A safe wrapper of the proved syntax tree editor (`libsyntax_edit.a`).
+//! A safe wrapper of the proved syntax tree editor (`libsyntax_edit.a`) and of the checker of another editor's output (`libsyntax_check.a`).
 //!
 //! A [`Batch`] (trees, calls, mappings, notes) is told to a [`BatchBuilder`] and laid out by the library's writer; an [`Editor`], which owns the work memory, answers it with an
 //! [`Answer`] (the new tree, its changed elements, its notes) or a [`Refusal`]: every batch of bytes gets one of the two. The library's calls have no
-//! precondition but that lent buffers do not overlap, which references see to here. An editor has 234 KiB of work memory in nine slices.
+//! precondition but that lent buffers do not overlap, which references see to here. An editor has 235 KiB of work memory in nine slices. A [`Checker`] judges a [`Claim`], what another editor says of its own output.
 
 mod account;
 mod answer;
 mod batch;
+mod checker;
 pub mod raw;
 
 use std::{error::Error, fmt};
@@ -14,6 +15,7 @@ use std::{error::Error, fmt};
 pub use account::{Fate, Unaccounted};
 pub use answer::{Answer, Element, Note};
 pub use batch::{Batch, BatchBuilder, Unfit};
+pub use checker::{Checker, Claim, Flat};
 
 /// The most bytes that an answer has.
 pub const MOST_ANSWER: usize = 65_560;
@@ -27,6 +29,9 @@ pub struct Choices {
     /// The edge rule, to which replacement or run a change at its edge belongs: 0 by text ranges, 1 by where elements stand in the tree. Any other number is
     /// refused (17), before anything else is looked at.
     pub edge: u64,
+    /// Stronger rules first, off (0) or on (1): whether a replacement or run is withdrawn that overlaps a kept one of a higher rule number. Any other number is refused
+    /// (18), right after 17.
+    pub stronger: u64,
 }
 
 /// How much of a new text is rewritten, in thousandths: the exact share of `all` bytes is (`thousandths` + `remainder` / `all`) / 1,000. Of an empty text it is 0.
@@ -36,34 +41,37 @@ pub struct Share {
     pub remainder: usize,
 }
 
-/// Why a batch got no answer, or lists made no batch: a number of the list of refusals.
+/// Why a batch got no answer, lists made no batch, or a claim no verdict: a number of the list of refusals.
 #[derive(Clone, Copy, Debug, PartialEq, Eq, Hash)]
 pub struct Refusal(u8);
 
-const MEANINGS: [&str; 17] = [
-    "a work slice is too short",
-    "the batch has under 28 bytes",
-    "a size is out of its limits",
-    "the length differs from what the sizes give",
-    "the elements do not spell the trees",
-    "a call is not well formed",
-    "a mapping or a note is not well formed",
-    "replacements overlap",
-    "a dependent call or a note cannot be mapped",
-    "a climb never ends",
-    "a step's target is gone",
-    "the trees outgrow their limits",
-    "the result buffer is too short",
-    "the lists differ in length or make a batch that is not well formed",
-    "the destination is too short",
-    "a call lists more than 41 elements",
-    "an edge rule is neither 0 nor 1",
+/// The refusals, each with its number.
+const MEANINGS: [(u8, &str); 19] = [
+    (1, "a work slice is too short"),
+    (2, "the batch has under 28 bytes"),
+    (3, "a size is out of its limits"),
+    (4, "the length differs from what the sizes give, or lists of a claim in step differ in length"),
+    (5, "the elements do not spell the trees"),
+    (6, "a call is not well formed"),
+    (7, "a mapping or a note is not well formed"),
+    (8, "replacements overlap"),
+    (9, "a dependent call or a note cannot be mapped"),
+    (10, "a climb never ends"),
+    (11, "a step's target is gone"),
+    (12, "the trees outgrow their limits"),
+    (13, "the result buffer is too short"),
+    (14, "the lists differ in length or make a batch that is not well formed"),
+    (15, "the destination is too short"),
+    (16, "a call lists more than 41 elements"),
+    (17, "an edge rule is neither 0 nor 1"),
+    (18, "the choice of stronger rules first is neither 0 nor 1"),
+    (19, "a claim names no element of its tree"),
 ];
 
 impl Refusal {
-    /// The refusal of this number, 1 to 17.
+    /// The refusal of this number, if there is one.
     fn numbered(number: i64) -> Option<Refusal> {
-        u8::try_from(number).ok().filter(|it| (1..=17).contains(it)).map(Refusal)
+        MEANINGS.iter().map(|it| it.0).find(|&it| i64::from(it) == number).map(Refusal)
     }
 
     pub fn number(self) -> u8 {
@@ -71,7 +79,7 @@ impl Refusal {
     }
 
     pub fn meaning(self) -> &'static str {
-        MEANINGS[usize::from(self.0) - 1]
+        MEANINGS.iter().find(|it| it.0 == self.0).expect("a refusal is made with its number").1
     }
 }
 
@@ -155,6 +163,6 @@ impl Editor {
 fn told(answer: i64) -> Result<usize, Refusal> {
     match usize::try_from(answer) {
         Ok(number) => Ok(number),
-        Err(_) => Err(Refusal::numbered(-answer).expect("a refusal is numbered 1 to 17")),
+        Err(_) => Err(Refusal::numbered(-answer).expect("a refusal is numbered 1 to 19")),
     }
 }

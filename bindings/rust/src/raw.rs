@@ -1,13 +1,13 @@
-//! The static library's own calls, over slices of any length.
+//! The static libraries' own calls, over slices of any length.
 //!
-//! What is promised of them (and proved of the library): the batch and the lists are only read; the result slice (of the writer: the destination) holds
+//! What is promised of them (and proved of the libraries): the batch and the lists are only read; the result slice (of the writer: the destination) holds
 //! the answer (the batch) and beyond it what it held, or, on refusal, all that it held; every work slice ends as zeros of its own length, whatever it
 //! held and however long it is.
 
-use crate::Choices;
+use crate::{Choices, Claim};
 
 /// The lengths in words that the work slices need, in the order in which they are lent.
-pub const LENGTHS: [usize; 9] = [16_384, 6_147, 3_584, 3_072, 3_072, 1_024, 2_048, 12_291, 12_288];
+pub const LENGTHS: [usize; 9] = [16_384, 6_147, 3_840, 3_072, 3_072, 1_024, 2_048, 12_291, 12_288];
 
 /// The length in bytes of the writer's draft, which is also the most bytes of a batch. Its table and its source are the editor's first two.
 pub const DRAFT: usize = 49_180;
@@ -92,11 +92,39 @@ impl WriterWork {
     }
 }
 
+/// The lengths in words that the checker's work slices need: the old elements, the new ones, partners, marks.
+pub const CHECKER_LENGTHS: [usize; 4] = [16_384, 16_384, 4_096, 4_096];
+
+/// What [`check`] answers of a claim that is accepted; 0 is rejected.
+pub const ACCEPTED: usize = 1;
+
+/// The checker's work slices.
+pub type CheckerSlices<'a> = [&'a mut [u32]; 4];
+
+/// Work memory of the lengths that the checker needs.
+pub struct CheckerWork([Vec<u32>; 4]);
+
+impl Default for CheckerWork {
+    fn default() -> Self {
+        Self::new()
+    }
+}
+
+impl CheckerWork {
+    pub fn new() -> CheckerWork {
+        CheckerWork(CHECKER_LENGTHS.map(|length| vec![0; length]))
+    }
+
+    pub fn slices(&mut self) -> CheckerSlices<'_> {
+        self.0.each_mut().map(Vec::as_mut_slice)
+    }
+}
+
 #[rustfmt::skip]
 mod library {
     unsafe extern "C" {
         pub fn syntax_edit(
-            edge: u64,
+            edge: u64, stronger: u64,
             batch: *const u8, batch_length: usize,
             result: *mut u8, result_length: usize,
             table: *mut u32, table_length: usize,
@@ -111,7 +139,7 @@ mod library {
         ) -> i64;
 
         pub fn syntax_find_element(
-            edge: u64,
+            edge: u64, stronger: u64,
             batch: *const u8, batch_length: usize,
             number: u64,
             table: *mut u32, table_length: usize,
@@ -126,7 +154,7 @@ mod library {
         ) -> i64;
 
         pub fn syntax_account(
-            edge: u64,
+            edge: u64, stronger: u64,
             batch: *const u8, batch_length: usize,
             result: *mut u8, result_length: usize,
             table: *mut u32, table_length: usize,
@@ -141,7 +169,7 @@ mod library {
         ) -> i64;
 
         pub fn syntax_share(
-            edge: u64,
+            edge: u64, stronger: u64,
             batch: *const u8, batch_length: usize,
             table: *mut u32, table_length: usize,
             source: *mut u32, source_length: usize,
@@ -181,6 +209,22 @@ mod library {
             table: *mut u32, table_length: usize,
             source: *mut u32, source_length: usize,
         ) -> i64;
+
+        pub fn syntax_check(
+            old_kinds: *const u32, old_kinds_length: usize,
+            old_measures: *const u32, old_measures_length: usize,
+            old_text: *const u8, old_text_length: usize,
+            new_kinds: *const u32, new_kinds_length: usize,
+            new_measures: *const u32, new_measures_length: usize,
+            new_text: *const u8, new_text_length: usize,
+            olds: *const u32, olds_length: usize,
+            news: *const u32, news_length: usize,
+            changed: *const u32, changed_length: usize,
+            old: *mut u32, old_length: usize,
+            new: *mut u32, new_length: usize,
+            partners: *mut u32, partners_length: usize,
+            marks: *mut u32, marks_length: usize,
+        ) -> i64;
     }
 }
 
@@ -192,7 +236,7 @@ pub fn edit(choices: Choices, batch: &[u8], result: &mut [u8], work: Slices<'_>)
     // references. The library reads and writes nothing else, and keeps none of them.
     unsafe {
         library::syntax_edit(
-            choices.edge,
+            choices.edge, choices.stronger,
             batch.as_ptr(), batch.len(),
             result.as_mut_ptr(), result.len(),
             table.as_mut_ptr(), table.len(),
@@ -215,7 +259,7 @@ pub fn find_element(choices: Choices, batch: &[u8], number: u64, work: Slices<'_
     // Safety: as in `edit`.
     unsafe {
         library::syntax_find_element(
-            choices.edge,
+            choices.edge, choices.stronger,
             batch.as_ptr(), batch.len(),
             number,
             table.as_mut_ptr(), table.len(),
@@ -238,7 +282,7 @@ pub fn account(choices: Choices, batch: &[u8], result: &mut [u8], work: Slices<'
     // Safety: as in `edit`.
     unsafe {
         library::syntax_account(
-            choices.edge,
+            choices.edge, choices.stronger,
             batch.as_ptr(), batch.len(),
             result.as_mut_ptr(), result.len(),
             table.as_mut_ptr(), table.len(),
@@ -261,7 +305,7 @@ pub fn share(choices: Choices, batch: &[u8], work: Slices<'_>) -> i64 {
     // Safety: as in `edit`.
     unsafe {
         library::syntax_share(
-            choices.edge,
+            choices.edge, choices.stronger,
             batch.as_ptr(), batch.len(),
             table.as_mut_ptr(), table.len(),
             source.as_mut_ptr(), source.len(),
@@ -314,6 +358,30 @@ pub fn load(start: u32, destination: &mut [u8], work: WriterSlices<'_>) -> i64 {
             work.draft.as_mut_ptr(), work.draft.len(),
             work.table.as_mut_ptr(), work.table.len(),
             work.source.as_mut_ptr(), work.source.len(),
+        )
+    }
+}
+
+/// [`ACCEPTED`] or 0 for a claim, or a refusal's number (1, 3, 4, 5 or 19) with a minus.
+#[rustfmt::skip]
+pub fn check(claim: &Claim<'_>, work: CheckerSlices<'_>) -> i64 {
+    let [old, new, partners, marks] = work;
+    // Safety: as in `edit`; the claim's lists, which are only read, may overlap one another.
+    unsafe {
+        library::syntax_check(
+            claim.old.kinds.as_ptr(), claim.old.kinds.len(),
+            claim.old.measures.as_ptr(), claim.old.measures.len(),
+            claim.old.text.as_ptr(), claim.old.text.len(),
+            claim.new.kinds.as_ptr(), claim.new.kinds.len(),
+            claim.new.measures.as_ptr(), claim.new.measures.len(),
+            claim.new.text.as_ptr(), claim.new.text.len(),
+            claim.olds.as_ptr(), claim.olds.len(),
+            claim.news.as_ptr(), claim.news.len(),
+            claim.changed.as_ptr(), claim.changed.len(),
+            old.as_mut_ptr(), old.len(),
+            new.as_mut_ptr(), new.len(),
+            partners.as_mut_ptr(), partners.len(),
+            marks.as_mut_ptr(), marks.len(),
         )
     }
 }

@@ -272,14 +272,15 @@ fn an_insertion_at_the_edge() {
     builder.delete(t);
     builder.insert_after(block, &[c]);
     let batch = builder.finish().expect("it is small");
-    let text = |edge| Editor::by(Choices { edge }).edit(&batch).map(|it| it.text().to_vec()).map_err(Refusal::number);
-    let fates = |edge| Editor::by(Choices { edge }).account(&batch).expect("it is accepted");
+    let by = |edge| Choices { edge, ..Choices::default() };
+    let text = |edge| Editor::by(by(edge)).edit(&batch).map(|it| it.text().to_vec()).map_err(Refusal::number);
+    let fates = |edge| Editor::by(by(edge)).account(&batch).expect("it is accepted");
     assert_eq!(text(0), Ok(b"su".to_vec()));
     assert_eq!(text(1), Ok(b"scu".to_vec()));
     assert_eq!(text(2), Err(17));
     assert_eq!(fates(0), [Fate::Own, Fate::Discarded(0)]);
     assert_eq!(fates(1), [Fate::Own, Fate::Own]);
-    let refusal = Editor::by(Choices { edge: 2 }).find_element(batch.bytes(), 0).unwrap_err();
+    let refusal = Editor::by(by(2)).find_element(batch.bytes(), 0).unwrap_err();
     assert_eq!(refusal.to_string(), "refused 17: an edge rule is neither 0 nor 1");
 }
 
@@ -484,6 +485,114 @@ fn a_rule_number_above_4095_is_not_written() {
         it.builder.rule(rule).insert_after(it.x, &[it.c]);
         assert_eq!(unwritten(&it.builder), 14);
     }
+}
+
+/// Document 02's Note 9: two rule books, each with an editor of its own, replace X.
+fn two_books(first: u32, second: u32) -> S {
+    let mut it = s();
+    it.builder.rule(first).replace(it.x, it.c);
+    it.builder.next_editor();
+    it.builder.rule(second).replace(it.x, it.d);
+    it
+}
+
+/// The text and the discarded changes, or the refusal's number; and the account.
+fn chosen(it: &S, choices: Choices) -> (Result<(String, u32), u8>, Result<Vec<Fate>, Unaccounted>) {
+    let batch = it.builder.finish().expect("it is small");
+    let mut editor = Editor::by(choices);
+    let told = |it: Answer<'_>| (String::from_utf8_lossy(it.text()).into_owned(), it.discarded());
+    let answer = editor.edit(&batch).map(told).map_err(Refusal::number);
+    (answer, editor.account(&batch))
+}
+
+/// Stronger rules first, under either edge rule.
+fn stronger(it: &S) -> (Result<(String, u32), u8>, Result<Vec<Fate>, Unaccounted>) {
+    let [told, other] = [0, 1].map(|edge| chosen(it, Choices { edge, stronger: 1 }));
+    assert_eq!(told, other);
+    told
+}
+
+#[test]
+fn of_two_rule_books_the_stronger_one_wins() {
+    assert_eq!(Choices::default(), Choices { edge: 0, stronger: 0 });
+    let overlap = (Err(8), Err(Unaccounted::Overlap(0, 1)));
+    for (first, second) in [(1, 2), (2, 1), (2, 2), (0, 4_095)] {
+        let it = two_books(first, second);
+        assert_eq!(chosen(&it, Choices::default()), overlap);
+        assert_eq!(chosen(&it, Choices { edge: 1, stronger: 0 }), overlap);
+    }
+    assert_eq!(stronger(&two_books(1, 2)), (text("db", 0), Ok(vec![Fate::Withdrawn(1), Fate::Own])));
+    assert_eq!(stronger(&two_books(2, 1)), (text("cb", 0), Ok(vec![Fate::Own, Fate::Withdrawn(0)])));
+    assert_eq!(stronger(&two_books(0, 4_095)), (text("db", 0), Ok(vec![Fate::Withdrawn(1), Fate::Own])));
+    // Of one number neither is withdrawn.
+    assert_eq!(stronger(&two_books(2, 2)), overlap);
+}
+
+#[test]
+fn what_is_withdrawn_is_not_told_as_changed() {
+    let batch = two_books(1, 2).builder.finish().expect("it is small");
+    let mut editor = Editor::by(Choices { edge: 0, stronger: 1 });
+    let answer = editor.edit(&batch).expect("the weaker one is withdrawn");
+    assert!(answer.changed().zip(answer.rules()).eq([(1, 2)]));
+    assert_eq!(editor.find_element(batch.bytes(), 0), Ok(Some(0)));
+    assert_eq!(editor.share(&batch), Ok(syntax_edit::Share { thousandths: 500, remainder: 0 }));
+}
+
+#[test]
+fn line_8_then_concerns_what_is_left() {
+    // A third of the stronger one's number overlaps it.
+    let mut it = two_books(1, 2);
+    it.builder.next_editor();
+    it.builder.rule(2).replace_all(it.x, it.b, &[]);
+    assert_eq!(stronger(&it), (Err(8), Err(Unaccounted::Overlap(0, 2))));
+    // Numbers count withdrawn changes too.
+    let mut it = two_books(1, 2);
+    it.builder.rule(0).insert_after(it.b, &[it.c]);
+    assert_eq!(stronger(&it).1, Ok(vec![Fate::Withdrawn(1), Fate::Own, Fate::Own]));
+}
+
+#[test]
+fn a_stronger_change_inside_a_weaker_ones_node_is_discarded() {
+    let mut it = s();
+    it.builder.rule(1).delete(it.x);
+    it.builder.rule(2).replace(it.a, it.c);
+    assert_eq!(stronger(&it), (text("b", 1), Ok(vec![Fate::Own, Fate::Discarded(0)])));
+}
+
+#[test]
+fn equal_numbers_are_answered_as_without_the_choice() {
+    let tell: [fn(&mut S); 4] = [
+        |it| it.builder.delete(it.x),
+        |it| it.builder.replace_all(it.x, it.b, &[it.c]),
+        |it| it.builder.insert_after(it.x, &[it.d]),
+        |it| it.builder.replace(it.a, it.d),
+    ];
+    for rule in [0, 7, 4_095] {
+        for (first, second) in (0..4).flat_map(|i| (0..4).map(move |j| (i, j))) {
+            let mut it = s();
+            it.builder.rule(rule);
+            tell[first](&mut it);
+            it.builder.next_editor();
+            tell[second](&mut it);
+            for edge in [0, 1] {
+                assert_eq!(chosen(&it, Choices { edge, stronger: 0 }), chosen(&it, Choices { edge, stronger: 1 }));
+            }
+        }
+    }
+}
+
+#[test]
+fn a_wrong_choice_is_refused() {
+    let batch = printed_case();
+    for (edge, stronger, told) in [(0, 2, 18), (1, u64::MAX, 18), (2, 2, 17), (2, 0, 17)] {
+        let mut editor = Editor::by(Choices { edge, stronger });
+        assert_eq!(editor.edit(&batch).map(|_| ()).unwrap_err().number(), told);
+        assert_eq!(editor.find_element(batch.bytes(), 0).unwrap_err().number(), told);
+        assert_eq!(editor.share(&batch).unwrap_err().number(), told);
+        assert!(matches!(editor.account(&batch), Err(Unaccounted::Refused(it)) if it.number() == told));
+    }
+    let refusal = Editor::by(Choices { edge: 0, stronger: 2 }).edit(&batch).map(|_| ()).unwrap_err();
+    assert_eq!(refusal.to_string(), "refused 18: the choice of stronger rules first is neither 0 nor 1");
 }
 
 #[test]

@@ -1,8 +1,8 @@
-//! What the calls leave in every slice, of any length: demand 1, with refusals 1, 13, 14, 15 and 17.
+//! What the calls leave in every slice, of any length: demand 1, with refusals 1, 13, 14, 15, 17 and 18.
 
 use syntax_edit::{Choices, raw};
 
-const RULE_0: Choices = Choices { edge: 0 };
+const RULE_0: Choices = Choices { edge: 0, stronger: 0 };
 const PRINTED_CASE: &[u8] = include_bytes!("../../../examples/printed_case.batch");
 const DOSING: &[u8] = include_bytes!("../../../examples/dosing.batch");
 const OVERLAP: &[u8] = include_bytes!("../../../examples/overlap.batch");
@@ -90,19 +90,33 @@ fn a_short_work_slice_is_refused_and_cleared() {
 }
 
 #[test]
-fn a_wrong_edge_rule_is_refused_first() {
-    for (edge, told) in [(0, -1), (1, -1), (2, -17), (u64::MAX, -17)] {
-        let choices = Choices { edge };
-        let mut memory = work(|i, least| if i == 4 { least - 1 } else { least });
+fn a_wrong_edge_rule_is_refused_first_and_then_a_wrong_choice() {
+    for (edge, stronger, told) in [
+        (0, 0, -1),
+        (1, 0, -1),
+        (0, 1, -1),
+        (1, 1, -1),
+        (2, 0, -17),
+        (u64::MAX, 1, -17),
+        (2, 2, -17),
+        (u64::MAX, u64::MAX, -17),
+        (0, 2, -18),
+        (1, 10, -18),
+        (1, u64::MAX, -18),
+    ] {
+        let choices = Choices { edge, stronger };
         let mut result = vec![0xa5; 1_000];
-        assert_eq!(raw::edit(choices, &[], &mut result, lent(&mut memory)), told);
-        assert_zeros(&memory);
-        let mut memory = work(|i, least| if i == 4 { least - 1 } else { least });
-        assert_eq!(raw::account(choices, &[], &mut result, lent(&mut memory)), told);
-        assert_zeros(&memory);
-        let mut memory = work(|i, least| if i == 4 { least - 1 } else { least });
-        assert_eq!(raw::find_element(choices, &[], 0, lent(&mut memory)), told);
-        assert_zeros(&memory);
+        let calls: [&dyn Fn(&mut [u8], raw::Slices<'_>) -> i64; 4] = [
+            &|result, work| raw::edit(choices, &[], result, work),
+            &|result, work| raw::account(choices, &[], result, work),
+            &|_, work| raw::find_element(choices, &[], 0, work),
+            &|_, work| raw::share(choices, &[], work),
+        ];
+        for call in calls {
+            let mut memory = work(|i, least| if i == 4 { least - 1 } else { least });
+            assert_eq!(call(&mut result, lent(&mut memory)), told);
+            assert_zeros(&memory);
+        }
         assert!(result.iter().all(|&it| it == 0xa5));
     }
 }

@@ -103,7 +103,7 @@ module _ (ns : List ℕ) where
   by-refuse n true h = h
   by-refuse n false h = tt
 
-  by-or : {A : Type 0} (n : ℕ) (o : Option A) → among ns n ≡ true → By ns (orRefuse n o)
+  pub by-or : {A : Type 0} (n : ℕ) (o : Option A) → among ns n ≡ true → By ns (orRefuse n o)
   unfolding orRefuse
   by-or n none h = h
   by-or n (some a) h = tt
