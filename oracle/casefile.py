@@ -1,6 +1,6 @@
 """The recorded cases: one file of bytes, and an index in text.
 
-All words are 32-bit little-endian. The file starts with the count of cases. A case is: the batch's length and bytes; the refusal's number, 0 if
+All words are 32-bit little-endian. The file starts with the count of cases. A case is: the edge rule and the choice of stronger rules first; the batch's length and bytes; the refusal's number, 0 if
 the batch is accepted; the result's length (0 for a refusal) and bytes, as the documents lay a result out; the count of `find_element` calls, and
 for each of them the element asked for and the element found, 2^32 - 1 for none."""
 
@@ -14,8 +14,9 @@ CASES, INDEX = FOLDER.parent.parent / "crates" / "replay" / "stdin", FOLDER / "i
 NONE = 2**32 - 1
 NODE = 1 << 31
 
-# `finds` are pairs of element numbers, the second None for none.
-Case = namedtuple("Case", "batch refusal result finds")
+# `choices` are the edge rule and stronger rules first, `finds` pairs of element numbers, the second None for none.
+Case = namedtuple("Case", "choices batch refusal result finds")
+DEFAULT = (0, 0)
 
 
 def result_bytes(printed):
@@ -51,7 +52,7 @@ def printed_form(case):
 def write_cases(cases):
     out = [pack("<I", len(cases))]
     for case in cases:
-        out += [pack("<I", len(case.batch)), case.batch, pack("<II", case.refusal, len(case.result)), case.result, pack("<I", len(case.finds))]
+        out += [pack("<III", *case.choices, len(case.batch)), case.batch, pack("<II", case.refusal, len(case.result)), case.result, pack("<I", len(case.finds))]
         out += [pack("<II", old, NONE if new is None else new) for old, new in case.finds]
     return b"".join(out)
 
@@ -71,9 +72,10 @@ def read_cases(data):
 
     cases = []
     for _ in range(word()):
+        choices = (word(), word())
         batch, refusal = part(word()), word()
         result = part(word())
         finds = [(word(), word()) for _ in range(word())]
-        cases.append(Case(batch, refusal, result, [(old, None if new == NONE else new) for old, new in finds]))
+        cases.append(Case(choices, batch, refusal, result, [(old, None if new == NONE else new) for old, new in finds]))
     assert at == len(data)
     return cases

@@ -741,6 +741,45 @@ def wide_numbers():
     yield word("operation 7 with a number", 0x00100107)
 
 
+def row(first=b"a", *more):
+    """A root of nodes with a token each, and d; x and y in another tree."""
+    nodes = [node(2, token(3, it)) for it in (first, *more)]
+    x, y = token(6, b"x"), token(6, b"y")
+    return nodes, x, y, [node(1, *nodes, token(3, b"d")), node(5, x, y)]
+
+
+def emptied_row():
+    """A root of three empty nodes and b; c and d in another tree."""
+    nodes, c, d = [node(2), node(2), node(2)], token(6, b"c"), token(6, b"d")
+    return nodes, c, d, [node(1, *nodes, token(4, b"b")), node(5, c, d)]
+
+
+def chosen_cases():
+    """Cases by other choices than the default: (what it shows, batch, (edge rule, stronger rules first)). The model alone tells their answers."""
+    s = S()
+    by_c, by_d = (REPLACE, s.x, [s.c]), (REPLACE, s.x, [s.d])
+    for first, second in ((1, 2), (2, 1), (2, 2)):
+        for choices in ((0, 0), (0, 1), (1, 1)):
+            yield "rule %d replaces X by c, another editor's rule %d by d" % (first, second), s.batch(by_c, OTHER, by_d, rules=[first, 0, second]), choices
+    yield "a stronger change inside a weaker one's node is discarded", s.batch((DELETE, s.x, []), (REPLACE, s.a, [s.c]), rules=[1, 2]), (0, 1)
+    (a, b, c), x, y, trees = row(b"a", b"b", b"c")
+    yield "the middle one is withdrawn, and withdraws no other", Batch(trees, [(RUN, a, [b]), (RUN, b, [c]), (DELETE, c, [])], (), (), [3, 2, 1]), (0, 1)
+    yield "withdrawn under the highest number, the first of it", Batch(trees, [(RUN, a, [c]), (DELETE, a, []), (DELETE, b, []), (DELETE, c, [])], (), (), [1, 2, 3, 3]), (0, 1)
+    yield "what is left overlaps", Batch(trees, [(DELETE, a, []), (DELETE, b, []), OTHER, (DELETE, a, []), (DELETE, b, [])], (), (), [1, 0, 0, 2, 0]), (0, 1)
+    yield "an insertion is not withdrawn", Batch(trees, [(RUN, a, [c]), (AFTER, a, [x])], (), (), [5, 1]), (0, 1)
+    for choices in ((0, 1), (1, 1)):
+        yield "a region that is withdrawn is none", Batch(trees, [(RUN, a, [b]), (DELETE, a, []), (AFTER, a, [x])], (), (), [1, 2, 0]), choices
+    (p, q, r), c, d, trees = emptied_row()
+    yield "both remove an empty node", Batch(trees, [(DELETE, p, []), OTHER, (DELETE, p, [])], (), (), [1, 0, 2]), (0, 1)
+    yield "a run of empty nodes gives way to one of them", Batch(trees, [(RUN, p, [r]), (REPLACE, q, [c])], (), (), [1, 2]), (0, 1)
+    for choices in ((0, 0), (0, 1)):
+        yield "on refuses what off accepts", Batch(trees, [(DELETE, p, []), OTHER, (REPLACE, p, [trees[1]]), (FIRST, p, [c])], (), (), [1, 0, 2, 0]), choices
+    for choices in ((0, 0), (1, 0), (1, 1)):
+        yield "c after a deleted node", s.batch((DELETE, s.x, []), (AFTER, s.x, [s.c])), choices
+    for choices in ((2, 0), (2, 2), (0, 2), (1, 4294967295)):
+        yield "a choice that is neither 0 nor 1", s.batch(by_c), choices
+
+
 def all_cases():
     parts = (printed, marked, lines_2_to_4, line_5, line_6, line_7, recording, planning, dependents, endless, notes, running, limits, empty_nodes, longest_lists, rule_numbers)
     for part in parts:

@@ -238,6 +238,7 @@ fn recorded(data: &[u8], most: usize) -> Vec<Vec<u8>> {
     let mut cases = Reader(data);
     let mut batches = Vec::new();
     for _ in 0..cases.word() {
+        (cases.word(), cases.word());
         let length = cases.word();
         batches.push(cases.part(length).to_vec());
         cases.word();

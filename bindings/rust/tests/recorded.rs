@@ -31,8 +31,9 @@ fn recorded_cases() {
     let mut result = vec![0; 65_536];
     let mut longest = 0;
     for case in 0..cases.word() {
+        let choices = Choices { edge: cases.word().into(), stronger: cases.word().into() };
         let (batch, refusal, expected) = (cases.bytes(), cases.word(), cases.bytes());
-        let answer = raw::edit(Choices::default(), batch, &mut result, work.slices());
+        let answer = raw::edit(choices, batch, &mut result, work.slices());
         if refusal == 0 {
             assert_eq!(answer, expected.len() as i64, "case {case}");
             assert!(result[..expected.len()] == *expected, "case {case}");
@@ -41,14 +42,14 @@ fn recorded_cases() {
         }
         if refusal == 13 {
             let mut room = vec![0; MOST_ANSWER];
-            let length = raw::edit(Choices::default(), batch, &mut room, work.slices());
+            let length = raw::edit(choices, batch, &mut room, work.slices());
             assert!((65_537..=65_560).contains(&length), "case {case}");
             longest = longest.max(length);
         }
         for _ in 0..cases.word() {
             let (old, new) = (cases.word(), cases.word());
             let expected = if new == u32::MAX { raw::NONE } else { i64::from(new) };
-            assert_eq!(raw::find_element(Choices::default(), batch, u64::from(old), work.slices()), expected, "case {case}, element {old}");
+            assert_eq!(raw::find_element(choices, batch, u64::from(old), work.slices()), expected, "case {case}, element {old}");
         }
     }
     assert!(cases.0.is_empty());
@@ -99,6 +100,7 @@ fn rewritten(batch: &[u8]) -> Option<Result<Vec<u8>, i64>> {
 fn recorded_batches_written_again() {
     let mut cases = Reader(CASES);
     for case in 0..cases.word() {
+        (cases.word(), cases.word());
         let (batch, refusal, _) = (cases.bytes(), cases.word(), cases.bytes());
         match (refusal, rewritten(batch)) {
             (2..=4, None) | (3 | 5..=7 | 16, Some(Err(14))) => {}

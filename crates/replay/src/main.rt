@@ -19,10 +19,10 @@ const NONE: usize = 0xffff_ffff;
 // What a batch comes to that is written again with other bytes.
 const OTHERWISE: usize = 0xffff_ffff;
 
-// The choices of every recorded case: edge rule 0, stronger rules first off.
-const RECORDED: Choices = Choices {
-    edge: 0,
-    stronger: 0,
+// A case that the input does not hold whole.
+const MISSING: Case = Case {
+    agrees: false,
+    again: OTHERWISE,
 };
 
 // A number that is read, or the input's end.
@@ -179,7 +179,7 @@ fn is_recorded(told: Outcome, result: &[u8], refusal: usize, expected: &[u8]) ->
 }
 
 // What a job comes to, with work slices that hold a pattern.
-fn run_job(job: Job, batch: &[u8], result: &mut [u8]) -> Served {
+fn run_job(choices: Choices, job: Job, batch: &[u8], result: &mut [u8]) -> Served {
     let mut table = [WORD; 16384];
     let mut source = [WORD; 6147];
     let mut changes = [WORD; 3840];
@@ -190,7 +190,7 @@ fn run_job(job: Job, batch: &[u8], result: &mut [u8]) -> Served {
     let mut rows = [WORD; 12291];
     let mut prepared = [WORD; 12288];
     let told = serve(
-        RECORDED,
+        choices,
         job,
         batch,
         result,
@@ -222,36 +222,42 @@ fn run_job(job: Job, batch: &[u8], result: &mut [u8]) -> Served {
 }
 
 // Whether the edit of a batch, its result slice and its work slices are as recorded.
-fn edit_agrees(batch: &[u8], refusal: usize, expected: &[u8]) -> bool {
+fn edit_agrees(choices: Choices, batch: &[u8], refusal: usize, expected: &[u8]) -> bool {
     let mut result = [BYTE; 65536];
-    let Served::Told(told) = run_job(Job::Edit, batch, &mut result) else {
+    let Served::Told(told) = run_job(choices, Job::Edit, batch, &mut result) else {
         return false;
     };
     is_recorded(told, &result, refusal, expected)
 }
 
 // Whether an element is found where it was recorded.
-fn find_agrees(batch: &[u8], number: usize, refusal: usize, found: usize) -> bool {
+fn find_agrees(
+    choices: Choices,
+    batch: &[u8],
+    number: usize,
+    refusal: usize,
+    found: usize,
+) -> bool {
     let mut none = [BYTE; 0];
-    let Served::Told(told) = run_job(Job::Find(number), batch, &mut none) else {
+    let Served::Told(told) = run_job(choices, Job::Find(number), batch, &mut none) else {
         return false;
     };
     is_element(told, refusal, found)
 }
 
 // The next element to find and where it was found: whether it is.
-fn next_found(batch: &[u8], refusal: usize) -> bool {
+fn next_found(choices: Choices, batch: &[u8], refusal: usize) -> bool {
     let Read::Word(number) = read_word() else {
         return false;
     };
     let Read::Word(found) = read_word() else {
         return false;
     };
-    find_agrees(batch, number, refusal, found)
+    find_agrees(choices, batch, number, refusal, found)
 }
 
 // The elements to find, all of which are read: whether all are found where they were.
-fn all_found(batch: &[u8], refusal: usize) -> bool {
+fn all_found(choices: Choices, batch: &[u8], refusal: usize) -> bool {
     let Read::Word(n) = read_word() else {
         return false;
     };
@@ -261,7 +267,7 @@ fn all_found(batch: &[u8], refusal: usize) -> bool {
     let mut missed = 0;
     let mut i = 0;
     while i < n {
-        missed += miss(next_found(batch, refusal));
+        missed += miss(next_found(choices, batch, refusal));
         i += 1;
     }
     missed == 0
@@ -309,17 +315,17 @@ fn is_due(refusal: usize, again: usize) -> bool {
 }
 
 // Whether the elements found and the edit are as recorded.
-fn calls_agree(batch: &[u8], refusal: usize, expected: &[u8]) -> bool {
-    if all_found(batch, refusal) {
-        edit_agrees(batch, refusal, expected)
+fn calls_agree(choices: Choices, batch: &[u8], refusal: usize, expected: &[u8]) -> bool {
+    if all_found(choices, batch, refusal) {
+        edit_agrees(choices, batch, refusal, expected)
     } else {
         false
     }
 }
 
 // What a case comes to; its elements to find are read here.
-fn case_of(batch: &[u8], refusal: usize, expected: &[u8]) -> Case {
-    let agrees = calls_agree(batch, refusal, expected);
+fn case_of(choices: Choices, batch: &[u8], refusal: usize, expected: &[u8]) -> Case {
+    let agrees = calls_agree(choices, batch, refusal, expected);
     let again = again(batch);
     if is_due(refusal, again) {
         Case { agrees, again }
@@ -331,30 +337,37 @@ fn case_of(batch: &[u8], refusal: usize, expected: &[u8]) -> Case {
     }
 }
 
-// The next case of the input.
+// The next case of the input, by its choices.
 fn next_case() -> Case {
-    let none = Case {
-        agrees: false,
-        again: OTHERWISE,
+    let Read::Word(edge) = read_word() else {
+        return MISSING;
     };
+    let Read::Word(stronger) = read_word() else {
+        return MISSING;
+    };
+    next_batch(Choices { edge, stronger })
+}
+
+// The next batch of the input and what it comes to by these choices.
+fn next_batch(choices: Choices) -> Case {
     let mut batch = io::large_buffer();
     let Read::Word(n) = read_part(&mut batch) else {
-        return none;
+        return MISSING;
     };
     let Read::Word(refusal) = read_word() else {
-        return none;
+        return MISSING;
     };
     let mut expected = io::large_buffer();
     let Read::Word(m) = read_part(&mut expected) else {
-        return none;
+        return MISSING;
     };
     if 65536 < n {
-        return none;
+        return MISSING;
     }
     if 65536 < m {
-        return none;
+        return MISSING;
     }
-    case_of(&batch[..n], refusal, &expected[..m])
+    case_of(choices, &batch[..n], refusal, &expected[..m])
 }
 
 // 1 for a number from `low` to `high`.

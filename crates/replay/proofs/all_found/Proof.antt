@@ -9,10 +9,10 @@ use Rattle.replay.proofs.next_found.Reads as next-found-reads
 use Rattle.replay.proofs.read_word.Reads as read-word-reads
 
 abbrev Inv-loop : tie.InvT-loop
-Inv-loop batch refusal n missed₀ i₀ missed i = (i ≤ n) × (missed ≤ i)
+Inv-loop choices batch refusal n missed₀ i₀ missed i = (i ≤ n) × (missed ≤ i)
 
 abbrev μ-loop : tie.MeasureT-loop
-μ-loop batch refusal n missed₀ i₀ missed i = n - i
+μ-loop choices batch refusal n missed₀ i₀ missed i = n - i
 
 read-word-requires : tie.Need-read-word-requires Inv-loop μ-loop
 read-word-requires c κs = search needs

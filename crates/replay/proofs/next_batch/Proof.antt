@@ -1,8 +1,8 @@
 use lib.Seq.{length-take-le}
 use mathlib.Core.Path.{sym}
 use borrow.Author.Needs.{needs}
-use Rattle.replay.proofs.next_case.Statement.{statement}
-use Rattle.replay.proofs.next_case.Tie as tie
+use Rattle.replay.proofs.next_batch.Statement.{statement}
+use Rattle.replay.proofs.next_batch.Tie as tie
 
 large-buffer-requires : tie.Need-large-buffer-requires
 large-buffer-requires c κs = search needs
@@ -76,8 +76,8 @@ case-of-requires c κs = search needs
 returns-6 : tie.Need-returns-6
 returns-6 c = search needs
 
-pub next-case-spec : {M : Type 1} → statement M
-next-case-spec =
+pub next-batch-spec : {M : Type 1} → statement M
+next-batch-spec =
     tie.close
     (tie.spec
     large-buffer-requires
