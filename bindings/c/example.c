@@ -1,5 +1,5 @@
 /* The printed case of document 01: the token "c" goes in after "a", with note 9 on it. Writes the batch from lists, edits it, and prints the answer as
- * document 01 prints it; then its account, its share, a load, and two rule books that replace one node. */
+ * document 01 prints it; then its account, its share, the elements that it kept, a load, and two rule books that replace one node. */
 #include <inttypes.h>
 #include <stdio.h>
 
@@ -112,6 +112,12 @@ int main(void)
         printf("refused %" PRId64 "\n", -share);
     else
         printf("share %" PRIu32 " %" PRIu32 "\n", SYNTAX_THOUSANDTHS(share), SYNTAX_REMAINDER(share));
+    static uint32_t olds[SYNTAX_MOST_KEPT], news[SYNTAX_MOST_KEPT];
+    int64_t pairs = syntax_kept_lists(&work, SYNTAX_EDGE_BY_OFFSET, SYNTAX_STRONGER_OFF, batch, (size_t)length, olds, news, 2);
+    printf("in room for 2: refused %" PRId64 "\n", -pairs);
+    pairs = syntax_kept_lists(&work, SYNTAX_EDGE_BY_OFFSET, SYNTAX_STRONGER_OFF, batch, (size_t)length, olds, news, SYNTAX_MOST_KEPT);
+    for (int64_t i = 0; i < pairs; i++)
+        printf("kept %" PRIu32 " %" PRIu32 "\n", olds[i], news[i]);
     static syntax_writer_work writer;
     length = syntax_load_with(&writer, 0, batch, sizeof batch);    /* the load of 0, which is accepted */
     length = syntax_edit_with(&work, SYNTAX_EDGE_BY_OFFSET, SYNTAX_STRONGER_OFF, batch, (size_t)length, result, sizeof result);

@@ -4,7 +4,7 @@
  * measures, call words, targets, listed elements, mapping inputs and outputs, note elements and numbers (32-bit little-endian words), then the text.
  * A call word is its operation, 256 times how many elements it lists, and 1,048,576 times the number of the rule that queued it (0 for none; SYNTAX_CALL_WORD).
  * An answer is six sizes (elements, text bytes, changed, notes, discarded changes, climb steps), kinds, measures, changed elements, the rule numbers by which
- * they were put in, note numbers, note elements, text. An account is text: what becomes of each change.
+ * they were put in, note numbers, note elements, text. An account is text: what becomes of each change. Pairs are the elements of tree 0 that survive, with their numbers in the new tree.
  *
  * Who owns what: the caller owns every buffer. Nothing is allocated and nothing is kept after a call returns. A call has no precondition but that lent
  * buffers do not overlap and that each has the length that is passed with it, whatever the batch and the work memory hold.
@@ -40,6 +40,9 @@ enum {
 
 /* The most bytes of an answer, and of an account: a result buffer of this length is never too short. */
 enum { SYNTAX_MOST_ANSWER = 65560, SYNTAX_MOST_ACCOUNT = 8192 };
+
+/* The most elements that survive an edit; the pairs of so many have eight bytes each. */
+enum { SYNTAX_MOST_KEPT = 2048 };
 
 /* The writer's work slices: a draft of this many bytes, SYNTAX_TABLE words and SYNTAX_SOURCE words. No batch is longer than the draft. */
 enum { SYNTAX_DRAFT = 49180, SYNTAX_MOST_BATCH = 49180 };
@@ -136,6 +139,22 @@ int64_t syntax_account(
     uint32_t *rows, size_t rows_length,
     uint32_t *prepared, size_t prepared_length);
 
+/* The elements of tree 0 that survive an edit so: how many bytes their pairs have, which now stand at the start of the result, or a refusal with a minus. All old numbers stand there, rising, then all
+ * numbers in the new tree, a 32-bit little-endian word each (syntax_kept_lists makes two lists of them). Where the result is too short, it is as it was. */
+int64_t syntax_kept(
+    uint64_t edge, uint64_t stronger,
+    const uint8_t *batch, size_t batch_length,
+    uint8_t *result, size_t result_length,
+    uint32_t *table, size_t table_length,
+    uint32_t *source, size_t source_length,
+    uint32_t *changes, size_t changes_length,
+    uint32_t *notes, size_t notes_length,
+    uint32_t *incoming, size_t incoming_length,
+    uint32_t *changed, size_t changed_length,
+    uint32_t *marks, size_t marks_length,
+    uint32_t *rows, size_t rows_length,
+    uint32_t *prepared, size_t prepared_length);
+
 /* The share of the new text that is rewritten, edited so, as one number: 65,536 for each whole thousandth and the remainder of the division,
  * which is exact (SYNTAX_THOUSANDTHS, SYNTAX_REMAINDER); or a refusal with a minus. There is no result slice. */
 int64_t syntax_share(
@@ -217,6 +236,33 @@ static inline int64_t syntax_account_with(syntax_work *w, uint64_t edge, uint64_
     return syntax_account(edge, stronger, batch, batch_length, result, result_length, w->table, SYNTAX_TABLE, w->source, SYNTAX_SOURCE, w->changes, SYNTAX_CHANGES,
         w->notes, SYNTAX_NOTES, w->incoming, SYNTAX_INCOMING, w->changed, SYNTAX_CHANGED, w->marks, SYNTAX_MARKS, w->rows, SYNTAX_ROWS,
         w->prepared, SYNTAX_PREPARED);
+}
+
+static inline int64_t syntax_kept_with(syntax_work *w, uint64_t edge, uint64_t stronger, const uint8_t *batch, size_t batch_length, uint8_t *result, size_t result_length)
+{
+    return syntax_kept(edge, stronger, batch, batch_length, result, result_length, w->table, SYNTAX_TABLE, w->source, SYNTAX_SOURCE, w->changes, SYNTAX_CHANGES,
+        w->notes, SYNTAX_NOTES, w->incoming, SYNTAX_INCOMING, w->changed, SYNTAX_CHANGED, w->marks, SYNTAX_MARKS, w->rows, SYNTAX_ROWS,
+        w->prepared, SYNTAX_PREPARED);
+}
+
+/* The surviving pairs as two lists, each with room for `room` numbers (SYNTAX_MOST_KEPT are always enough): how many pairs, or a refusal with a minus. If they do not fit it is
+ * SYNTAX_SHORT_RESULT, and both lists are as they were. */
+static inline int64_t syntax_kept_lists(syntax_work *w, uint64_t edge, uint64_t stronger, const uint8_t *batch, size_t batch_length, uint32_t *olds, uint32_t *news, size_t room)
+{
+    uint8_t pairs[8 * SYNTAX_MOST_KEPT];
+    int64_t length = syntax_kept_with(w, edge, stronger, batch, batch_length, pairs, 8 * (room < SYNTAX_MOST_KEPT ? room : SYNTAX_MOST_KEPT));
+    if (length < 0)
+        return length;
+    size_t count = (size_t)length / 8;
+    for (size_t i = 0; i < 2 * count; i++) {
+        const uint8_t *at = pairs + 4 * i;
+        uint32_t number = at[0] | (uint32_t)at[1] << 8 | (uint32_t)at[2] << 16 | (uint32_t)at[3] << 24;
+        if (i < count)
+            olds[i] = number;
+        else
+            news[i - count] = number;
+    }
+    return (int64_t)count;
 }
 
 static inline int64_t syntax_share_with(syntax_work *w, uint64_t edge, uint64_t stronger, const uint8_t *batch, size_t batch_length)

@@ -4,8 +4,8 @@
 //! front (the texts in bytes, the others in words). Before the call the work slices hold numbers drawn from the seed, none of them 0. The answer is what the call
 //! returned (64 bits) and how many words of the work slices are not 0.
 //!
-//! With `--own` a request is a seed, an edge rule, the choice of stronger rules first, a batch with its length in front, the old tree's three lists and the two of the pairs; the new tree and the changed
-//! elements are what the library's editor answers. A batch that it refuses is answered with 2 in the place of a verdict.
+//! With `--own` a request is a seed, an edge rule, the choice of stronger rules first, a batch with its length in front, the old tree's three lists and the two of the pairs; the new tree, the changed
+//! elements and the surviving pairs are what the library's editor answers. In the place of a verdict 2 answers a batch that it refuses, and 3 pairs other than those of the request, or refused by another number than the edit.
 
 use std::{
     env,
@@ -78,9 +78,15 @@ fn own(seed: u32, input: &mut impl Read) -> io::Result<(i64, usize)> {
     let choices = Choices { edge: u64::from(it.word()?), stronger: u64::from(it.word()?) };
     let batch = it.text()?;
     let (old_kinds, old_measures, old_text) = (it.list()?, it.list()?, it.text()?);
-    let [olds, news] = [it.list()?, it.list()?];
+    let pairs = it.list()?.into_iter().zip(it.list()?).collect::<Vec<_>>();
     let mut editor = Editor::by(choices);
-    let Ok(answer) = editor.edit_bytes(&batch) else { return Ok((2, 0)) };
+    let kept = editor.kept_bytes(&batch);
+    let answer = match (editor.edit_bytes(&batch), &kept) {
+        (Ok(answer), Ok(kept)) if *kept == pairs => answer,
+        (Err(edit), Err(kept)) if edit == *kept => return Ok((2, 0)),
+        _ => return Ok((3, 0)),
+    };
+    let (olds, news) = pairs.into_iter().unzip::<_, _, Vec<_>, Vec<_>>();
     let kinds = answer.elements().map(kind_word).collect::<Vec<_>>();
     let measures = answer.elements().map(|it| it.measure() as u32).collect::<Vec<_>>();
     let changed = answer.changed().collect::<Vec<_>>();

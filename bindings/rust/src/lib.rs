@@ -23,6 +23,9 @@ pub const MOST_ANSWER: usize = 65_560;
 /// The most bytes that an account has.
 pub const MOST_ACCOUNT: usize = 8_192;
 
+/// The most pairs that survive an edit.
+pub const MOST_KEPT: usize = 2_048;
+
 /// How a batch is edited. The default is what rust-analyzer does.
 #[derive(Clone, Copy, Debug, Default, PartialEq, Eq, Hash)]
 pub struct Choices {
@@ -148,6 +151,21 @@ impl Editor {
     pub fn share_bytes(&mut self, batch: &[u8]) -> Result<Share, Refusal> {
         let number = told(raw::share(self.choices, batch, self.work.slices()))?;
         Ok(Share { thousandths: number / raw::THOUSANDTH, remainder: number % raw::THOUSANDTH })
+    }
+
+    /// The surviving elements of the old tree, each with its number in the new tree, by rising old numbers; or the batch's refusal.
+    ///
+    /// With these pairs and the changed elements of the answer a [`Checker`] accepts the answer, if the root was not replaced and no dependent change ended in tree 0.
+    pub fn kept(&mut self, batch: &Batch) -> Result<Vec<(u32, u32)>, Refusal> {
+        self.kept_bytes(batch.bytes())
+    }
+
+    /// The same, of bytes that were laid out elsewhere.
+    pub fn kept_bytes(&mut self, batch: &[u8]) -> Result<Vec<(u32, u32)>, Refusal> {
+        let length = told(raw::kept(self.choices, batch, &mut self.result, self.work.slices()))?;
+        let (olds, news) = self.result.get(..length).expect("pairs end within the result buffer").split_at(length / 2);
+        let words = |it: &[u8]| it.chunks_exact(4).map(|it| u32::from_le_bytes(it.try_into().expect("four bytes"))).collect::<Vec<_>>();
+        Ok(words(olds).into_iter().zip(words(news)).collect())
     }
 
     /// The element of the new tree that `find_element` gives for an element of the batch: the first node with its kind and text start.

@@ -168,6 +168,21 @@ mod library {
             prepared: *mut u32, prepared_length: usize,
         ) -> i64;
 
+        pub fn syntax_kept(
+            edge: u64, stronger: u64,
+            batch: *const u8, batch_length: usize,
+            result: *mut u8, result_length: usize,
+            table: *mut u32, table_length: usize,
+            source: *mut u32, source_length: usize,
+            changes: *mut u32, changes_length: usize,
+            notes: *mut u32, notes_length: usize,
+            incoming: *mut u32, incoming_length: usize,
+            changed: *mut u32, changed_length: usize,
+            marks: *mut u32, marks_length: usize,
+            rows: *mut u32, rows_length: usize,
+            prepared: *mut u32, prepared_length: usize,
+        ) -> i64;
+
         pub fn syntax_share(
             edge: u64, stronger: u64,
             batch: *const u8, batch_length: usize,
@@ -282,6 +297,29 @@ pub fn account(choices: Choices, batch: &[u8], result: &mut [u8], work: Slices<'
     // Safety: as in `edit`.
     unsafe {
         library::syntax_account(
+            choices.edge, choices.stronger,
+            batch.as_ptr(), batch.len(),
+            result.as_mut_ptr(), result.len(),
+            table.as_mut_ptr(), table.len(),
+            source.as_mut_ptr(), source.len(),
+            changes.as_mut_ptr(), changes.len(),
+            notes.as_mut_ptr(), notes.len(),
+            incoming.as_mut_ptr(), incoming.len(),
+            changed.as_mut_ptr(), changed.len(),
+            marks.as_mut_ptr(), marks.len(),
+            rows.as_mut_ptr(), rows.len(),
+            prepared.as_mut_ptr(), prepared.len(),
+        )
+    }
+}
+
+/// How many bytes the surviving pairs have that now stand at the start of `result`, all old numbers, then all new ones, a word each; or a refusal's number with a minus.
+#[rustfmt::skip]
+pub fn kept(choices: Choices, batch: &[u8], result: &mut [u8], work: Slices<'_>) -> i64 {
+    let [table, source, changes, notes, incoming, changed, marks, rows, prepared] = work;
+    // Safety: as in `edit`.
+    unsafe {
+        library::syntax_kept(
             choices.edge, choices.stronger,
             batch.as_ptr(), batch.len(),
             result.as_mut_ptr(), result.len(),

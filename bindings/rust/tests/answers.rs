@@ -536,6 +536,23 @@ fn what_is_withdrawn_is_not_told_as_changed() {
     assert!(answer.changed().zip(answer.rules()).eq([(1, 2)]));
     assert_eq!(editor.find_element(batch.bytes(), 0), Ok(Some(0)));
     assert_eq!(editor.share(&batch), Ok(syntax_edit::Share { thousandths: 500, remainder: 0 }));
+    assert_eq!(editor.kept(&batch), Ok(vec![(0, 0), (3, 2)]));
+}
+
+#[test]
+fn what_survives_is_paired() {
+    // S is root(X(a), b), with c and d in tree 1: none of those is of the old tree, wherever it ends.
+    let kept = |tell: fn(&mut S)| {
+        let mut it = s();
+        tell(&mut it);
+        Editor::new().kept(&it.builder.finish().expect("it is small")).expect("it is accepted")
+    };
+    assert_eq!(kept(|_| ()), [(0, 0), (1, 1), (2, 2), (3, 3)]);
+    assert_eq!(kept(|it| it.builder.delete(it.x)), [(0, 0), (3, 1)]);
+    assert_eq!(kept(|it| it.builder.replace(it.a, it.c)), [(0, 0), (1, 1), (3, 3)]);
+    assert_eq!(kept(|it| it.builder.insert_after(it.x, &[it.c, it.d])), [(0, 0), (1, 1), (2, 2), (3, 5)]);
+    // A copy is no survivor: X goes, and what is put in for it is new.
+    assert_eq!(kept(|it| it.builder.replace(it.x, it.x)), [(0, 0), (3, 3)]);
 }
 
 #[test]
@@ -589,6 +606,7 @@ fn a_wrong_choice_is_refused() {
         assert_eq!(editor.edit(&batch).map(|_| ()).unwrap_err().number(), told);
         assert_eq!(editor.find_element(batch.bytes(), 0).unwrap_err().number(), told);
         assert_eq!(editor.share(&batch).unwrap_err().number(), told);
+        assert_eq!(editor.kept(&batch).unwrap_err().number(), told);
         assert!(matches!(editor.account(&batch), Err(Unaccounted::Refused(it)) if it.number() == told));
     }
     let refusal = Editor::by(Choices { edge: 0, stronger: 2 }).edit(&batch).map(|_| ()).unwrap_err();

@@ -70,6 +70,8 @@ fn accepted() {
 #[test]
 fn our_own_output() {
     let mut editor = Editor::new();
+    let (olds, news) = editor.kept_bytes(PRINTED_CASE).expect("it is accepted").into_iter().unzip::<_, _, Vec<_>, Vec<_>>();
+    assert_eq!((&olds[..], &news[..]), (&[0, 1, 2][..], &[0, 1, 3][..]));
     let answer = editor.edit_bytes(PRINTED_CASE).expect("it is accepted");
     let kinds =
         answer.elements().map(|it| u32::from(it.kind())).enumerate().map(|(i, kind)| if i == 0 { NODE | kind } else { kind }).collect::<Vec<_>>();
@@ -78,8 +80,8 @@ fn our_own_output() {
     let claim = Claim {
         old: Flat { kinds: &[NODE | 1, 2, 3], measures: &[2, 1, 1], text: b"ab" },
         new: Flat { kinds: &kinds, measures: &measures, text: answer.text() },
-        olds: &[0, 1, 2],
-        news: &[0, 1, 3],
+        olds: &olds,
+        news: &news,
         changed: &changed,
     };
     assert_eq!(told(&claim), 1);

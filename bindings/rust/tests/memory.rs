@@ -106,9 +106,10 @@ fn a_wrong_edge_rule_is_refused_first_and_then_a_wrong_choice() {
     ] {
         let choices = Choices { edge, stronger };
         let mut result = vec![0xa5; 1_000];
-        let calls: [&dyn Fn(&mut [u8], raw::Slices<'_>) -> i64; 4] = [
+        let calls: [&dyn Fn(&mut [u8], raw::Slices<'_>) -> i64; 5] = [
             &|result, work| raw::edit(choices, &[], result, work),
             &|result, work| raw::account(choices, &[], result, work),
+            &|result, work| raw::kept(choices, &[], result, work),
             &|_, work| raw::find_element(choices, &[], 0, work),
             &|_, work| raw::share(choices, &[], work),
         ];
@@ -237,6 +238,37 @@ fn a_share_leaves_its_work_as_zeros() {
         let mut memory = work(|i, least| if i == 4 { least - 1 } else { least });
         assert_eq!(raw::share(RULE_0, batch, lent(&mut memory)), -1);
         assert_zeros(&memory);
+    }
+}
+
+#[test]
+fn pairs_stand_at_the_front_or_nothing_is_written() {
+    for (batch, pairs) in [(PRINTED_CASE, &[0u32, 1, 2, 0, 1, 3][..])] {
+        let length = 4 * pairs.len();
+        for room in 0..length + 9 {
+            let mut result = vec![0xa5; room];
+            let mut memory = work(|_, least| least);
+            let told = raw::kept(RULE_0, batch, &mut result, lent(&mut memory));
+            assert_zeros(&memory);
+            if room < length {
+                assert_eq!(told, -13);
+                assert!(result.iter().all(|&it| it == 0xa5));
+            } else {
+                assert_eq!(told, length as i64);
+                assert!(result[..length].chunks_exact(4).zip(pairs).all(|(it, pair)| it == pair.to_le_bytes()));
+                assert!(result[length..].iter().all(|&it| it == 0xa5));
+            }
+        }
+    }
+    for (batch, told) in [(OVERLAP, -8), (&[][..], -2)] {
+        let mut result = vec![0xa5; 1_000];
+        let mut memory = work(|_, least| least);
+        assert_eq!(raw::kept(RULE_0, batch, &mut result, lent(&mut memory)), told);
+        assert_zeros(&memory);
+        let mut memory = work(|i, least| if i == 6 { least - 1 } else { least });
+        assert_eq!(raw::kept(RULE_0, batch, &mut result, lent(&mut memory)), -1);
+        assert_zeros(&memory);
+        assert!(result.iter().all(|&it| it == 0xa5));
     }
 }
 

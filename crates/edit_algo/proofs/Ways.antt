@@ -14,10 +14,11 @@ use Rattle.definition.specs.Answers.{tooShort, withWork, withChoices}
 use Rattle.definition.specs.Account.{account}
 use Rattle.definition_laws.specs.Answers.{refused-gives}
 use Rattle.promises.specs.Slices.{needed, lengths, zeros, zeroed}
-use Rattle.promises.specs.Promises.{Edits, Finds, Accounts, Shares, applied, recounted, with-long}
-use Rattle.promises.specs.Serving.{reached, served, place, ofLength, ofPlace, ofShare, Tells, Serves, serves-edits, serves-finds, serves-accounts, serves-shares}
+use Rattle.promises.specs.Keeping.{paired}
+use Rattle.promises.specs.Promises.{Edits, Finds, Accounts, Shares, Keeps, applied, recounted, with-long}
+use Rattle.promises.specs.Serving.{reached, served, place, ofLength, ofPlace, ofShare, Tells, Serves, serves-edits, serves-finds, serves-accounts, serves-shares, serves-keeps}
 use Rattle.promises.specs.declared.Job.{Job}
-use Rattle.promises.specs.declared.Job.the-variants.{Edit, Find, Account, Share}
+use Rattle.promises.specs.declared.Job.the-variants.{Edit, Find, Account, Share, Kept}
 use Rattle.promises.specs.declared.Outcome.{Outcome}
 use Rattle.promises.specs.declared.Outcome.the-variants.{Refused as NotServed, Bytes, Nothing as NotThere, At as Stands, Of as Parts}
 use Rattle.edit_perform.specs.AtEnd.{Overlapped, Performs, PerformsWith, early, long}
@@ -25,7 +26,7 @@ use Rattle.edit_perform.specs.Ending.{ending, edit-ending, found-ending}
 use Rattle.edit_perform.specs.declared.Performed.{Performed}
 use Rattle.edit_perform.specs.declared.Performed.the-variants.{Refused as Stopped, Overlap, Done}
 use Rattle.edit_perform.specs.declared.Ended.{Ended}
-use Rattle.edit_answer.specs.AtEnd.{unless, unless-refused, unless-done, unless-overlap, share-ending, ToAnswer}
+use Rattle.edit_answer.specs.AtEnd.{unless, unless-refused, unless-done, unless-overlap, share-ending, pairs-ending, ToAnswer}
 use Rattle.edit_algo.specs.declared.Answer.{Answer}
 use Rattle.edit_algo.specs.declared.Answer.the-variants.{Refused, Edited}
 use Rattle.edit_algo.specs.declared.Element.{Element}
@@ -44,11 +45,12 @@ unless-same (Done d) a f = unless-done refl a
 
 -- a job is refused where the run is
 job-refused : (h : Choices) (j : Job) (b : List ℕ) (room k : ℕ) → (ending h b ≡ refused k) × (account h b ≡ refused k) → reached h j b room ≡ refused k
-unfolding reached applied recounted _>>=_
+unfolding reached applied recounted paired _>>=_
 job-refused h Edit b room k e = rw (edit-ending h b, e .0) refl
 job-refused h (Find n) b room k e = rw (found-ending h b n, e .0) refl
 job-refused h Account b room k e = rw (e .1) refl
 job-refused h Share b room k e = rw (share-ending h b, e .0) refl
+job-refused h Kept b room k e = rw (pairs-ending h b, e .0) refl
 
 -- where 17 or 1 refuses, it refuses every answer
 early-refused : {A : Type 0} (h : Choices) (work : List (ℕ × ℕ)) (x : basics.Answer A) (k : ℕ) → _≡_ {A = basics.Answer (Unit {0})} (withChoices h work (gives tt)) (refused k) → withChoices h work x ≡ refused k
@@ -85,8 +87,8 @@ module _ {h : Choices} {work : List (List ℕ)} {b t s changes rows notes change
   overlap-known (long c i P) j k e = P .overlaps j k e
 
   -- so that what the run left is there
-  pub to-answer : PerformsWith h work b t s changes rows notes changed marks p → (starts : List ℕ) → (tooShort (lengths needed work) ≡ false → 4096 ≤ length starts) → ToAnswer h b t s changes rows notes changed starts p
-  to-answer P starts q = record { overlaps = λ j k e. overlap-known P j k e; recounts = λ d e. (done-long P d e) .1 .recounts d e; ends = λ d e. (done-long P d e) .1 .ends d e; tells = λ d e. (done-long P d e) .1 .tells d e; room = λ d e. q ((done-long P d e) .0) }
+  pub to-answer : PerformsWith h work b t s changes rows notes changed marks p → (starts : List ℕ) → (tooShort (lengths needed work) ≡ false → 4096 ≤ length starts) → ToAnswer h b t s changes marks rows notes changed starts p
+  to-answer P starts q = record { overlaps = λ j k e. overlap-known P j k e; recounts = λ d e. (done-long P d e) .1 .recounts d e; ends = λ d e. (done-long P d e) .1 .ends d e; tells = λ d e. (done-long P d e) .1 .tells d e; marked = λ d e. (done-long P d e) .1 .marked d e; room = λ d e. q ((done-long P d e) .0) }
 
 -- ── Cleared ─────────────────────────────────────────────────────────────────────────────────────────────────
 
@@ -209,3 +211,7 @@ accounts-told h b held holds work left told r s f = let (a, e, k) = serves-accou
 -- what is told of a share keeps the promise of `share`
 pub shares-told : (h : Choices) (b held holds : List ℕ) (work left : List (List ℕ)) (told : Outcome) (r : Shared) → Serves h Share b held work told holds left → TellsShare told r → Shares h b work (shareOf r) left
 shares-told h b held holds work left told r s f = let (a, e, k) = serves-shares h s in subst (λ (x : basics.Answer (ℕ × ℕ)). Shares h b work x left) (sym (f a e)) k
+
+-- and of the pairs that of `kept`
+pub keeps-told : (h : Choices) (b held holds : List ℕ) (work left : List (List ℕ)) (told : Outcome) (r : Answer) → Serves h Kept b held work told holds left → TellsLength told r → Keeps h b held work (answerOf r) holds left
+keeps-told h b held holds work left told r s f = let (a, e, k) = serves-keeps h s in subst (λ (x : basics.Answer ℕ). Keeps h b held work x holds left) (sym (f a e)) k

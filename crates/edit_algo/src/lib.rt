@@ -1,15 +1,15 @@
-// The public calls: one for every job, and the edit, the found element, the account and the share, each thin over it.
+// The public calls: one for every job, and the edit, the found element, the account, the share and the surviving pairs, each thin over it.
 use choices::Choices;
 use edit_perform::perform;
 use promises::Job;
 use promises::Outcome;
 ghost use mathlib.Core.List.{_∷_, []};
 ghost use Rattle.choices.specs.Meant.{meant};
-ghost use Rattle.promises.specs.Promises.{Edits, Finds, Accounts, Shares};
+ghost use Rattle.promises.specs.Promises.{Edits, Finds, Accounts, Shares, Keeps};
 ghost use Rattle.promises.specs.Serving.{Serves};
 ghost use Rattle.edit_algo.specs.Numbers.{answerOf, elementOf, shareOf, TellsLength, TellsPlace, TellsShare};
 
-// How many bytes the result or the account has, or a refusal's number.
+// How many bytes the result, the account or the pairs have, or a refusal's number.
 pub enum Answer {
     Refused(usize),
     Edited(usize),
@@ -70,6 +70,7 @@ pub fn serve(
         table,
         source,
         changes,
+        marks,
         rows,
         notes,
         changed,
@@ -92,7 +93,7 @@ pub fn serve(
 
 // ── The public calls ──
 
-// What is told of an edit or an account. (Neither finds an element or tells a share.)
+// What is told of an edit, an account or pairs. (None finds an element or tells a share.)
 fn answer_in(told: Outcome) -> Answer
     ensures { λ r. ⌜ TellsLength told r ⌝ }
 {
@@ -258,6 +259,41 @@ pub fn share(
         Job::Share,
         batch,
         &mut none,
+        table,
+        source,
+        changes,
+        notes,
+        incoming,
+        changed,
+        marks,
+        rows,
+        prepared,
+    ))
+}
+
+// THE SURVIVING PAIRS of a batch's edit: each element of the old tree that is in the new tree, with its number there, by rising old numbers. All old numbers, then all
+// new ones, are written to the front of `result`, a word of four bytes each; the nine others are work slices, which end as zeros.
+pub fn kept(
+    choices: Choices,
+    batch: &[u8],
+    result: &mut [u8],
+    table: &mut [u32],
+    source: &mut [u32],
+    changes: &mut [u32],
+    notes: &mut [u32],
+    incoming: &mut [u32],
+    changed: &mut [u32],
+    marks: &mut [u32],
+    rows: &mut [u32],
+    prepared: &mut [u32],
+) -> Answer
+    ensures { λ r. ⌜ Keeps (meant choices) (now (batch .entry)) (now (result .entry)) (now (table .entry) ∷ now (source .entry) ∷ now (changes .entry) ∷ now (notes .entry) ∷ now (incoming .entry) ∷ now (changed .entry) ∷ now (marks .entry) ∷ now (rows .entry) ∷ now (prepared .entry) ∷ []) (answerOf r) (now (result .exit)) (now (table .exit) ∷ now (source .exit) ∷ now (changes .exit) ∷ now (notes .exit) ∷ now (incoming .exit) ∷ now (changed .exit) ∷ now (marks .exit) ∷ now (rows .exit) ∷ now (prepared .exit) ∷ []) ⌝ }
+{
+    answer_in(serve(
+        choices,
+        Job::Kept,
+        batch,
+        result,
         table,
         source,
         changes,

@@ -38,14 +38,16 @@ use Rattle.edit_perform.specs.declared.Performed.{Performed}
 use Rattle.edit_perform.specs.declared.Performed.the-variants.{Refused as Stopped, Overlap, Done}
 use Rattle.share_laws.specs.Share.{share}
 use Rattle.share_rows.specs.Promises.{Shares}
+use Rattle.kept_rows.specs.Pairs.{keptRows}
+use Rattle.kept_rows.specs.Promises.{tellPairs}
 use Rattle.share_rows.specs.declared.Thousandths.{Thousandths}
 use Rattle.promises.specs.Promises.{leftIn, found}
 use Rattle.promises.specs.Serving.{reached, place, ofLength, ofPlace, ofShare, outcome, written, Tells, find-outcome, find-written, share-outcome, share-written}
 use Rattle.promises.specs.declared.Job.{Job}
-use Rattle.promises.specs.declared.Job.the-variants.{Edit, Find, Account, Share}
+use Rattle.promises.specs.declared.Job.the-variants.{Edit, Find, Account, Share, Kept}
 use Rattle.promises.specs.declared.Outcome.{Outcome}
 use Rattle.promises.specs.declared.Outcome.the-variants.{Refused, Bytes as Written, Nothing as NoElement, At as Stands, Of}
-use Rattle.edit_answer.specs.AtEnd.{RowsAtEnd, answered-edit, oldNode, none-there, no-node, node-there, old-tree, no-old-node, old-node, unless, unless-refused, unless-done, unless-overlap, overlapTold, overlap-answers, account-13, account-answer, share-told, ToAnswer}
+use Rattle.edit_answer.specs.AtEnd.{RowsAtEnd, answered-edit, oldNode, none-there, no-node, node-there, old-tree, no-old-node, old-node, unless, unless-refused, unless-done, unless-overlap, overlapTold, overlap-answers, account-13, account-answer, share-told, ToKeep, pairs-answer, ToAnswer}
 
 -- what is behind a place, as a part is told
 pub whole-rest : (k : ℕ) (b : List ℕ) → take (length b - k) (drop k b) ≡ drop k b
@@ -100,8 +102,13 @@ pub tells-share : (h : Choices) (b held : List ℕ) (room : ℕ) {r : Outcome} �
 unfolding reached
 tells-share h b held room e = record { answer = e ∙ sym (share-outcome (share h b)); result = share-written held (share h b) }
 
+-- what `kept_rows` tells of the end of the run is the batch's pairs
+pub kept-answers : {h : Choices} {b source marks rows held out : List ℕ} {d : Ended} {r : Outcome} → ToKeep h b source marks rows d
+    → ((before after : List ℕ) → Tells (tellPairs (length held) (keptRows (firstRows before (d .elements + 1) source) (firstRows after (d .rows) rows) marks)) held r out) → Tells (reached h Kept b (length held)) held r out
+kept-answers {b = b} {held = held} {out} {d} {r} v f = subst (λ (x : basics.Answer (Outcome × List ℕ)). Tells x held r out) (pairs-answer v (length held)) (f (v .old .text) (drop (d .text) b))
+
 -- two changes overlap
-pub tells-overlap : {h : Choices} {b t s changes rows notes changed starts : List ℕ} {p : Performed} {j k : ℕ} {held out : List ℕ} {r : Outcome} (job : Job) → ToAnswer h b t s changes rows notes changed starts p → p ≡ Overlap j k
+pub tells-overlap : {h : Choices} {b t s changes marks rows notes changed starts : List ℕ} {p : Performed} {j k : ℕ} {held out : List ℕ} {r : Outcome} (job : Job) → ToAnswer h b t s changes marks rows notes changed starts p → p ≡ Overlap j k
     → Tells (overlapTold job j k (length held)) held r out → Tells (unless p (reached h job b (length held))) held r out
 tells-overlap {h} {b} {j = j} {k = k} {held = held} {out = out} {r = r} job v e q =
     rw (unless-overlap e (reached h job b (length held))) (subst (λ (w : basics.Answer (Outcome × List ℕ)). Tells w held r out) (overlap-answers h job b j k (length held) (v .overlaps j k e)) q)
@@ -133,6 +140,10 @@ find-8 {job} j k held e = tells-8 job j k (length held) held (rw e refl)
 pub share-8 : {job : Job} (j k : ℕ) (held : List ℕ) → job ≡ Share → Tells (overlapTold job j k (length held)) held (Refused 8) held
 unfolding overlapTold
 share-8 {job} j k held e = tells-8 job j k (length held) held (rw e refl)
+
+pub kept-8 : {job : Job} (j k : ℕ) (held : List ℕ) → job ≡ Kept → Tells (overlapTold job j k (length held)) held (Refused 8) held
+unfolding overlapTold
+kept-8 {job} j k held e = tells-8 job j k (length held) held (rw e refl)
 
 pub account-8 : {job : Job} (j k : ℕ) {held out : List ℕ} {r : Outcome} → job ≡ Account → Tells (tellIn (length held) (overlapLine j k)) held r out → Tells (overlapTold job j k (length held)) held r out
 unfolding overlapTold

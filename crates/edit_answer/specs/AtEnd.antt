@@ -2,16 +2,17 @@
 -- Assumes nothing.
 use mathlib.Core.Path.{_≡_, refl, sym, ap, _∙_}
 use mathlib.Core.Bool.{Bool, true, false, cond, _&&_}
-use mathlib.Core.List.{List, [], _∷_, map}
+use mathlib.Core.List.{List, [], _∷_, map, flatMap}
 use mathlib.Core.Option.{none, some}
-use Prim.Native.Nat.{ℕ, zero, suc, _+_, _*_, _≤_, _<_}
+use Prim.Native.Nat.{ℕ, zero, suc, _+_, _*_, _^_, _≤_, _<_}
 use native.Mathlib.Nat.{zero-add}
 use native.Mathlib.Omega.{arith}
-use lib.ListN.{length, drop, getD}
+use lib.ListN.{length, take, drop, getD, length-map}
 use lib.Dec.{eqb}
 use lib.Seq.{take-all}
 use borrow.Author.Tests.{eqb-true, lt-ltb, le-ltb}
 use Rattle.orders.specs.ListLaws.{bool-absurd}
+use Rattle.orders.specs.Tree.{label, preorder}
 use Rattle.definition.specs.Basics.{Answer, refused, gives, _>>=_, refuse}
 use Rattle.definition.specs.Choices.{Choices}
 use Rattle.definition.specs.Elements.{Table, isNode, node?, tree, row, noRow}
@@ -23,15 +24,22 @@ use Rattle.definition.specs.Printed.{programRoom}
 use Rattle.definition.specs.Account.{saidLines, overlapLine}
 use Rattle.definition_laws.specs.Accepted.{accepts}
 use Rattle.definition_laws.specs.Answers.{gives-inj, given}
+use Rattle.definition_laws.specs.Measures.{preorder-list-length}
+use Rattle.definition_laws.specs.Rows.{table-length}
+use Rattle.definition_laws.specs.Running.{top}
+use Rattle.check_laws.specs.Claimed.{ownPairs}
 use Rattle.account_lines.specs.Lines.{tellIn, saidRows, said-rows}
 use Rattle.read_element_table.specs.View.{view, rowAt, kindWord}
 use Rattle.read_element_table.specs.Wellformed.{Lines}
 use Rattle.read_element_table.specs.Told.{length-view, row-view, node-told, tree-told}
 use Rattle.rows_model.specs.Row.{firstRows, rowsOf}
+use Rattle.rows_model.specs.Place.{markOf}
 use Rattle.run_model.specs.Store as model
 use Rattle.run_model.specs.Store.{store, heldChanged}
 use Rattle.share_laws.specs.Share.{share, shareIn}
 use Rattle.share_rows.specs.Summed.{shareOf, share-rows}
+use Rattle.kept_rows.specs.Pairs.{keptRows, kept-rows}
+use Rattle.kept_rows.specs.Promises.{tellPairs}
 use Rattle.run_annotations.specs.Notes.{notesOf}
 use Rattle.run_annotations.specs.Changed.{changedIn}
 use Rattle.run_tree_store.specs.Stored.{stored}
@@ -43,14 +51,15 @@ use Rattle.finish_result.specs.Weighed.{Weighs}
 use Rattle.finish_result.specs.Answered.{lengthOf, fitted, overFront, Answered, answered-result}
 use Rattle.finish_result.specs.declared.Finished.{Finished}
 use Rattle.edit_perform.specs.Ending.{End, ending, resultAt, edit-ending, foundAt, found-ending}
-use Rattle.edit_perform.specs.AtEnd.{AtEnd, Told, Overlapped, withdrawnIn, Recounted}
+use Rattle.edit_perform.specs.AtEnd.{AtEnd, Told, Marked, Overlapped, withdrawnIn, Recounted}
 use Rattle.edit_perform.specs.declared.Ended.{Ended}
 use Rattle.edit_perform.specs.declared.Performed.{Performed}
 use Rattle.edit_perform.specs.declared.Performed.the-variants.{Refused, Overlap, Done}
+use Rattle.promises.specs.Keeping.{keptPairs, paired}
 use Rattle.promises.specs.Promises.{leftIn, applied, found, recounted}
 use Rattle.promises.specs.Serving.{reached, ofLength, ofShare, outcome, written, Tells, edit-outcome, edit-written}
 use Rattle.promises.specs.declared.Job.{Job}
-use Rattle.promises.specs.declared.Job.the-variants.{Edit, Find, Account, Share}
+use Rattle.promises.specs.declared.Job.the-variants.{Edit, Find, Account, Share, Kept}
 use Rattle.promises.specs.declared.Outcome.{Outcome}
 use Rattle.promises.specs.declared.Outcome.the-variants.{Of}
 
@@ -160,30 +169,34 @@ module _ {h : Choices} {b rows t s : List ℕ} {d : Ended} (v : RowsAtEnd h b ro
       → gives (findRow (firstTree (firstRows (drop (d .text) b) (d .rows) rows)) kind start) ≡ found h b k
   old-node q low kind start e f = sym (found-by ∙ rw (q, kind-told (d .elements) t s k low, ← e, ← f) refl)
 
+-- ── By the end of the run ───────────────────────────────────────────────────────────────────────────────────
+
+-- what is given of a batch and of what its steps leave
+pub given-ending : {A : Type 0} (h : Choices) (b : List ℕ) (f : Accepted → World → A) → (accepted b >>= λ a. plan h a >>= λ p. ran a p >>= λ w. gives (f a w)) ≡ (ending h b >>= λ e. gives (f (e .batch) (e .world)))
+unfolding ending _>>=_
+given-ending {A} h b f = go (accepted b)
+  where
+    at : End → Answer A
+    at e = gives (f (e .batch) (e .world))
+
+    last : (a : Accepted) (p : Plan) (o : Answer World) → (o >>= λ w. gives (f a w)) ≡ ((o >>= λ w. gives (record { batch = a; planned = p; world = w })) >>= at)
+    last a p (refused k) = refl
+    last a p (gives w) = refl
+
+    mid : (a : Accepted) (o : Answer Plan) → (o >>= λ p. ran a p >>= λ w. gives (f a w)) ≡ ((o >>= λ p. ran a p >>= λ w. gives (record { batch = a; planned = p; world = w })) >>= at)
+    mid a (refused k) = refl
+    mid a (gives p) = last a p (ran a p)
+
+    go : (o : Answer Accepted) → (o >>= λ a. plan h a >>= λ p. ran a p >>= λ w. gives (f a w)) ≡ ((o >>= λ a. plan h a >>= λ p. ran a p >>= λ w. gives (record { batch = a; planned = p; world = w })) >>= at)
+    go (refused k) = refl
+    go (gives a) = mid a (plan h a)
+
 -- ── The share ───────────────────────────────────────────────────────────────────────────────────────────────
 
 -- the share by the end of the run
 pub share-ending : (h : Choices) (b : List ℕ) → share h b ≡ (ending h b >>= λ e. gives (shareIn (e .world)))
-unfolding share ending _>>=_
-share-ending h b = go (accepted b)
-  where
-    ended : World → Answer (ℕ × ℕ)
-    ended w = gives (shareIn w)
-
-    at : End → Answer (ℕ × ℕ)
-    at e = gives (shareIn (e .world))
-
-    last : (a : Accepted) (p : Plan) (o : Answer World) → (o >>= λ w. ended w) ≡ ((o >>= λ w. gives (record { batch = a; planned = p; world = w })) >>= at)
-    last a p (refused k) = refl
-    last a p (gives w) = refl
-
-    mid : (a : Accepted) (o : Answer Plan) → (o >>= λ p. ran a p >>= λ w. ended w) ≡ ((o >>= λ p. ran a p >>= λ w. gives (record { batch = a; planned = p; world = w })) >>= at)
-    mid a (refused k) = refl
-    mid a (gives p) = last a p (ran a p)
-
-    go : (o : Answer Accepted) → (o >>= λ a. plan h a >>= λ p. ran a p >>= λ w. ended w) ≡ ((o >>= λ a. plan h a >>= λ p. ran a p >>= λ w. gives (record { batch = a; planned = p; world = w })) >>= at)
-    go (refused k) = refl
-    go (gives a) = mid a (plan h a)
+unfolding share
+share-ending h b = given-ending h b (λ a w. shareIn w)
 
 -- what the rows and the changed elements at the end tell is the batch's share
 pub share-told : {h : Choices} {b rows notes changed : List ℕ} {d : Ended} → AtEnd h b rows notes changed d → {q m : ℕ} → (q, m) ≡ shareOf (firstRows (drop (d .text) b) (d .rows) rows) (changedIn (d .changed) changed) → Of q m ≡ ofShare (share h b)
@@ -199,6 +212,63 @@ share-told {h} {b} {rows} {notes} {changed} {d} v {q} {m} e =
     let is : shareIn (v .end .world) ≡ (q, m) = ap shareIn same ∙ (there ∙ (held ∙ sym e)) in
     let t : share h b ≡ gives (q, m) = share-ending h b ∙ rw (v .ends, is) refl in
     sym (ap ofShare t)
+
+-- ── The pairs ───────────────────────────────────────────────────────────────────────────────────────────────
+
+-- the pairs by the end of the run
+pub pairs-ending : (h : Choices) (b : List ℕ) → keptPairs h b ≡ (ending h b >>= λ e. gives (ownPairs (e .batch .trees) (e .world)))
+unfolding keptPairs
+pairs-ending h b = given-ending h b (λ a w. ownPairs a.trees w)
+
+-- the words s tell the rows of the n elements of the batch b, behind the row of the node above them all
+pub record OldRows (b s : List ℕ) (n : ℕ) : Type 0 where
+  pub batch : Accepted
+  pub accepts : accepted b ≡ gives batch
+  pub text : List ℕ
+  pub rows : firstRows text (n + 1) s ≡ rowsOf (top (batch .trees))
+  pub long : 3 * (n + 1) ≤ length s
+  pub few : n < 2 ^ 12
+
+pub old-rows : {b t s : List ℕ} {n : ℕ} → Told b t s n → OldRows b s n
+old-rows {b} {t} {s} {n} w =
+    let k = accepts b (w .batch) (w .accepts) in
+    let ts = w .batch .trees in
+    record {
+      batch = w .batch;
+      accepts = w .accepts;
+      text = w .text;
+      rows = w .rows;
+      long = omega (arith, w .formed .long);
+      few = omega (arith, length-view n t s, ap length (w .table), ap length (k .table), table-length ts 0 0, preorder-list-length ts, length-map (flatMap preorder ts) label, ap length (k .spells .kinds), k .long .kinds, k .limits .elements);
+    }
+
+-- the run of the batch b has ended: what is held of the old elements, where they stand now, and the rows of the trees
+pub record ToKeep (h : Choices) (b source marks rows : List ℕ) (d : Ended) : Type 0 where
+  pub old : OldRows b source (d .elements)
+  pub marked : Marked h b marks d
+  pub ended : RowsAtEnd h b rows d
+
+-- what the marks tell at the end is the batch's pairs
+module _ {h : Choices} {b source marks rows : List ℕ} {d : Ended} (v : ToKeep h b source marks rows d) where
+  pairs-told : keptPairs h b ≡ gives (keptRows (firstRows (v .old .text) (d .elements + 1) source) (firstRows (drop (d .text) b) (d .rows) rows) marks)
+  unfolding ending _>>=_
+  pairs-told =
+      given (accepted b) _ (v .ended .ends) λ a x f.
+      given (plan h a) _ f λ p y f.
+      given (ran a p) _ f λ w z f.
+      let e : End = record { batch = a; planned = p; world = w } in
+      let same : v .ended .end ≡ e = sym (gives-inj f) in
+      let marked : v .marked .end ≡ e = gives-inj (sym (v .marked .ends) ∙ v .ended .ends) ∙ same in
+      let old : v .old .batch ≡ a = gives-inj (sym (v .old .accepts) ∙ x) in
+      let before : firstRows (v .old .text) (d .elements + 1) source ≡ rowsOf (top a.trees) = v .old .rows ∙ ap (λ (q : Accepted). rowsOf (top (q .trees))) old in
+      let after : firstRows (drop (d .text) b) (d .rows) rows ≡ rowsOf w.trees = sym (v .ended .held) ∙ ap (λ (q : End). rowsOf (q .world .trees)) same in
+      let marks-told : take (d .elements) marks ≡ map (markOf w.trees) w.paths = v .marked .told ∙ ap (λ (q : End). map (markOf (q .world .trees)) (q .world .paths)) marked in
+      let is : keptRows (rowsOf (top a.trees)) (rowsOf w.trees) marks ≡ ownPairs a.trees w = kept-rows h b a p w x y z (d .elements) marks (v .marked .long) marks-told in
+      pairs-ending h b ∙ rw (v .ended .ends, same, before, after, is) refl
+
+  pub pairs-answer : (room : ℕ) → tellPairs room (keptRows (firstRows (v .old .text) (d .elements + 1) source) (firstRows (drop (d .text) b) (d .rows) rows) marks) ≡ reached h Kept b room
+  unfolding reached paired _>>=_
+  pairs-answer room = sym (rw pairs-told refl)
 
 -- ── Refused, or at the end of the run ───────────────────────────────────────────────────────────────────────
 
@@ -229,14 +299,16 @@ overlapTold Edit j k room = refused 8
 overlapTold (Find n) j k room = refused 8
 overlapTold Account j k room = tellIn room (overlapLine j k)
 overlapTold Share j k room = refused 8
+overlapTold Kept j k room = refused 8
 
 -- is the answer of every job
 pub overlap-answers : (h : Choices) (job : Job) (b : List ℕ) (j k room : ℕ) → Overlapped h b j k → overlapTold job j k room ≡ reached h job b room
-unfolding overlapTold reached applied recounted _>>=_
+unfolding overlapTold reached applied recounted paired _>>=_
 overlap-answers h Edit b j k room o = sym (rw (edit-ending h b, o .refused8) refl)
 overlap-answers h (Find n) b j k room o = sym (rw (found-ending h b n, o .refused8) refl)
 overlap-answers h Account b j k room o = sym (rw (o .text) refl)
 overlap-answers h Share b j k room o = sym (rw (share-ending h b, o .refused8) refl)
+overlap-answers h Kept b j k room o = sym (rw (pairs-ending h b, o .refused8) refl)
 
 -- ── The account ─────────────────────────────────────────────────────────────────────────────────────────────
 
@@ -262,9 +334,10 @@ module _ {h : Choices} {b changes rows notes changed : List ℕ} {d : Ended} (v 
       sym (rw (w .text (v .end) (v .ends), le-ltb programRoom (length (encoded (resultAt (v .end)))) (omega (arith, result-weighs)), said-rows changes (withdrawnIn (d .recorded) changes) (w .rows) (w .stay)) refl)
 
 -- where the run has ended, every job can be answered
-pub record ToAnswer (h : Choices) (b t s changes rows notes changed starts : List ℕ) (p : Performed) : Type 0 where
+pub record ToAnswer (h : Choices) (b t s changes marks rows notes changed starts : List ℕ) (p : Performed) : Type 0 where
   pub overlaps : (j k : ℕ) → p ≡ Overlap j k → Overlapped h b j k
   pub recounts : (d : Ended) → p ≡ Done d → Recounted h b changes d
   pub ends : (d : Ended) → p ≡ Done d → AtEnd h b rows notes changed d
   pub tells : (d : Ended) → p ≡ Done d → Told b t s (d .elements)
+  pub marked : (d : Ended) → p ≡ Done d → Marked h b marks d
   pub room : (d : Ended) → p ≡ Done d → 4096 ≤ length starts

@@ -17,7 +17,7 @@ ghost use Rattle.promises.specs.Promises.{found};
 ghost use Rattle.promises.specs.Serving.{reached, ofPlace, ofShare, Tells};
 ghost use Rattle.share_laws.specs.Share.{share};
 ghost use Rattle.promises.specs.declared.Job.the-variants as asked;
-ghost use Rattle.edit_answer.specs.AtEnd.{RowsAtEnd, oldNode, overlapTold, unless, ToAnswer};
+ghost use Rattle.edit_answer.specs.AtEnd.{RowsAtEnd, ToKeep, oldNode, overlapTold, unless, ToAnswer};
 
 // How many bytes the edit program's result buffer has.
 const PROGRAM_ROOM: usize = 65536;
@@ -150,6 +150,22 @@ fn share_from(
     Outcome::Of(s.quotient, s.remainder)
 }
 
+// The surviving elements of tree 0 as pairs, from what the run of the batch leaves, or 13.
+fn kept_from(
+    choices: Choices,
+    batch: &[u8],
+    d: Ended,
+    source: &[u32],
+    marks: &[u32],
+    rows: &[u32],
+    result: &mut [u8],
+) -> Outcome
+    requires { ⌜ ToKeep (meant choices) (now batch) (now source) (now marks) (now rows) d ⌝ }
+    ensures { λ r. ⌜ Tells (reached (meant choices) asked.Kept (now (batch .entry)) (length (now (result .entry)))) (now (result .entry)) r (now (result .exit)) ⌝ }
+{
+    kept_rows::kept(source, d.elements, marks, rows, d.rows, d.root, result)
+}
+
 // What the job answers where the changes at the places `j` and `k` overlap: the account tells them, every other job is refused by 8.
 fn overlapping(job: Job, j: usize, k: usize, result: &mut [u8]) -> Outcome
     ensures { λ r. ⌜ Tells (overlapTold job j k (length (now (result .entry)))) (now (result .entry)) r (now (result .exit)) ⌝ }
@@ -159,6 +175,7 @@ fn overlapping(job: Job, j: usize, k: usize, result: &mut [u8]) -> Outcome
         Job::Find(_) => Outcome::Refused(8),
         Job::Account => account_lines::tell_overlap(j, k, result),
         Job::Share => Outcome::Refused(8),
+        Job::Kept => Outcome::Refused(8),
     }
 }
 
@@ -171,13 +188,14 @@ pub fn answer(
     table: &[u32],
     source: &[u32],
     changes: &[u32],
+    marks: &[u32],
     rows: &[u32],
     notes: &mut [u32],
     changed: &mut [u32],
     starts: &mut [u32],
     result: &mut [u8],
 ) -> Outcome
-    requires { ⌜ ToAnswer (meant choices) (now batch) (now table) (now source) (now changes) (now rows) (now notes) (now changed) (now starts) done ⌝ }
+    requires { ⌜ ToAnswer (meant choices) (now batch) (now table) (now source) (now changes) (now marks) (now rows) (now notes) (now changed) (now starts) done ⌝ }
     ensures { λ r. ⌜ Tells (unless done (reached (meant choices) job (now (batch .entry)) (length (now (result .entry))))) (now (result .entry)) r (now (result .exit)) ⌝ }
 {
     match done {
@@ -190,6 +208,7 @@ pub fn answer(
                 account_from(choices, batch, d, changes, rows, notes, changed, result)
             }
             Job::Share => share_from(choices, batch, d, rows, notes, changed),
+            Job::Kept => kept_from(choices, batch, d, source, marks, rows, result),
         },
     }
 }

@@ -17,11 +17,13 @@ use Rattle.definition.specs.Performed.{InsertsFew}
 use Rattle.definition.specs.Account.{accounted}
 use Rattle.share_laws.specs.Share.{shared}
 use Rattle.promises.specs.Slices.{needed, lengths, zeroed}
+use Rattle.promises.specs.Keeping.{kept}
 use Rattle.promises.specs.Promises.{leftIn}
-use Rattle.promises.specs.Serving.{place, ofLength, ofPlace, ofShare, Serves, serves-edits, serves-finds, serves-accounts, serves-shares}
-use Rattle.promises.specs.declared.Job.the-variants.{Edit, Find, Account, Share}
+use Rattle.promises.specs.Serving.{place, ofLength, ofPlace, ofShare, Serves, serves-edits, serves-finds, serves-accounts, serves-shares, serves-keeps}
+use Rattle.promises.specs.declared.Job.the-variants.{Edit, Find, Account, Share, Kept}
 use Rattle.promises.specs.declared.Outcome.{Outcome}
-use Rattle.promises_read.specs.Refused.{By, editNumbers, findNumbers, accountNumbers, by-number, by-more, edited-by, found-by, accounted-by, shared-by}
+use Rattle.promises_read.specs.Refused.{By, editNumbers, findNumbers, accountNumbers, by-number, by-more, edited-by, found-by, accounted-by, shared-by, kept-by}
+use Rattle.promises_read.specs.Pairs.{pairs-short}
 use Rattle.edit_numbers.specs.Bounded.{edited-short, found-short, accounted-short, shared-few}
 use Rattle.edit_numbers.specs.Told.{numberOf, shareWord, Small, number-read}
 
@@ -58,6 +60,12 @@ pub record ReturnsElement (h : Choices) (b : List ℕ) (n : ℕ) (work : List (L
 pub record ReturnsAccount (h : Choices) (b held : List ℕ) (work : List (List ℕ)) (r : ℤ) (holds : List ℕ) (left : List (List ℕ)) : Type 0 where
   pub answer : r ≡ returned (accounted h (lengths needed work) b (length held))
   pub result : holds ≡ leftIn held (accounted h (lengths needed work) b (length held))
+  pub zeros : left ≡ zeroed work
+
+-- THE PROMISE of `syntax_kept`, from the choices h, the batch b, the result slice and the work slices as they were lent
+pub record ReturnsKept (h : Choices) (b held : List ℕ) (work : List (List ℕ)) (r : ℤ) (holds : List ℕ) (left : List (List ℕ)) : Type 0 where
+  pub answer : r ≡ returned (kept h (lengths needed work) b (length held))
+  pub result : holds ≡ leftIn held (kept h (lengths needed work) b (length held))
   pub zeros : left ≡ zeroed work
 
 -- a share: 65,536 times the quotient and the remainder, or the refusal's number with a minus
@@ -118,6 +126,23 @@ module _ {h : Choices} {b held holds : List ℕ} {work left : List (List ℕ)} {
   account-returned z q =
       let (a, e, k) = serves-accounts h s in
       record { answer = ap (λ (y : ℤ). toZ w64 (ofZ w64 y)) q ∙ (number-read r account-small ∙ (ap numberOf text-told ∙ bytes-returned text)); result = k .result; zeros = k .zeros }
+
+module _ {h : Choices} {b held holds : List ℕ} {work left : List (List ℕ)} {r : Outcome} (s : Serves h Kept b held work r holds left) where
+  abbrev pairs : Answer (List ℕ)
+  pairs = kept h (lengths needed work) b (length held)
+
+  pairs-told : r ≡ ofLength (pairs >>= λ bytes. gives (length bytes))
+  pairs-told = let (a, e, k) = serves-keeps h s in e ∙ ap ofLength (k .answer)
+
+  -- what is told of pairs is small
+  pub kept-small : Small r
+  kept-small = rw pairs-told (bytes-small pairs (kept-by h (lengths needed work) b (length held)) (λ bytes e. omega (arith, pairs-short h (lengths needed work) b bytes (length held) e)))
+
+  -- and its number is what is promised
+  pub kept-returned : (z : ℤ) → z ≡ numberOf r → ReturnsKept h b held work (toZ w64 (ofZ w64 z)) holds left
+  kept-returned z q =
+      let (a, e, k) = serves-keeps h s in
+      record { answer = ap (λ (y : ℤ). toZ w64 (ofZ w64 y)) q ∙ (number-read r kept-small ∙ (ap numberOf pairs-told ∙ bytes-returned pairs)); result = k .result; zeros = k .zeros }
 
 module _ {h : Choices} {b held holds : List ℕ} {n : ℕ} {work left : List (List ℕ)} {r : Outcome} (s : Serves h (Find n) b held work r holds left) where
   abbrev y : Answer (Option ℕ)

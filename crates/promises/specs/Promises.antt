@@ -16,6 +16,7 @@ use Rattle.definition.specs.Performed.{InsertsFew}
 use Rattle.definition.specs.Account.{account, inRoom, accounted}
 use Rattle.share_laws.specs.Share.{shared}
 use Rattle.promises.specs.Slices.{needed, lengths, zeroed}
+use Rattle.promises.specs.Keeping.{kept}
 
 -- ── The edit ────────────────────────────────────────────────────────────────────────────────────────────────
 
@@ -52,6 +53,13 @@ pub record Accounts (h : Choices) (b held : List ℕ) (work : List (List ℕ)) (
 pub record Shares (h : Choices) (b : List ℕ) (work : List (List ℕ)) (r : Answer (ℕ × ℕ)) (left : List (List ℕ)) : Type 0 where
   -- the quotient and the remainder are the definition's
   pub share : r ≡ shared h (lengths needed work) b
+  pub zeros : left ≡ zeroed work
+
+-- THE PROMISE of `kept`, from the choices h, the batch b, the result slice and the work slices as they were lent (document 02, Note 11)
+pub record Keeps (h : Choices) (b held : List ℕ) (work : List (List ℕ)) (r : Answer ℕ) (holds : List ℕ) (left : List (List ℕ)) : Type 0 where
+  pub answer : r ≡ (kept h (lengths needed work) b (length held) >>= λ bytes. gives (length bytes))
+  -- the pairs stand at the front of the result slice, beyond them what that held, or on refusal all that it held
+  pub result : holds ≡ leftIn held (kept h (lengths needed work) b (length held))
   pub zeros : left ≡ zeroed work
 
 -- ── Refusals 17, 18 and 1 ───────────────────────────────────────────────────────────────────────────────────

@@ -14,9 +14,10 @@ use Rattle.definition_laws.specs.Performed.{inserts-few}
 use Rattle.definition.specs.Account.{accounted}
 use Rattle.share_laws.specs.Share.{share, shared}
 use Rattle.promises.specs.Slices.{needed, lengths, zeroed}
-use Rattle.promises.specs.Promises.{leftIn, Edits, Finds, Accounts, Shares, applied, found, recounted, wrongly-chosen, with-short}
+use Rattle.promises.specs.Keeping.{kept, paired}
+use Rattle.promises.specs.Promises.{leftIn, Edits, Finds, Accounts, Shares, Keeps, applied, found, recounted, wrongly-chosen, with-short}
 use Rattle.promises.specs.declared.Job.{Job}
-use Rattle.promises.specs.declared.Job.the-variants.{Edit, Find, Account, Share}
+use Rattle.promises.specs.declared.Job.the-variants.{Edit, Find, Account, Share, Kept}
 use Rattle.promises.specs.declared.Outcome.{Outcome}
 use Rattle.promises.specs.declared.Outcome.the-variants.{Refused, Bytes, Nothing, At, Of}
 
@@ -27,7 +28,7 @@ unfoldable pub place : Option ℕ → Outcome
 place none = Nothing
 place (some e) = At e
 
--- the edit and the account tell how many bytes they write
+-- the edit, the account and the pairs tell how many bytes they write
 abbrev pub tellBytes : List ℕ → Answer (Outcome × List ℕ)
 tellBytes bytes = gives (Bytes (length bytes), bytes)
 
@@ -45,6 +46,7 @@ reached h Edit b room = applied h b room >>= tellBytes
 reached h (Find n) b room = found h b n >>= tellPlace
 reached h Account b room = recounted h b room >>= tellBytes
 reached h Share b room = share h b >>= tellShare
+reached h Kept b room = paired h b room >>= tellBytes
 
 -- refusals 17, 18 and 1 come before every job
 unfoldable pub served : Choices → Job → List (ℕ × ℕ) → List ℕ → ℕ → Answer (Outcome × List ℕ)
@@ -150,6 +152,14 @@ serves-accounts h {b} {held} {holds} {work} {left} {r} s =
     let x = accounted h (lengths needed work) b (length held) in
     let same = with-then h (lengths needed work) (recounted h b (length held)) tellBytes in
     (x >>= (λ text. gives (length text)), s .told .answer ∙ (ap outcome same ∙ edit-outcome x), record { answer = refl; result = s .told .result ∙ ap (leftIn held) (ap written same ∙ edit-written x); zeros = s .zeros })
+
+-- What it answers to `Kept` tells an answer that keeps the promise of `kept`.
+pub serves-keeps : (h : Choices) {b held holds : List ℕ} {work left : List (List ℕ)} {r : Outcome} → Serves h Kept b held work r holds left → (a : Answer ℕ) × (r ≡ ofLength a) × Keeps h b held work a holds left
+unfolding served reached kept
+serves-keeps h {b} {held} {holds} {work} {left} {r} s =
+    let x = kept h (lengths needed work) b (length held) in
+    let same = with-then h (lengths needed work) (paired h b (length held)) tellBytes in
+    (x >>= (λ bytes. gives (length bytes)), s .told .answer ∙ (ap outcome same ∙ edit-outcome x), record { answer = refl; result = s .told .result ∙ ap (leftIn held) (ap written same ∙ edit-written x); zeros = s .zeros })
 
 -- What it answers to `Find n` tells an answer that keeps the promise of `find_element`.
 pub serves-finds : (h : Choices) {b held holds : List ℕ} {n : ℕ} {work left : List (List ℕ)} {r : Outcome} → Serves h (Find n) b held work r holds left → (a : Answer (Option ℕ)) × (r ≡ ofPlace a) × Finds h b n work a left

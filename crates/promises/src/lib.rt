@@ -6,15 +6,17 @@ ghost use lib.Dec.{ltb};
 ghost use Rattle.definition.specs.Answers.{tooShort};
 ghost use Rattle.promises.specs.Slices.{asked, needed, lengths, zeros, zeroed};
 
-// What is asked of a batch: its edit, where a node of tree 0 stands then, what becomes of each change, or how much of the text is rewritten.
+// What is asked of a batch: its edit, where a node of tree 0 stands then, what becomes of each change, how much of the text is rewritten, or which elements of
+// tree 0 survive, and where.
 pub enum Job {
     Edit,
     Find(usize),
     Account,
     Share,
+    Kept,
 }
 
-// A refusal's number; how many bytes the result or the account has; no element; an element's number; or a share's quotient and remainder.
+// A refusal's number; how many bytes the result, the account or the pairs have; no element; an element's number; or a share's quotient and remainder.
 pub enum Outcome {
     Refused(usize),
     Bytes(usize),

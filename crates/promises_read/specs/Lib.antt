@@ -7,6 +7,7 @@
 --     Demand1    DEMAND 1: what each lent slice holds then
 --     Demand3    DEMAND 3: an accepted batch whose splices are apart is answered with the one-go tree
 --     Kept       EDGE RULE 1: no own insertion is lost
+--     Pairs      THE SURVIVING PAIRS: few, read in the result slice, and our own output with them accepted
 --     Written    THE WRITER: what each lent slice holds then, that what is written is read as the same lists, and that what is read is written byte for byte
 --     WrongEditors   the editors of the reviewer's checklist, each excluded by an example
 pub mod Refused
@@ -16,5 +17,6 @@ pub mod Examples
 pub mod Demand1
 pub mod Demand3
 pub mod Kept
+pub mod Pairs
 pub mod Written
 pub mod WrongEditors

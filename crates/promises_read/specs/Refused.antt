@@ -28,7 +28,9 @@ use Rattle.definition.specs.Account.{said, account, inRoom, accounted}
 use Rattle.definition_laws.specs.Answers.{refused-gives}
 use Rattle.definition_laws.specs.Limits.{mostBytes, encoded-within}
 use Rattle.share_laws.specs.Share.{shareIn, share, shared}
+use Rattle.check_laws.specs.Claimed.{ownPairs}
 use Rattle.promises.specs.Slices.{needed, lengths}
+use Rattle.promises.specs.Keeping.{keptPairs, pairBytes, paired, kept}
 use Rattle.promises.specs.Promises.{Edits, Finds, applied, found, short-edited, long-edited, long-found}
 
 -- ── A refusal out of a list of numbers ──────────────────────────────────────────────────────────────────────
@@ -337,6 +339,14 @@ found-numbered h work b n k e = let by = found-by h work b n in rw e at by
 pub shared-by : (h : Choices) (work : List (ℕ × ℕ)) (b : List ℕ) → By findNumbers (shared h work b)
 unfolding shared share among any
 shared-by h work b = with-by findNumbers refl refl refl h work _ (by-more editLines findNumbers (share h b) refl (stages-by h b (λ a p w. shareIn w)))
+
+-- `kept` refuses by one of the edit's.
+pub kept-by : (h : Choices) (work : List (ℕ × ℕ)) (b : List ℕ) (room : ℕ) → By editNumbers (kept h work b room)
+unfolding kept paired keptPairs inRoom among any
+kept-by h work b room =
+    with-by editNumbers refl refl refl h work _
+    (by-then editNumbers (keptPairs h b) _ (by-more editLines editNumbers (keptPairs h b) refl (stages-by h b (λ a p w. ownPairs a.trees w))) λ ps.
+    by-then editNumbers (refuse 13 (ltb room (length (pairBytes ps)))) _ (by-refuse editNumbers 13 _ refl) λ u. tt)
 
 -- why a call is refused: for the edge rule, for the choice of stronger rules first, for a work slice, for the batch, or for the result slice
 pub data Why (h : Choices) (b held : List ℕ) (work : List (List ℕ)) : ℕ → Type 0 where

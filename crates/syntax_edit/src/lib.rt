@@ -5,7 +5,7 @@ use promises::Job;
 ghost use mathlib.Core.List.{_∷_, []};
 ghost use Rattle.write_layout.specs.Laying.{listsIn};
 ghost use Rattle.load_laws.specs.Load.{load};
-ghost use Rattle.edit_numbers.specs.Returned.{Returns, ReturnsElement, ReturnsAccount, ReturnsShare};
+ghost use Rattle.edit_numbers.specs.Returned.{Returns, ReturnsElement, ReturnsAccount, ReturnsShare, ReturnsKept};
 ghost use Rattle.edit_numbers.specs.ReturnedBatch.{ReturnsBatch};
 
 // THE EDIT of a batch: the length of the answer, which stands at the front of `result`, or a refusal's number with a minus.
@@ -149,6 +149,45 @@ pub extern "C" fn syntax_share(
         Job::Share,
         batch,
         &mut none,
+        table,
+        source,
+        changes,
+        notes,
+        incoming,
+        changed,
+        marks,
+        rows,
+        prepared,
+    );
+    edit_numbers::number_of(told)
+}
+
+// THE SURVIVING PAIRS of a batch's edit: how many bytes they have, or a refusal's number with a minus. Each element of the old tree that is in the new tree, by rising
+// numbers, makes a pair: all old numbers, then all new ones, stand at the front of `result`, a word of four bytes each.
+// The nine others are work slices, which end as zeros.
+#[no_mangle]
+pub extern "C" fn syntax_kept(
+    edge: usize,
+    stronger: usize,
+    batch: &[u8],
+    result: &mut [u8],
+    table: &mut [u32],
+    source: &mut [u32],
+    changes: &mut [u32],
+    notes: &mut [u32],
+    incoming: &mut [u32],
+    changed: &mut [u32],
+    marks: &mut [u32],
+    rows: &mut [u32],
+    prepared: &mut [u32],
+) -> i64
+    ensures { λ r. ⌜ ReturnsKept (record { edge = edge; stronger = stronger }) (now (batch .entry)) (now (result .entry)) (now (table .entry) ∷ now (source .entry) ∷ now (changes .entry) ∷ now (notes .entry) ∷ now (incoming .entry) ∷ now (changed .entry) ∷ now (marks .entry) ∷ now (rows .entry) ∷ now (prepared .entry) ∷ []) r (now (result .exit)) (now (table .exit) ∷ now (source .exit) ∷ now (changes .exit) ∷ now (notes .exit) ∷ now (incoming .exit) ∷ now (changed .exit) ∷ now (marks .exit) ∷ now (rows .exit) ∷ now (prepared .exit) ∷ []) ⌝ }
+{
+    let told = serve(
+        Choices { edge, stronger },
+        Job::Kept,
+        batch,
+        result,
         table,
         source,
         changes,

@@ -1,7 +1,7 @@
 -- `answer` meets its contract: the refusal, or what the job answers.
 -- Assumes nothing.
 use borrow.Author.Needs.{needs}
-use Rattle.edit_answer.specs.AtEnd.{rows-at-end}
+use Rattle.edit_answer.specs.AtEnd.{rows-at-end, old-rows}
 use Rattle.edit_answer.proofs.Ends.{tells-refused, tells-done, tells-found, tells-share, tells-overlap}
 use Rattle.edit_answer.proofs.answer.Statement.{statement}
 use Rattle.edit_answer.proofs.answer.Tie as tie
@@ -22,25 +22,31 @@ enum-told : tie.Need-enum-told
 enum-told c = search needs
 
 write-answer-requires : tie.Need-write-answer-requires
-write-answer-requires c κs = let e = c .before .before .before .before .before .before .before .done3 .given .1 in let v = c .before .before .before .before .before .before .before .before .before .before .before .before .before .before .before .before .before .before .pre in (v .ends _ e, v .room _ e)
+write-answer-requires c κs = let e = c .before .before .before .before .before .before .before .done3 .given .1 in let v = c .before .before .before .before .before .before .before .before .before .before .before .before .before .before .before .before .before .before .before .pre in (v .ends _ e, v .room _ e)
 
 enum-known-job : tie.Need-enum-known-job
 enum-known-job c = search needs
 
 find-from-requires : tie.Need-find-from-requires
-find-from-requires c κs = let e = c .before .before .before .before .done3 .given .1 in let v = c .before .before .before .before .before .before .before .before .before .before .before .before .before .before .before .pre in (rows-at-end (v .ends _ e), v .tells _ e)
+find-from-requires c κs = let e = c .before .before .before .before .done3 .given .1 in let v = c .before .before .before .before .before .before .before .before .before .before .before .before .before .before .before .before .pre in (rows-at-end (v .ends _ e), v .tells _ e)
 
 enum-told-2 : tie.Need-enum-told-2
 enum-told-2 c = search needs
 
 account-from-requires : tie.Need-account-from-requires
-account-from-requires c κs = let e = c .before .before .before .before .before .before .done3 .given .1 in let v = c .before .before .before .before .before .before .before .before .before .before .before .before .before .before .before .before .before .pre in (v .ends _ e, v .recounts _ e)
+account-from-requires c κs = let e = c .before .before .before .before .before .before .done3 .given .1 in let v = c .before .before .before .before .before .before .before .before .before .before .before .before .before .before .before .before .before .before .pre in (v .ends _ e, v .recounts _ e)
 
 enum-told-3 : tie.Need-enum-told-3
 enum-told-3 c = search needs
 
 share-from-requires : tie.Need-share-from-requires
-share-from-requires c κs = (c .before .before .before .before .before .before .before .before .before .before .before .before .before .before .before .before .pre) .ends _ (c .before .before .before .before .before .done3 .given .1)
+share-from-requires c κs = (c .before .before .before .before .before .before .before .before .before .before .before .before .before .before .before .before .before .pre) .ends _ (c .before .before .before .before .before .done3 .given .1)
+
+enum-told-4 : tie.Need-enum-told-4
+enum-told-4 c = search needs
+
+kept-from-requires : tie.Need-kept-from-requires
+kept-from-requires c κs = let e = c .before .before .before .before .done3 .given .1 in let v = c .before .before .before .before .before .before .before .before .before .before .before .before .before .before .before .before .pre in record { old = old-rows (v .tells _ e); marked = v .marked _ e; ended = rows-at-end (v .ends _ e) }
 
 returns : tie.Need-returns
 returns c = tells-refused (c .before .done .given .1) _ _
@@ -49,7 +55,7 @@ same-length : tie.Need-same-length
 same-length c = c .before .result .given
 
 returns-2 : tie.Need-returns-2
-returns-2 c = tells-overlap _ (c .before .before .before .before .before .before .before .before .before .before .before .before .before .before .before .before .pre) (c .before .before .before .before .before .done2 .given .1) (c .before .before .overlapping .ensures)
+returns-2 c = tells-overlap _ (c .before .before .before .before .before .before .before .before .before .before .before .before .before .before .before .before .before .pre) (c .before .before .before .before .before .done2 .given .1) (c .before .before .overlapping .ensures)
 
 same-length-2 : tie.Need-same-length-2
 same-length-2 c = c .before .before .before .before .before .before .before .notes .given
@@ -90,6 +96,12 @@ same-length-10 c = search needs
 returns-6 : tie.Need-returns-6
 returns-6 c = rw (c .before .before .before .enum-told3 .given .1) (tells-done (c .before .before .before .before .before .before .done3 .given .1) _ (tells-share _ _ _ _ (c .share-from .ensures)))
 
+same-length-11 : tie.Need-same-length-11
+same-length-11 c = search needs
+
+returns-7 : tie.Need-returns-7
+returns-7 c = rw (c .before .before .before .before .enum-told4 .given .1) (tells-done (c .before .before .before .before .before .before .before .done3 .given .1) _ (c .before .before .kept-from .ensures))
+
 pub answer-spec : {M : Type 1} → statement M
 answer-spec =
     tie.close
@@ -106,6 +118,8 @@ answer-spec =
     account-from-requires
     enum-told-3
     share-from-requires
+    enum-told-4
+    kept-from-requires
     returns
     same-length
     returns-2
@@ -121,4 +135,6 @@ answer-spec =
     returns-5
     same-length-9
     same-length-10
-    returns-6)
+    returns-6
+    same-length-11
+    returns-7)
