@@ -3,7 +3,10 @@
 --     Paths     that path written, child number by child number
 --     Moved     a bookmark moved, and its words in a slot
 --     Found     its element, by resolving its old path in the batch's own rows
+--     Kept      one bookmark of the slots after a run: written to a slot, or dropped
 pub mod Standing
 pub mod Paths
 pub mod Found
 pub mod Moved
+pub mod Kept
+pub mod Packing
