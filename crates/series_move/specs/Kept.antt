@@ -1,6 +1,6 @@
 -- One bookmark after a run: written to a slot that is no later than its own, or dropped.
 -- Assumes nothing.
-use mathlib.Core.Path.{_≡_, refl, sym, ap, _∙_}
+use mathlib.Core.Path.{_≡_, sym, ap, _∙_}
 use mathlib.Core.Bool.{Bool, true, false}
 use mathlib.Core.List.{List, [], _∷_, tail}
 use mathlib.Core.Option.{Option, none, some, Option·map}
@@ -13,7 +13,7 @@ use Rattle.definition_laws.specs.Running.{top}
 use Rattle.definition_account.specs.Moved.{inARow}
 use Rattle.series_laws.specs.Memory.{Bookmark}
 use Rattle.series_laws.specs.Follow.{moved, kept}
-use Rattle.series_laws.specs.Lent.{slotWords, longestPath, bookmarkIn, bookmarkOut}
+use Rattle.series_laws.specs.Lent.{slotWords, bookmarkIn, bookmarkOut}
 use Rattle.series_check.specs.Slots.{slotAt, slot-word, slot-path}
 use Rattle.series_move.specs.Standing.{Stood}
 use Rattle.series_move.specs.Found.{Stands, movedBy}

@@ -2,12 +2,12 @@
 -- Assumes nothing.
 use mathlib.Core.Path.{_≡_, refl, sym, ap, _∙_, subst}
 use mathlib.Core.List.{List, [], _∷_, _++_, map, append-assoc, append-nil}
-use mathlib.Core.Option.{Option, none, some, Option·map}
+use mathlib.Core.Option.{Option, none, some}
 use Prim.Native.Nat.{ℕ, zero, suc, _+_, _-_, _*_, _^_, _≤_, _<_}
 use native.Mathlib.Numerals.{add-one}
 use native.Mathlib.Omega.{arith}
-use lib.ListN.{length, getD, set, take, drop, length-append, length-drop, length-set, take-append-drop}
-use lib.Seq.{paste, length-take-le, length-paste, take-all, drop-drop, take-add, take-append-add, drop-append-add, drop-append-le, drop-paste}
+use lib.ListN.{length, getD, set, take, drop, length-append, length-drop, take-append-drop}
+use lib.Seq.{paste, length-take-le, length-paste, take-all, drop-drop, take-append-add, drop-append-add, drop-append-le, drop-paste}
 use Rattle.orders.specs.Lists.{All, pick}
 use Rattle.orders.specs.ListLaws.{map-some, pick-none, pick-some}
 use Rattle.orders.specs.Tree.{Path, Run}
@@ -155,7 +155,7 @@ put-beyond b i to (some c) {out} l h s q =
       omega (arith, q .next),
       ap length (q .words) ∙ length-paste b at new m (omega arith) (omega arith),
       ap (drop (1 + 65 * (i + 1))) (q .words)
-      ∙ (ap (λ (j : ℕ). drop j (paste b at new m)) (sym e) ∙ (sym (drop-drop g (at + m) (paste b at new m)) ∙ (ap (drop g) (drop-paste b at new m (omega arith) (omega arith)) ∙ (drop-drop g (at + m) b ∙ ap (λ (j : ℕ). drop j b) e)))),
+          ∙ (ap (λ (j : ℕ). drop j (paste b at new m)) (sym e) ∙ (sym (drop-drop g (at + m) (paste b at new m)) ∙ (ap (drop g) (drop-paste b at new m (omega arith) (omega arith)) ∙ (drop-drop g (at + m) b ∙ ap (λ (j : ℕ). drop j b) e)))),
     )
 
 -- and is one more behind those that were there

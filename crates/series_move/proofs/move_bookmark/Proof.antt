@@ -1,104 +1,78 @@
+-- `move_bookmark` meets its contract.
+-- Assumes nothing.
 use native.Mathlib.Omega.{arith}
-use lib.ListN.{length, getD, set, take, drop, replicate, length-set, length-drop}
-use mathlib.Core.Path.{_≡_, refl, ap, sym, _∙_}
-use Prim.Native.Nat.{ℕ, suc, zero, _+_, _-_, _*_, _≤_, _<_}
+use lib.ListN.{drop, length-drop}
+use mathlib.Core.Path.{refl, sym}
+use Prim.Native.Nat.{_+_, _-_}
 use borrow.Author.Needs.{needs}
 use lib.Seq.{length-take-le}
 use Rattle.series_move.specs.Kept.{front-short, here-short, here-stands, here-kept, here-dropped}
 use Rattle.series_move.proofs.move_bookmark.Statement.{statement}
 use Rattle.series_move.proofs.move_bookmark.Tie as tie
-use Rattle.series_move.proofs.move_bookmark.Reads as reads
-use Rattle.series_move.proofs.move_bookmark.Lts as lts
-use Rattle.series_check.proofs.slot_at.Reads as slot-at-reads
-use Rattle.series_move.proofs.path_now.Reads as path-now-reads
-use Rattle.series_move.proofs.put_bookmark.Reads as put-bookmark-reads
-use Rattle.words.proofs.word.Reads as word-reads
 
--- src/lib.rt:115:9
 slot-at-requires : tie.Need-slot-at-requires
 slot-at-requires c κs = search needs
 
--- src/lib.rt:116:29
 add-word : tie.Need-add-word
 add-word c = search needs
 
--- src/lib.rt:116:9
 word-requires : tie.Need-word-requires
 word-requires c κs = search needs
 
--- src/lib.rt:117:16
 add-from : tie.Need-add-from
 add-from c = search needs
 
--- src/lib.rt:118:15
 add-end : tie.Need-add-end
 add-end c = search needs
 
--- src/lib.rt:119:44
 mul-path-now : tie.Need-mul-path-now
 mul-path-now c = search needs
 
--- src/lib.rt:119:44
 sub-path-now : tie.Need-sub-path-now
 sub-path-now c = search needs
 
--- src/lib.rt:119:44
 part-path-now-start : tie.Need-part-path-now-start
 part-path-now-start c = search needs
 
--- src/lib.rt:119:44
 part-path-now-end : tie.Need-part-path-now-end
 part-path-now-end c = omega (arith, here-short _ _ (c .before .before .before .slot-at .ensures) (c .before .word .ensures) (c .before .before .before .before .before .before .before .before .before .pre .0), c .before .before .before .slot-at .ensures, c .before .before .before .before .before .before .before .before .before .pre .1)
 
--- src/lib.rt:119:8
 path-now-requires : tie.Need-path-now-requires
 path-now-requires c κs = (here-stands _ _ (c .before .before .before .before .before .slot-at .ensures) (c .before .before .before .word .ensures) (c .before .before .before .before .before .before .before .before .before .before .before .pre .0), omega (arith, here-short _ _ (c .before .before .before .before .before .slot-at .ensures) (c .before .before .before .word .ensures) (c .before .before .before .before .before .before .before .before .before .before .before .pre .0), c .before .before .before .before .before .before .before .before .before .before .before .pre .1, length-take-le (c .before .before .before .before .before .slot-at .result + 2 + c .before .before .before .word .result - (c .before .before .before .before .before .slot-at .result + 2)) (drop (c .before .before .before .before .before .slot-at .result + 2) (c .before .before .before .before .before .before .before .before .before .before .before .args .bookmarks .now)) (omega (arith, here-short _ _ (c .before .before .before .before .before .slot-at .ensures) (c .before .before .before .word .ensures) (c .before .before .before .before .before .before .before .before .before .before .before .pre .0), c .before .before .before .before .before .slot-at .ensures, c .before .before .before .before .before .before .before .before .before .before .before .pre .1, length-drop (c .before .before .before .before .before .slot-at .result + 2) (c .before .before .before .before .before .before .before .before .before .before .before .args .bookmarks .now)))))
 
--- src/lib.rt:120:22
 mul-number : tie.Need-mul-number
 mul-number c = search needs
 
--- src/lib.rt:120:22
 slice-read-number : tie.Need-slice-read-number
 slice-read-number c = search needs
 
--- src/lib.rt:121:45
 slice-reshare-prefix-put-bookmark : tie.Need-slice-reshare-prefix-put-bookmark
 slice-reshare-prefix-put-bookmark c = omega (arith, here-short _ _ (c .before .before .before .before .before .before .before .before .before .before .before .slot-at .ensures) (c .before .before .before .before .before .before .before .before .before .word .ensures) (c .before .before .before .before .before .before .before .before .before .before .before .before .before .before .before .before .before .pre .0), c .before .before .before .before .before .before .before .before .before .before .before .before .before .before .before .before .before .pre .1)
 
--- src/lib.rt:121:45
 slice-aggregate-put-bookmark : tie.Need-slice-aggregate-put-bookmark
 slice-aggregate-put-bookmark c = sym (length-take-le _ _ (omega (arith, here-short _ _ (c .before .before .before .before .before .before .before .before .before .before .before .before .slot-at .ensures) (c .before .before .before .before .before .before .before .before .before .before .word .ensures) (c .before .before .before .before .before .before .before .before .before .before .before .before .before .before .before .before .before .before .pre .0), c .before .before .before .before .before .before .before .before .before .before .before .before .before .before .before .before .before .before .pre .1)))
 
--- src/lib.rt:121:9
 put-bookmark-requires : tie.Need-put-bookmark-requires
 put-bookmark-requires c κs = (omega (arith, c .before .before .before .before .before .before .before .before .before .before .before .before .before .before .before .before .before .before .pre .1), omega (arith, c .before .before .before .before .before .before .before .before .before .before .before .before .before .before .before .before .before .before .pre .1), front-short _ (here-short _ _ (c .before .before .before .before .before .before .before .before .before .before .before .before .slot-at .ensures) (c .before .before .before .before .before .before .before .before .before .before .word .ensures) (c .before .before .before .before .before .before .before .before .before .before .before .before .before .before .before .before .before .before .pre .0)))
 
--- src/lib.rt:122:16
 add-result : tie.Need-add-result
 add-result c = search needs
 
--- src/lib.rt:122:9
 same-length : tie.Need-same-length
 same-length c = search needs
 
--- src/lib.rt:122:9
 same-length-2 : tie.Need-same-length-2
 same-length-2 c = search needs
 
--- src/lib.rt:122:9
 returns : tie.Need-returns
 returns c = λ h. here-kept _ _ (c .before .before .before .before .before .before .before .before .before .before .before .before .before .before .before .slot-at .ensures) (c .before .before .before .before .before .before .before .before .before .before .before .before .before .word .ensures) h (c .before .before .before .before .before .before .before .before .before .path-now .ensures) _ (c .before .before .before .before .before .before .if1 .taken) refl (c .before .before .put-bookmark .ensures) (c .before .before .before .before .before .before .before .before .before .before .before .before .before .before .before .before .before .before .before .before .before .pre .1 .0)
 
--- src/lib.rt:100:1
 same-length-3 : tie.Need-same-length-3
 same-length-3 c = search needs
 
--- src/lib.rt:100:1
 same-length-4 : tie.Need-same-length-4
 same-length-4 c = search needs
 
--- src/lib.rt:100:1
 returns-2 : tie.Need-returns-2
 returns-2 c = λ h. here-dropped _ _ (c .before .before .before .before .before .before .before .before .before .slot-at .ensures) (c .before .before .before .before .before .before .before .word .ensures) h (c .before .before .before .path-now .ensures) _ (c .if1 .left)
 

@@ -1,41 +1,29 @@
+-- `move_bookmarks` meets its contract.
+-- Assumes nothing.
 use native.Mathlib.Omega.{arith}
-use lib.ListN.{length, getD, set, take, drop, replicate, length-set}
-use mathlib.Core.Path.{_≡_, refl, ap, sym, _∙_}
-use Prim.Native.Nat.{ℕ, suc, zero, _+_, _-_, _*_, _≤_, _<_}
 use borrow.Author.Needs.{needs}
 use Rattle.series_move.specs.Packing.{after-told, count-moving}
 use Rattle.series_move.proofs.move_bookmarks.Statement.{statement}
 use Rattle.series_move.proofs.move_bookmarks.Tie as tie
-use Rattle.series_move.proofs.move_bookmarks.Reads as reads
-use Rattle.series_move.proofs.move_bookmarks.Lts as lts
-use Rattle.series_move.proofs.pack_bookmarks.Reads as pack-bookmarks-reads
-use Rattle.words.proofs.word.Reads as word-reads
 
--- src/lib.rt:168:9
 word-requires : tie.Need-word-requires
 word-requires c κs = search needs
 
--- src/lib.rt:169:70
 slice-aggregate-pack-bookmarks : tie.Need-slice-aggregate-pack-bookmarks
 slice-aggregate-pack-bookmarks c = search needs
 
--- src/lib.rt:169:9
 pack-bookmarks-requires : tie.Need-pack-bookmarks-requires
 pack-bookmarks-requires c κs = (count-moving (c .before .before .word .ensures) (c .before .before .before .before .before .before .before .before .pre .0), (omega (arith, c .before .before .word .ensures .0, c .before .before .before .before .before .before .before .before .pre .1), c .before .before .word .ensures .1, omega arith))
 
--- src/lib.rt:170:20
 cast-bookmarks : tie.Need-cast-bookmarks
 cast-bookmarks c = search needs
 
--- src/lib.rt:170:5
 slice-write-bookmarks : tie.Need-slice-write-bookmarks
 slice-write-bookmarks c = search needs
 
--- src/lib.rt:155:1
 same-length : tie.Need-same-length
 same-length c = search needs
 
--- src/lib.rt:155:1
 returns : tie.Need-returns
 returns c = λ v. after-told _ (c .before .before .before .before .before .before .word .ensures) (omega (arith, c .before .before .bookmarks .given, c .before .before .before .before .before .before .before .before .before .before .before .before .pre .1)) (c .before .before .before .pack-bookmarks .ensures .1) v
 

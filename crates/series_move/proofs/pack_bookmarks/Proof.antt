@@ -1,14 +1,13 @@
+-- `pack_bookmarks` meets its contract.
+-- Assumes nothing.
 use borrow.Author.Needs.{needs}
 use native.Mathlib.Omega.{arith}
-use lib.ListN.{length, getD, set, take, drop, replicate, length-set}
-use mathlib.Core.Path.{_≡_, refl, ap, sym, _∙_}
-use Prim.Native.Nat.{ℕ, suc, zero, _+_, _-_, _*_, _≤_, _<_}
+use lib.ListN.{length}
+use mathlib.Core.Path.{_≡_, refl, _∙_}
+use Prim.Native.Nat.{_-_}
 use Rattle.series_move.specs.Packing.{Packing, packing-start, packing-here, packing-next, packing-done}
 use Rattle.series_move.proofs.pack_bookmarks.Statement.{statement}
 use Rattle.series_move.proofs.pack_bookmarks.Tie as tie
-use Rattle.series_move.proofs.pack_bookmarks.Reads as reads
-use Rattle.series_move.proofs.pack_bookmarks.Lts as lts
-use Rattle.series_move.proofs.move_bookmark.Reads as move-bookmark-reads
 
 abbrev Inv-loop : tie.InvT-loop
 Inv-loop source e marks rows n bookmarks₀ k path₀ to₀ i₀ bookmarks path to i = (length path ≡ length path₀) × Packing source e marks rows n bookmarks₀ bookmarks k i to
@@ -16,35 +15,27 @@ Inv-loop source e marks rows n bookmarks₀ k path₀ to₀ i₀ bookmarks path 
 abbrev μ-loop : tie.MeasureT-loop
 μ-loop source e marks rows n bookmarks₀ k path₀ to₀ i₀ bookmarks path to i = k - i
 
--- src/lib.rt:147:5
 loop-holds : tie.Need-loop-holds Inv-loop μ-loop
 loop-holds c = (refl, packing-start _ _ _ _ _ _ _)
 
--- src/lib.rt:148:9
 move-bookmark-requires : tie.Need-move-bookmark-requires Inv-loop μ-loop
 move-bookmark-requires c κs = (packing-here (c .before .before .before .loop .inv .1) (c .before .before .before .before .before .before .before .before .before .pre .0) (c .before .before .loop-test .taken), (omega (arith, c .before .before .before .loop .inv .1 .same, c .before .before .before .before .before .before .before .before .before .pre .1, c .before .before .loop-test .taken), c .before .before .before .loop .inv .1 .low, omega (arith, c .before .before .before .before .before .before .before .before .before .pre .1, c .before .before .loop-test .taken), omega (arith, c .before .before .before .loop .inv .0, c .before .before .before .before .before .before .before .before .before .pre .1)))
 
--- src/lib.rt:149:9
 add-i : tie.Need-add-i Inv-loop μ-loop
 add-i c = search needs
 
--- src/lib.rt:147:5
 loop-less : tie.Need-loop-less Inv-loop μ-loop
 loop-less c = search needs
 
--- src/lib.rt:147:5
 loop-again : tie.Need-loop-again Inv-loop μ-loop
 loop-again c = (c .before .path .given ∙ c .before .before .before .before .before .before .before .before .loop .inv .0, packing-next (c .before .before .before .before .before .before .before .before .loop .inv .1) (c .before .before .before .before .before .before .before .before .before .before .before .before .before .before .pre .0) (c .before .before .before .before .before .before .before .loop-test .taken) (c .before .before .before .before .before .before .before .before .before .before .before .before .before .before .pre .1 .0) (c .before .before .before .before .move-bookmark .ensures))
 
--- src/lib.rt:131:1
 same-length : tie.Need-same-length Inv-loop μ-loop
 same-length c = c .before .loop .inv .1 .same
 
--- src/lib.rt:131:1
 same-length-2 : tie.Need-same-length-2 Inv-loop μ-loop
 same-length-2 c = c .before .loop .inv .0
 
--- src/lib.rt:131:1
 returns : tie.Need-returns Inv-loop μ-loop
 returns c = (omega (arith, c .before .loop .inv .1 .low, c .before .loop .inv .1 .bound), λ v. packing-done (c .before .loop .inv .1) (c .loop-test .left) v)
 
