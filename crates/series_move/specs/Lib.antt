@@ -6,6 +6,7 @@
 --     Kept      one bookmark of the slots after a run: written to a slot, or dropped
 --     Packing   all of them: the survivors in their order, packed to the front
 --     Ready     an accepted batch on a lent memory has what is asked, and what is written is what the definition leaves
+--     Examples  lent bookmarks moved, by computation
 pub mod Standing
 pub mod Paths
 pub mod Found
@@ -13,3 +14,4 @@ pub mod Moved
 pub mod Kept
 pub mod Packing
 pub mod Ready
+pub mod Examples

@@ -19,7 +19,7 @@ loop-holds : tie.Need-loop-holds Inv-loop μ-loop
 loop-holds c = (refl, packing-start _ _ _ _ _ _ _)
 
 move-bookmark-requires : tie.Need-move-bookmark-requires Inv-loop μ-loop
-move-bookmark-requires c κs = (packing-here (c .before .before .before .loop .inv .1) (c .before .before .before .before .before .before .before .before .before .pre .0) (c .before .before .loop-test .taken), (omega (arith, c .before .before .before .loop .inv .1 .same, c .before .before .before .before .before .before .before .before .before .pre .1, c .before .before .loop-test .taken), c .before .before .before .loop .inv .1 .low, omega (arith, c .before .before .before .before .before .before .before .before .before .pre .1, c .before .before .loop-test .taken), omega (arith, c .before .before .before .loop .inv .0, c .before .before .before .before .before .before .before .before .before .pre .1)))
+move-bookmark-requires c κs = (packing-here (c .before .before .before .loop .inv .1) (c .before .before .before .before .before .before .before .before .before .pre .0) (c .before .before .loop-test .taken), (omega (arith, c .before .before .before .loop .inv .1 .same, c .before .before .before .before .before .before .before .before .before .pre .1, c .before .before .loop-test .taken), omega (arith, c .before .before .before .loop .inv .1 .low), omega (arith, c .before .before .before .before .before .before .before .before .before .pre .1, c .before .before .loop-test .taken), omega (arith, c .before .before .before .loop .inv .0, c .before .before .before .before .before .before .before .before .before .pre .1)))
 
 add-i : tie.Need-add-i Inv-loop μ-loop
 add-i c = search needs
