@@ -1,11 +1,16 @@
--- What lines 2 to 7 leave of an accepted batch is what 22 asks.
+-- What lines 2 to 7 leave of an accepted batch, and a memory's own lines of the memory, is what 22 asks.
 -- Assumes nothing.
-use mathlib.Core.Path.{_≡_, refl, sym, _∙_, subst}
+use mathlib.Core.Path.{_≡_, refl, sym, ap, _∙_, subst}
+use mathlib.Core.Bool.{Bool}
 use mathlib.Core.List.{List}
 use Prim.Native.Nat.{ℕ, _+_, _*_, _≤_}
 use native.Mathlib.Omega.{arith}
-use lib.ListN.{length, drop}
-use Rattle.definition.specs.Basics.{_>>=_}
+use lib.Dec.{ltb}
+use lib.ListN.{length, getD, drop}
+use borrow.Author.Tests.{ltb-false}
+use Rattle.orders.specs.ListLaws.{either-false}
+use Rattle.definition.specs.Basics.{gives, _>>=_}
+use Rattle.definition.specs.Words.{word}
 use Rattle.definition.specs.Batch.{Batch, batch}
 use Rattle.definition_laws.specs.Answers.{gives-inj}
 use Rattle.definition_laws.specs.Accepted.{accepts}
@@ -15,6 +20,10 @@ use Rattle.read_layout.specs.Layout.{arraysAt, batch-laid}
 use Rattle.read_layout.specs.declared.Layout.{Layout}
 use Rattle.read_batch.specs.Accepting.{accepted-parts}
 use Rattle.read_batch.specs.Leaving.{Leaves}
+use Rattle.check_laws.specs.Check.{Flat}
+use Rattle.series_laws.specs.Memory.{Memory, sameTree}
+use Rattle.series_laws.specs.Lent.{Lent, slotWords, treeIn, treeBytes, memoryIn, cutOff, lent}
+use Rattle.series_laws.specs.Series.{lent-passed}
 use Rattle.series_tree.specs.Old.{Read}
 
 -- the slices held t₀ and s₀ before: long enough for the batch's elements
@@ -37,3 +46,19 @@ leaves-read {b} {l} {t₀} {s₀} {t} {s} v lt ls long =
       long = long;
       few = v .within .limits .elements;
     }
+
+-- ── The memory ──────────────────────────────────────────────────────────────────────────────────────────────
+
+module _ (most : ℕ) (l : Lent) (m : Memory) (passes : lent most l ≡ gives m) where
+  -- its tree stands within its slice
+  pub lent-within : (8 ≤ length (l .tree)) × (8 + 8 * word (l .tree) + word (drop 4 (l .tree)) ≤ length (l .tree))
+  unfolding cutOff treeBytes
+  lent-within =
+      let P = lent-passed most l m passes in
+      let (a, b) = either-false (ltb (length l.tree) (treeBytes (word l.tree) (word (drop 4 l.tree)))) (ltb (length l.bookmarks) (1 + slotWords * getD l.bookmarks 0 0)) (P .whole) in
+      (ltb-false (length l.tree) 8 (P .sizes), ltb-false (length l.tree) (treeBytes (word l.tree) (word (drop 4 l.tree))) a)
+
+  -- what is compared with it is compared with the memory's tree: the test of 22
+  pub lent-same : {r : Bool} (f : Flat) → r ≡ sameTree f (treeIn (word (l .tree)) (word (drop 4 (l .tree))) (l .tree)) → r ≡ sameTree f (m .tree)
+  unfolding memoryIn
+  lent-same f q = q ∙ ap (λ (m : Memory). sameTree f m.tree) ((lent-passed most l m passes) .is)
