@@ -3,13 +3,13 @@
 use mathlib.Core.Path.{_≡_, refl, sym, ap, _∙_}
 use mathlib.Core.Bool.{Bool, true, false, not, _&&_}
 use mathlib.Core.List.{List, [], _∷_}
-use Prim.Native.Nat.{ℕ, zero, suc, _+_, _-_, _*_, _/_, _^_, _≤_, _<_}
+use Prim.Native.Nat.{ℕ, suc, _+_, _-_, _*_, _/_, _^_, _≤_, _<_}
 use native.Mathlib.Numerals.{add-one}
 use native.Mathlib.Omega.{arith}
 use lib.Dec.{eqb}
-use lib.ListN.{length, getD, take, drop, length-drop}
+use lib.ListN.{length, getD, take, drop, length-drop, drop-of-length-le}
 use lib.Seq.{drop-cons, drop-drop, length-take-le}
-use borrow.Author.Tests.{eq-eqb, ne-eqb}
+use borrow.Author.Tests.{eq-eqb, ne-eqb, not-true, not-false}
 use Rattle.definition.specs.Basics.{gives}
 use Rattle.definition.specs.Words.{word, words}
 use Rattle.definition.specs.Refusals.{Accepted, accepted}
@@ -70,16 +70,7 @@ module _ {a : List ℕ} {i : ℕ} {b : List ℕ} {j n k : ℕ} (v : Comparing a 
 
   pub comparing-end : n ≤ k → true ≡ sameBytes (words n (drop i a)) (words n (drop j b))
   unfolding sameBytes
-  comparing-end h = sym (v .verdict ∙ rw (none (words n (drop i a)) (omega (arith, length-words n (drop i a))), none (words n (drop j b)) (omega (arith, length-words n (drop j b)))))
-    where
-      none : (l : List ℕ) → length l ≤ k → drop k l ≡ []
-      none l h = gone k l h
-        where
-          gone : (k : ℕ) (l : List ℕ) → length l ≤ k → drop k l ≡ []
-          gone zero [] h = refl
-          gone zero (x ∷ l) h = absurd (omega arith)
-          gone (suc k) [] h = refl
-          gone (suc k) (x ∷ l) h = gone k l (omega arith)
+  comparing-end h = sym (v .verdict ∙ rw (drop-of-length-le (words n (drop i a)) {i = k} (omega (arith, length-words n (drop i a))), drop-of-length-le (words n (drop j b)) {i = k} (omega (arith, length-words n (drop j b)))))
 
 -- ── Arrays ──────────────────────────────────────────────────────────────────────────────────────────────────
 
@@ -94,10 +85,6 @@ module _ (b t : List ℕ) (kinds measures text size bytes : ℕ) {n m : ℕ} (en
   -- what is told, by what is read
   told : {r : Bool} → r ≡ sameTree (flatAt b kinds measures text size bytes) (flatAt t 8 (8 + 4 * n) (8 + 8 * n) n m) → r ≡ sameTree (flatAt b kinds measures text size bytes) (treeIn (word t) (word (drop 4 t)) t)
   told q = q ∙ ap (sameTree (flatAt b kinds measures text size bytes)) (sym (tree-at t n m) ∙ (ap (λ (k : ℕ). treeIn k m t) (en .0) ∙ ap (λ (k : ℕ). treeIn (word t) k t) (em .0)))
-
-  none : (b : Bool) → false ≡ (b && false)
-  none true = refl
-  none false = refl
 
   pub other-size : (size ≡ n → ⊥) → false ≡ sameTree (flatAt b kinds measures text size bytes) (treeIn (word t) (word (drop 4 t)) t)
   unfolding sameTree flatAt
@@ -119,24 +106,12 @@ module _ (b t : List ℕ) (kinds measures text size bytes : ℕ) {n m : ℕ} (en
   module _ (same : size ≡ n) {r : Bool} (k : r ≡ sameBytes (words n (drop kinds b)) (words n (drop 8 t))) where
     pub other-kinds : not r ≡ true → false ≡ sameTree (flatAt b kinds measures text size bytes) (treeIn (word t) (word (drop 4 t)) t)
     unfolding sameTree flatAt
-    other-kinds h = told (rw (same, ← k, no r h))
-      where
-        no : (r : Bool) → not r ≡ true → r ≡ false
-        no true h = sym h
-        no false h = refl
+    other-kinds h = told (rw (same, ← k, not-true r h))
 
     module _ (is : not r ≡ false) {q : Bool} (l : q ≡ sameBytes (words n (drop measures b)) (words n (drop (8 + 4 * n) t))) where
-      yes : (r : Bool) → not r ≡ false → r ≡ true
-      yes true h = refl
-      yes false h = sym h
-
       pub other-measures : not q ≡ true → false ≡ sameTree (flatAt b kinds measures text size bytes) (treeIn (word t) (word (drop 4 t)) t)
       unfolding sameTree flatAt
-      other-measures h = told (rw (same, ← k, ← l, yes r is, no q h))
-        where
-          no : (r : Bool) → not r ≡ true → r ≡ false
-          no true h = sym h
-          no false h = refl
+      other-measures h = told (rw (same, ← k, ← l, not-false r is, not-true q h))
 
       -- all is the same but, perhaps, the text
       pub same-text : not q ≡ false → {c : Bool} → c ≡ sameBytes (take (text + bytes - text) (drop text b)) (take (8 + 8 * n + m - (8 + 8 * n)) (drop (8 + 8 * n) t)) → c ≡ sameTree (flatAt b kinds measures text size bytes) (treeIn (word t) (word (drop 4 t)) t)
@@ -144,7 +119,7 @@ module _ (b t : List ℕ) (kinds measures text size bytes : ℕ) {n m : ℕ} (en
       same-text h {c} e =
           let x : text + bytes - text ≡ bytes = omega arith in
           let y : 8 + 8 * n + m - (8 + 8 * n) ≡ m = omega arith in
-          told (rw (same, ← k, ← l, yes r is, yes q h) (e ∙ rw (x, y)))
+          told (rw (same, ← k, ← l, not-false r is, not-false q h) (e ∙ rw (x, y)))
 
 -- ── Tree 0 ──────────────────────────────────────────────────────────────────────────────────────────────────
 
