@@ -76,7 +76,7 @@ module _ (w ps : List ℕ) where
       go : (b : Bool) → saidFrom (suc m) rest ≡ sayings (map told rest) (map (renumbered ns) (map rowFate (rowsOf (length us) (drop (14 * suc m) w))))
           → saidFrom m rest ≡ sayings (map told rest) (map (renumbered ns) (map rowFate (rowsOf (length us) (drop (14 * m) w))))
           → cond b (planned (fateAt m) ∷ saidFrom (suc m) rest) (withdrawn (p - 1) ∷ saidFrom m rest)
-              ≡ sayings (cond b none (some (p - 1)) ∷ map told rest) (map (renumbered ns) (map rowFate (rowsOf (length (staying (cond b none (some (p - 1)) ∷ map told rest) (p ∷ rest))) (drop (14 * m) w))))
+          ≡ sayings (cond b none (some (p - 1)) ∷ map told rest) (map (renumbered ns) (map rowFate (rowsOf (length (staying (cond b none (some (p - 1)) ∷ map told rest) (p ∷ rest))) (drop (14 * m) w))))
       go true e f = rw (rows-from w m (length us), fate-numbered m, e) refl
       go false e f = rw f refl
 

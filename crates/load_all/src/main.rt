@@ -27,7 +27,10 @@ fn accepts(batch: &[u8]) -> usize
     let mut rows = [0u32; WORDS];
     let mut prepared = [0u32; WORDS];
     let answer = edit_algo::edit(
-        Choices { edge: 0, stronger: 0 },
+        Choices {
+            edge: 0,
+            stronger: 0,
+        },
         batch,
         &mut result,
         &mut table,

@@ -33,7 +33,10 @@ pub fn given_by(count: usize, first: &[u8], second: &[u8]) -> Choices
     ensures { λ r. ⌜ meant r ≡ given (arguments count (now (first .entry)) (now (second .entry))) ⌝ }
 {
     if count < 2 {
-        return Choices { edge: 0, stronger: 0 };
+        return Choices {
+            edge: 0,
+            stronger: 0,
+        };
     }
     if count < 3 {
         return Choices {

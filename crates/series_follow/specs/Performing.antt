@@ -3,12 +3,11 @@
 use mathlib.Core.Path.{_≡_, refl, sym, ap, _∙_, subst}
 use mathlib.Core.Bool.{Bool, true, false, not}
 use mathlib.Core.List.{List}
-use Prim.Native.Nat.{ℕ, zero, suc, _+_, _*_, _≤_}
+use Prim.Native.Nat.{ℕ, zero, suc}
 use native.Mathlib.Omega.{arith}
-use lib.ListN.{length, drop}
+use lib.ListN.{length}
 use Rattle.definition.specs.Basics.{Answer, refused, gives, _>>=_, refuse}
 use Rattle.definition.specs.Choices.{Choices, chosen}
-use Rattle.definition.specs.Words.{word}
 use Rattle.definition.specs.Refusals.{Accepted, accepted}
 use Rattle.definition.specs.Running.{World}
 use Rattle.definition.specs.Answers.{tooShort, withChoices, Plan, plan, ran}
@@ -32,7 +31,7 @@ use Rattle.edit_perform.specs.AtEnd.{AtEnd, Told, Marked, Performs}
 use Rattle.edit_perform.specs.declared.Ended.{Ended}
 use Rattle.edit_perform.specs.declared.Performed.{Performed}
 use Rattle.edit_perform.specs.declared.Performed.the-variants.{Refused, Overlap, Done}
-use Rattle.series_follow.specs.Accepting.{sameAs, acceptedOn, heldIn, AcceptsOn}
+use Rattle.series_follow.specs.Accepting.{sameAs, acceptedOn, heldIn}
 
 refused-inj : {A : Type 0} {j k : ℕ} → _≡_ {A = Answer A} (refused j) (refused k) → j ≡ k
 refused-inj e = cc

@@ -19,7 +19,7 @@ enum-known-judged-2 : tie.Need-enum-known-judged-2
 enum-known-judged-2 c = search needs
 
 rewrite-and-settle-requires : tie.Need-rewrite-and-settle-requires
-rewrite-and-settle-requires c κs = 
+rewrite-and-settle-requires c κs =
     let p = c .before .before .before .before .before .before .before .before .before .before .before .before .before .before .before .before .before .before .before .before .before .before .before .before .before .before .before .before .before .before .before .pre in
     let J = judged-fates _ _ _ (c .before .before .before .before .before .before .before .before .before .before .before .before .before .before .before .before .judge-changes .ensures) (c .before .before .before .before .before .before .before .judged2 .given .1) in
     (p .0, (J .0, (search needs, search needs, search needs, p .1 .4, p .1 .5, p .1 .6)))
@@ -64,7 +64,7 @@ same-length-10 : tie.Need-same-length-10
 same-length-10 c = search needs
 
 returns-2 : tie.Need-returns-2
-returns-2 c = 
+returns-2 c =
     let J = judged-fates _ _ _ (c .before .before .before .before .before .before .before .before .before .before .before .before .before .before .before .before .before .before .before .before .before .before .before .before .before .before .before .before .before .before .before .before .judge-changes .ensures) (c .before .before .before .before .before .before .before .before .before .before .before .before .before .before .before .before .before .before .before .before .before .before .before .judged2 .given .1) in
     plan-kept _ _ _ (omega (arith, c .before .before .before .before .before .before .before .before .before .before .before .before .before .before .before .before .before .before .before .before .before .before .before .before .before .before .before .before .before .before .before .before .before .before .before .before .before .before .before .before .before .before .before .before .before .before .before .pre .1 .2)) (search needs) (c .before .before .keep-withdrawn .ensures .1) (J .1) _ (c .before .before .before .before .before .before .before .before .before .before .before .before .before .before .before .rewrite-and-settle .ensures) (c .before .before .keep-withdrawn .ensures .0)
 
