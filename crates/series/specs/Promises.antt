@@ -79,9 +79,9 @@ unfolding zeroed Slices.zeros
 zeroed-same a b c d e f g h i a′ b′ c′ d′ e′ f′ g′ h′ i′ p₁ p₂ p₃ p₄ p₅ p₆ p₇ p₈ p₉ = rw (p₁, p₂, p₃, p₄, p₅, p₆, p₇, p₈, p₉) refl
 
 -- what is told, and then cleared, is what is promised
-pub follow-told : {h : Choices} {work : List (List ℕ)} {l : Lent} {b t s rows notes changed marks held holds : List ℕ} {after : Lent} {mid left : List (List ℕ)} {p : Performed} {r : Outcome}
-    → PerformsOn h work l b t s rows notes changed marks p → TellsOn (afterwards p (reachedOn h l b (length held))) l held r holds after → left ≡ zeroed mid → zeroed mid ≡ zeroed work → Follows h b l held work r holds after left
+pub follow-told : {h : Choices} {work : List (List ℕ)} {l : Lent} {b t s rows notes changed marks held holds : List ℕ} {after : Lent} {left : List (List ℕ)} {p : Performed} {r : Outcome}
+    → PerformsOn h work l b t s rows notes changed marks p → TellsOn (afterwards p (reachedOn h l b (length held))) l held r holds after → left ≡ zeroed work → Follows h b l held work r holds after left
 unfolding answers
-follow-told {h} {work} {l} {b} {held = held} {holds = holds} {after = after} {r = r} P T z e =
+follow-told {h} {work} {l} {b} {held = held} {holds = holds} {after = after} {r = r} P T z =
     let A = subst (λ (o : Answer Step). TellsOn o l held r holds after) (P .answers (length held)) T in
-    record { answer = A .answer; result = A .result; memory = A .memory; zeros = z ∙ e }
+    record { answer = A .answer; result = A .result; memory = A .memory; zeros = z }
