@@ -148,7 +148,7 @@ both-rules = (refl, refl, refl)
 abbrev choose : ℕ × ℕ → Choices
 choose n = record { edge = n .0; stronger = n .1 }
 
--- right and wrong numbers, and by what each pair is refused before line 1
+-- right and wrong ones
 abbrev numbers : List (ℕ × ℕ)
 numbers = (0, 0) ∷ (1, 1) ∷ (2, 0) ∷ (2, 2) ∷ (0, 2) ∷ []
 

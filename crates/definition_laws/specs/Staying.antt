@@ -4,7 +4,7 @@ use mathlib.Core.Path.{_≡_, refl, ap}
 use mathlib.Core.Bool.{Bool, true}
 use mathlib.Core.List.{List, [], _∷_, map}
 use mathlib.Core.Option.{Option, none, some}
-use Prim.Native.Nat.{ℕ, _≤_}
+use Prim.Native.Nat.{ℕ, suc, _≤_}
 use native.Mathlib.Omega.{arith}
 use lib.ListN.{length}
 use Rattle.orders.specs.Lists.{All, total}
@@ -47,6 +47,16 @@ module _ {A : Type 0} where
   staying-whole [] (x ∷ l) e = absurd (omega arith)
   staying-whole (y ∷ m) [] e = absurd (omega arith)
   staying-whole (y ∷ m) (x ∷ l) e = ap {B = List A} (λ r. x ∷ r) (staying-whole m l (omega arith))
+
+-- how many stay is told of any list in step
+pub staying-alike : {A B : Type 0} (ws : List (Option ℕ)) (l : List A) (m : List B) → length l ≡ length m → length (staying ws l) ≡ length (staying ws m)
+unfolding staying
+staying-alike [] l m e = refl
+staying-alike (w ∷ ws) [] [] e = refl
+staying-alike (w ∷ ws) [] (y ∷ m) e = absurd (omega arith)
+staying-alike (w ∷ ws) (x ∷ l) [] e = absurd (omega arith)
+staying-alike (none ∷ ws) (x ∷ l) (y ∷ m) e = ap suc (staying-alike ws l m (omega arith))
+staying-alike (some k ∷ ws) (x ∷ l) (y ∷ m) e = staying-alike ws l m (omega arith)
 
 -- what is told of those that stay
 pub staying-map : {A B : Type 0} (f : A → B) (ws : List (Option ℕ)) (l : List A) → staying ws (map f l) ≡ map f (staying ws l)

@@ -30,7 +30,7 @@ pub enum Shared {
 
 // ── One call for all ──
 
-// THE CALL for every job: refusals 17 and 1, the run of the batch, what the job answers from what the run leaves, and every work slice cleared. What the
+// THE CALL for every job: refusals 17, 18 and 1, the run of the batch, what the job answers from what the run leaves, and every work slice cleared. What the
 // job writes stands at the front of `result`; the nine others are work slices, which end as zeros.
 pub fn serve(
     choices: Choices,

@@ -1,17 +1,15 @@
 -- The account of a batch, by how far its run comes.
 -- Assumes nothing.
 use mathlib.Core.Path.{_≡_, refl, sym, ap, _∙_}
-use mathlib.Core.List.{List, [], _∷_, map}
-use mathlib.Core.Option.{Option, none, some}
-use Prim.Native.Nat.{ℕ, suc}
-use native.Mathlib.Omega.{arith}
+use mathlib.Core.List.{List, map}
+use mathlib.Core.Option.{Option}
+use Prim.Native.Nat.{ℕ}
 use lib.ListN.{length, length-map}
 use Rattle.definition.specs.Basics.{Answer, refused, gives, _>>=_}
 use Rattle.definition.specs.Choices.{Choices}
 use Rattle.definition.specs.Refusals.{Accepted, accepted}
 use Rattle.definition.specs.Planning.{Fate, Planned, changesOf, fated}
 use Rattle.definition.specs.EdgeRule.{planned}
-use Rattle.definition.specs.Withdrawing.{staying}
 use Rattle.definition.specs.Running.{World}
 use Rattle.definition.specs.Finishing.{result, fitting}
 use Rattle.definition.specs.Answers.{withdrawing, remaining, judgeChanges, Plan, rewriteChanges, plan, ran}
@@ -58,16 +56,6 @@ module _ (h : Choices) (b : List ℕ) (a : Accepted) (e : accepted b ≡ gives a
           (ap (λ (fs : List Fate). ran a p >>= λ w. fitting programRoom (result (p .changes) (p .climbs) w) >>= λ r. gives (saidLines (accountOf (withdrawing h a) fs))) (sym (rewrite-fates a ps p (rewriting ∙ g))))
 
 -- ── How many stay ───────────────────────────────────────────────────────────────────────────────────────────
-
--- how many stay is told of any list in step
-pub staying-alike : {A B : Type 0} (ws : List (Option ℕ)) (l : List A) (m : List B) → length l ≡ length m → length (staying ws l) ≡ length (staying ws m)
-unfolding staying
-staying-alike [] l m e = refl
-staying-alike (w ∷ ws) [] [] e = refl
-staying-alike (w ∷ ws) [] (y ∷ m) e = absurd (omega arith)
-staying-alike (w ∷ ws) (x ∷ l) [] e = absurd (omega arith)
-staying-alike (none ∷ ws) (x ∷ l) (y ∷ m) e = ap suc (staying-alike ws l m (omega arith))
-staying-alike (some k ∷ ws) (x ∷ l) (y ∷ m) e = staying-alike ws l m (omega arith)
 
 -- a plan has a change for each
 pub planned-length : (h : Choices) (a : Accepted) (p : Plan) → plan h a ≡ gives p → length (p .changes) ≡ length (remaining h a)

@@ -24,6 +24,7 @@ use Rattle.definition_laws.specs.Answers.{gives-inj, refused-gives}
 use Rattle.definition_laws.specs.Basics.{map-All}
 use Rattle.definition_laws.specs.Plans.{performed-right, performed-few, performed-ruled}
 use Rattle.definition_laws.specs.Right.{Right}
+use Rattle.definition_laws.specs.Staying.{staying-alike}
 use Rattle.withdraw_laws.specs.Choice.{withdrawing-length}
 use Rattle.definition_laws.specs.Limits.{performed-records, ran-changed, ran-known}
 use Rattle.read_element_table.specs.View.{view}
@@ -59,7 +60,7 @@ use Rattle.run_execute.specs.Stepping.{Performs}
 use Rattle.run_execute.specs.Running.{plansIn, listsAll, lists-total, Ran, marks-many}
 use Rattle.edit_perform.specs.Ending.{End, ending, resultAt}
 use Rattle.edit_perform.specs.Beginning.{known, planned, begun}
-use Rattle.edit_perform.specs.Accounting.{toldOf, planned-account, staying-alike, planned-length}
+use Rattle.edit_perform.specs.Accounting.{toldOf, planned-account, planned-length}
 use Rattle.edit_perform.specs.AtEnd.{AtEnd, Marked, withdrawnIn, Recounted}
 use Rattle.edit_perform.specs.declared.Ended.{Ended}
 

@@ -222,6 +222,7 @@ fn settle_and_order(
         Notes::Settled => {
             let runs = plan_postorder::running_order(changes, c, order, running);
             let discarded = count_discarded(changes, c);
+            // Those withdrawn are counted last (`keep_withdrawn`).
             Planned::Made(Counts {
                 recorded: c,
                 changes: c,
