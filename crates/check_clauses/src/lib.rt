@@ -60,7 +60,7 @@ pub fn mark_all(changed: &[u32], marks: &mut [u32])
 }
 
 // Whether two texts are the same.
-fn same_bytes(a: &[u8], b: &[u8]) -> bool
+pub fn same_bytes(a: &[u8], b: &[u8]) -> bool
     ensures { λ r. ⌜ r ≡ sameBytes (now (a .entry)) (now (b .entry)) ⌝ }
 {
     if a.len() != b.len() {

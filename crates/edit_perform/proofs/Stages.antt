@@ -5,11 +5,10 @@ use mathlib.Core.Bool.{Bool, true, false}
 use mathlib.Core.List.{List, _++_}
 use Prim.Native.Nat.{ℕ, _+_, _-_, _*_, _≤_, _<_}
 use native.Mathlib.Omega.{arith}
-use lib.Dec.{ltb}
 use lib.ListN.{length, take, drop, length-append}
 use lib.Seq.{length-take-le, take-append-le}
 use Rattle.orders.specs.Lists.{All}
-use Rattle.definition.specs.Basics.{Answer, refused, gives, _>>=_, refuse}
+use Rattle.definition.specs.Basics.{refused, gives, _>>=_, refuse}
 use Rattle.definition.specs.Choices as definition
 use Rattle.definition.specs.Choices.{chosen}
 use Rattle.definition.specs.Answers.{tooShort, withWork, withChoices}
@@ -22,7 +21,7 @@ use Rattle.record_changes.specs.ChangeRowLaws.{rowAt}
 use Rattle.read_layout.specs.Layout.{laidOf, arraysAt}
 use Rattle.read_layout.specs.declared.Layout.{Layout}
 use Rattle.read_layout.specs.declared.Laid.{Laid}
-use Rattle.read_layout.specs.declared.Laid.the-variants.{Refused as Unlaid, At}
+use Rattle.read_layout.specs.declared.Laid.the-variants.{Refused as Unlaid}
 use Rattle.read_batch.specs.Accepting.{judged-refuses}
 use Rattle.read_batch.specs.Leaving.{Judged}
 use Rattle.run_prepare.specs.Parts as parts
@@ -185,9 +184,6 @@ module _ {h : definition.Choices} {b t₀ s₀ t s : List ℕ} {r : Laid} (J : J
   unfolding laidOf
   judged-stops k e = performs-refused k (not-accepted h b k (judged-refuses b k (sym (J .answer) ∙ ap laidOf e)))
 
-pub judged-laid : {b t₀ s₀ t s : List ℕ} {r : Laid} → Judged b t₀ s₀ t s r → (l : Layout) → r ≡ At l → 16384 ≤ length t₀ → 6147 ≤ length s₀ → LaidOut b l t s
-judged-laid {t₀ = t₀} {s₀ = s₀} J l e lt ls = record { before = t₀; beforeRows = s₀; leaves = J .left l e; long = lt; longRows = ls }
-
 -- ── Refused before anything is read ─────────────────────────────────────────────────────────────────────────
 
 -- 17, 1, or neither
@@ -204,23 +200,3 @@ module _ (c : Choices) (work : List (ℕ × ℕ)) (k : ℕ) (e : k ≡ refusalOf
     pub refused-0 : t ≡ false → 0 ≡ refusalOf (withChoices (meant c) work (gives tt))
     unfolding refusalOf withChoices withWork refuse _>>=_
     refused-0 h = rw (well-chosen c k e z, sym f ∙ h) refl
-
--- what its number tells
-module _ (h : definition.Choices) (work : List (ℕ × ℕ)) (k : ℕ) (e : k ≡ refusalOf (withChoices h work (gives tt))) where
-  pub stopped-early : ¬ (k ≡ 0) → _≡_ {A = Answer (Unit {0})} (withChoices h work (gives tt)) (refused k)
-  unfolding refusalOf
-  stopped-early n = go (withChoices h work (gives tt)) e
-    where
-      go : (o : Answer (Unit {0})) → k ≡ refusalOf o → o ≡ refused k
-      go (refused j) e = ap refused (sym e)
-      go (gives u) e = absurd (n e)
-
-  pub nothing-wrong : k ≡ 0 → (chosen h ≡ gives tt) × (tooShort work ≡ false)
-  unfolding refusalOf withChoices withWork chosen refuse _>>=_
-  nothing-wrong z = go (ltb 1 (h .edge)) refl (ltb 1 (h .stronger)) refl (tooShort work) refl
-    where
-      go : (c : Bool) → ltb 1 (h .edge) ≡ c → (d : Bool) → ltb 1 (h .stronger) ≡ d → (t : Bool) → tooShort work ≡ t → (chosen h ≡ gives tt) × (tooShort work ≡ false)
-      go true c d g t f = absurd (let y : k ≡ 17 = e ∙ rw c refl in omega arith)
-      go false c true g t f = absurd (let y : k ≡ 18 = e ∙ rw (c, g) refl in omega arith)
-      go false c false g true f = absurd (let y : k ≡ 1 = e ∙ rw (c, g, f) refl in omega arith)
-      go false c false g false f = (rw (c, g) refl, f)

@@ -18,7 +18,9 @@ use Rattle.read_element_table.specs.Filled.{Tells, filled-tells}
 use Rattle.read_layout.specs.Layout.{arraysAt}
 use Rattle.read_layout.specs.declared.Layout.{Layout}
 use Rattle.read_batch.specs.Accepting.{Parts, accepted-parts}
-use Rattle.read_batch.specs.Leaving.{Leaves}
+use Rattle.read_layout.specs.declared.Laid.{Laid}
+use Rattle.read_layout.specs.declared.Laid.the-variants.{At}
+use Rattle.read_batch.specs.Leaving.{Leaves, Judged}
 use Rattle.run_prepare.specs.Parts.{notesIn}
 use Rattle.run_model.specs.Store.{heldNote, store}
 use Rattle.run_execute.specs.Standing.{Begun}
@@ -30,6 +32,10 @@ pub record LaidOut (b : List ℕ) (l : Layout) (t s : List ℕ) : Type 0 where
   pub leaves : Leaves b l before beforeRows t s
   pub long : 16384 ≤ length before
   pub longRows : 6147 ≤ length beforeRows
+
+-- as lines 2 to 7 leave it
+pub judged-laid : {b t₀ s₀ t s : List ℕ} {r : Laid} → Judged b t₀ s₀ t s r → (l : Layout) → r ≡ At l → 16384 ≤ length t₀ → 6147 ≤ length s₀ → LaidOut b l t s
+judged-laid {t₀ = t₀} {s₀ = s₀} J l e lt ls = record { before = t₀; beforeRows = s₀; leaves = J .left l e; long = lt; longRows = ls }
 
 module _ {b : List ℕ} {l : Layout} {t₀ s₀ t s : List ℕ} (v : Leaves b l t₀ s₀ t s) where
   pub known : Known b (v .what)

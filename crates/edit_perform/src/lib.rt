@@ -105,7 +105,7 @@ fn run_plan(
 }
 
 // The plan of an accepted batch, and its steps. Before the first step the rows, the prepared rows, the changed rows and the marks serve planning.
-fn plan_and_run(
+pub fn plan_and_run(
     choices: Choices,
     b: &[u8],
     l: Layout,
@@ -166,7 +166,7 @@ fn plan_and_run(
 }
 
 // 17 or 18 where there is no such choice, 1 where a work slice is too short, else 0.
-fn refused_first(
+pub fn refused_first(
     choices: Choices,
     table: &[u32],
     source: &[u32],

@@ -87,12 +87,12 @@ note-elements w h =
 
 -- what the rows of at most one tree tell is what the definition lists of it
 module _ {X : Type 0} (f : Row → X) (g : Tree ℕ → X) (same : (t : Tree ℕ) → map f (rowsOf t) ≡ map g (preorder t)) where
-  one-told : (cs : List (Tree ℕ)) → map f (rowsAll (take 1 cs)) ≡ map g (flatMap preorder (take 1 cs))
+  pub one-told : (cs : List (Tree ℕ)) → map f (rowsAll (take 1 cs)) ≡ map g (flatMap preorder (take 1 cs))
   unfolding flatMap
   one-told [] = refl
   one-told (c ∷ cs) = rw (append-nil (rowsOf c), append-nil (preorder c)) (same c)
 
-one-text : (cs : List (Tree ℕ)) → flatMap own (rowsAll (take 1 cs)) ≡ flatMap text (take 1 cs)
+pub one-text : (cs : List (Tree ℕ)) → flatMap own (rowsAll (take 1 cs)) ≡ flatMap text (take 1 cs)
 unfolding flatMap
 one-text [] = refl
 one-text (c ∷ cs) = rw (append-nil (rowsOf c), append-nil (text c)) (text-tree c)

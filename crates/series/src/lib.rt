@@ -1,10 +1,14 @@
 // The public calls on a series of edits (document 02, Note 14).
+use choices::Choices;
+use promises::Outcome;
 ghost use mathlib.Core.Path.{_≡_};
 ghost use mathlib.Core.List.{_∷_, []};
+ghost use Rattle.choices.specs.Meant.{meant};
 ghost use Rattle.promises.specs.Slices.{lengths};
 ghost use Rattle.series_check.specs.Judged.{numberOf};
 ghost use Rattle.series_laws.specs.Lent.{started};
-ghost use Rattle.series.specs.Promises.{startNeeds, Starts};
+ghost use Rattle.series_leave.specs.Leaving.{lentOf};
+ghost use Rattle.series.specs.Promises.{startNeeds, Starts, Follows};
 
 // How many words the rows of 4,096 elements have.
 pub const ROWS: usize = 12288;
@@ -29,4 +33,68 @@ pub fn start(tree: &[u8], bookmarks: &[u32], rows: &mut [u32]) -> usize
     let n = judge_start(tree, bookmarks, rows);
     words::clear(rows);
     n
+}
+
+// A LATER CALL of a series: the batch is edited, its result written to the front of `result`, and the memory then holds the new tree and the bookmarks that survive, each with its
+// path of now. How many bytes the result has, or the refusal out of 1 to 13, 16 to 18 and 20 to 22: then the result slice and both slices of the memory are as they were. The nine
+// others are work slices, which end as zeros.
+pub fn follow(
+    choices: Choices,
+    batch: &[u8],
+    tree: &mut [u8],
+    bookmarks: &mut [u32],
+    result: &mut [u8],
+    table: &mut [u32],
+    source: &mut [u32],
+    changes: &mut [u32],
+    notes: &mut [u32],
+    incoming: &mut [u32],
+    changed: &mut [u32],
+    marks: &mut [u32],
+    rows: &mut [u32],
+    prepared: &mut [u32],
+) -> Outcome
+    ensures { λ r. ⌜ Follows (meant choices) (now (batch .entry)) (lentOf (now (tree .entry)) (now (bookmarks .entry))) (now (result .entry)) (now (table .entry) ∷ now (source .entry) ∷ now (changes .entry) ∷ now (notes .entry) ∷ now (incoming .entry) ∷ now (changed .entry) ∷ now (marks .entry) ∷ now (rows .entry) ∷ now (prepared .entry) ∷ []) r (now (result .exit)) (lentOf (now (tree .exit)) (now (bookmarks .exit))) (now (table .exit) ∷ now (source .exit) ∷ now (changes .exit) ∷ now (notes .exit) ∷ now (incoming .exit) ∷ now (changed .exit) ∷ now (marks .exit) ∷ now (rows .exit) ∷ now (prepared .exit) ∷ []) ⌝ }
+{
+    let done = series_follow::perform(
+        choices,
+        batch,
+        tree,
+        bookmarks,
+        table,
+        source,
+        changes,
+        notes,
+        incoming,
+        changed,
+        marks,
+        rows,
+        prepared,
+    );
+    let told = series_answer::answer(
+        choices,
+        batch,
+        done,
+        source,
+        marks,
+        rows,
+        notes,
+        changed,
+        prepared,
+        tree,
+        bookmarks,
+        result,
+    );
+    promises::clear_all(
+        table,
+        source,
+        changes,
+        notes,
+        incoming,
+        changed,
+        marks,
+        rows,
+        prepared,
+    );
+    told
 }

@@ -1,13 +1,17 @@
 // Bookmarks moved by a run: a bookmark is an old element, and the element's mark says where it stands now.
 ghost use mathlib.Core.Path.{_≡_};
 ghost use Prim.Native.Nat.{_+_, _*_, _^_, _≤_, _<_};
-ghost use lib.ListN.{length, take};
+ghost use lib.ListN.{length, getD, take};
 ghost use lib.Seq.{paste};
 ghost use Rattle.rows_model.specs.Place.{markOf};
-ghost use Rattle.series_laws.specs.Lent.{bookmarkOut};
+ghost use Rattle.series_laws.specs.Follow.{kept};
+ghost use Rattle.series_laws.specs.Lent.{bookmarkIn, bookmarkOut};
+ghost use Rattle.series_check.specs.Slots.{slotAt};
 ghost use Rattle.series_move.specs.Paths.{Survives};
 ghost use Rattle.series_move.specs.Found.{Stands, movedBy};
 ghost use Rattle.series_move.specs.Moved.{PathNow};
+ghost use Rattle.series_move.specs.Kept.{Here, Put};
+ghost use Rattle.series_move.specs.Packing.{Moving, Packs, bookmarksAfter};
 use rows_path::Resolved;
 use rows_path::resolve;
 use rows_syntax_node::child_row;
@@ -91,4 +95,77 @@ fn put_bookmark(bookmarks: &mut [u32], to: usize, number: u32, path: &[u32])
     bookmarks[at] = number;
     bookmarks[at + PATH_LENGTH] = path.len() as u32;
     words::copy_in(bookmarks, at + PATH, path);
+}
+
+// The bookmark of slot `i` after a run: written to slot `to`, which is no later, or dropped. The slot for the next one.
+fn move_bookmark(
+    source: &[u32],
+    e: usize,
+    marks: &[u32],
+    rows: &[u32],
+    n: usize,
+    bookmarks: &mut [u32],
+    i: usize,
+    to: usize,
+    path: &mut [u32],
+) -> usize
+    requires { ⌜ Here (now source) e (now marks) (now rows) n (slotAt (now bookmarks) i) ⌝ }
+    requires { ⌜ (1 + 65 * (i + 1) ≤ length (now bookmarks)) × (to ≤ i) × (i < 2 ^ 32) × (63 ≤ length (now path)) ⌝ }
+    ensures { λ r. ⌜ ((h : Here (now (source .entry)) e (now (marks .entry)) (now (rows .entry)) n (slotAt (now (bookmarks .entry)) i)) → Put (now (bookmarks .entry)) to (kept (h .run .moves) (bookmarkIn (slotAt (now (bookmarks .entry)) i))) (now (bookmarks .exit)) r) ⌝ }
+{
+    let at = slot_at(i);
+    let k = word(bookmarks, at + PATH_LENGTH);
+    let from = at + PATH;
+    let end = from + k;
+    if path_now(source, e, marks, rows, n, &bookmarks[from..end], path) {
+        let number = bookmarks[at];
+        put_bookmark(bookmarks, to, number, &path[..k]);
+        return to + 1;
+    }
+    to
+}
+
+// ── All bookmarks ──
+
+// The `k` bookmarks after a run: the survivors in their order, in the first slots. How many they are.
+fn pack_bookmarks(
+    source: &[u32],
+    e: usize,
+    marks: &[u32],
+    rows: &[u32],
+    n: usize,
+    bookmarks: &mut [u32],
+    k: usize,
+    path: &mut [u32],
+) -> usize
+    requires { ⌜ Moving (now source) e (now marks) (now rows) n (now bookmarks) k ⌝ }
+    requires { ⌜ (1 + 65 * k ≤ length (now bookmarks)) × (k < 2 ^ 32) × (63 ≤ length (now path)) ⌝ }
+    ensures { λ r. ⌜ (r ≤ k) × ((v : Moving (now (source .entry)) e (now (marks .entry)) (now (rows .entry)) n (now (bookmarks .entry)) k) → Packs (v .run .moves) (now (bookmarks .entry)) k (now (bookmarks .exit)) r) ⌝ }
+{
+    let mut to = 0;
+    let mut i = 0;
+    while i < k {
+        to = move_bookmark(source, e, marks, rows, n, bookmarks, i, to, path);
+        i += 1;
+    }
+    to
+}
+
+// The lent bookmarks after a run: their count, and the survivors in their order; beyond them what was held.
+pub fn move_bookmarks(
+    source: &[u32],
+    e: usize,
+    marks: &[u32],
+    rows: &[u32],
+    n: usize,
+    bookmarks: &mut [u32],
+)
+    requires { ⌜ Moving (now source) e (now marks) (now rows) n (now bookmarks) (getD (now bookmarks) 0 0) ⌝ }
+    requires { ⌜ 1 + 65 * getD (now bookmarks) 0 0 ≤ length (now bookmarks) ⌝ }
+    ensures { λ _. ⌜ ((v : Moving (now (source .entry)) e (now (marks .entry)) (now (rows .entry)) n (now (bookmarks .entry)) (getD (now (bookmarks .entry)) 0 0)) → now (bookmarks .exit) ≡ bookmarksAfter (v .run .moves) (now (bookmarks .entry))) ⌝ }
+{
+    let mut path = [0u32; 63];
+    let k = word(bookmarks, 0);
+    let to = pack_bookmarks(source, e, marks, rows, n, bookmarks, k, &mut path);
+    bookmarks[0] = to as u32;
 }

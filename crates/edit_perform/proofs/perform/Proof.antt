@@ -5,7 +5,9 @@ use native.Mathlib.Omega.{arith}
 use borrow.Author.Needs.{needs}
 use Rattle.promises.specs.Slices.{long-enough}
 use Rattle.edit_perform.specs.AtEnd.{early, long}
-use Rattle.edit_perform.proofs.Stages.{judged-stops, judged-laid, stopped-early, nothing-wrong}
+use Rattle.edit_perform.specs.First.{stopped-early, nothing-wrong}
+use Rattle.edit_perform.specs.Beginning.{judged-laid}
+use Rattle.edit_perform.proofs.Stages.{judged-stops}
 use Rattle.edit_perform.proofs.perform.Statement.{statement}
 use Rattle.edit_perform.proofs.perform.Tie as tie
 
@@ -40,7 +42,7 @@ same-length-9 : tie.Need-same-length-9
 same-length-9 c = refl
 
 returns : tie.Need-returns
-returns c = early _ (stopped-early _ _ _ (c .before .refused-first .ensures) (c .if1 .taken)) refl
+returns c = early _ (stopped-early _ _ _ (c .before .refused-first .ensures) _ (c .if1 .taken)) refl
 
 accept-requires : tie.Need-accept-requires
 accept-requires c κs = let v = long-enough _ _ _ _ _ _ _ _ _ ((nothing-wrong _ _ _ (c .before .before .before .refused-first .ensures) (c .before .before .if1 .left)) .1) in (v .0 .0, v .0 .1)

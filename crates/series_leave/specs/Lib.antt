@@ -1,0 +1,2 @@
+-- The memory that an accepted batch leaves.
+pub mod Leaving
