@@ -6,10 +6,10 @@ child numbers). `Slices` holds them whole, with what lies beyond what is used.""
 from collections import namedtuple
 from struct import pack, unpack_from
 
-from batches import NODE, REPLACE, Batch, Element, encode
+from batches import FIRST, NODE, REPLACE, Batch, Element, encode
 from books import joined, next_book
 from damage import damage
-from generator import EVEN, INSERTING, Calls, Draws, add_editors, add_notes, add_rules, chains, exact, free, growing, large, nested, small_style, some_tree, token
+from generator import EVEN, INSERTING, Calls, Draws, Style, add_editors, add_notes, add_rules, chains, exact, free, growing, large, nested, small_style, some_tree, token
 from landed import notes
 
 Slices = namedtuple("Slices", "tree bookmarks")
@@ -95,7 +95,7 @@ def on_tree(d, tree):
             batch.calls, batch.mappings = [], []
     if d.chance(0.02):
         batch.calls.append((REPLACE, tree, [d.choose([it for it in batch.elements() if it.is_node])]))
-    calls = Calls(d, batch, d.choose((EVEN, EVEN, INSERTING)), d.choose((0.7, 0.9, 1.0)))
+    calls = Calls(d, batch, d.choose((EVEN, INSERTING, INSERTING)), d.choose((0.7, 0.9, 1.0)))
     calls.old = [it for it in calls.old if not it.is_root] or calls.old
     calls.new = [it for it in calls.new if sum(1 for _ in it.below()) < 40] or calls.new[-1:]
     calls.add(d.weighted(((0, 1), (1, 4), (3, 4), (6, 2))))
@@ -116,12 +116,19 @@ def batch_on(seed, number, tree):
     return damage(d, data) if d.chance(0.05) else data
 
 
+def doubled(d):
+    """A tree that lists itself: it is left with more than 2,048 elements, which no batch can have."""
+    root = Element(1, [token(2) for _ in range(d.between(1000, 1500))])
+    return Batch([root], [(FIRST, root, [root])])
+
+
 def first_tree(d):
     """The starting tree, and for a few series the bytes of a first batch on it, one that comes near the limits."""
-    if d.chance(0.01):
-        batch = d.weighted(((growing, 4), (exact, 2), (large, 1)))(d)
+    if d.chance(0.02):
+        batch = d.weighted(((growing, 4), (exact, 2), (large, 1), (doubled, 2)))(d)
         return model_tree(batch.trees[0]), encode(batch)
-    return model_tree(some_tree(d, small_style(d), d.below(4))), None
+    style = Style(d.between(10, 60), d.between(3, 8), d.between(2, 6), 0.4, 0.1, 0.15, 3) if d.chance(0.7) else small_style(d)
+    return model_tree(some_tree(d, style, d.below(6))), None
 
 
 # ------------------------------------------------------------------ starts
@@ -140,7 +147,7 @@ def some_bookmarks(d, tree):
 def slices_for(d, lent):
     """Slices of some lengths, full of a pattern, with this memory in them."""
     used = len(tree_bytes(lent.tree))
-    room = used + d.weighted(((0, 1), (d.below(40), 2), (300, 6), (2000, 4))) if d.chance(0.97) else MOST_TREE
+    room = used + d.weighted(((0, 1), (d.below(60), 2), (500, 6), (3000, 24))) if d.chance(0.97) else MOST_TREE
     words = 1 + SLOT * (len(lent.bookmarks) + d.weighted(((0, 4), (1, 2), (3, 1)))) + d.below(3)
     pattern = d.between(1, 255)
     return with_memory(Slices(bytes([pattern]) * room, tuple(pattern << 24 | i for i in range(words))), lent)

@@ -268,14 +268,12 @@ fn refusals_in_order() {
     let (tree, words) = (tree_slice(100), words_of(&ALL, 0));
     let twice = words_of(&[(4, &[0]), (4, &[9])], 0);
     let astray = words_of(&[(4, &[0]), (5, &[2])], 0);
-    let another = on(Flat { text: b"xb", ..TREE }, |it, _, d| {
-        it.replace(4, d + 1);
-        it.delete(4);
-    });
-    let overlap = on(TREE, |it, _, d| {
-        it.replace(4, d + 1);
-        it.delete(4);
-    });
+    let overlapping = |it: &mut BatchBuilder, c, d| {
+        it.replace(0, c);
+        it.replace(1, d);
+    };
+    let another = on(Flat { text: b"xb", ..TREE }, overlapping);
+    let overlap = on(TREE, overlapping);
     let by = |edge, stronger| Choices { edge, stronger };
     let short = |i: usize| std::array::from_fn(|j| if i == j { -1 } else { 0 });
     for (number, choices, batch, tree, words, more) in [
