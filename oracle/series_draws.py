@@ -6,7 +6,7 @@ child numbers). `Slices` holds them whole, with what lies beyond what is used.""
 from collections import namedtuple
 from struct import pack, unpack_from
 
-from batches import FIRST, NODE, REPLACE, Batch, Element, encode
+from batches import AFTER, FIRST, NODE, REPLACE, Batch, Element, encode
 from books import joined, next_book
 from damage import damage
 from generator import EVEN, INSERTING, Calls, Draws, Style, add_editors, add_notes, add_rules, chains, exact, free, growing, large, nested, small_style, some_tree, token
@@ -89,10 +89,12 @@ def on_tree(d, tree):
     if inner and d.chance(0.3):
         count = len(tree.children)
         nested(d, style, batch, d.choose(inner), d.between(1, 3))
-        del tree.children[count:]  # where a replacement was put into tree 0 itself, the tree would be another: then the batch is drawn again
+        del tree.children[count:]  # a replacement that was put into tree 0 itself would make it another tree: it goes, with all that was drawn for it
         alive = set(batch.elements())
         if any(it not in alive for _, target, listed in batch.calls for it in [target, *listed]) or any(it not in alive for pair in batch.mappings for it in pair):
             batch.calls, batch.mappings = [], []
+    if tree.children and d.chance(0.02):  # as many as may be listed, or more (16)
+        batch.calls.append((AFTER, d.choose(tree.children), [d.choose(batch.trees[1:] or [tree])] * d.choose((41, 42, 50))))
     if d.chance(0.02):
         batch.calls.append((REPLACE, tree, [d.choose([it for it in batch.elements() if it.is_node])]))
     calls = Calls(d, batch, d.choose((EVEN, INSERTING, INSERTING)), d.choose((0.7, 0.9, 1.0)))

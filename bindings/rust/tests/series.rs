@@ -85,6 +85,19 @@ fn a_replaced_root_drops_all() {
     }
 }
 
+/// c goes in before the run a..z is deleted, which then is three children long: paths move by places of that moment, not of the old tree.
+#[test]
+fn steps_move_paths_at_their_moment() {
+    let mut series = started();
+    let batch = on(TREE, |it, c, d| {
+        it.replace_all(2, 3, &[]);
+        it.replace(4, d + 1);
+        it.insert_after(2, &[c + 1]);
+    });
+    assert_eq!(series.follow_bytes(RULE_0, &batch).expect("it is accepted").text(), b"d");
+    assert_eq!(series.bookmarks(), [(7, &[][..]), (3, &[0])]);
+}
+
 #[test]
 fn survivors_keep_their_order() {
     let mixed: [(u32, &[u32]); 5] = [(5, &[1]), (9, &[0, 0]), (7, &[]), (0, &[0, 1]), (u32::MAX, &[0])];
