@@ -94,4 +94,5 @@ TWICE = series(tree_slice(P, 100), bookmark_slice((4, (0,)), (4, (1,)), (5, (9,)
 ASTRAY = series(tree_slice(P, 100), bookmark_slice((4, (0,)), (5, (2,))), [call(b"")])  # 21, 21
 CUT = series(tree_slice(P, 100)[:49], bookmark_slice(), [call(after_a)])  # 4, 4
 
-sys.stdout.buffer.write(words(4) + LONG + TWICE + ASTRAY + CUT)
+if __name__ == "__main__":
+    sys.stdout.buffer.write(words(4) + LONG + TWICE + ASTRAY + CUT)

@@ -1,5 +1,5 @@
-//! The static library beside the Rust `SyntaxEditor` over two stand-ins for rowan, on the same batches:   bench [--quick] [--writer] [--rules] [NAME]...
-//! NAME is the beginning of a row's name; without one, all rows, and those of the edge rules and of the writer behind them; with `--rules` or `--writer` these alone. bench/README.md says what each column counts.
+//! The static library beside the Rust `SyntaxEditor` over two stand-ins for rowan, on the same batches:   bench [--quick] [--writer] [--rules] [--series] [NAME]...
+//! NAME is the beginning of a row's name; without one, all rows, and those of the edge rules, of series and of the writer behind them; with `--rules`, `--series` or `--writer` these alone. bench/README.md says what each column counts.
 
 use std::{env, hint::black_box};
 
@@ -10,6 +10,7 @@ use time::{Clock, Contestant, Effort, FULL, QUICK, medians, shown};
 
 mod batches;
 mod rules;
+mod series;
 mod time;
 mod writer;
 
@@ -170,6 +171,9 @@ fn main() {
     if options.iter().any(|it| it == "--rules") {
         return rules::table(&tables[0].1, effort);
     }
+    if options.iter().any(|it| it == "--series") {
+        return tables[..2].iter().for_each(|(what, cases)| series::table(what, cases, effort));
+    }
     if !names.is_empty() {
         head("");
         let named = tables.iter().flat_map(|(_, cases)| cases).filter(|case| names.iter().any(|it| case.name.starts_with(it)));
@@ -189,5 +193,6 @@ fn main() {
     ranges("All rows", all.iter());
     println!();
     rules::table(&tables[0].1, effort);
+    tables[..2].iter().for_each(|(what, cases)| series::table(what, cases, effort));
     tables[..2].iter().for_each(|(what, cases)| writer::table(what, cases, effort));
 }

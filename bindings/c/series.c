@@ -1,61 +1,135 @@
-/* Plays the recorded series of crates/series_play/stdin through the static library and prints what that program prints:   series < crates/series_play/stdin */
+/* A series of edits on root(a, b) with a bookmark on each element: prints after each call what it told and where the bookmarks are, and ends with status 1 if a work slice
+ * that was full of a pattern is not all zeros after a call, or if a refusal changed the memory or the result. Its batches are written by libsyntax_edit.a. */
+#include <inttypes.h>
 #include <stdio.h>
 #include <stdlib.h>
 #include <string.h>
 
 #include "syntax_series.h"
 
-static uint8_t tree[65536], result[65536], batch[65536];
-static uint32_t bookmarks[SYNTAX_SERIES_BOOKMARKS];
-static uint32_t table[SYNTAX_SERIES_TABLE], source[SYNTAX_SERIES_SOURCE], changes[SYNTAX_SERIES_CHANGES], notes[SYNTAX_SERIES_NOTES], incoming[SYNTAX_SERIES_INCOMING];
-static uint32_t changed[SYNTAX_SERIES_CHANGED], marks[SYNTAX_SERIES_MARKS], rows[SYNTAX_SERIES_ROWS], prepared[SYNTAX_SERIES_PREPARED];
+#define NODE 0x80000000u
+#define LIST(name, list) .name = list, .name##_length = sizeof(list) / sizeof *(list)
 
-/* The input is ours, and is trusted to be whole. */
-static void take(void *to, size_t n)
+static syntax_work work;
+static syntax_series memory, before;
+static uint8_t batch[SYNTAX_MOST_BATCH], result[SYNTAX_MOST_ANSWER];
+
+static void fail(const char *why)
 {
-    if (fread(to, 1, n, stdin) != n)
-        exit(2);
+    printf("%s\n", why);
+    exit(1);
 }
 
-static uint32_t word(void)
+/* The bookmarks 7 on the root, 5 on b and 3 on a, in this order. (Words stand in memory as in a batch: x86-64 is little-endian.) */
+static void begin(void)
 {
-    uint8_t b[4];
-    take(b, 4);
-    return b[0] | (uint32_t)b[1] << 8 | (uint32_t)b[2] << 16 | (uint32_t)b[3] << 24;
+    static const uint32_t tree[] = {3, 2, NODE | 1, 2, 3, 2, 1, 1}, numbers[] = {7, 5, 3}, child[] = {0, 1, 0};
+    memcpy(memory.tree, tree, sizeof tree);
+    memcpy(memory.tree + sizeof tree, "ab", 2);
+    memory.bookmarks[0] = 3;
+    for (size_t i = 0; i < 3; i++) {
+        uint32_t *slot = syntax_bookmark(&memory, i);
+        slot[0] = numbers[i];
+        slot[1] = i > 0;
+        slot[2] = child[i];
+    }
 }
 
-static void print_bookmarks(void)
+/* A batch of one call on the tree of the memory, with a further tree that lends the token c, the last element. */
+static size_t build(uint32_t operation, uint32_t target)
 {
-    for (uint32_t i = 0; i < bookmarks[0]; i++) {
-        const uint32_t *slot = bookmarks + 1 + SYNTAX_SERIES_SLOT * i;
-        printf(" %u=", slot[0]);
-        for (uint32_t j = 0; j < slot[1] && j < 63; j++)
-            printf("/%u", slot[2 + j]);
+    uint32_t sizes[2], kinds[16], measures[16];
+    uint8_t text[16];
+    memcpy(sizes, memory.tree, sizeof sizes);
+    const size_t n = sizes[0], lists = operation != 3;
+    memcpy(kinds, memory.tree + 8, 4 * n);
+    memcpy(measures, memory.tree + 8 + 4 * n, 4 * n);
+    memcpy(text, memory.tree + 8 + 8 * n, sizes[1]);
+    kinds[n] = NODE | 1, kinds[n + 1] = 4;
+    measures[n] = measures[n + 1] = 1;
+    text[sizes[1]] = 'c';
+    const uint32_t operations[] = {operation}, counts[] = {(uint32_t)lists}, rules[] = {0}, targets[] = {target};
+    const uint32_t listed[] = {(uint32_t)n + (operation != 2)};    /* the root is replaced by a root */
+    const syntax_lists it = {
+        .trees = 2, .kinds = kinds, .kinds_length = n + 2, .measures = measures, .measures_length = n + 2, .text = text, .text_length = sizes[1] + 1,
+        LIST(operations, operations), LIST(counts, counts), LIST(rules, rules), LIST(targets, targets), .listed = listed, .listed_length = lists
+    };
+    const int64_t length = syntax_write_static(&it, batch, sizeof batch);
+    if (length < 0)
+        fail("the writer refuses");
+    return (size_t)length;
+}
+
+static void full(void)
+{
+    memset(&work, 0xa5, sizeof work);
+    memset(result, 0x5a, sizeof result);
+    before = memory;
+}
+
+/* A call of `start` is lent `rows` alone. */
+static void cleared(const void *from, size_t bytes)
+{
+    for (const uint8_t *at = from; bytes > 0; bytes--)
+        if (*at++ != 0)
+            fail("a work slice is not zeros");
+}
+
+static void say(const char *what, int64_t told)
+{
+    printf("%s: %s %" PRId64, what, told < 0 ? "refused" : "told", told < 0 ? -told : told);
+    for (size_t i = 0; i < sizeof result && told < 0; i++)
+        if (result[i] != 0x5a)
+            fail(": the result is written");
+    if (told <= 0 && memcmp(&memory, &before, sizeof memory) != 0)
+        fail(": the memory is written");
+    for (size_t i = 0; i < memory.bookmarks[0]; i++) {
+        const uint32_t *slot = syntax_bookmark(&memory, i);
+        printf(" %" PRIu32 "=", slot[0]);
+        for (size_t j = 0; j < slot[1]; j++)
+            printf("/%" PRIu32, slot[2 + j]);
     }
     printf("\n");
 }
 
-#define LENT(s) s, sizeof s / sizeof *s
+static void start(const char *what)
+{
+    full();
+    const int64_t told = syntax_series_start_with(&work, &memory);
+    cleared(work.rows, sizeof work.rows);
+    say(what, told);
+}
+
+/* A later call; its tree has so many bytes. */
+static void follow(const char *what, size_t length, size_t room)
+{
+    full();
+    const int64_t told = syntax_series_follow(SYNTAX_EDGE_BY_OFFSET, SYNTAX_STRONGER_OFF, batch, length, memory.tree, room, memory.bookmarks, SYNTAX_BOOKMARK_WORDS,
+        result, sizeof result, work.table, SYNTAX_TABLE, work.source, SYNTAX_SOURCE, work.changes, SYNTAX_CHANGES, work.notes, SYNTAX_NOTES, work.incoming,
+        SYNTAX_INCOMING, work.changed, SYNTAX_CHANGED, work.marks, SYNTAX_MARKS, work.rows, SYNTAX_ROWS, work.prepared, SYNTAX_PREPARED);
+    cleared(&work, sizeof work);
+    say(what, told);
+}
 
 int main(void)
 {
-    for (uint32_t all = word(); all > 0; all--) {
-        size_t n = word();
-        take(tree, n);
-        size_t m = word() / 4;
-        for (size_t i = 0; i < m; i++)
-            bookmarks[i] = word();
-        printf("start %lld", (long long)-syntax_series_start(tree, n, bookmarks, m, LENT(rows)));
-        print_bookmarks();
-        for (uint32_t calls = word(); calls > 0; calls--) {
-            uint32_t edge = word(), room = word();
-            size_t length = word();
-            take(batch, length);
-            int64_t told = syntax_series_follow(edge, 0, batch, length, tree, n, bookmarks, m, result, room, LENT(table), LENT(source), LENT(changes), LENT(notes),
-                LENT(incoming), LENT(changed), LENT(marks), LENT(rows), LENT(prepared));
-            printf(told < 0 ? "refused %lld" : "bytes %lld", (long long)(told < 0 ? -told : told));
-            print_bookmarks();
-        }
-    }
+    begin();
+    start("root(a, b)");
+    follow("c after a, in a byte too few", build(1, 1), 8 + 8 * 4 + 2);
+    follow("c after a", build(1, 1), SYNTAX_MOST_TREE);
+    follow("a batch cut short", build(1, 1) - 1, SYNTAX_MOST_TREE);
+    size_t length = build(3, 1);
+    follow("a deleted", length, SYNTAX_MOST_TREE);
+    follow("on a tree that is gone", length, SYNTAX_MOST_TREE);
+    length = build(2, 0);
+    full();
+    say("the root replaced", syntax_series_follow_with(&work, &memory, SYNTAX_EDGE_BY_TREE, SYNTAX_STRONGER_FIRST, batch, length, result, sizeof result));
+    begin();
+    syntax_bookmark(&memory, 2)[0] = 5;
+    start("5 twice");
+    begin();
+    syntax_bookmark(&memory, 1)[2] = 2;
+    start("no child 2");
+    follow("of a later call too", build(3, 1), SYNTAX_MOST_TREE);
     return 0;
 }

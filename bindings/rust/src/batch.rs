@@ -2,7 +2,7 @@
 
 use std::{error::Error, fmt};
 
-use crate::{Refusal, raw, told};
+use crate::{Flat, Refusal, raw, told};
 
 /// A batch as bytes.
 #[derive(Clone, Debug, PartialEq, Eq)]
@@ -97,6 +97,19 @@ impl BatchBuilder {
         }
         self.text.extend_from_slice(text);
         self.element(u32::from(kind), text.len())
+    }
+
+    /// A further tree, told whole: the number of its root, which those of its other elements follow in preorder.
+    pub fn tree(&mut self, tree: &Flat<'_>) -> u32 {
+        if !self.open.is_empty() {
+            self.fault.get_or_insert(Unfit::Unbalanced);
+        }
+        let root = word(self.kinds.len());
+        self.trees += 1;
+        self.kinds.extend_from_slice(tree.kinds);
+        self.measures.extend_from_slice(tree.measures);
+        self.text.extend_from_slice(tree.text);
+        root
     }
 
     fn element(&mut self, kind: u32, measure: usize) -> u32 {
@@ -211,6 +224,6 @@ impl BatchBuilder {
 }
 
 /// A count as a word. What stands for one that fits no word is over every limit.
-fn word(count: usize) -> u32 {
+pub(crate) fn word(count: usize) -> u32 {
     u32::try_from(count).unwrap_or(u32::MAX)
 }

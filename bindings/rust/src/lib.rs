@@ -1,14 +1,17 @@
-//! A safe wrapper of the proved syntax tree editor (`libsyntax_edit.a`) and of the checker of another editor's output (`libsyntax_check.a`).
+//! A safe wrapper of the proved syntax tree editor (`libsyntax_edit.a`), of the checker of another editor's output (`libsyntax_check.a`) and of series of edits
+//! with bookmarks (`libsyntax_series.a`).
 //!
 //! A [`Batch`] (trees, calls, mappings, notes) is told to a [`BatchBuilder`] and laid out by the library's writer; an [`Editor`], which owns the work memory, answers it with an
 //! [`Answer`] (the new tree, its changed elements, its notes) or a [`Refusal`]: every batch of bytes gets one of the two. The library's calls have no
 //! precondition but that lent buffers do not overlap, which references see to here. An editor has 235 KiB of work memory in nine slices. A [`Checker`] judges a [`Claim`], what another editor says of its own output.
+//! A [`Series`] edits batch after batch on the tree that the one before left, and its bookmarks follow.
 
 mod account;
 mod answer;
 mod batch;
 mod checker;
 pub mod raw;
+mod series;
 
 use std::{error::Error, fmt};
 
@@ -16,6 +19,7 @@ pub use account::{Fate, Unaccounted};
 pub use answer::{Answer, Element, Note};
 pub use batch::{Batch, BatchBuilder, Unfit};
 pub use checker::{Checker, Claim, Flat};
+pub use series::Series;
 
 /// The most bytes that an answer has.
 pub const MOST_ANSWER: usize = 65_560;
@@ -44,16 +48,16 @@ pub struct Share {
     pub remainder: usize,
 }
 
-/// Why a batch got no answer, lists made no batch, or a claim no verdict: a number of the list of refusals.
+/// Why a batch got no answer, lists made no batch, a claim got no verdict or a series did not begin: a number of the list of refusals.
 #[derive(Clone, Copy, Debug, PartialEq, Eq, Hash)]
 pub struct Refusal(u8);
 
 /// The refusals, each with its number.
-const MEANINGS: [(u8, &str); 19] = [
+const MEANINGS: [(u8, &str); 22] = [
     (1, "a work slice is too short"),
     (2, "the batch has under 28 bytes"),
     (3, "a size is out of its limits"),
-    (4, "the length differs from what the sizes give, or lists of a claim in step differ in length"),
+    (4, "the length differs from what the sizes give, or lists in step differ in length"),
     (5, "the elements do not spell the trees"),
     (6, "a call is not well formed"),
     (7, "a mapping or a note is not well formed"),
@@ -62,13 +66,16 @@ const MEANINGS: [(u8, &str); 19] = [
     (10, "a climb never ends"),
     (11, "a step's target is gone"),
     (12, "the trees outgrow their limits"),
-    (13, "the result buffer is too short"),
+    (13, "the result buffer, or the memory of a series, is too short"),
     (14, "the lists differ in length or make a batch that is not well formed"),
     (15, "the destination is too short"),
     (16, "a call lists more than 41 elements"),
     (17, "an edge rule is neither 0 nor 1"),
     (18, "the choice of stronger rules first is neither 0 nor 1"),
     (19, "a claim names no element of its tree"),
+    (20, "there are more than 256 bookmarks, or a number is given twice"),
+    (21, "the path of a bookmark finds no element"),
+    (22, "tree 0 is not the tree that the batch before left"),
 ];
 
 impl Refusal {
@@ -181,6 +188,6 @@ impl Editor {
 fn told(answer: i64) -> Result<usize, Refusal> {
     match usize::try_from(answer) {
         Ok(number) => Ok(number),
-        Err(_) => Err(Refusal::numbered(-answer).expect("a refusal is numbered 1 to 19")),
+        Err(_) => Err(Refusal::numbered(-answer).expect("a refusal is numbered 1 to 22")),
     }
 }

@@ -120,6 +120,21 @@ impl CheckerWork {
     }
 }
 
+/// The length in words that the work slice of [`series_start`] needs.
+pub const START_ROWS: usize = 12_288;
+
+/// The most bytes of a tree in the memory of a series: two sizes, 4,096 kinds and measures, 16,384 bytes of text.
+pub const MOST_TREE: usize = 49_160;
+
+/// The most bookmarks of a series.
+pub const MOST_BOOKMARKS: usize = 256;
+
+/// The words of a bookmark in the memory of a series: its number, how many child numbers its path has, and those.
+pub const SLOT: usize = 65;
+
+/// The most child numbers of a bookmark's path.
+pub const LONGEST_PATH: usize = 63;
+
 #[rustfmt::skip]
 mod library {
     unsafe extern "C" {
@@ -239,6 +254,29 @@ mod library {
             new: *mut u32, new_length: usize,
             partners: *mut u32, partners_length: usize,
             marks: *mut u32, marks_length: usize,
+        ) -> i64;
+
+        pub fn syntax_series_start(
+            tree: *const u8, tree_length: usize,
+            bookmarks: *const u32, bookmarks_length: usize,
+            rows: *mut u32, rows_length: usize,
+        ) -> i64;
+
+        pub fn syntax_series_follow(
+            edge: u64, stronger: u64,
+            batch: *const u8, batch_length: usize,
+            tree: *mut u8, tree_length: usize,
+            bookmarks: *mut u32, bookmarks_length: usize,
+            result: *mut u8, result_length: usize,
+            table: *mut u32, table_length: usize,
+            source: *mut u32, source_length: usize,
+            changes: *mut u32, changes_length: usize,
+            notes: *mut u32, notes_length: usize,
+            incoming: *mut u32, incoming_length: usize,
+            changed: *mut u32, changed_length: usize,
+            marks: *mut u32, marks_length: usize,
+            rows: *mut u32, rows_length: usize,
+            prepared: *mut u32, prepared_length: usize,
         ) -> i64;
     }
 }
@@ -420,6 +458,53 @@ pub fn check(claim: &Claim<'_>, work: CheckerSlices<'_>) -> i64 {
             new.as_mut_ptr(), new.len(),
             partners.as_mut_ptr(), partners.len(),
             marks.as_mut_ptr(), marks.len(),
+        )
+    }
+}
+
+/// 0 if a series may begin with this tree and these bookmarks, or a refusal's number (1, 3, 4, 5, 20 or 21) with a minus. [`Memory`] says how both are laid out.
+#[rustfmt::skip]
+pub fn series_start(tree: &[u8], bookmarks: &[u32], rows: &mut [u32]) -> i64 {
+    // Safety: as in `edit`; the two slices that are only read may overlap one another.
+    unsafe {
+        library::syntax_series_start(
+            tree.as_ptr(), tree.len(),
+            bookmarks.as_ptr(), bookmarks.len(),
+            rows.as_mut_ptr(), rows.len(),
+        )
+    }
+}
+
+/// The memory of a series, two slices of any lengths: the tree as bytes (how many elements and how many bytes of text, kinds, measures, text, as in a batch) and the bookmarks
+/// as words (how many, then [`SLOT`] words for each: its number, how many child numbers its path has, and those). Beyond that they hold anything.
+pub struct Memory<'a> {
+    pub tree: &'a mut [u8],
+    pub bookmarks: &'a mut [u32],
+}
+
+/// The length of the answer that now stands at the start of `result`, the memory then holding the new tree and the bookmarks that survive; or a refusal's number (1 to 13, 16
+/// to 18 or 20 to 22) with a minus, the memory and the result then being as they were.
+#[rustfmt::skip]
+pub fn series_follow(choices: Choices, batch: &[u8], memory: Memory<'_>, result: &mut [u8], work: Slices<'_>) -> i64 {
+    let [table, source, changes, notes, incoming, changed, marks, rows, prepared] = work;
+    let Memory { tree, bookmarks } = memory;
+    // Safety: as in `edit`.
+    unsafe {
+        library::syntax_series_follow(
+            choices.edge, choices.stronger,
+            batch.as_ptr(), batch.len(),
+            tree.as_mut_ptr(), tree.len(),
+            bookmarks.as_mut_ptr(), bookmarks.len(),
+            result.as_mut_ptr(), result.len(),
+            table.as_mut_ptr(), table.len(),
+            source.as_mut_ptr(), source.len(),
+            changes.as_mut_ptr(), changes.len(),
+            notes.as_mut_ptr(), notes.len(),
+            incoming.as_mut_ptr(), incoming.len(),
+            changed.as_mut_ptr(), changed.len(),
+            marks.as_mut_ptr(), marks.len(),
+            rows.as_mut_ptr(), rows.len(),
+            prepared.as_mut_ptr(), prepared.len(),
         )
     }
 }
