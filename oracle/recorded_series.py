@@ -1,4 +1,4 @@
-"""Writes the recorded series that crates/series_play plays: series.py > crates/series_play/stdin. The form of the input: crates/series_play/src/main.rt."""
+"""Writes the recorded series that crates/series_play plays: recorded_series.py > crates/series_play/stdin. The form of the input: crates/series_play/src/main.rt."""
 
 import sys
 from struct import pack
