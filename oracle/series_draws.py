@@ -6,10 +6,10 @@ child numbers). `Slices` holds them whole, with what lies beyond what is used.""
 from collections import namedtuple
 from struct import pack, unpack_from
 
-from batches import AFTER, FIRST, NODE, REPLACE, Batch, Element, encode
+from batches import AFTER, FIRST, NODE, REPLACE, Batch, Element, decode_arrays, encode, token
 from books import joined, next_book
 from damage import damage
-from generator import EVEN, INSERTING, Calls, Draws, Style, add_editors, add_notes, add_rules, chains, exact, free, growing, large, nested, small_style, some_tree, token
+from generator import EVEN, INSERTING, Calls, Draws, Style, add_editors, add_notes, add_rules, chains, exact, free, growing, large, nested, small_style, some_tree
 from landed import notes
 
 Slices = namedtuple("Slices", "tree bookmarks")
@@ -115,7 +115,8 @@ def batch_on(seed, number, tree):
         add_rules(seed, SERIES + number, batch)
     add_notes(d, batch)
     data = encode(batch)
-    return damage(d, data) if d.chance(0.05) else data
+    # On a tree near the limits a batch can be beyond them (3): it needs no further damage, and cannot be taken apart for it.
+    return damage(d, data) if d.chance(0.05) and decode_arrays(data) else data
 
 
 def doubled(d):
