@@ -106,10 +106,30 @@ def on_tree(d, tree):
     return batch
 
 
+def nearly(d, tree):
+    """The same tree but for one kind, one byte of text, or one byte that stands in the token before."""
+    root = element(tree)
+    it, sort = d.choose(list(root.below())), d.below(3)
+    tokens = [it for it in root.below() if not it.is_node]
+    pairs = [(x, y) for x, y in zip(tokens, tokens[1:]) if y.text]
+    if sort == 0 and pairs:
+        before, it = d.choose(pairs)
+        before.text, it.text = before.text + it.text[:1], it.text[1:]
+    elif sort == 1 and it.text:
+        at = d.below(len(it.text))
+        it.text = it.text[:at] + bytes([it.text[at] ^ 1]) + it.text[at + 1 :]
+    else:
+        it.kind ^= 1
+    return model_tree(root)
+
+
 def batch_on(seed, number, tree):
     """The bytes of a batch on this tree, now and then damaged, or on another tree."""
     d = Draws(seed, SERIES + number)
-    batch = d.weighted(((free, 3), (chains, 1)))(d) if tree is None or d.chance(0.06) else on_tree(d, tree)
+    if tree is None or d.chance(0.05):
+        batch = d.weighted(((free, 3), (chains, 1)))(d)
+    else:
+        batch = on_tree(d, nearly(d, tree) if d.chance(0.03) else tree)
     if not batch.rules:
         add_editors(d, batch)
         add_rules(seed, SERIES + number, batch)
