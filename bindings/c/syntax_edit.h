@@ -250,7 +250,8 @@ static inline int64_t syntax_kept_with(syntax_work *w, uint64_t edge, uint64_t s
 static inline int64_t syntax_kept_lists(syntax_work *w, uint64_t edge, uint64_t stronger, const uint8_t *batch, size_t batch_length, uint32_t *olds, uint32_t *news, size_t room)
 {
     uint8_t pairs[8 * SYNTAX_MOST_KEPT];
-    int64_t length = syntax_kept_with(w, edge, stronger, batch, batch_length, pairs, 8 * (room < SYNTAX_MOST_KEPT ? room : SYNTAX_MOST_KEPT));
+    const size_t most = SYNTAX_MOST_KEPT;
+    int64_t length = syntax_kept_with(w, edge, stronger, batch, batch_length, pairs, 8 * (room < most ? room : most));
     if (length < 0)
         return length;
     size_t count = (size_t)length / 8;
