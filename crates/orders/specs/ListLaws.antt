@@ -9,7 +9,7 @@ use mathlib.Core.List.Memᴰ
 use mathlib.Core.List.Permᴰ
 use mathlib.Core.List.{List, [], ◌∷◌, ◌++◌, map, append_assoc, Memᴰ, Permᴰ, filter_map}
 use Rattle.std.proofs.Math.Option
-use Rattle.std.proofs.Math.Option.{Option, none, some, bind, Option·elim, map-eq-some_iff, bind-eq-some_iff, none-ne-some}
+use Rattle.std.proofs.Math.Option.{Option, none, some, bind, Option-elim, map-eq-some_iff, bind-eq-some_iff, none-ne-some}
 use Prim.Native.Nat.{ℕ, zero, suc, ◌+◌, ◌-◌, ◌≤◌, ◌<◌}
 use Rattle.std.proofs.Math.ListN.{get_elem?}
 use Rattle.std.proofs.lemmas.List.{take-append-le}
@@ -431,7 +431,10 @@ module _ {X : Type 0} where
   pub Pairs-perm : (R : X → X → Type 0) → ((x y : X) → R x y → R y x) → {l m : List X} → Permᴰ l m → Pairs R l → Pairs R m
   Pairs-perm R s Permᴰ.nil h = h
   Pairs-perm R s (Permᴰ.cons {a = a} {l₂ = m} e d) h = (subst (λ x. All (R x) m) e (All-perm (R a) d h.0), Pairs-perm R s d h.1)
-  Pairs-perm R s (Permᴰ.swap {a = a} {b = b} e f) h = rw (← e, ← f) ((s a b h.0.0, h.1.0), (h.0.1, h.1.1))
+  Pairs-perm R s (Permᴰ.swap {a = a} {b = b} {a' = c} {b' = d} {l = l} e f) h =
+      let last = subst (λ x. All (R x) l) e h.0.1 in
+      let first = subst (λ y. All (R y) l) f h.1.0 in
+      ((subst (λ y. R y d) f (subst (R b) e (s a b h.0.0)), first), (last, h.1.1))
   Pairs-perm R s (Permᴰ.trans d f) h = Pairs-perm R s f (Pairs-perm R s d h)
 
   pub any_perm : (p : X → Bool) {l m : List X} → Permᴰ l m → any p l ≡ any p m
@@ -455,11 +458,11 @@ module _ {X : Type 0} where
 
   -- the library's word for what f picks
   pick_filter_map : {Y : Type 0} (f : X → Option Y) (l : List X) → pick f l ≡ filter_map f l
-  unfolding pick filter_map Option·elim
+  unfolding pick filter_map Option-elim
   pick_filter_map f [] = refl
   pick_filter_map {Y} f (x ∷ l) = go (f x) (pick_filter_map f l)
     where
-      go : (o : Option Y) → pick f l ≡ filter_map f l → more o (pick f l) ≡ Option·elim o (filter_map f l) (λ b. b ∷ filter_map f l)
+      go : (o : Option Y) → pick f l ≡ filter_map f l → more o (pick f l) ≡ Option-elim o (filter_map f l) (λ b. b ∷ filter_map f l)
       go none e = e
       go (some y) e = rw e
 
