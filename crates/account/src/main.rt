@@ -1,4 +1,5 @@
 // The account program.
+#![tactic(auto)]
 fn main() {
     account_program::run();
 }

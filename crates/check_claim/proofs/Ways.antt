@@ -113,12 +113,12 @@ module _ (k m t k' m' t' o n : ℕ) {x : Bool} (ex : x ≡ big_sizes k m t) wher
 -- ── Both trees ──────────────────────────────────────────────────────────────────────────────────────────────
 
 module _ {es es' : List (ℕ × ℕ)} {bytes bytes' : ℕ} {r : Bool} {old w : List ℕ} (e : Reads es bytes r w) where
-  pub old_wrong : {new : List ℕ} → not r ≡ true → ReadsBoth es bytes es' bytes' false old new
-  old_wrong q = record { yes = λ p. bool_absurd p refl; no = λ p. inl (w, rw (not-true r q) at e) }
+  pub old_wrong : {new : List ℕ} → r ≡ false → ReadsBoth es bytes es' bytes' false old new
+  old_wrong q = record { yes = λ p. bool_absurd p refl; no = λ p. inl (w, rw q at e) }
 
-pub both_read : {es es' : List (ℕ × ℕ)} {bytes bytes' : ℕ} {r r' : Bool} {old new : List ℕ} → Reads es bytes r old → not r ≡ false → Reads es' bytes' r' new → ReadsBoth es bytes es' bytes' r' old new
+pub both_read : {es es' : List (ℕ × ℕ)} {bytes bytes' : ℕ} {r r' : Bool} {old new : List ℕ} → Reads es bytes r old → r ≡ true → Reads es' bytes' r' new → ReadsBoth es bytes es' bytes' r' old new
 both_read {r = r} {new = new} e q f =
-    let e' = rw (not-false r q) at e in
+    let e' = rw q at e in
     record { yes = λ p. (e', rw p at f); no = λ p. inr (new, e', rw p at f) }
 
 -- ── 19 ──────────────────────────────────────────────────────────────────────────────────────────────────────
@@ -160,15 +160,15 @@ module _ (old new text text' : List ℕ) (o n m m' : ℕ) (olds news changed : L
 
   module _ (qx : x ≡ false) where
     module _ {r : Bool} {w c : List ℕ} (k : WritesClaims (zip olds news) changed m m' r w c) where
-      pub paired_twice : not r ≡ true → Judges (gives false)
+      pub paired_twice : r ≡ false → Judges (gives false)
       unfolding judging judged refuse ◌>>=◌
-      paired_twice q = rw (← ex, qx, ← k.verdict, not-true r q)
+      paired_twice q = rw (← ex, qx, ← k.verdict, q)
 
-      module _ (q : not r ≡ false) where
+      module _ (q : r ≡ true) where
         pub ready : length news ≡ length olds → Telling old (length text) o → Telling new (length text') n → 4096 ≤ m → 4096 ≤ m' → Ready olds news old new (length text) (length text') (length w) (length c) n
         ready e s t a b =
             let (p, q', r') = named_below o n olds news changed (sym ex ∙ qx) in
-            let lw : length w ≡ m = ap length (k.partners (not-false r q)) ∙ (length_partnered (zip olds news) (replicate m 0) ∙ length-replicate m 0) in
+            let lw : length w ≡ m = ap length (k.partners q) ∙ (length_partnered (zip olds news) (replicate m 0) ∙ length-replicate m 0) in
             let lc : length c ≡ m' = ap length k.marks ∙ (length_marked changed (replicate m' 0) ∙ length-replicate m' 0) in
             record {
               alike = e;
@@ -183,7 +183,7 @@ module _ (old new text text' : List ℕ) (o n m m' : ℕ) (olds news changed : L
 
         pub judged_told : {v : Bool} → v ≡ judged_by old new text text' n (zip olds news) w c → Judges (gives v)
         unfolding judging judged refuse ◌>>=◌
-        judged_told {v} e = rw (← ex, qx, ← k.verdict, not-false r q) (ap {B = Answer Bool} gives (e ∙ rw (k.partners (not-false r q), k.marks)))
+        judged_told {v} e = rw (← ex, qx, ← k.verdict, q) (ap {B = Answer Bool} gives (e ∙ rw (k.partners q, k.marks)))
 
 pub judged_yes : {v : Bool} {a : Answer Bool} → gives v ≡ a → v ≡ true → gives true ≡ a
 judged_yes e q = rw q at e
@@ -232,29 +232,29 @@ module _ (c : Claims) (o n p m : List ℕ) {x : Bool} (ex : x ≡ too_short (len
             let (s, pairs) = either_false (not (eqb (length c.old.kinds) (length c.old.measures)) || not (eqb (length c.new.kinds) (length c.new.measures))) _ step in
             let (s, s') = either_false (not (eqb (length c.old.kinds) (length c.old.measures))) _ s in
             record {
-              old_alike = sym (eqb-true _ _ (not-false _ s));
+              old_alike = sym (eqb-true _ _ s);
               old_few = ltb-false _ _ ak;
               old_short = ltb-false _ _ at;
-              new_alike = sym (eqb-true _ _ (not-false _ s'));
+              new_alike = sym (eqb-true _ _ s');
               new_few = ltb-false _ _ bk;
               new_short = ltb-false _ _ bt;
-              pairs = sym (eqb-true _ _ (not-false _ pairs));
+              pairs = sym (eqb-true _ _ pairs);
             }
 
         module _ {b : Bool} {old new : List ℕ} (k : ReadsBoth (zip c.old.kinds c.old.measures) (length c.old.text) (zip c.new.kinds c.new.measures) (length c.new.text) b old new) where
-          pub refused_5 : not b ≡ true → Tell (refused 5)
-          refused_5 q = then (go (k.no (not-true b q)))
+          pub refused_5 : b ≡ false → Tell (refused 5)
+          refused_5 q = then (go (k.no q))
             where
               go : ((w : List ℕ) × Reads (zip c.old.kinds c.old.measures) (length c.old.text) false w) ⊎ ((w : List ℕ) × Reads (zip c.old.kinds c.old.measures) (length c.old.text) true old × Reads (zip c.new.kinds c.new.measures) (length c.new.text) false w) → refused 5 ≡ checked c
               go (inl (w, e)) = old_unspelled c (sym er ∙ zr) (reads_none c.old w fits.old_alike e)
               go (inr (w, e, f)) = let t = reads_tells c.old old fits.old_alike e in new_unspelled c (sym er ∙ zr) t.trees t.spells (reads_none c.new w fits.new_alike f)
 
-          module _ (q : not b ≡ false) where
+          module _ (q : b ≡ true) where
             old_tells : Tells c.old old
-            old_tells = reads_tells c.old old fits.old_alike (k.yes (not-false b q)).0
+            old_tells = reads_tells c.old old fits.old_alike (k.yes q).0
 
             new_tells : Tells c.new new
-            new_tells = reads_tells c.new new fits.new_alike (k.yes (not-false b q)).1
+            new_tells = reads_tells c.new new fits.new_alike (k.yes q).1
 
             pub old_telling : 16384 ≤ length old → Telling old (length c.old.text) (length c.old.kinds)
             old_telling h = record { few = fits.old_few; long = omega (arith, fits.old_few); sound = old_tells.sound }

@@ -1,4 +1,5 @@
 // THE CHECKER of another editor's output (document 02, Note 11).
+#![tactic(auto)]
 ghost use Rattle.std.specs.Prelude.{◌≡◌, ◌≤◌, length};
 ghost use mathlib.Core.List.{◌∷◌, [], zip};
 ghost use Rattle.definition.specs.Answers.{too_short};
@@ -8,7 +9,7 @@ ghost use Rattle.check_model.specs.Pairing.{Below};
 ghost use Rattle.check_claim.specs.Judging.{answer_of, big_sizes, sizes_refusal, ReadsBoth, Telling, WritesClaims, naming, judging};
 
 // The answer: a refusal's number, or whether the output is accepted.
-#[derive(Drop)]
+#[derive(Clone, Copy)]
 pub enum Verdict {
     Refused(usize),
     Accepted,

@@ -181,11 +181,11 @@ module _ (p : ℕ × ℕ → Bool) (l m : List ℕ) where
       unfolding every
       asking_turn = v.verdict ∙ rw (pairs_more l m i alike h, ← ex, ← ey, ← e)
 
-      pub asking_no : not r ≡ true → false ≡ every p (zip l m)
-      asking_no q = sym (asking_turn ∙ rw (not-true r q))
+      pub asking_no : r ≡ false → false ≡ every p (zip l m)
+      asking_no q = sym (asking_turn ∙ rw q)
 
-      pub asking_next : not r ≡ false → Asking (i + 1)
-      asking_next q = record { inside = omega arith; verdict = asking_turn ∙ rw (not-false r q) }
+      pub asking_next : r ≡ true → Asking (i + 1)
+      asking_next q = record { inside = omega arith; verdict = asking_turn ∙ rw q }
 
 -- ── Every number passes a test ──────────────────────────────────────────────────────────────────────────────
 
@@ -207,11 +207,11 @@ module _ (p : ℕ → Bool) (n : ℕ) where
       unfolding each
       counting_turn = let q : n - i ≡ suc (n - (i + 1)) = omega arith in v.verdict ∙ rw (q, ← e, add-one i)
 
-      pub counting_no : not r ≡ true → false ≡ each p 0 n
-      counting_no q = sym (counting_turn ∙ rw (not-true r q))
+      pub counting_no : r ≡ false → false ≡ each p 0 n
+      counting_no q = sym (counting_turn ∙ rw q)
 
-      pub counting_next : not r ≡ false → Counting (i + 1)
-      counting_next q = record { inside = omega arith; verdict = counting_turn ∙ rw (not-false r q) }
+      pub counting_next : r ≡ true → Counting (i + 1)
+      counting_next q = record { inside = omega arith; verdict = counting_turn ∙ rw q }
 
 -- ── Partners that rise ──────────────────────────────────────────────────────────────────────────────────────
 

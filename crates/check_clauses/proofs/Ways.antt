@@ -86,20 +86,20 @@ module _ (old new text text' : List ℕ) (n : ℕ) (P : List (ℕ × ℕ)) (w c 
   no_roots h = rw (← e, ne_eqb v 1 h)
 
   module _ (h : v ≡ 1) {a : Bool} (ea : a ≡ every (alike old new text text') P) where
-    pub not_alike : not a ≡ true → Judged false
+    pub not_alike : a ≡ false → Judged false
     unfolding judged_by
-    not_alike q = rw (← e, eq-eqb v 1 h, ← ea, not-true a q)
+    not_alike q = rw (← e, eq-eqb v 1 h, ← ea, q)
 
-    module _ (qa : not a ≡ false) {b : Bool} (eb : b ≡ every (parents_meet old new w) P) where
-      pub not_meet : not b ≡ true → Judged false
+    module _ (qa : a ≡ true) {b : Bool} (eb : b ≡ every (parents_meet old new w) P) where
+      pub not_meet : b ≡ false → Judged false
       unfolding judged_by
-      not_meet q = rw (← e, eq-eqb v 1 h, ← ea, not-false a qa, ← eb, not-true b q)
+      not_meet q = rw (← e, eq-eqb v 1 h, ← ea, qa, ← eb, q)
 
-      module _ (qb : not b ≡ false) {d : Bool} (ed : d ≡ rises 0 (take n w)) where
-        pub not_rising : not d ≡ true → Judged false
+      module _ (qb : b ≡ true) {d : Bool} (ed : d ≡ rises 0 (take n w)) where
+        pub not_rising : d ≡ false → Judged false
         unfolding judged_by
-        not_rising q = rw (← e, eq-eqb v 1 h, ← ea, not-false a qa, ← eb, not-false b qb, ← ed, not-true d q)
+        not_rising q = rw (← e, eq-eqb v 1 h, ← ea, qa, ← eb, qb, ← ed, q)
 
-        pub all_asked : not d ≡ false → {r : Bool} → r ≡ each (accounted new w c) 0 n → Judged r
+        pub all_asked : d ≡ true → {r : Bool} → r ≡ each (accounted new w c) 0 n → Judged r
         unfolding judged_by
-        all_asked q k = k ∙ rw (← e, eq-eqb v 1 h, ← ea, not-false a qa, ← eb, not-false b qb, ← ed, not-false d q)
+        all_asked q k = k ∙ rw (← e, eq-eqb v 1 h, ← ea, qa, ← eb, qb, ← ed, q)

@@ -1,4 +1,5 @@
 // The program `check`: reads claims on standard input and prints whether they are accepted.
+#![tactic(auto)]
 ghost use Rattle.std.specs.Prelude.{◌≡◌, ◌+◌, ◌≤◌, length};
 ghost use Rattle.check_laws.specs.Check.{checked};
 ghost use Rattle.check_laws.specs.Layout.{claims_from, verdict_line};
@@ -105,7 +106,7 @@ fn read_claim(claim: &mut [u8]) -> usize
 }
 
 // How many bytes of the claims were read, and how many of the output are to be printed.
-#[derive(Drop)]
+#[derive(Clone, Copy)]
 pub struct Response {
     pub read: usize,
     pub written: usize,

@@ -107,12 +107,12 @@ module _ {kinds measures : List ℕ} {bytes : ℕ} {table₀ table left owner : 
             v.verdict ∙ rw (top, pairs_more kinds measures i alike j, ← ek, ← em) (fills_open bytes _ (stack 0 left (d - 1)) sum k m _ d e)
 
         -- it may not stand there
-        pub reading_wrong : {r : Bool} → r ≡ stands k d → not r ≡ true → Reads (zip kinds measures) bytes false table
-        reading_wrong {r} e q = let w : stands k d ≡ false = sym e ∙ not-true r q in rejects (turn ∙ rw w)
+        pub reading_wrong : {r : Bool} → r ≡ stands k d → r ≡ false → Reads (zip kinds measures) bytes false table
+        reading_wrong {r} e q = let w : stands k d ≡ false = sym e ∙ q in rejects (turn ∙ rw w)
 
-        module _ {r : Bool} {l : ℕ} (e : r ≡ stands k d) (q : not r ≡ false) (el : l ≡ length_of k m) where
+        module _ {r : Bool} {l : ℕ} (e : r ≡ stands k d) (q : r ≡ true) (el : l ≡ length_of k m) where
           may : stands k d ≡ true
-          may = sym e ∙ not-false r q
+          may = sym e ∙ q
 
           -- its text is too long
           pub reading_over : bytes < sum + l → Reads (zip kinds measures) bytes false table

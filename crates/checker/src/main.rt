@@ -1,4 +1,5 @@
 // The program `check`.
+#![tactic(auto)]
 fn main() {
     check_program::run();
 }

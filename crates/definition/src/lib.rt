@@ -1,1 +1,2 @@
 // Definitions only: see specs/.
+#![tactic(auto)]

@@ -1,4 +1,5 @@
 // The edit program.
+#![tactic(auto)]
 fn main() {
     edit_program::run();
 }

@@ -1,4 +1,5 @@
 // The public calls: one for every job, and the edit, the found element, the account, the share and the surviving pairs, each thin over it.
+#![tactic(auto)]
 ghost use Rattle.std.specs.Prelude.{◌∷◌, []};
 ghost use Rattle.choices.specs.Meant.{meant};
 ghost use Rattle.promises.specs.Promises.{Edits, Finds, Accounts, Shares, Keeps};
@@ -10,14 +11,14 @@ use edit_perform::perform;
 use promises::{Job, Outcome};
 
 // How many bytes the result, the account or the pairs have, or a refusal's number.
-#[derive(Drop)]
+#[derive(Clone, Copy)]
 pub enum Answer {
     Refused(usize),
     Edited(usize),
 }
 
 // Where an element of the old tree stands in the new one, or a refusal's number.
-#[derive(Drop)]
+#[derive(Clone, Copy)]
 pub enum Element {
     Refused(usize),
     Nothing,
@@ -25,7 +26,7 @@ pub enum Element {
 }
 
 // How much of the text is rewritten, in thousandths: a whole quotient and an exact remainder; or a refusal's number.
-#[derive(Drop)]
+#[derive(Clone, Copy)]
 pub enum Shared {
     Refused(usize),
     Of(usize, usize),

@@ -152,11 +152,11 @@ account_8 j k e h = rw e h
 -- ── A node of tree 0 ────────────────────────────────────────────────────────────────────────────────────────
 
 module _ (n : ℕ) (t s : List ℕ) (k : ℕ) (h : k < n) (b : Bool) (e : b ≡ is_node (get_or s (3 * suc k) 0)) where
-  pub token_there : not b ≡ true → false ≡ old_node (view n t s) k
-  token_there q = no_node n t s k h b e (not-true b q)
+  pub token_there : b ≡ false → false ≡ old_node (view n t s) k
+  token_there q = no_node n t s k h b e q
 
-  pub root_there : Wellformed n t s → not b ≡ false → (x : ℕ) → x ≡ get_or t (8 * k + 7) 0 → eqb x 0 ≡ old_node (view n t s) k
-  root_there W q x f = node_there n t s k h b e W.lines (not-false b q) x f
+  pub root_there : Wellformed n t s → b ≡ true → (x : ℕ) → x ≡ get_or t (8 * k + 7) 0 → eqb x 0 ≡ old_node (view n t s) k
+  root_there W q x f = node_there n t s k h b e W.lines q x f
 
 -- ── Where it stands ─────────────────────────────────────────────────────────────────────────────────────────
 
@@ -165,14 +165,14 @@ unfolding of_place place
 none_numbered {h} {b} {rows} {t} {s} {d} v w k q = ap of_place (no_old_node v w k (sym (none_there d.elements t s k q)))
 
 module _ {h : Choices} {b rows t s : List ℕ} {d : Ended} (v : RowsAtEnd h b rows d) (w : Told b t s d.elements) (k : ℕ) (o : Bool) (p : o ≡ old_node (view d.elements t s) k) where
-  pub none_asked : not o ≡ true → NoElement ≡ of_place (found h b k)
+  pub none_asked : o ≡ false → NoElement ≡ of_place (found h b k)
   unfolding of_place place
-  none_asked q = ap of_place (no_old_node v w k (sym p ∙ not-true o q))
+  none_asked q = ap of_place (no_old_node v w k (sym p ∙ q))
 
-  pub asked_old : not o ≡ false → tree (view d.elements t s) k ≡ 0
-  asked_old q = old_tree (view d.elements t s) k (sym p ∙ not-false o q)
+  pub asked_old : o ≡ true → tree (view d.elements t s) k ≡ 0
+  asked_old q = old_tree (view d.elements t s) k (sym p ∙ q)
 
-  module _ (q : not o ≡ false) (low : k < d.elements) (kind start : ℕ) (e : kind ≡ get_or s (3 * suc k + 0) 0) (f : start ≡ (row (view d.elements t s) k).start) (r : Found)
+  module _ (q : o ≡ true) (low : k < d.elements) (kind start : ℕ) (e : kind ≡ get_or s (3 * suc k + 0) 0) (f : start ≡ (row (view d.elements t s) k).start) (r : Found)
       (g : (text : List ℕ) → r ≡ found_by (find_row (first_tree (first_rows text d.rows rows)) kind start)) where
     meant : (o : Option ℕ) → r ≡ found_by o → gives o ≡ found h b k → (r ≡ Nothing → NoElement ≡ of_place (found h b k)) × ((x : ℕ) → r ≡ At x → Stands x ≡ of_place (found h b k))
     unfolding found_by of_place place
@@ -180,7 +180,7 @@ module _ {h : Choices} {b rows t s : List ℕ} {d : Ended} (v : RowsAtEnd h b ro
     meant (some y) i j = ((λ z. absurd (let y : ◌≡◌ {A = ℕ} 0 1 = cc in omega arith)), λ x z. let m : x ≡ y = cc in rw m (ap of_place j))
 
     told : (r ≡ Nothing → NoElement ≡ of_place (found h b k)) × ((x : ℕ) → r ≡ At x → Stands x ≡ of_place (found h b k))
-    told = meant (find_row (first_tree (first_rows (drop d.text b) d.rows rows)) kind start) (g (drop d.text b)) (old_node_lem v w k (sym p ∙ not-false o q) low kind start (e ∙ ap (λ (i : ℕ). get_or s i 0) (add-zero (3 * suc k))) f)
+    told = meant (find_row (first_tree (first_rows (drop d.text b) d.rows rows)) kind start) (g (drop d.text b)) (old_node_lem v w k (sym p ∙ q) low kind start (e ∙ ap (λ (i : ℕ). get_or s i 0) (add-zero (3 * suc k))) f)
 
     pub found_none : r ≡ Nothing → NoElement ≡ of_place (found h b k)
     found_none = told.0

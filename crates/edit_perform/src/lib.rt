@@ -1,4 +1,5 @@
 // From a batch to what its run leaves: refusals 17 and 18, lines 1 to 7, planning, and the steps.
+#![tactic(auto)]
 ghost use Rattle.std.specs.Prelude.{◌≡◌, ◌∷◌, [], ◌≤◌, length};
 ghost use Rattle.definition.specs.Basics.{gives};
 ghost use Rattle.definition.specs.Answers.{with_choices};
@@ -18,7 +19,7 @@ use run_execute::execute;
 use run_tree_state::Executed;
 
 // What a run leaves: where the batch's text starts, how many elements it has, how many changes are recorded (withdrawn ones among them), where the root of tree 0 stands, the rows, notes and changed elements that are held, and two numbers of the result.
-#[derive(Drop)]
+#[derive(Clone, Copy)]
 pub struct Ended {
     pub text: usize,
     pub elements: usize,
@@ -32,7 +33,7 @@ pub struct Ended {
 }
 
 // A refusal, by its number; 8 with the numbers of the two changes that overlap; or what the run leaves.
-#[derive(Drop)]
+#[derive(Clone, Copy)]
 pub enum Performed {
     Refused(usize),
     Overlap(usize, usize),

@@ -1,4 +1,5 @@
 // `find_element`: where the old node's text starts, and in the new tree the first node in preorder with its kind word and that start.
+#![tactic(auto)]
 ghost use Rattle.std.specs.Prelude.{◌≡◌, List, ℕ, ◌*◌, ◌^◌, ◌≤◌, ◌<◌, length};
 ghost use Rattle.definition.specs.Elements.{row, tree as tree_of};
 ghost use Rattle.read_element_table.specs.View.{view};
@@ -53,7 +54,7 @@ pub fn old_start(table: &[u32], source: &[u32], n: usize, k: usize) -> usize
 
 // ── In the new tree ──
 
-#[derive(Drop)]
+#[derive(Clone, Copy)]
 pub enum Found {
     At(usize),
     Nothing,

@@ -1,4 +1,5 @@
 // The result from what the run leaves: changed elements and notes in order, refusal 13, and the bytes.
+#![tactic(auto)]
 ghost use Rattle.std.specs.Prelude.{◌≡◌, ℕ, ◌+◌, ◌*◌, ◌/◌, ◌^◌, ◌≤◌, ◌<◌, length};
 ghost use mathlib.Core.List.{List, flat_map, ◌∷◌, []};
 ghost use Rattle.std.proofs.Math.Seq.{paste};
@@ -20,7 +21,7 @@ use run_annotations::{NOTE_WORDS, NUMBER, changed_row, changed_rule};
 use words::{word, write_word};
 
 // 13, or the length of the result's bytes.
-#[derive(Drop)]
+#[derive(Clone, Copy)]
 pub enum Finished {
     Short,
     Bytes(usize),

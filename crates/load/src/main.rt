@@ -1,4 +1,5 @@
 // The load program.
+#![tactic(auto)]
 fn main() {
     load_program::run();
 }

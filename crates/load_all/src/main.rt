@@ -1,4 +1,5 @@
 // Edits the loads of 0 to 255, as the edit program does without arguments, and counts those that are accepted.
+#![tactic(auto)]
 ghost use Rattle.std.specs.Prelude.{◌≤◌};
 
 use choices::Choices;

@@ -1,4 +1,5 @@
 // The draws of a starting number, and the call that they choose (document 02, Note 12; docs/LOAD.md).
+#![tactic(auto)]
 ghost use Rattle.std.specs.Prelude.{◌≡◌, ◌∷◌, [], ◌<◌, get_or};
 ghost use Rattle.load_laws.specs.Load.{next as next_of, drawn as drawn_of, separator as separator_of, block as block_of, block_token, donor as donor_of, call, replaced, token_drawn, donor_drawn, other_drawn, first_calls, free_call, own_call, call_at};
 ghost use Rattle.load_laws.specs.Draws.{none};
@@ -25,7 +26,7 @@ const REPLACE_RUN: u32 = 5;
 const FURTHER_EDITOR: u32 = 6;
 
 // A drawn call. It lists `count` elements: none, `first`, or `first` and `second`.
-#[derive(Drop)]
+#[derive(Clone, Copy)]
 pub struct DrawnCall {
     pub operation: u32,
     pub target: u32,

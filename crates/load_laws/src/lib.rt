@@ -1,1 +1,2 @@
 // Specifications only: the load of a starting number, and its laws.
+#![tactic(auto)]

@@ -1,4 +1,5 @@
 // The load program: writes the batch of a starting number, its argument, to standard output (document 02, Note 12).
+#![tactic(auto)]
 ghost use Rattle.std.specs.Prelude.{◌≡◌, ◌<◌, ◌≤◌, length};
 ghost use Rattle.definition.specs.Writing.{laid_out};
 ghost use Rattle.load_laws.specs.Load.{load};
@@ -8,7 +9,7 @@ ghost use Rattle.load_program.specs.Responds.{told, Puts};
 use write_batch::Written;
 
 // A starting number, or that an argument is none.
-#[derive(Drop)]
+#[derive(Clone, Copy)]
 pub enum Start {
     Number(u32),
     Wrong,

@@ -36,19 +36,19 @@ module _ (w v : List ℕ) (k j b : ℕ) (t : Bool) (e : t ≡ takes w j (row_at 
   unfolding innermost
   opens = rw e
 
-  pub untaken : not t ≡ true → b ≡ innermost w v k j b
-  untaken q = rw (opens, not-true t q)
+  pub untaken : t ≡ false → b ≡ innermost w v k j b
+  untaken q = rw (opens, q)
 
-  module _ (q : not t ≡ false) where
+  module _ (q : t ≡ true) where
     pub last_taken : b ≡ 0 → j + 1 ≡ innermost w v k j b
-    last_taken z = rw (opens, not-false t q, eq-eqb b 0 z) (add-one j)
+    last_taken z = rw (opens, q, eq-eqb b 0 z) (add-one j)
 
     module _ (z : b ≡ 0 → ⊥) (x y : ℕ) (f : x ≡ region_depth w (row_at v (b - 1))) (g : y ≡ region_depth w (row_at v j)) where
       pub further_in : x < y → j + 1 ≡ innermost w v k j b
-      further_in h = rw (opens, not-false t q, ne_eqb b 0 z, ← f, ← g, lt-ltb x y h) (add-one j)
+      further_in h = rw (opens, q, ne_eqb b 0 z, ← f, ← g, lt-ltb x y h) (add-one j)
 
       pub no_further : y ≤ x → b ≡ innermost w v k j b
-      no_further h = rw (opens, not-false t q, ne_eqb b 0 z, ← f, ← g, le-ltb x y h)
+      no_further h = rw (opens, q, ne_eqb b 0 z, ← f, ← g, le-ltb x y h)
 
 -- a root's replacement belongs to none
 root_untaken : (w : List ℕ) (j k : ℕ) (r c : ChangeRow) → of_root w c ≡ true → takes w j r k c ≡ false

@@ -67,22 +67,22 @@ module _ (w v : List ℕ) (x y k op e : ℕ) (o : op ≡ get_or (drop (14 * k) v
   first_child_none z = rw (← o, z)
 
   module _ (z : op ≡ 0 → ⊥) (r : Bool) (f : r ≡ in_run w x y e) where
-    pub target_outside : not r ≡ true → false ≡ only_in w x y (row_at v k)
+    pub target_outside : r ≡ false → false ≡ only_in w x y (row_at v k)
     unfolding only_in row_at row_of
-    target_outside q = rw (← o, ← t, ← f, ne_eqb op 0 z, not-true r q) (go (eqb op 1))
+    target_outside q = rw (← o, ← t, ← f, ne_eqb op 0 z, q) (go (eqb op 1))
       where
         go : (b : Bool) → false ≡ cond b false false
         go true = refl
         go false = refl
 
-    module _ (q : not r ≡ false) where
+    module _ (q : r ≡ true) where
       pub insert_before_last : op ≡ 1 → not (eqb e y) ≡ only_in w x y (row_at v k)
       unfolding only_in row_at row_of
-      insert_before_last g = rw (← o, ← t, ← f, g, not-false r q)
+      insert_before_last g = rw (← o, ← t, ← f, g, q)
 
       pub replaces_to : (op ≡ 1 → ⊥) → (d : ℕ) → d ≡ get_or (drop (14 * k) v) 2 0 → (b : Bool) → b ≡ in_run w x y d → b ≡ only_in w x y (row_at v k)
       unfolding only_in row_at row_of
-      replaces_to g d u b i = rw (← o, ← t, ← u, ← f, ne_eqb op 0 z, ne_eqb op 1 g, not-false r q) i
+      replaces_to g d u b i = rw (← o, ← t, ← u, ← f, ne_eqb op 0 z, ne_eqb op 1 g, q) i
 
 module _ (v : List ℕ) (x y k op : ℕ) (o : op ≡ get_or (drop (14 * k) v) 0 0) where
   pub no_run : (op ≡ 5 → ⊥) → false ≡ is_run_of x y (row_at v k)
@@ -119,15 +119,15 @@ module _ (w v : List ℕ) (j k op : ℕ) (o : op ≡ get_or (drop (14 * j) v) 0 
     unfolding inside row_at row_of
     opens = rw (o, t, u)
 
-    pub not_only_in : not a ≡ true → false ≡ inside w j (row_at v j) k (row_at v k)
-    not_only_in q = rw (opens, eq-eqb op 5 z, ← e, not-true a q)
+    pub not_only_in : a ≡ false → false ≡ inside w j (row_at v j) k (row_at v k)
+    not_only_in q = rw (opens, eq-eqb op 5 z, ← e, q)
 
-    module _ (q : not a ≡ false) (b : Bool) (f : b ≡ is_run_of x y (row_at v k)) where
-      pub other_run : not b ≡ true → true ≡ inside w j (row_at v j) k (row_at v k)
-      other_run g = rw (opens, eq-eqb op 5 z, ← e, not-false a q, ← f, not-true b g)
+    module _ (q : a ≡ true) (b : Bool) (f : b ≡ is_run_of x y (row_at v k)) where
+      pub other_run : b ≡ false → true ≡ inside w j (row_at v j) k (row_at v k)
+      other_run g = rw (opens, eq-eqb op 5 z, ← e, q, ← f, g)
 
-      pub equal_run : not b ≡ false → ltb j k ≡ inside w j (row_at v j) k (row_at v k)
-      equal_run g = rw (opens, eq-eqb op 5 z, ← e, not-false a q, ← f, not-false b g) (sym (not_leb k j))
+      pub equal_run : b ≡ true → ltb j k ≡ inside w j (row_at v j) k (row_at v k)
+      equal_run g = rw (opens, eq-eqb op 5 z, ← e, q, ← f, g) (sym (not_leb k j))
 
 module _ (w v : List ℕ) (j k g : ℕ) (r : g ≡ get_or (drop (14 * j) v) 10 0) where
   taking : takes w j (row_at v j) k (row_at v k) ≡ (not (eqb g 0) && (not (of_root w (row_at v k)) && (removes w (row_at v j) (target_parent w (row_at v k)) || inside w j (row_at v j) k (row_at v k))))

@@ -1,5 +1,6 @@
 // Planning: from an accepted batch to the changes that run, in order, and the notes where they settle; refusals 8, 9 and 10. In two stages: what is withdrawn and
 // what becomes of each other change (`judge_changes`), then where dependents and notes go. Nothing is edited meanwhile: the run need not think of overlaps, owners or order again.
+#![tactic(auto)]
 ghost use Rattle.std.specs.Prelude.{◌≡◌, ◌++◌, ◌+◌, ◌*◌, ◌≤◌, length, drop, replicate};
 ghost use Rattle.std.proofs.Math.Seq.{paste};
 ghost use Rattle.choices.specs.Meant.{meant};
@@ -24,7 +25,7 @@ use read_layout::Layout;
 pub const WITHDRAWN: usize = 3584;
 
 // Of a plan: how many changes are recorded, how many of them stay, with a row each, how many run, how many are discarded, and the climb steps.
-#[derive(Drop)]
+#[derive(Clone, Copy)]
 pub struct Counts {
     pub recorded: usize,
     pub changes: usize,
@@ -34,14 +35,14 @@ pub struct Counts {
 }
 
 // What the first stage finds: two changes overlap, told by their numbers; or of so many recorded changes so many stay, and each of these has its fate.
-#[derive(Drop)]
+#[derive(Clone, Copy)]
 pub enum Judgement {
     Overlap(usize, usize),
     Fated(usize, usize),
 }
 
 // A refusal, by its number; 8 with the numbers of the two that overlap; or a plan.
-#[derive(Drop)]
+#[derive(Clone, Copy)]
 pub enum Planned {
     Refused(usize),
     Overlap(usize, usize),

@@ -1,4 +1,5 @@
 // Mappings: the mapped node of an element, its place below another, and the climb from a replaced node to its replacement.
+#![tactic(auto)]
 ghost use Rattle.std.specs.Prelude.{◌≡◌, ◌+◌, ◌*◌, ◌≤◌, ◌<◌, length};
 ghost use Rattle.std.proofs.Math.Option.{get_or};
 ghost use mathlib.Core.List.{zip};
@@ -37,7 +38,7 @@ pub fn upmap_node_single(map: &[u32], n: usize, e: usize) -> usize
 }
 
 // Where an element stands below another: how many child numbers lead there, or that it is neither that element nor below it.
-#[derive(Drop)]
+#[derive(Clone, Copy)]
 pub enum Below {
     Numbers(usize),
     Elsewhere,
@@ -64,7 +65,7 @@ pub fn place_below(table: &[u32], n: usize, x: usize, e: usize, place: &mut [u32
 }
 
 // A climb: how many child numbers its trail has, or a refusal.
-#[derive(Drop)]
+#[derive(Clone, Copy)]
 pub enum Climb {
     Trail(usize),
     Refused(usize),

@@ -1,1 +1,2 @@
 // Models and laws only: see specs/.
+#![tactic(auto)]

@@ -1,4 +1,5 @@
 // Where the notes of a batch settle, as words of rows.
+#![tactic(auto)]
 ghost use mathlib.Core.List.{zip};
 ghost use Rattle.std.specs.Prelude.{◌+◌, ◌*◌, ◌≤◌, ◌<◌, length, drop};
 ghost use Rattle.orders.specs.Lists.{All};
@@ -10,7 +11,7 @@ ghost use Rattle.plan_notes.specs.Answers.{NotesSettled};
 use plan_upmap::Settled;
 
 // Whether all notes are settled.
-#[derive(Drop)]
+#[derive(Clone, Copy)]
 pub enum Notes {
     Settled,
     Refused(usize),

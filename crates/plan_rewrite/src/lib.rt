@@ -1,4 +1,5 @@
 // Rewriting dependents: the targets of a change inside a replaced node move into the replacement, and its row is made anew.
+#![tactic(auto)]
 ghost use Rattle.std.specs.Prelude.{◌≡◌, cond, ◌+◌, ◌*◌, ◌≤◌, ◌<◌, length, get_or, eqb};
 ghost use Rattle.read_element_table.specs.View.{view};
 ghost use Rattle.read_element_table.specs.Wellformed.{Wellformed};
@@ -11,7 +12,7 @@ ghost use Rattle.plan_rewrite.specs.Answers.{MovedEnds, OwnedEnds, RowRewritten,
 use plan_upmap::Moved;
 
 // Where the ends of a change go and how many climb steps were taken, or a refusal.
-#[derive(Drop)]
+#[derive(Clone, Copy)]
 pub enum Ends {
     To(usize, usize, usize),
     Refused(usize),
@@ -49,7 +50,7 @@ fn upmap_ends(
 }
 
 // Whether and with how many climb steps a row was rewritten.
-#[derive(Drop)]
+#[derive(Clone, Copy)]
 pub enum Rewritten {
     Steps(usize),
     Refused(usize),

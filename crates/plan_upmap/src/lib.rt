@@ -1,4 +1,5 @@
 // Mapping elements into a replacement: the way down by child numbers, where a dependent's target goes, where a note's element settles.
+#![tactic(auto)]
 ghost use Rattle.std.specs.Prelude.{◌≤◌, ◌<◌, length};
 ghost use Rattle.read_element_table.specs.Wellformed.{Lines, Wellformed};
 ghost use Rattle.plan_mapping.specs.Mapped.{Mapped};
@@ -9,7 +10,7 @@ ghost use Rattle.plan_upmap.specs.Settling.{Nearest, OneMove, SettledAt};
 use plan_mapping::{Below, Climb};
 
 // An element, or that there is none.
-#[derive(Drop)]
+#[derive(Clone, Copy)]
 pub enum Found {
     At(usize),
     Missing,
@@ -85,7 +86,7 @@ pub fn land(
 }
 
 // Where an element goes and how many climb steps were taken, or a refusal.
-#[derive(Drop)]
+#[derive(Clone, Copy)]
 pub enum Moved {
     To(usize, usize),
     Refused(usize),
@@ -166,7 +167,7 @@ fn nearest_mapped(table: &[u32], map: &[u32], n: usize, e: usize) -> Found
 }
 
 // Where a note's element settles, or a refusal.
-#[derive(Drop)]
+#[derive(Clone, Copy)]
 pub enum Settled {
     At(usize),
     Refused(usize),

@@ -1,4 +1,5 @@
 // A program's choices, read from its arguments.
+#![tactic(auto)]
 ghost use Rattle.std.specs.Prelude.{◌≡◌, ◌≤◌, length};
 ghost use Rattle.definition.specs.Choices.{digit, given};
 ghost use Rattle.choices.specs.Meant.{meant};
@@ -50,7 +51,7 @@ pub fn given_by(count: usize, first: &[u8], second: &[u8]) -> Choices
 }
 
 // How many arguments there are, how many bytes of the first and of the second were read, and the choices that they give.
-#[derive(Drop)]
+#[derive(Clone, Copy)]
 pub struct Arguments {
     pub count: usize,
     pub first: usize,

@@ -1,11 +1,12 @@
 // What is asked for and answered; the work slices: whether one is too short, and all of them cleared.
+#![tactic(auto)]
 ghost use Rattle.std.specs.Prelude.{◌≡◌, ◌∷◌, [], length, ltb};
 ghost use Rattle.definition.specs.Answers.{too_short};
 ghost use Rattle.promises.specs.Slices.{asked, needed, lengths, zeros, zeroed};
 
 // What is asked of a batch: its edit, where a node of tree 0 stands then, what becomes of each change, how much of the text is rewritten, or which elements of
 // tree 0 survive, and where.
-#[derive(Drop)]
+#[derive(Clone, Copy)]
 pub enum Job {
     Edit,
     Find(usize),
@@ -15,7 +16,7 @@ pub enum Job {
 }
 
 // A refusal's number; how many bytes the result, the account or the pairs have; no element; an element's number; or a share's quotient and remainder.
-#[derive(Drop)]
+#[derive(Clone, Copy)]
 pub enum Outcome {
     Refused(usize),
     Bytes(usize),

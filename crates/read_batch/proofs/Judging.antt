@@ -25,26 +25,26 @@ use Rattle.read_batch.specs.Accepting.{named, judged_unlaid}
 use Rattle.read_batch.specs.Leaving.{elements_by, Judged, judged_refused, refused_5, filled_formed, judged_left}
 
 module _ (b : Batch) (n : ℕ) (w s : List ℕ) (l : Layout) (t : Bool) (et : t ≡ calls_fit (view n w s) (zip b.calls b.targets) b.listed) where
-  pub wrong_calls : not t ≡ true → laid_of (Refused 6) ≡ named b (view n w s) l
+  pub wrong_calls : t ≡ false → laid_of (Refused 6) ≡ named b (view n w s) l
   unfolding laid_of named ◌>>=◌ refuse
   wrong_calls q = rw (← et, q)
 
-  module _ (q : not t ≡ false) (m : Bool) (em : m ≡ not (any word_too_many b.calls)) where
-    pub long_lists : not m ≡ true → laid_of (Refused 16) ≡ named b (view n w s) l
+  module _ (q : t ≡ true) (m : Bool) (em : m ≡ not (any word_too_many b.calls)) where
+    pub long_lists : m ≡ false → laid_of (Refused 16) ≡ named b (view n w s) l
     unfolding laid_of named ◌>>=◌ refuse
-    long_lists k = rw (← et, q, not-false (any word_too_many b.calls) (sym em ∙ not-true m k))
+    long_lists k = rw (← et, q, not-false (any word_too_many b.calls) (sym em ∙ k))
 
-    module _ (k : not m ≡ false) (u : Bool) (eu : u ≡ not (any (wrong_mapping (view n w s)) (zip b.inputs b.outputs))) where
+    module _ (k : m ≡ true) (u : Bool) (eu : u ≡ not (any (wrong_mapping (view n w s)) (zip b.inputs b.outputs))) where
       no_list : any word_too_many b.calls ≡ false
-      no_list = not-true _ (sym em ∙ not-false m k)
+      no_list = not-true _ (sym em ∙ k)
 
-      pub wrong_mappings : not u ≡ true → laid_of (Refused 7) ≡ named b (view n w s) l
+      pub wrong_mappings : u ≡ false → laid_of (Refused 7) ≡ named b (view n w s) l
       unfolding laid_of named ◌>>=◌ refuse
-      wrong_mappings p = rw (← et, q, no_list, not-false (any (wrong_mapping (view n w s)) (zip b.inputs b.outputs)) (sym eu ∙ not-true u p))
+      wrong_mappings p = rw (← et, q, no_list, not-false (any (wrong_mapping (view n w s)) (zip b.inputs b.outputs)) (sym eu ∙ p))
 
-      module _ (p : not u ≡ false) (v : Bool) (ev : v ≡ not (any (note_wrong n) (zip b.noted b.numbers))) where
+      module _ (p : u ≡ true) (v : Bool) (ev : v ≡ not (any (note_wrong n) (zip b.noted b.numbers))) where
         no_mapping : any (wrong_mapping (view n w s)) (zip b.inputs b.outputs) ≡ false
-        no_mapping = not-true _ (sym eu ∙ not-false u p)
+        no_mapping = not-true _ (sym eu ∙ p)
 
         pub wrong_notes : v ≡ false → laid_of (Refused 7) ≡ named b (view n w s) l
         unfolding laid_of named ◌>>=◌ refuse
@@ -57,18 +57,18 @@ module _ (b : Batch) (n : ℕ) (w s : List ℕ) (l : Layout) (t : Bool) (et : t 
 -- ── Line 5 ──────────────────────────────────────────────────────────────────────────────────────────────────
 
 module _ (b : List ℕ) (l : Layout) (t : Bool) (et : t ≡ accepts l.sizes.trees l.sizes.text (elements_by l b)) where
-  pub wrong_elements : (t₀ s₀ t₁ s₁ : List ℕ) → laid b ≡ gives l → not t ≡ true → Judged b t₀ s₀ t₁ s₁ (Refused 5)
-  wrong_elements t₀ s₀ t₁ s₁ q p = judged_refused b t₀ s₀ t₁ s₁ 5 (refused_5 b l q (sym et ∙ not-true t p))
+  pub wrong_elements : (t₀ s₀ t₁ s₁ : List ℕ) → laid b ≡ gives l → t ≡ false → Judged b t₀ s₀ t₁ s₁ (Refused 5)
+  wrong_elements t₀ s₀ t₁ s₁ q p = judged_refused b t₀ s₀ t₁ s₁ 5 (refused_5 b l q (sym et ∙ p))
 
-  pub may_fill : Within b l → not t ≡ false → Accepted l.sizes.trees (elements_by l b)
-  may_fill w p = record { bytes = l.sizes.text; few = w.limits.text; accepted = sym et ∙ not-false t p }
+  pub may_fill : Within b l → t ≡ true → Accepted l.sizes.trees (elements_by l b)
+  may_fill w p = record { bytes = l.sizes.text; few = w.limits.text; accepted = sym et ∙ p }
 
-  module _ (q : laid b ≡ gives l) (p : not t ≡ false) (t₀ s₀ t₁ s₁ : List ℕ) (f : Filled l.sizes.trees l.sizes.elements (elements_by l b) t₀ s₀ t₁ s₁) where
+  module _ (q : laid b ≡ gives l) (p : t ≡ true) (t₀ s₀ t₁ s₁ : List ℕ) (f : Filled l.sizes.trees l.sizes.elements (elements_by l b) t₀ s₀ t₁ s₁) where
     pub may_judge : Within b l → 16384 ≤ length t₀ → 6147 ≤ length s₀ → Wellformed l.sizes.elements t₁ s₁
-    may_judge w h k = filled_formed b l q (sym et ∙ not-false t p) t₀ s₀ t₁ s₁ f (omega (arith, w.limits.elements)) (omega (arith, w.limits.elements))
+    may_judge w h k = filled_formed b l q (sym et ∙ p) t₀ s₀ t₁ s₁ f (omega (arith, w.limits.elements)) (omega (arith, w.limits.elements))
 
     pub judges : Within b l → 16384 ≤ length t₀ → 6147 ≤ length s₀ → (r : Laid) → laid_of r ≡ named (arrays_at l b) (view l.sizes.elements t₁ s₁) l → Judged b t₀ s₀ t₁ s₁ r
-    judges w h k r g = judged_left b l q (sym et ∙ not-false t p) t₀ s₀ t₁ s₁ f r g (may_judge w h k)
+    judges w h k r g = judged_left b l q (sym et ∙ p) t₀ s₀ t₁ s₁ f r g (may_judge w h k)
 
 -- ── Lines 2 to 4 ────────────────────────────────────────────────────────────────────────────────────────────
 

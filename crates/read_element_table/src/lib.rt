@@ -1,4 +1,5 @@
 // The element table: see specs/View.antt for what its words tell.
+#![tactic(auto)]
 ghost use Rattle.std.specs.Prelude.{◌≡◌, cond, suc, ◌+◌, ◌*◌, ◌^◌, ◌≤◌, ◌<◌, eqb, length, get_or};
 ghost use Rattle.std.proofs.Math.Seq.{paste};
 ghost use Rattle.definition.specs.Elements.{is_node};
@@ -28,7 +29,7 @@ pub const AFTER: usize = 6;
 pub const TREE: usize = 7;
 
 // An open element: how many of its children are to come, its number + 1 (0 for all the trees), the number of its next child.
-#[derive(Drop)]
+#[derive(Clone, Copy)]
 struct Open {
     left: usize,
     owner: usize,

@@ -1,4 +1,5 @@
 // Lines 2 to 4: a batch is refused, or it is known where each of its arrays stands.
+#![tactic(auto)]
 ghost use Rattle.std.specs.Prelude.{◌≡◌, not, ◌+◌, ◌*◌, ◌≤◌, ◌<◌, length};
 ghost use Rattle.definition.specs.Batch.{sizes, beyond};
 ghost use Rattle.read_layout.specs.Layout.{sizes_of, layout_of, Limits, laid_of, ends_at, laid};
@@ -15,7 +16,7 @@ pub const RULE: usize = 1048576;
 pub const RULES: usize = 4096;
 
 // The seven sizes of a batch.
-#[derive(Drop)]
+#[derive(Clone, Copy)]
 pub struct Sizes {
     pub trees: usize,
     pub elements: usize,
@@ -27,7 +28,7 @@ pub struct Sizes {
 }
 
 // The sizes, and at which byte each array starts.
-#[derive(Drop)]
+#[derive(Clone, Copy)]
 pub struct Layout {
     pub sizes: Sizes,
     pub kinds: usize,
@@ -43,7 +44,7 @@ pub struct Layout {
 }
 
 // A refusal, by its number, or the layout.
-#[derive(Drop)]
+#[derive(Clone, Copy)]
 pub enum Laid {
     Refused(usize),
     At(Layout),

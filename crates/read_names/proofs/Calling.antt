@@ -36,22 +36,22 @@ unfolding head_d
 head_below n [] p h = p
 head_below n (e ∷ l) p h = h.0
 
-pub known_operation : (op k rule : ℕ) (t : Bool) → t ≡ word_fits op k rule → not t ≡ false → op ≤ 6
+pub known_operation : (op k rule : ℕ) (t : Bool) → t ≡ word_fits op k rule → t ≡ true → op ≤ 6
 unfolding word_fits
 known_operation op k rule t g q =
-    let (known, _) = neither (ltb 6 op || wrong_count op k) (ruled_start op rule) (not-true _ (sym g ∙ not-false t q)) in
+    let (known, _) = neither (ltb 6 op || wrong_count op k) (ruled_start op rule) (not-true _ (sym g ∙ q)) in
     ltb-false 6 op (neither (ltb 6 op) (wrong_count op k) known).0
 
-pub first_below : (n x y : ℕ) (l : List ℕ) (u : Bool) → x < n → u ≡ not (any (leb n) l) → not u ≡ false → y ≡ head_d l 0 → y < n
-first_below n x y l u h g q d = rw d (head_below n l (omega arith) (all_below n l (not-true _ (sym g ∙ not-false u q))))
+pub first_below : (n x y : ℕ) (l : List ℕ) (u : Bool) → x < n → u ≡ not (any (leb n) l) → u ≡ true → y ≡ head_d l 0 → y < n
+first_below n x y l u h g q d = rw d (head_below n l (omega arith) (all_below n l (not-true _ (sym g ∙ q))))
 
 module _ (n : ℕ) (w r : List ℕ) (word x : ℕ) (m : List ℕ) (k : ℕ) (e : k ≡ count_of word) where
   module _ (op : ℕ) (f : op ≡ operation_of word) (rule : ℕ) (i : rule ≡ rule_of word) (t : Bool) (g : t ≡ word_fits op k rule) where
-    pub wrong_word : not t ≡ true → false ≡ not (wrong_call (view n w r) (call_of word x (words (count_of word) m)))
+    pub wrong_word : t ≡ false → false ≡ not (wrong_call (view n w r) (call_of word x (words (count_of word) m)))
     unfolding wrong_call word_fits
     wrong_word q =
         rw (length_words (count_of word) m, ← e, ← f, ← i)
-        (one_wrong (ltb 6 op) (wrong_count op k) _ _ (ruled_start op rule) (not-false (ltb 6 op || wrong_count op k || ruled_start op rule) (sym g ∙ not-true t q)))
+        (one_wrong (ltb 6 op) (wrong_count op k) _ _ (ruled_start op rule) (not-false (ltb 6 op || wrong_count op k || ruled_start op rule) (sym g ∙ q)))
       where
         one_wrong : (a b c d e : Bool) → (a || b || e) ≡ true → false ≡ not (a || b || c || d || e)
         one_wrong true b c d e h = refl
@@ -63,16 +63,16 @@ module _ (n : ℕ) (w r : List ℕ) (word x : ℕ) (m : List ℕ) (k : ℕ) (e :
   wrong_target h = rw (length_view n w r, le-leb n x h, or_true)
 
   module _ (u : Bool) (g : u ≡ not (any (leb n) (words k m))) where
-    pub wrong_listed : not u ≡ true → false ≡ not (wrong_call (view n w r) (call_of word x (words (count_of word) m)))
+    pub wrong_listed : u ≡ false → false ≡ not (wrong_call (view n w r) (call_of word x (words (count_of word) m)))
     unfolding wrong_call any
-    wrong_listed q = rw (length_view n w r, ← e, not-false (any (leb n) (words k m)) (sym g ∙ not-true u q), or_true, or_true)
+    wrong_listed q = rw (length_view n w r, ← e, not-false (any (leb n) (words k m)) (sym g ∙ q), or_true, or_true)
 
-    pub call_judged : (op : ℕ) → op ≡ operation_of word → (rule : ℕ) → rule ≡ rule_of word → (t : Bool) → t ≡ word_fits op k rule → not t ≡ false → x < n → not u ≡ false → (y : ℕ) → y ≡ head_d (words k m) 0 → (v : Bool) → v ≡ call_fits (view n w r) op x y
+    pub call_judged : (op : ℕ) → op ≡ operation_of word → (rule : ℕ) → rule ≡ rule_of word → (t : Bool) → t ≡ word_fits op k rule → t ≡ true → x < n → u ≡ true → (y : ℕ) → y ≡ head_d (words k m) 0 → (v : Bool) → v ≡ call_fits (view n w r) op x y
         → v ≡ not (wrong_call (view n w r) (call_of word x (words (count_of word) m)))
     call_judged op f rule i t a b h q y d v z =
-        let s = all_below n (words k m) (not-true _ (sym g ∙ not-false u q)) in
+        let s = all_below n (words k m) (not-true _ (sym g ∙ q)) in
         let j = judged n w r (call_of word x (words k m)) (h, s) in
-        rw (← e, j, ← f, ← i, ← d, length_words k m, ← a, not-false t b) (z ∙ sym (twice _))
+        rw (← e, j, ← f, ← i, ← d, length_words k m, ← a, b) (z ∙ sym (twice _))
 
 -- ── How many it lists ───────────────────────────────────────────────────────────────────────────────────────
 
@@ -137,9 +137,9 @@ module _ {T : Table} {b : List ℕ} {heads targets calls list listed taken i : �
           turn ∙ rw (le-leb k (listed - taken) s, take_words k n (listed - taken) m e, drop_words k n (listed - taken) m e, drop-drop (4 * k) (list + 4 * taken) b, f, et, ek)
 
       -- it does not stand as it should
-      pub calling_wrong : not t ≡ true → false ≡ judged_all T b heads targets calls list listed
-      calling_wrong q = sym (next ∙ rw (not-true t q))
+      pub calling_wrong : t ≡ false → false ≡ judged_all T b heads targets calls list listed
+      calling_wrong q = sym (next ∙ rw q)
 
       -- it does
-      pub calling_next : not t ≡ false → Calling T b heads targets calls list listed (taken + k) (i + 1)
-      calling_next q = record { inside = omega arith; few = omega (arith, v.few); verdict = next ∙ rw (not-false t q) }
+      pub calling_next : t ≡ true → Calling T b heads targets calls list listed (taken + k) (i + 1)
+      calling_next q = record { inside = omega arith; few = omega (arith, v.few); verdict = next ∙ rw q }

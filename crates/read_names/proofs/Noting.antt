@@ -28,16 +28,16 @@ module _ (n : ℕ) (w r : List ℕ) (x y : ℕ) where
   output_beyond h = rw (length_view n w r, le-leb n y h, or_true)
 
   module _ (W : Wellformed n w r) (hx : x < n) (hy : y < n) (t : Bool) (et : t ≡ is_node (get_or r (3 * suc x) 0)) where
-    pub input_token : not t ≡ true → false ≡ not (wrong_mapping (view n w r) (x, y))
+    pub input_token : t ≡ false → false ≡ not (wrong_mapping (view n w r) (x, y))
     unfolding wrong_mapping any
     input_token q = rw (length_view n w r, lt-leb n x hx, node_told n w r x hx, ← et, q)
 
-    module _ (q : not t ≡ false) (u : Bool) (eu : u ≡ is_node (get_or r (3 * suc y) 0)) where
-      pub output_token : not u ≡ true → false ≡ not (wrong_mapping (view n w r) (x, y))
+    module _ (q : t ≡ true) (u : Bool) (eu : u ≡ is_node (get_or r (3 * suc y) 0)) where
+      pub output_token : u ≡ false → false ≡ not (wrong_mapping (view n w r) (x, y))
       unfolding wrong_mapping any
       output_token p = rw (length_view n w r, lt-leb n x hx, lt-leb n y hy, node_told n w r x hx, node_told n w r y hy, ← et, ← eu, q, p)
 
-      pub mapping_judged : not u ≡ false → (v : Bool) → v ≡ eqb (get_or w (8 * y + 1) 0) 0 → not v ≡ not (wrong_mapping (view n w r) (x, y))
+      pub mapping_judged : u ≡ true → (v : Bool) → v ≡ eqb (get_or w (8 * y + 1) 0) 0 → not v ≡ not (wrong_mapping (view n w r) (x, y))
       unfolding wrong_mapping any
       mapping_judged p v ev = rw (length_view n w r, lt-leb n x hx, lt-leb n y hy, node_told n w r x hx, node_told n w r y hy, root_told n w r W.lines y hy, ← et, ← eu, ← ev, q, p)
 

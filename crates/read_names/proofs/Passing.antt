@@ -68,11 +68,11 @@ module _ {b : List ℕ} {from count n i : ℕ} (v : Wording (leb n) b from count
 
 -- the call words passed list no more than they may
 module _ {b : List ℕ} {from count i : ℕ} (v : Wording word_too_many b from count i) (h : i < count) {w : ℕ} (e : w ≡ word (drop (from + 4 * i) b)) {t : Bool} (et : t ≡ not (word_too_many w)) where
-  pub few_next : not t ≡ false → Wording word_too_many b from count (i + 1)
-  few_next q = wording_next word_too_many b from count v h e (not-true _ (sym et ∙ not-false t q))
+  pub few_next : t ≡ true → Wording word_too_many b from count (i + 1)
+  few_next q = wording_next word_too_many b from count v h e (not-true _ (sym et ∙ q))
 
-  pub few_met : not t ≡ true → false ≡ not (any word_too_many (words count (drop from b)))
-  few_met q = wording_met word_too_many b from count v h e (not-false _ (sym et ∙ not-true t q))
+  pub few_met : t ≡ false → false ≡ not (any word_too_many (words count (drop from b)))
+  few_met q = wording_met word_too_many b from count v h e (not-false _ (sym et ∙ q))
 
 -- ── Pairs of words ──────────────────────────────────────────────────────────────────────────────────────────
 
@@ -95,11 +95,11 @@ module _ (p : ℕ × ℕ → Bool) (b : List ℕ) (first second count : ℕ) whe
       next : elements_from b first second count i ≡ (x, y) ∷ elements_from b first second count (i + 1)
       next = elements_more b first second count i h ∙ rw (← ex, ← ey)
 
-      pub pairing_met : not t ≡ true → false ≡ not (any p pairs)
-      pairing_met q = sym (ap not (met p pairs next v.verdict (not-false _ (sym et ∙ not-true t q))))
+      pub pairing_met : t ≡ false → false ≡ not (any p pairs)
+      pairing_met q = sym (ap not (met p pairs next v.verdict (not-false _ (sym et ∙ q))))
 
-      pub pairing_next : not t ≡ false → Pairing (i + 1)
-      pairing_next q = record { inside = omega arith; verdict = unmet p pairs next v.verdict (not-true _ (sym et ∙ not-false t q)) }
+      pub pairing_next : t ≡ true → Pairing (i + 1)
+      pairing_next q = record { inside = omega arith; verdict = unmet p pairs next v.verdict (not-true _ (sym et ∙ q)) }
 
     pub pairing_all : count ≤ i → true ≡ not (any p pairs)
     pairing_all k = sym (ap not (none_left p pairs (elements_none b first second count i k) v.verdict))

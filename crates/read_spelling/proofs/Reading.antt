@@ -66,14 +66,14 @@ module _ {b : List ℕ} {kinds measures n trees bytes : ℕ} {left : List ℕ} {
           v.verdict ∙ rw (top, elements_more b kinds measures n i j, ← ek, ← em) (fills_open bytes _ (stack 0 left (d - 1)) sum k m _ d e)
 
       -- it may not stand there
-      pub reading_wrong : {r : Bool} → r ≡ stands k d → not r ≡ true → false ≡ accepts trees bytes (elements_at b kinds measures n)
-      reading_wrong {r} e q = let w : stands k d ≡ false = sym e ∙ not-true r q in sym (turn ∙ rw w)
+      pub reading_wrong : {r : Bool} → r ≡ stands k d → r ≡ false → false ≡ accepts trees bytes (elements_at b kinds measures n)
+      reading_wrong {r} e q = let w : stands k d ≡ false = sym e ∙ q in sym (turn ∙ rw w)
 
       -- it is opened
-      pub reading_open : {r : Bool} {c l : ℕ} → r ≡ stands k d → not r ≡ false → c ≡ children_of k m → l ≡ length_of k m → l ≤ m → m < 2 ^ 32
+      pub reading_open : {r : Bool} {c l : ℕ} → r ≡ stands k d → r ≡ true → c ≡ children_of k m → l ≡ length_of k m → l ≤ m → m < 2 ^ 32
           → Reading b kinds measures n trees bytes (set (set left (d - 1) (get_or left (d - 1) 0 - 1)) d c) (d + 1) (sum + l) (i + 1)
       reading_open {r} {c} {l} e q ec el h₁ h₂ =
-          let w : stands k d ≡ true = sym e ∙ not-false r q in
+          let w : stands k d ≡ true = sym e ∙ q in
           let s = stands_shallow k d w in
           record {
             inside = omega arith;

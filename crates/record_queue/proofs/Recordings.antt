@@ -134,11 +134,11 @@ module _ (w : List ℕ) (start count op x : ℕ) (t : Bool) (e : t ≡ is_single
       go true = refl
       go false = place_none l
 
-  pub place_neither : start ≤ count → not t ≡ true → count ≡ start + place (meets_by op x) (drop start (rows_of count w))
-  place_neither h q = rw (place_by (drop start (rows_of count w)), not-true t q, length-drop, length_rows_of) (omega arith)
+  pub place_neither : start ≤ count → t ≡ false → count ≡ start + place (meets_by op x) (drop start (rows_of count w))
+  place_neither h q = rw (place_by (drop start (rows_of count w)), q, length-drop, length_rows_of) (omega arith)
 
-  pub place_single : (k : ℕ) → not t ≡ false → k ≡ start + place (meets_single x) (drop start (rows_of count w)) → k ≡ start + place (meets_by op x) (drop start (rows_of count w))
-  place_single k q f = rw (place_by (drop start (rows_of count w)), not-false t q) f
+  pub place_single : (k : ℕ) → t ≡ true → k ≡ start + place (meets_single x) (drop start (rows_of count w)) → k ≡ start + place (meets_by op x) (drop start (rows_of count w))
+  place_single k q f = rw (place_by (drop start (rows_of count w)), q) f
 
 -- ── One change more ─────────────────────────────────────────────────────────────────────────────────────────
 

@@ -1,4 +1,5 @@
 // Recording: from the calls of an accepted batch to change rows, editor after editor.
+#![tactic(auto)]
 ghost use Rattle.std.specs.Prelude.{◌≡◌, ◌+◌, ◌*◌, ◌^◌, ◌≤◌, ◌<◌, length, get_or, drop};
 ghost use mathlib.Core.List.{zip};
 ghost use Rattle.definition.specs.Words.{words as words_of};
@@ -16,7 +17,7 @@ ghost use Rattle.record_queue.specs.CallList.{calls_of, Fit, CallFits, CallPut, 
 use record_changes::{LIST, Numbers, Spot, TARGET, WORDS};
 
 // The rows so far: where the present editor's start, and how many there are.
-#[derive(Drop)]
+#[derive(Clone, Copy)]
 pub struct Queue {
     pub start: usize,
     pub count: usize,

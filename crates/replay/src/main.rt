@@ -1,5 +1,6 @@
 // Replays the recorded cases on standard input: every byte of the result, every work slice, and the elements found. Each batch is also taken apart and
 // written again.
+#![tactic(auto)]
 ghost use Rattle.std.specs.Prelude.{◌^◌, ◌<◌, ◌≤◌};
 
 use choices::Choices;
@@ -26,14 +27,14 @@ const MISSING: Case = Case {
 };
 
 // A number that is read, or the input's end.
-#[derive(Drop)]
+#[derive(Clone, Copy)]
 enum Read {
     Word(usize),
     End,
 }
 
 // Whether a case is as recorded, and what its batch comes to when it is written again: 0 for the same bytes, or a refusal's number.
-#[derive(Drop)]
+#[derive(Clone, Copy)]
 struct Case {
     agrees: bool,
     again: usize,
@@ -41,7 +42,7 @@ struct Case {
 
 // How many cases are not as recorded; how many batches come out byte for byte, are refused 14, and stay whole: no lists are laid out as they are, since their
 // length is not what their sizes give.
-#[derive(Drop)]
+#[derive(Clone, Copy)]
 struct Counts {
     missed: usize,
     same: usize,
@@ -50,7 +51,7 @@ struct Counts {
 }
 
 // What a job came to, or that it left a work slice that is not all zeros.
-#[derive(Drop)]
+#[derive(Clone, Copy)]
 enum Served {
     Told(Outcome),
     Unclean,

@@ -1,4 +1,5 @@
 // The bytes of a result: where its sizes and its arrays stand; laws: see specs/.
+#![tactic(auto)]
 
 // At which byte each of the six sizes stands.
 pub const ELEMENTS: usize = 0;

@@ -1,4 +1,5 @@
 // Paths in the rows of a tree: the element to which a path leads, and where its text starts.
+#![tactic(auto)]
 ghost use Rattle.std.specs.Prelude.{◌*◌, ◌^◌, ◌<◌, length};
 ghost use Rattle.rows_path.specs.Promises.{Resolves};
 
@@ -6,7 +7,7 @@ use rows_syntax_node::{ROW_WORDS, child_count, child_row, text_bytes};
 use words::word;
 
 // An element: its row, and where its text starts in its tree.
-#[derive(Drop)]
+#[derive(Clone, Copy)]
 pub enum Resolved {
     At(usize, usize),
     Nothing,

@@ -1,4 +1,5 @@
 // The changed elements and the notes that are held, moved through one splice.
+#![tactic(auto)]
 ghost use Rattle.std.specs.Prelude.{◌≡◌, ◌+◌, ◌-◌, ◌*◌, ◌/◌, ◌%◌, ◌^◌, ◌≤◌, ◌<◌, length, get_or};
 ghost use Rattle.std.proofs.Math.Seq.{paste};
 ghost use Rattle.orders.specs.Lists.{All};
@@ -140,7 +141,7 @@ pub fn move_notes(notes: &mut [u32], k: usize, p: usize, q: usize, m: usize) -> 
 // ── The notes that come in with a part ──
 
 // The notes are more than there is room for, or how many there are now.
-#[derive(Drop)]
+#[derive(Clone, Copy)]
 pub enum Taken {
     Full,
     Count(usize),

@@ -1,4 +1,5 @@
 // What the listed elements of a step yield: their rows one behind another, the number of rows of each, and the notes that come along.
+#![tactic(auto)]
 ghost use Rattle.std.specs.Prelude.{◌+◌, ◌*◌, ◌/◌, ◌≤◌, ◌<◌, length, get_or};
 ghost use Rattle.orders.specs.Lists.{All};
 ghost use Rattle.run_prepare.specs.Parts.{words_in};
@@ -10,7 +11,7 @@ use run_tree_store::prepared_rows;
 use words::{read_word, word};
 
 // More than a step may bring, or how many rows and notes come in.
-#[derive(Drop)]
+#[derive(Clone, Copy)]
 pub enum Prepared {
     TooMany,
     Parts(usize, usize),

@@ -1,5 +1,6 @@
 // The state of a run: where the root of tree 0 stands, and how much is held; lent to each splice step, which rows, marks, notes and changed elements
 // go through together. 12 is decided before anything is written.
+#![tactic(auto)]
 ghost use Rattle.std.specs.Prelude.{◌≡◌, List, ℕ, ◌+◌, ◌-◌, ◌*◌, ◌/◌, ◌^◌, ◌≤◌, ◌<◌, length};
 ghost use Rattle.orders.specs.Lists.{pick};
 ghost use Rattle.run_annotations.specs.Notes.{notes_of};
@@ -17,7 +18,7 @@ use run_tree_store::{Gap, too_large};
 
 // Rust: TreeState, one for each tree; here all trees stand in one slice of rows. Where the root of tree 0 stands, and how much is held: rows, their text bytes,
 // notes, changed elements.
-#[derive(Drop)]
+#[derive(Clone, Copy)]
 pub struct TreeState {
     pub root: usize,
     pub rows: usize,
@@ -258,7 +259,7 @@ fn bytes_between(rows: &[u32], n: usize, p: usize, q: usize) -> usize
 }
 
 // What a step makes is too large, or has so many text bytes.
-#[derive(Drop)]
+#[derive(Clone, Copy)]
 pub enum Size {
     TooLarge,
     Fits(usize),
@@ -294,7 +295,7 @@ fn step_size(
 // ── One step, where its gap and its parts are known ──
 
 // A refusal by its number, or how much is held at the end.
-#[derive(Drop)]
+#[derive(Clone, Copy)]
 pub enum Executed {
     Refused(usize),
     Done(TreeState),

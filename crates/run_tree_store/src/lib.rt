@@ -1,4 +1,5 @@
 // The current trees as rows and marks: what a listed element yields, and where a change goes.
+#![tactic(auto)]
 ghost use Rattle.std.specs.Prelude.{◌≡◌, ◌+◌, ◌*◌, ◌^◌, ◌≤◌, ◌<◌, length};
 ghost use Rattle.orders.specs.Lists.{All};
 ghost use Rattle.read_element_table.specs.Wellformed.{Lines};
@@ -36,7 +37,7 @@ pub fn prepared_rows<'a>(
 // ── Where a change goes ──
 
 // The rows `from` up to `to` below the row `parent`, which are `lost` trees.
-#[derive(Drop)]
+#[derive(Clone, Copy)]
 pub struct Gap {
     pub parent: usize,
     pub from: usize,
@@ -45,7 +46,7 @@ pub struct Gap {
 }
 
 // Where a change goes, if its target is still there.
-#[derive(Drop)]
+#[derive(Clone, Copy)]
 pub enum Site {
     Gone,
     At(Gap),

@@ -1,4 +1,5 @@
 // The public calls on a series of edits (document 02, Note 14).
+#![tactic(auto)]
 ghost use Rattle.std.specs.Prelude.{◌≡◌, ◌∷◌, []};
 ghost use Rattle.choices.specs.Meant.{meant};
 ghost use Rattle.promises.specs.Slices.{lengths};

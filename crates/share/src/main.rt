@@ -1,4 +1,5 @@
 // The share program.
+#![tactic(auto)]
 fn main() {
     share_program::run();
 }

@@ -1,4 +1,5 @@
 // The share program: it reads a batch and prints how much of the text is rewritten.
+#![tactic(auto)]
 ghost use Rattle.std.specs.Prelude.{◌≡◌, ◌≤◌, length};
 ghost use Rattle.choices.specs.Meant.{meant};
 ghost use Rattle.share_program.specs.Responds.{Tells, Responds};
@@ -49,7 +50,7 @@ fn answer(choices: Choices, batch: &[u8], read: usize, out: &mut [u8]) -> usize
 }
 
 // How many bytes of the batch were read, and how many of the output are to be printed.
-#[derive(Drop)]
+#[derive(Clone, Copy)]
 pub struct Response {
     pub read: usize,
     pub written: usize,

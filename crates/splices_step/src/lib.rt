@@ -1,5 +1,6 @@
 // One splice of a list on the rows and marks of one old tree. Six words a splice: number, row of its parent in the old tree, from, to, where its prepared rows
 // start, how many they are. The mark of an old element is the row where it stands now.
+#![tactic(auto)]
 ghost use Rattle.std.specs.Prelude.{◌≡◌, true, ◌+◌, ◌*◌, ◌^◌, ◌≤◌, ◌<◌, length, get_or};
 ghost use Rattle.orders.specs.Lists.{All};
 ghost use Rattle.splices_step.specs.Promises.{left_run, left_at, TreesOf, Deletes, Shifted, Started, ParentAt, GapAt, takes_by, Stepped};
@@ -63,7 +64,7 @@ fn deleted(splices: &[u32], j: usize) -> usize
 }
 
 // What splices insert and delete.
-#[derive(Drop)]
+#[derive(Clone, Copy)]
 pub struct Moves {
     pub gained: usize,
     pub lost: usize,
@@ -105,7 +106,7 @@ fn start_now(splices: &[u32], prepared: &[u32], e: usize, i: usize) -> usize
 // ── One splice ──
 
 // The rows `from` up to `to` below the row `parent`: `lost` trees, which give way to `gain` others.
-#[derive(Drop)]
+#[derive(Clone, Copy)]
 pub struct Gap {
     pub parent: usize,
     pub from: usize,

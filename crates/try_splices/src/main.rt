@@ -1,6 +1,7 @@
 // Lists of splices on one old tree, each in all its orders: every word of what they leave is printed once where all orders agree. Then lists that are refused, by
 // their numbers.
 // The old tree is root(X(a, b), Y(c), d), with one-letter tokens: rows 0 to 6.
+#![tactic(auto)]
 use splices_list::Outcome;
 use splices_model::SPLICE_WORDS;
 use words::{copy_in, word};

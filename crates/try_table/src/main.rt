@@ -1,4 +1,5 @@
 // Line 5 and the element table on document 01's printed case: tree 0 is a node of the tokens "a" and "b", tree 1 a node of the token "c".
+#![tactic(auto)]
 const KINDS_AND_MEASURES: [u8; 40] = [
     1, 0, 0, 0x80, 2, 0, 0, 0, 3, 0, 0, 0, 1, 0, 0, 0x80, 4, 0, 0, 0, 2, 0, 0, 0, 1, 0, 0, 0, 1, 0,
     0, 0, 1, 0, 0, 0, 1, 0, 0, 0,

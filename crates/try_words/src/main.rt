@@ -1,4 +1,5 @@
 // Words read, written, moved and spliced at small sizes: what the compiled code gives is what the definitions say.
+#![tactic(auto)]
 
 // A word is written and read back, and stands in little-endian order.
 fn bytes() {

@@ -97,16 +97,16 @@ module _ (l : Lists) (held d t s : List ℕ) (q : Bool) (e : q ≡ too_short (le
   refused_1 h = rw (sym e ∙ h) (record { answer = refl; destination = refl })
 
   module _ (h : q ≡ false) (u : Bool) (f : u ≡ not (unlayable l)) where
-    pub refused_14 : not u ≡ true → Tells (answer_of (Refused 14)) held
+    pub refused_14 : u ≡ false → Tells (answer_of (Refused 14)) held
     unfolding wrote with_work write wrong_lists answer_of left_in ◌>>=◌ refuse
-    refused_14 k = rw (sym e ∙ h, not-false (unlayable l) (sym f ∙ not-true u k)) (record { answer = refl; destination = refl })
+    refused_14 k = rw (sym e ∙ h, not-false (unlayable l) (sym f ∙ k)) (record { answer = refl; destination = refl })
 
-    pub handed_over : not u ≡ false → (b : List ℕ) {r : Answer ℕ} {holds : List ℕ} → b ≡ laid_out l → Told (handed b (length held)) held r holds → Tells r holds
+    pub handed_over : u ≡ true → (b : List ℕ) {r : Answer ℕ} {holds : List ℕ} → b ≡ laid_out l → Told (handed b (length held)) held r holds → Tells r holds
     unfolding wrote with_work write wrong_lists handed fitted ◌>>=◌ refuse
-    handed_over k b same p = let p = rw same at p in rw (sym e ∙ h, not-true (unlayable l) (sym f ∙ not-false u k)) p
+    handed_over k b same p = let p = rw same at p in rw (sym e ∙ h, not-true (unlayable l) (sym f ∙ k)) p
 
-pub may_lay : (l : Lists) (u : Bool) → u ≡ not (unlayable l) → not u ≡ false → InStep l
-may_lay l u f k = (layable l (not-true (unlayable l) (sym f ∙ not-false u k))).step
+pub may_lay : (l : Lists) (u : Bool) → u ≡ not (unlayable l) → u ≡ true → InStep l
+may_lay l u f k = (layable l (not-true (unlayable l) (sym f ∙ k))).step
 
 -- what is laid out stands within the draft
 module _ {d new e : List ℕ} {n : ℕ} (p : Appended d 0 new e n) where

@@ -1,4 +1,5 @@
 // The writer: lists laid out as a batch (document 02, Note 2).
+#![tactic(auto)]
 ghost use Rattle.std.specs.Prelude.{◌≡◌, ◌∷◌, [], ◌≤◌, length};
 ghost use Rattle.definition.specs.Answers.{too_short};
 ghost use Rattle.promises.specs.Slices.{lengths, zeroed};
@@ -9,7 +10,7 @@ ghost use Rattle.write_batch.specs.Handing.{answer_of, Told, fitted, handed};
 use read_layout::Laid;
 
 // How many bytes the batch has, or a refusal's number.
-#[derive(Drop)]
+#[derive(Clone, Copy)]
 pub enum Written {
     Refused(usize),
     Bytes(usize),

@@ -76,30 +76,30 @@ module _ {k : ℕ} {s : List ℕ} {i : ℕ} (v : Passing k s i) where
 -- ── The parts of a call word ───────────────────────────────────────────────────────────────────────────────
 
 module _ (a b d t : Bool) (e : t ≡ not a) where
-  pub first_wrong : not t ≡ true → false ≡ not (a || b || d)
-  first_wrong h = rw (not-false a (sym e ∙ not-true t h)) refl
+  pub first_wrong : t ≡ false → false ≡ not (a || b || d)
+  first_wrong h = rw (not-false a (sym e ∙ h)) refl
 
-  module _ (h : not t ≡ false) (u : Bool) (f : u ≡ not b) where
-    pub second_wrong : not u ≡ true → false ≡ not (a || b || d)
-    second_wrong k = rw (not-true a (sym e ∙ not-false t h), not-false b (sym f ∙ not-true u k)) refl
+  module _ (h : t ≡ true) (u : Bool) (f : u ≡ not b) where
+    pub second_wrong : u ≡ false → false ≡ not (a || b || d)
+    second_wrong k = rw (not-true a (sym e ∙ h), not-false b (sym f ∙ k)) refl
 
-    pub third_tells : not u ≡ false → (v : Bool) → v ≡ not d → v ≡ not (a || b || d)
-    third_tells k v g = rw (not-true a (sym e ∙ not-false t h), not-true b (sym f ∙ not-false u k)) g
+    pub third_tells : u ≡ true → (v : Bool) → v ≡ not d → v ≡ not (a || b || d)
+    third_tells k v g = rw (not-true a (sym e ∙ h), not-true b (sym f ∙ k)) g
 
 -- ── All tests ───────────────────────────────────────────────────────────────────────────────────────────────
 
 module _ (l : Lists) (t : Bool)
     (e : t ≡ not (uneven (length l.kinds) (length l.measures) (length l.operations) (length l.counts) (length l.rules) (length l.targets) (length l.inputs) (length l.outputs) (length l.noted) (length l.numbers))) where
-  pub off_step : not t ≡ true → false ≡ not (unlayable l)
+  pub off_step : t ≡ false → false ≡ not (unlayable l)
   unfolding unlayable out_of_step differ uneven
-  off_step h = rw (not-false (out_of_step l) (sym e ∙ not-true t h)) refl
+  off_step h = rw (not-false (out_of_step l) (sym e ∙ h)) refl
 
-  module _ (h : not t ≡ false) (u : Bool)
+  module _ (h : t ≡ true) (u : Bool)
       (f : u ≡ not (beyond (record { trees = l.trees; elements = length l.kinds; text = length l.text; calls = length l.operations; listed = length l.listed; mappings = length l.inputs; notes = length l.noted }))) where
-    pub out_of_limits : not u ≡ true → false ≡ not (unlayable l)
+    pub out_of_limits : u ≡ false → false ≡ not (unlayable l)
     unfolding unlayable out_of_step differ uneven sizes_of
-    out_of_limits k = rw (not-true (out_of_step l) (sym e ∙ not-false t h), not-false (beyond (sizes_of l)) (sym f ∙ not-true u k)) refl
+    out_of_limits k = rw (not-true (out_of_step l) (sym e ∙ h), not-false (beyond (sizes_of l)) (sym f ∙ k)) refl
 
-    pub parts_tell : not u ≡ false → (w : Bool) → w ≡ not (any (leb 256) l.operations || any (leb 4096) l.counts || any (leb 4096) l.rules) → w ≡ not (unlayable l)
+    pub parts_tell : u ≡ true → (w : Bool) → w ≡ not (any (leb 256) l.operations || any (leb 4096) l.counts || any (leb 4096) l.rules) → w ≡ not (unlayable l)
     unfolding unlayable out_of_step differ uneven sizes_of unfitting
-    parts_tell k w g = rw (not-true (out_of_step l) (sym e ∙ not-false t h), not-true (beyond (sizes_of l)) (sym f ∙ not-false u k)) g
+    parts_tell k w g = rw (not-true (out_of_step l) (sym e ∙ h), not-true (beyond (sizes_of l)) (sym f ∙ k)) g

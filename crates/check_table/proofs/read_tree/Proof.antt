@@ -109,7 +109,7 @@ mul-left-2 c = search rules
 array-write-left-3 : tie.Need-array-write-left-3 invariant-loop decreases-loop
 array-write-left-3 c =
     let s = c.before.before.before.before.before.before.before.before.stands in
-    omega (arith, stands_shallow _ _ (sym s.ensures ∙ not-false s.result c.before.before.before.before.before.before.before.if3.false))
+    omega (arith, stands_shallow _ _ (sym s.ensures ∙ c.before.before.before.before.before.before.before.if3.false))
 
 add-owner : tie.Need-overflow-add-owner invariant-loop decreases-loop
 add-owner c = search rules
@@ -120,7 +120,7 @@ mul-owner c = search rules
 array-write-owner : tie.Need-array-write-owner invariant-loop decreases-loop
 array-write-owner c =
     let s = c.before.before.before.before.before.before.before.before.stands in
-    omega (arith, stands_shallow _ _ (sym s.ensures ∙ not-false s.result c.before.before.before.before.before.before.before.if3.false))
+    omega (arith, stands_shallow _ _ (sym s.ensures ∙ c.before.before.before.before.before.before.before.if3.false))
 
 add-d : tie.Need-overflow-add-d invariant-loop decreases-loop
 add-d c = search rules

@@ -82,7 +82,7 @@ mul-left-2 c = search rules
 array-write-left-3 : tie.Need-array-write-left-3 invariant-loop decreases-loop
 array-write-left-3 c =
     let s = c.before.before.stands in
-    omega (arith, stands_shallow _ _ (sym s.ensures ∙ not-false s.result c.before.if3.false))
+    omega (arith, stands_shallow _ _ (sym s.ensures ∙ c.before.if3.false))
 
 add-d : tie.Need-overflow-add-d invariant-loop decreases-loop
 add-d c = search rules

@@ -1,0 +1,40 @@
+-- `spells` meets its contract. The machine has read the elements passed.
+use borrow.Author.Rules.{rules}
+use native.Mathlib.Omega.{arith}
+use mathlib.Core.Path.{sym, ◌∙◌}
+use Prim.Native.Nat.{◌-◌}
+use borrow.Author.Tests.{not-false}
+use Rattle.read_spelling.specs.SpellingLaws.{stands_shallow}
+use Rattle.read_spelling.proofs.Reading.{reading_start, reading_close, reading_long, reading_end, reading_short, reading_wrong, reading_open}
+use Rattle.read_spelling.proofs.spells.Goals as goal
+
+pub loop-d-init : goal.loop-d-init
+loop-d-init c = search (reading_start, rules)
+
+pub loop-d-preserved-then-x-eq0 : goal.loop-d-preserved-then-x-eq0
+loop-d-preserved-then-x-eq0 c = search (reading_close, rules)
+
+pub returns-then-n-i : goal.returns-then-n-i
+returns-then-n-i c = search (reading_short, rules)
+
+pub returns-then-not-stands : goal.returns-then-not-stands
+returns-then-not-stands c = search (reading_wrong, rules)
+
+pub bounds-left-d : goal.bounds-left-d
+bounds-left-d c =
+    let s = c.stands in
+    omega (arith, stands_shallow _ _ (sym s.ensures ∙ c.if-not-stands.false))
+
+pub loop-d-preserved : goal.loop-d-preserved
+loop-d-preserved c =
+    let l = c.loop-d in
+    let k = c.read_word-k in
+    let m = c.read_word-m in
+    let s = c.stands in
+    reading_open l.invariant (omega arith) c.if-x-eq0.false (omega arith) k.ensures.0 m.ensures.0 s.ensures c.if-not-stands.false c.children_of.ensures c.length_of-sum.ensures.0 c.length_of-sum.ensures.1 m.ensures.1
+
+pub returns-then-i-n : goal.returns-then-i-n
+returns-then-i-n c = search (reading_long, rules)
+
+pub returns : goal.returns
+returns c = search (reading_end, rules)
