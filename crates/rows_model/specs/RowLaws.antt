@@ -67,11 +67,11 @@ told_preorder {X} f g e t = rw (rows_preorder t) (go (preorder t))
 
 pub kinds_preorder : (t : Tree ℕ) → map kind (rows_of t) ≡ map label (preorder t)
 unfolding label
-kinds_preorder t = told_preorder kind label (λ u. elim u [ node k cs ↦ refl | token k x ↦ refl ]) t
+kinds_preorder t = told_preorder kind label (λ u. elim u as (λ u. kind (row_of u) ≡ label u) [ node k cs ↦ refl | token k x ↦ refl ]) t
 
 pub measures_preorder : (t : Tree ℕ) → map measure (rows_of t) ≡ map measure_of (preorder t)
 unfolding measure_of
-measures_preorder t = told_preorder measure measure_of (λ u. elim u [ node k cs ↦ refl | token k x ↦ refl ]) t
+measures_preorder t = told_preorder measure measure_of (λ u. elim u as (λ u. measure (row_of u) ≡ measure_of u) [ node k cs ↦ refl | token k x ↦ refl ]) t
 
 mutual
   unfolding elements

@@ -1,0 +1,24 @@
+-- `bytes` meets its contract: what is read is computed from what the calls ensure.
+use Prim.Native.Nat.{ℕ}
+use mathlib.Core.Bool.{true}
+use mathlib.Core.List.{List, [], ◌∷◌}
+use mathlib.Core.Path.{◌≡◌, ◌∙◌}
+use borrow.Author.Rules.{rules}
+use borrow.Author.Tests.{eq-eqb}
+use lib.Dec.{eqb}
+use lib.ListN.{drop}
+use lib.Seq.{paste}
+use Rattle.definition.specs.Words.{word, bytes}
+use Rattle.try_words.proofs.bytes.Goals as goal
+
+read_at : (l : List ℕ) (at r n : ℕ) → l ≡ paste (7 ∷ 7 ∷ 7 ∷ 7 ∷ 7 ∷ 7 ∷ []) 1 (bytes 0x8040_2010) 4 → r ≡ word (drop at l) → word (drop at (7 ∷ 0x10 ∷ 0x20 ∷ 0x40 ∷ 0x80 ∷ 7 ∷ [])) ≡ n → eqb r n ≡ true
+unfolding bytes
+read_at l at r n p q e = eq-eqb r n (q ∙ rw (p, e))
+
+pub expect-requires : goal.expect-requires
+unfolding word
+expect-requires c = search (read_at, rules)
+
+pub expect-requires-2 : goal.expect-requires-2
+unfolding word
+expect-requires-2 c = search (read_at, rules)
