@@ -3,7 +3,6 @@ use borrow.Author.Rules.{rules}
 use native.Mathlib.Omega.{arith}
 use mathlib.Core.Path.{sym, ◌∙◌}
 use Prim.Native.Nat.{◌-◌}
-use borrow.Author.Tests.{not-false}
 use Rattle.read_spelling.specs.SpellingLaws.{stands_shallow}
 use Rattle.read_spelling.proofs.Reading.{reading_start, reading_close, reading_long, reading_end, reading_short, reading_wrong, reading_open}
 use Rattle.read_spelling.proofs.spells.Goals as goal

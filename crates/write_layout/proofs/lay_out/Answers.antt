@@ -1,0 +1,23 @@
+-- `lay_out` meets its contract: array behind array; each has room, since all are within their limits.
+use native.Mathlib.Omega.{arith}
+use Rattle.write_layout.proofs.Ways.{in_limits, room_trees, room_queue, room_names, room_text, all_laid}
+use borrow.Author.Rules.{rules}
+use Rattle.write_layout.proofs.lay_out.Goals as goal
+
+pub append_sizes-trees_at-requires : goal.append_sizes-trees_at-requires
+append_sizes-trees_at-requires c = (in_limits _ c.requires.0, omega (arith, c.requires.1))
+
+pub append_two-calls_at-requires : goal.append_two-calls_at-requires
+append_two-calls_at-requires c = room_trees _ c.requires.0 c.requires.1 c.append_sizes-trees_at.ensures c.draft-1.given
+
+pub append_queue-names_at-requires : goal.append_queue-names_at-requires
+append_queue-names_at-requires c = ((c.requires.0.counts, c.requires.0.rules), room_queue _ c.requires.0 c.requires.1 c.append_sizes-trees_at.ensures c.draft-1.given c.append_two-calls_at.ensures c.draft-2-1.given)
+
+pub append_names-text_at-requires : goal.append_names-text_at-requires
+append_names-text_at-requires c = room_names _ c.requires.0 c.requires.1 c.append_sizes-trees_at.ensures c.draft-1.given c.append_two-calls_at.ensures c.draft-2-1.given c.append_queue-names_at.ensures c.draft-3-1.given
+
+pub append_text-requires : goal.append_text-requires
+append_text-requires c = room_text _ c.requires.0 c.requires.1 c.append_sizes-trees_at.ensures c.draft-1.given c.append_two-calls_at.ensures c.draft-2-1.given c.append_queue-names_at.ensures c.draft-3-1.given c.append_names-text_at.ensures c.draft-4-1.given
+
+pub returns : goal.returns
+returns c = all_laid _ c.requires.0 c.requires.1 c.append_sizes-trees_at.ensures c.draft-1.given c.append_two-calls_at.ensures c.draft-2-1.given c.append_queue-names_at.ensures c.draft-3-1.given c.append_names-text_at.ensures c.draft-4-1.given c.append_text.ensures
