@@ -1,7 +1,7 @@
 -- The region to which a change belongs by edge rule 1: the innermost of all that take it, and no other.
 -- Assumes nothing.
 use Rattle.std.proofs.Math.Path.{◌≡◌, refl}
-use Rattle.std.proofs.Common.{sym, ap, ◌∙◌, arith}
+use Rattle.std.proofs.Common.{sym, subst, ap, ◌∙◌, arith}
 use Rattle.std.specs.Prelude.{Bool, ◌↔◌, ◌⊎◌}
 use Rattle.std.proofs.Math.Bool.{true, false, cond}
 use mathlib.Core.List.Memᴰ
@@ -97,9 +97,9 @@ module _ (T : Table) where
       pair : (s : ℕ × Change) (b : Bool) → ltb (region_depth T s.1) (region_depth T x.1) ≡ b → ◌≡◌ {A = Option (ℕ × Change)} (cond b (some x) (some s)) (some r) → Memᴰ s l × All (λ z. Outer z s) l
           → Memᴰ r (x ∷ l) × All (λ z. Outer z r) (x ∷ l)
       pair s true d e k =
-          rw (← some_inj e) (Memᴰ.head refl, (inr (refl, omega arith), All-map (λ z o. outer_trans z s x o (ltb-true (region_depth T s.1) (region_depth T x.1) d)) l k.1))
+          subst (λ r. Memᴰ r (x ∷ l) × All (λ z. Outer z r) (x ∷ l)) (some_inj e) (Memᴰ.head refl, (inr (refl, omega arith), All-map (λ z o. outer_trans z s x o (ltb-true (region_depth T s.1) (region_depth T x.1) d)) l k.1))
       pair s false d e k =
-          rw (← some_inj e) (Memᴰ.tail k.0, (first (ltb-false (region_depth T s.1) (region_depth T x.1) d) (All-mem (λ z. x.0 < z.0) l s h.0 k.0), k.1))
+          subst (λ r. Memᴰ r (x ∷ l) × All (λ z. Outer z r) (x ∷ l)) (some_inj e) (Memᴰ.tail k.0, (first (ltb-false (region_depth T s.1) (region_depth T x.1) d) (All-mem (λ z. x.0 < z.0) l s h.0 k.0), k.1))
         where
           first : region_depth T x.1 ≤ region_depth T s.1 → x.0 < s.0 → Outer x s
           first a b = go (bool? (ltb (region_depth T x.1) (region_depth T s.1)))

@@ -1,7 +1,7 @@
 -- Every call of every load is as lines 6 and 16 ask.
 -- Assumes nothing.
 use Rattle.std.specs.Prelude.{◌≡◌, refl, Bool, true, false, cond, List, [], ◌∷◌, ℕ, zero, suc, ◌+◌, ◌-◌, ◌*◌, ◌/◌, ◌%◌, ◌≤◌, ◌<◌, length, leb, ltb, eqb}
-use Rattle.std.proofs.Common.{ap, le-ltb, ltb-false, eq-eqb}
+use Rattle.std.proofs.Common.{ap, subst, le-ltb, ltb-false, eq-eqb}
 use mathlib.Core.List as List
 use native.Mathlib.Omega.{arith}
 use Rattle.std.proofs.lemmas.Bool.{lt-leb}
@@ -201,7 +201,7 @@ calls_many s = rw length_from refl
 pub call_known : (c : Call) → Fine c → (c.operation < 256) × (c.target < 792) × All (λ e. e < 792) c.listed
 call_known c f =
     let j = judged T c f.right in
-    let b = rw many at (below_E T (c.target ∷ c.listed) j.within) in
+    let b = subst (λ n. All (λ e. e < n) (c.target ∷ c.listed)) many (below_E T (c.target ∷ c.listed) j.within) in
     (omega (arith, ltb-false 6 c.operation j.known), b.0, b.1)
 
 -- 16: it lists no more than 41

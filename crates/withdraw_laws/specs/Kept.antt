@@ -90,7 +90,7 @@ module _ (T : Table) where
   pub keeping_all : (P : Numbered → Type 0) (ks cs : List Numbered) → All P ks → All P cs → All P (keeping T ks cs)
   unfolding keeping
   keeping_all P ks [] h k = h
-  keeping_all P ks (c ∷ cs) h k = keeping_all P _ cs (go (is_some (stronger T ks c.1))) k.1
+  keeping_all P ks (c ∷ cs) h k = keeping_all P (cond (is_some (stronger T ks c.1)) ks (ks ++ (c ∷ []))) cs (go (is_some (stronger T ks c.1))) k.1
     where
       go : (b : Bool) → All P (cond b ks (ks ++ (c ∷ [])))
       go true = h
@@ -103,7 +103,7 @@ module _ (T : Table) where
   keeping_pairs : (R : Numbered → Numbered → Type 0) (ks cs : List Numbered) → Pairs R ks → All (λ k. All (R k) cs) ks → Pairs R cs → Pairs R (keeping T ks cs)
   unfolding keeping
   keeping_pairs R ks [] h k q = h
-  keeping_pairs R ks (c ∷ cs) h k q = let (a, b) = go (is_some (stronger T ks c.1)) in keeping_pairs R _ cs a b q.1
+  keeping_pairs R ks (c ∷ cs) h k q = let (a, b) = go (is_some (stronger T ks c.1)) in keeping_pairs R (cond (is_some (stronger T ks c.1)) ks (ks ++ (c ∷ []))) cs a b q.1
     where
       go : (b : Bool) → Pairs R (cond b ks (ks ++ (c ∷ []))) × All (λ x. All (R x) cs) (cond b ks (ks ++ (c ∷ [])))
       go true = (h, All-map (λ x a. a.1) ks k)
@@ -113,7 +113,7 @@ module _ (T : Table) where
   keeping_apart : (ks cs : List Numbered) → Pairs (λ x y. gives_way T y.1 x.1 ≡ false) ks → Pairs (λ x y. gives_way T y.1 x.1 ≡ false) (keeping T ks cs)
   unfolding keeping is_some stronger
   keeping_apart ks [] h = h
-  keeping_apart ks (c ∷ cs) h = keeping_apart _ cs (go (stronger T ks c.1) refl)
+  keeping_apart ks (c ∷ cs) h = keeping_apart (cond (is_some (stronger T ks c.1)) ks (ks ++ (c ∷ []))) cs (go (stronger T ks c.1) refl)
     where
       go : (o : Option Numbered) → stronger T ks c.1 ≡ o → Pairs (λ x y. gives_way T y.1 x.1 ≡ false) (cond (is_some o) ks (ks ++ (c ∷ [])))
       go none e = Pairs-join (λ x y. gives_way T y.1 x.1 ≡ false) ks c h (first_none (λ d. gives_way T c.1 d.1) ks e)
@@ -123,7 +123,7 @@ module _ (T : Table) where
   keeping_mem : (x : Numbered) (ks cs : List Numbered) → Memᴰ x ks → Memᴰ x (keeping T ks cs)
   unfolding keeping
   keeping_mem x ks [] m = m
-  keeping_mem x ks (c ∷ cs) m = keeping_mem x _ cs (go (is_some (stronger T ks c.1)))
+  keeping_mem x ks (c ∷ cs) m = keeping_mem x (cond (is_some (stronger T ks c.1)) ks (ks ++ (c ∷ []))) cs (go (is_some (stronger T ks c.1)))
     where
       go : (b : Bool) → Memᴰ x (cond b ks (ks ++ (c ∷ [])))
       go true = m
@@ -132,7 +132,7 @@ module _ (T : Table) where
   keeping_front : (P : Numbered → Type 0) (ks cs : List Numbered) → All P (keeping T ks cs) → All P ks
   unfolding keeping
   keeping_front P ks [] h = h
-  keeping_front P ks (c ∷ cs) h = go (is_some (stronger T ks c.1)) (keeping_front P _ cs h)
+  keeping_front P ks (c ∷ cs) h = go (is_some (stronger T ks c.1)) (keeping_front P (cond (is_some (stronger T ks c.1)) ks (ks ++ (c ∷ []))) cs h)
     where
       go : (b : Bool) → All P (cond b ks (ks ++ (c ∷ []))) → All P ks
       go true a = a

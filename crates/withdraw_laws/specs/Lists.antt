@@ -2,7 +2,7 @@
 -- Assumes nothing.
 use Rattle.std.specs.Prelude.{◌≡◌, Bool, ◌⊎◌}
 use Rattle.std.proofs.Math.Path.{refl, ap}
-use Rattle.std.proofs.Common.{sym}
+use Rattle.std.proofs.Common.{sym, subst}
 use Rattle.std.proofs.Math.Bool.{true, false, cond}
 use Rattle.std.proofs.Math.Logic.{inl, inr}
 use Rattle.std.proofs.Math.Option.{Option, none, some}
@@ -61,7 +61,7 @@ module _ {A : Type 0} (p : A → Bool) where
   first_before R (y ∷ l) x h e = go (p y) refl e (first_before R l x h.1)
     where
       go : (b : Bool) → p y ≡ b → cond b (some y) (first p l) ≡ some x → (first p l ≡ some x → All (λ y. p y ≡ true → (y ≡ x) ⊎ R x y) l) → All (λ y. p y ≡ true → (y ≡ x) ⊎ R x y) (y ∷ l)
-      go true b q k = let z = some_inj q in ((λ i. inl z), rw (← z) (All-map (λ u r i. inr r) l h.0))
+      go true b q k = let z = some_inj q in ((λ i. inl z), subst (λ w. All (λ v. p v ≡ true → (v ≡ w) ⊎ R w v) l) z (All-map (λ u r i. inr r) l h.0))
       go false b q k = ((λ i. bool_absurd i b), k q)
 
 -- ── Elements with their places ──────────────────────────────────────────────────────────────────────────────

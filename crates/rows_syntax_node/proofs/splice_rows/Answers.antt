@@ -9,7 +9,7 @@ pub splice_words-requires : goal.splice_words-requires
 splice_words-requires c = simp length-set (omega arith)
 
 pub shape_of-rows : goal.shape_of-rows
-shape_of-rows c = simp length-set at c.splice_words.auto.0
+shape_of-rows c = simp length-set at c.splice_words.auto.s
 
 pub returns : goal.returns
 returns c = search (rows_spliced, rules)

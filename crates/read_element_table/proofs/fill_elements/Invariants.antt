@@ -1,0 +1,11 @@
+use Prim.Native.Nat.{◌+◌, ◌-◌}
+use Rattle.read_element_table.proofs.Writing.{Writing}
+use Rattle.read_element_table.proofs.fill_elements.Given as goal
+
+abbrev pub invariant-loop-d : goal.invariant-loop-d
+invariant-loop-d l =
+    Writing l.b l.kinds l.measures l.n l.trees l.initial.table l.initial.source l.table l.source l.stack l.d l.o l.at l.tree l.i
+
+abbrev pub decreases-loop-d : goal.decreases-loop-d
+decreases-loop-d l =
+    (l.n - l.i) + (l.n - l.i) + l.d
