@@ -10,7 +10,7 @@ use Rattle.std.proofs.lemmas.List.{length-map}
 use Rattle.orders.specs.Lists.{All, pick}
 use Rattle.orders.specs.ListLaws.{some_inj, both_true, get_lt, lt_get, get_mem, All-map, All-mem}
 use Rattle.orders.specs.Tree.{Tree, node, forest, Path, resolve}
-use Rattle.orders.specs.TreeLaws.{list_forest, resolve_child}
+use Rattle.orders.proofs.TreeLaws.{list_forest, resolve_child}
 use Rattle.definition.specs.Basics.{gives, keep}
 use Rattle.definition.specs.Choices.{Choices}
 use Rattle.definition.specs.Elements.{Table, table, row, tree}

@@ -6,7 +6,7 @@ use Rattle.std.proofs.Math.Option.{Option, some, bind}
 use Rattle.std.proofs.Math.ListN.{get_elem?}
 use Rattle.orders.specs.ListLaws.{map_some, bind_some, get_lt, get_take}
 use Rattle.orders.specs.Tree.{Tree, node, token, forest, list, children, elements, Path, resolve}
-use Rattle.orders.specs.TreeLaws.{list_forest}
+use Rattle.orders.proofs.TreeLaws.{list_forest}
 use Rattle.definition.specs.Elements.{Table, rows, table, row, no_row, parent, child}
 use Rattle.definition_laws.specs.Rows.{Element, row_of, element}
 use Rattle.definition_laws.specs.Kin.{path_leads, path_long, path_tells, resolve_down, element_tree, element_path, row_told_lem, element_stands, stands_within}

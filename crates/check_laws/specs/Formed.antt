@@ -10,7 +10,7 @@ use Rattle.std.proofs.Math.Option.{Option, none, some, bind}
 use Rattle.orders.specs.Lists.{any, All}
 use Rattle.orders.specs.ListLaws.{some_inj, none_some, map_some, get_mem, All-mem}
 use Rattle.orders.specs.Tree.{Tree, node, token, forest, label, preorder, Path, resolve, splice, HasRun, strip}
-use Rattle.orders.specs.TreeLaws.{resolve_append, label_splice_in, Origin, kept, came, splice_origin}
+use Rattle.orders.proofs.TreeLaws.{resolve_append, label_splice_in, Origin, kept, came, splice_origin}
 use Rattle.definition.specs.Basics.{gives}
 use Rattle.definition.specs.Elements.{Row, table, row, no_row, malformed}
 use Rattle.definition.specs.Planning.{Planned}

@@ -15,7 +15,7 @@ use borrow.Author.Tests.{eqb-true, eq-eqb, lt-ltb, ltb-true}
 use Rattle.orders.specs.Lists.{any, All, Pairs}
 use Rattle.orders.specs.ListLaws.{bool_absurd, both_true, some_inj, none_some, map_some, lt_or_le, mem_pick, pick_mem, mem_any, any_mem, All-mem, Pairs-pick}
 use Rattle.orders.specs.Tree.{Tree, node, token, forest, list, children, label, Path, resolve, front, last}
-use Rattle.orders.specs.TreeLaws.{front_same, front_last}
+use Rattle.orders.proofs.TreeLaws.{front_same, front_last}
 use Rattle.orders.specs.Splices.{Splice, EntersDeleted}
 use Rattle.definition.specs.Basics.{is_some, among, keep, numbered}
 use Rattle.definition.specs.Elements.{Table, table, row, is_node, node?, parent, child, tree, place_below}

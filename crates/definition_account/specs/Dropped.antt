@@ -11,9 +11,9 @@ use Prim.Native.Nat.{ℕ, suc, ◌≤◌, ◌<◌}
 use Rattle.orders.specs.Lists.{All}
 use Rattle.orders.specs.ListLaws.{some_inj, none_some, map_some, bind_some, lt_or_le}
 use Rattle.orders.specs.Tree.{Path, Run, adjust, front, last}
-use Rattle.orders.specs.TreeLaws.{front_child, last_child}
+use Rattle.orders.proofs.TreeLaws.{front_child, last_child}
 use Rattle.orders.specs.Splices.{Splice, State, inserted, perform_at, Enters, EntersDeleted}
-use Rattle.orders.specs.Target.{Target, first_child, after_child, children, run_by_target, perform_by_targets}
+use Rattle.orders.proofs.Target.{Target, first_child, after_child, children, run_by_target, perform_by_targets}
 use Rattle.definition_laws.specs.Moves.{Keeps, adjust_keeps, more_keeps}
 use Rattle.definition_account.specs.Moving.{keeps_above, keeps_below, adjust_none, adjust_inside}
 

@@ -4,8 +4,8 @@ use Rattle.std.specs.Prelude.{◌≡◌, refl, Bool, true, false, List, [], ◌�
 use Rattle.orders.specs.Lists.{any}
 use Rattle.orders.specs.Lists
 use Rattle.orders.specs.Splices.{Splice}
-use Rattle.orders.specs.Check.{enters?}
-use Rattle.orders.specs.Check
+use Rattle.orders.proofs.Check.{enters?}
+use Rattle.orders.proofs.Check
 use Rattle.definition.specs.Basics.{Answer, gives, ◌>>=◌, is_some, numbered}
 use Rattle.definition.specs.Choices.{by_default}
 use Rattle.definition.specs.Elements.{row}

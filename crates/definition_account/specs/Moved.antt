@@ -11,7 +11,7 @@ use Rattle.std.proofs.lemmas.Bool.{eqb-false}
 use Rattle.orders.specs.Lists.{All, pick}
 use Rattle.orders.specs.ListLaws.{pick_none, pick_some}
 use Rattle.orders.specs.Tree.{Tree, Path, adjust}
-use Rattle.orders.specs.TreeLaws.{adjust_out, adjust_shift, shift_before}
+use Rattle.orders.proofs.TreeLaws.{adjust_out, adjust_shift, shift_before}
 use Rattle.definition.specs.Basics.{gives}
 use Rattle.definition.specs.Elements.{Table, table, row, tree}
 use Rattle.definition.specs.Planning.{Planned}

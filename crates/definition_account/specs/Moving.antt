@@ -7,7 +7,7 @@ use Rattle.std.proofs.Math.Option.{Option, none, some, map}
 use Rattle.std.proofs.lemmas.Bool.{eqb-false}
 use Rattle.orders.specs.ListLaws.{some_inj, none_some, map_some, lt_or_le, before, inside, after, zone?}
 use Rattle.orders.specs.Tree.{Path, adjust, shift, front, last}
-use Rattle.orders.specs.TreeLaws.{front_same, last_same, front_last, shift_before, shift_inside, shift_after, adjust_root, adjust_shift, adjust_in, adjust_out}
+use Rattle.orders.proofs.TreeLaws.{front_same, last_same, front_last, shift_before, shift_inside, shift_after, adjust_root, adjust_shift, adjust_in, adjust_out}
 use Rattle.definition_laws.specs.Moves.{Keeps}
 
 -- the same front of two paths, if the fronts are equally long

@@ -14,7 +14,7 @@ use borrow.Author.Tests.{eqb-true, eq-eqb}
 use Rattle.orders.specs.Lists.{All, Pairs, pick, total}
 use Rattle.orders.specs.ListLaws.{bool_absurd, some_inj, none_some, bind_some, get_lt, lt_or_le, mem_pick, All-map, All-map₂, All-mem, All-pick, All-perm, Pairs-with, Pairs-pick, Pairs-perm, total_none, total_perm}
 use Rattle.orders.specs.Tree.{Tree, node, forest, list, children, Path, resolve, strip}
-use Rattle.orders.specs.TreeLaws.{strip_append, strip_some, resolve_child}
+use Rattle.orders.proofs.TreeLaws.{strip_append, strip_some, resolve_child}
 use Rattle.definition.specs.Basics.{is_some, keep, numbered}
 use Rattle.definition.specs.Elements.{Table, table, row, tree, place_below, descend}
 use Rattle.definition.specs.Running.{World, present}

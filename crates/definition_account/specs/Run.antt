@@ -10,7 +10,7 @@ use Rattle.std.proofs.Math.ListN.{length, length-map}
 use Rattle.orders.specs.Lists.{All}
 use Rattle.orders.specs.ListLaws.{some_inj, none_some, map_some, All-map}
 use Rattle.orders.specs.Tree.{Tree, Path, adjust, front, last}
-use Rattle.orders.specs.TreeLaws.{front_child, adjust_root}
+use Rattle.orders.proofs.TreeLaws.{front_child, adjust_root}
 use Rattle.definition.specs.Basics.{Answer, refused, gives, refuse, or_refuse, is_some}
 use Rattle.definition.specs.Elements.{Table, table, row, no_row, root?, tree}
 use Rattle.definition.specs.Recording.{first_child, after, Change, insert, replace, delete, replace_with_many, replace_all}

@@ -9,7 +9,7 @@ use Rattle.std.proofs.Math.ListN.{length, length-map}
 use Rattle.orders.specs.Lists.{All, Pairs, pick}
 use Rattle.orders.specs.ListLaws.{bind_some, get_lt, mem_pick, All-map₂, All-pick, Pairs-pick}
 use Rattle.orders.specs.Tree.{Path, resolve, adjust, HasRun, front, last}
-use Rattle.orders.specs.TreeLaws.{front_same, last_same, front_last, Origin, kept, came, splice_origin}
+use Rattle.orders.proofs.TreeLaws.{front_same, last_same, front_last, Origin, kept, came, splice_origin}
 use Rattle.definition.specs.Basics.{is_some}
 use Rattle.definition.specs.Running.{World, present, Yield, Run, placed, spliced}
 use Rattle.definition_laws.specs.Basics.{All-append}

@@ -9,7 +9,7 @@ use Rattle.std.proofs.lemmas.List.{length-map}
 use Rattle.orders.specs.Lists.{All}
 use Rattle.orders.specs.ListLaws.{some_inj}
 use Rattle.orders.specs.Tree.{Tree, token, Path, resolve, adjust, splice, HasRun, strip}
-use Rattle.orders.specs.TreeLaws.{splice_in, resolve_splice}
+use Rattle.orders.proofs.TreeLaws.{splice_in, resolve_splice}
 use Rattle.definition.specs.Basics.{gives}
 use Rattle.definition.specs.Elements.{table}
 use Rattle.definition.specs.Planning.{Planned}

@@ -8,7 +8,7 @@ use mathlib.Core.List.{List, [], ◌∷◌, ◌++◌, map}
 use Rattle.std.proofs.Math.Option.{Option, none, some, bind}
 use Prim.Native.Nat.{ℕ, suc, ◌≤◌, ◌<◌}
 use Rattle.orders.specs.Tree.{Tree, Path, front, last}
-use Rattle.orders.specs.TreeLaws.{front_child, last_child}
+use Rattle.orders.proofs.TreeLaws.{front_child, last_child}
 use Rattle.definition.specs.Elements.{Table, table, no_row, row, root?, parent, child, tree}
 use Rattle.definition.specs.Recording.{first_child, after, Change, insert, replace, delete, replace_with_many, replace_all}
 use Rattle.definition.specs.Running.{World, present, news, Run, from_to, empty_at, place}

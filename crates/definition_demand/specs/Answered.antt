@@ -8,7 +8,7 @@ use Rattle.orders.specs.Lists.{any, All}
 use Rattle.orders.specs.ListLaws.{bool_absurd, both_true, All-map, none_passes, passes_none}
 use Rattle.orders.specs.Tree.{Tree, label, preorder, text, measure}
 use Rattle.orders.specs.Splices.{Splice, one_go, AllApart}
-use Rattle.orders.specs.Check.{all_apart?, says_all_apart}
+use Rattle.orders.proofs.Check.{all_apart?, says_all_apart}
 use Rattle.definition.specs.Basics.{Answer, gives, ◌>>=◌, refuse}
 use Rattle.definition.specs.Choices.{Choices, chosen}
 use Rattle.definition.specs.Elements.{Table, table}

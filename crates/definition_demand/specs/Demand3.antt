@@ -5,7 +5,7 @@ use mathlib.Core.List.{List, ◌∷◌, Permᴰ}
 use Rattle.orders.specs.Lists.{All}
 use Rattle.orders.specs.Tree.{Tree, Path}
 use Rattle.orders.specs.Splices.{Splice, begin, performs, AllApart}
-use Rattle.orders.specs.Demand.{Demanded, demand, orders_agree}
+use Rattle.orders.proofs.Demand.{Demanded, demand, orders_agree}
 use Rattle.definition.specs.Basics.{gives}
 use Rattle.definition.specs.Choices.{Choices}
 use Rattle.definition.specs.Elements.{table}

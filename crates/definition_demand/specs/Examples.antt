@@ -5,7 +5,7 @@ use mathlib.Core.List.{List, [], ◌∷◌, ◌++◌, map, flat_map}
 use Prim.Native.String.{String}
 use Rattle.orders.specs.Tree.{text}
 use Rattle.orders.specs.Splices
-use Rattle.orders.specs.Check
+use Rattle.orders.proofs.Check
 use Rattle.definition.specs.Basics.{Answer, gives, ◌>>=◌}
 use Rattle.definition.specs.Choices.{Choices}
 use Rattle.definition.specs.Refusals.{Call}

@@ -13,8 +13,8 @@ use Rattle.orders.specs.Tree.{Tree, forest, list, children, Path, resolve}
 use Rattle.orders.specs.Tree as Tree
 use Rattle.orders.specs.Splices.{Splice, State, perform_at, AllApart}
 use Rattle.orders.specs.Splices as Splices
-use Rattle.orders.specs.Demand.{Demanded}
-use Rattle.orders.specs.Target.{Target, run_by_target, perform_by_targets, Rising, demanded_by_targets}
+use Rattle.orders.proofs.Demand.{Demanded}
+use Rattle.orders.proofs.Target.{Target, run_by_target, perform_by_targets, Rising, demanded_by_targets}
 use Rattle.definition.specs.Basics.{gives, numbered}
 use Rattle.definition.specs.Elements.{Table, table, no_row, row}
 use Rattle.definition.specs.Planning.{Planned}

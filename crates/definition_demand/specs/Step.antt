@@ -11,7 +11,7 @@ use Rattle.orders.specs.ListLaws.{bool_absurd, some_inj, map_some}
 use Rattle.orders.specs.Tree.{Tree, Path, front, last}
 use Rattle.orders.specs.Tree as Tree
 use Rattle.orders.specs.Splices.{Splice, State, perform_at}
-use Rattle.orders.specs.Target.{Target, first_child, after_child, children, run_by_target}
+use Rattle.orders.proofs.Target.{Target, first_child, after_child, children, run_by_target}
 use Rattle.definition.specs.Basics.{gives, refuse, or_refuse}
 use Rattle.definition.specs.Elements.{Table, table}
 use Rattle.definition.specs.Planning.{Planned}

@@ -11,7 +11,7 @@ use Rattle.std.proofs.Math.ListN.{length}
 use Rattle.std.proofs.lemmas.List.{length-map}
 use Rattle.orders.specs.ListLaws.{some_inj, none_some, map_some, Zone, before, inside, after, zone?}
 use Rattle.orders.specs.Tree.{Tree, Trees, node, cons, list, forest, Path, adjust, shift, modify, splice}
-use Rattle.orders.specs.TreeLaws.{forest_list, shift_before, shift_inside, shift_after, adjust_shift, adjust_in, adjust_out}
+use Rattle.orders.proofs.TreeLaws.{forest_list, shift_before, shift_inside, shift_after, adjust_shift, adjust_in, adjust_out}
 use Rattle.orders.specs.Splices.{Splice, State, inserted, perform_at}
 use Rattle.definition.specs.Elements.{Table}
 use Rattle.definition.specs.Running.{World, Run, Yield, spliced}

@@ -15,7 +15,7 @@ use Rattle.orders.specs.ListLaws.{bool_absurd, some_inj, lt_or_le, All-map, All-
 use Rattle.orders.specs.Tree.{Tree, Path}
 use Rattle.orders.specs.Splices.{Splice, Enters, Overlap, Apart}
 use Rattle.orders.specs.Splices as Splices
-use Rattle.orders.specs.Target.{Rising}
+use Rattle.orders.proofs.Target.{Rising}
 use Rattle.definition.specs.Basics.{gives, numbered}
 use Rattle.definition.specs.Elements.{Table, table, row, tree, child}
 use Rattle.definition.specs.Refusals.{Accepted, accepted}

@@ -4,7 +4,7 @@ use Rattle.std.specs.Prelude.{◌≡◌, refl, Bool, true, false, ℕ, take}
 use mathlib.Core.List.{List, [], ◌∷◌, map, flat_map}
 use Rattle.orders.specs.Tree.{text}
 use Rattle.orders.specs.Splices
-use Rattle.orders.specs.Check
+use Rattle.orders.proofs.Check
 use Rattle.definition.specs.Basics.{Answer, gives, ◌>>=◌}
 use Rattle.definition.specs.Refusals.{Call, accepted}
 use Rattle.definition.specs.Finishing.{result}

@@ -10,7 +10,7 @@ use Rattle.orders.specs.Lists.{All, Pairs}
 use Rattle.orders.specs.ListLaws.{none_some, map_some, bind_some, All-map}
 use Rattle.orders.specs.Tree.{Run, Path, adjust}
 use Rattle.orders.specs.Splices.{Splice, State, inserted, perform_at}
-use Rattle.orders.specs.Target.{Target, first_child, after_child, children, run_by_target, perform_by_targets}
+use Rattle.orders.proofs.Target.{Target, first_child, after_child, children, run_by_target, perform_by_targets}
 use Rattle.definition_laws.specs.Moves.{Keeps, adjust_keeps, more_keeps}
 use Rattle.definition_account.specs.Dropped.{target_drops}
 

@@ -13,7 +13,7 @@ use borrow.Author.Tests.{eq-eqb}
 use Rattle.orders.specs.Lists.{pick, All}
 use Rattle.orders.specs.ListLaws.{bool_absurd, All-map, All-mem, mem_pick}
 use Rattle.orders.specs.Tree.{Tree, Path, front, last}
-use Rattle.orders.specs.TreeLaws.{front_child}
+use Rattle.orders.proofs.TreeLaws.{front_child}
 use Rattle.orders.specs.Splices.{AllApart}
 use Rattle.definition.specs.Basics.{gives, ◌>>=◌}
 use Rattle.definition.specs.Choices.{Choices}

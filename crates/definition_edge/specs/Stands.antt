@@ -10,11 +10,11 @@ use Rattle.std.proofs.Math.ListN.{take}
 use Rattle.orders.specs.Lists.{All, Pairs}
 use Rattle.orders.specs.ListLaws.{All-mem, All-perm, mem_pick}
 use Rattle.orders.specs.Tree.{Tree, Trees, node, list, Path, resolve}
-use Rattle.orders.specs.TreeLaws.{list_forest}
+use Rattle.orders.proofs.TreeLaws.{list_forest}
 use Rattle.orders.specs.Splices.{Splice, State, under, from_root, from_child, at_root, below, left_to_right, new_children, one_go, one_go_all, splices_in, EntersDeleted, Apart, AllApart}
-use Rattle.orders.specs.Children.{sort_perm}
-use Rattle.orders.specs.Parts.{from_child_in}
-use Rattle.orders.specs.Demand.{Demanded}
+use Rattle.orders.proofs.Children.{sort_perm}
+use Rattle.orders.proofs.Parts.{from_child_in}
+use Rattle.orders.proofs.Demand.{Demanded}
 
 -- l has these elements side by side
 pub record Holds {A : Type 0} (l given : List A) : Type 0 where

@@ -11,7 +11,7 @@ use Rattle.std.proofs.Math.ListN.{length}
 use Rattle.orders.specs.Lists.{All}
 use Rattle.orders.specs.ListLaws.{some_inj, none_some, bind_some}
 use Rattle.orders.specs.Tree.{Tree, node, token, forest, label, resolve, Path, front, last}
-use Rattle.orders.specs.TreeLaws.{front_child, last_child, front_same, last_same, front_last, resolve_append}
+use Rattle.orders.proofs.TreeLaws.{front_child, last_child, front_same, last_same, front_last, resolve_append}
 use Rattle.definition.specs.Elements.{Table, table, row, is_node, node?, root?, parent, child}
 use Rattle.definition.specs.Recording.{first_child, after, Change, insert, replace, delete, replace_with_many, replace_all}
 use Rattle.definition.specs.EdgeRule.{parent_or_root, target_parent, of_root}

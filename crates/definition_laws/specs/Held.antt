@@ -10,7 +10,7 @@ use Rattle.std.proofs.lemmas.List.{length-map}
 use Rattle.orders.specs.Lists.{All, pick}
 use Rattle.orders.specs.ListLaws.{some_inj, none_some, map_some, bind_some, get_lt, get_left, get_right, get_modify, All-map, All-over, All-pick}
 use Rattle.orders.specs.Tree.{Tree, node, token, list, forest, Path, resolve, adjust, modify, splice, HasRun, elements, children, strip}
-use Rattle.orders.specs.TreeLaws.{resolve_forest, resolve_append, run_here, run_child, run_token, adjust_length, strip_some, splice_in, resolve_splice}
+use Rattle.orders.proofs.TreeLaws.{resolve_forest, resolve_append, run_here, run_child, run_token, adjust_length, strip_some, splice_in, resolve_splice}
 use Rattle.definition.specs.Basics.{gives, refuse, or_refuse}
 use Rattle.definition.specs.Elements.{Table, table, row, descend}
 use Rattle.definition.specs.Planning.{Planned}

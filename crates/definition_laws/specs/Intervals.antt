@@ -13,7 +13,7 @@ use Rattle.std.proofs.Math.ListN.{get_elem?}
 use borrow.Author.Tests.{leb-true, le-leb, lt-leb, lt-ltb, le-ltb}
 use Rattle.orders.specs.ListLaws.{bool_absurd, both_true, some_inj, none_some, map_some, bind_some, lt_or_le, any_mem, mem_any}
 use Rattle.orders.specs.Tree.{Tree, list, forest, Path, elements, elements_of, text_of, children, front, last}
-use Rattle.orders.specs.TreeLaws.{front_last}
+use Rattle.orders.proofs.TreeLaws.{front_last}
 use Rattle.definition.specs.Elements.{Table, table, row, parent, child}
 use Rattle.definition.specs.Refusals.{same_parent}
 use Rattle.definition.specs.EdgeRule.{in_run, at_or_below}

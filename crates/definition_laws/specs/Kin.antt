@@ -11,7 +11,7 @@ use native.Mathlib.Omega.{arith}
 use Rattle.std.proofs.Math.ListN.{length, get_elem?}
 use Rattle.orders.specs.ListLaws.{bool_absurd, some_inj, none_some, map_some, bind_some, get_lt}
 use Rattle.orders.specs.Tree.{Tree, Trees, node, token, nil, cons, list, forest, label, Path, resolve, elements, elements_of, text_of, children, last, front, strip}
-use Rattle.orders.specs.TreeLaws.{list_forest, strip_append, strip_some, last_child, front_last}
+use Rattle.orders.proofs.TreeLaws.{list_forest, strip_append, strip_some, last_child, front_last}
 use Rattle.definition.specs.Elements.{Table, numbers, table, no_row, row, parent, root?, depth, tree, child, place_below, descend}
 use Rattle.definition_laws.specs.Rows.{Element, row_of, before, child_of, element_at, root_of, element, row_element, element_number}
 

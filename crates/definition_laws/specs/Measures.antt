@@ -7,7 +7,7 @@ use mathlib.Core.List.{List, [], ◌∷◌, ◌++◌, flat_map, append_assoc}
 use native.Mathlib.Omega.{arith}
 use Rattle.orders.specs.Lists.{All}
 use Rattle.orders.specs.Tree.{Tree, Trees, node, token, nil, cons, list, forest, preorder, preorders, elements, elements_of, text, text_of, deepest, deepest_of}
-use Rattle.orders.specs.TreeLaws.{list_forest}
+use Rattle.orders.proofs.TreeLaws.{list_forest}
 use Rattle.definition_laws.specs.Basics.{flat_map_append}
 
 -- ── A node's children as a list ─────────────────────────────────────────────────────────────────────────────

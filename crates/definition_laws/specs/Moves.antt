@@ -11,7 +11,7 @@ use Rattle.std.proofs.Math.ListN.{length}
 use Rattle.std.proofs.lemmas.Bool.{eqb-false}
 use Rattle.orders.specs.ListLaws.{some_inj, none_some, map_some, bind_some, Zone, before, inside, after, zone?}
 use Rattle.orders.specs.Tree.{Path, adjust, shift}
-use Rattle.orders.specs.TreeLaws.{shift_before, shift_inside, shift_after, adjust_root, adjust_shift, adjust_in, adjust_out, adjust_length, last_same}
+use Rattle.orders.proofs.TreeLaws.{shift_before, shift_inside, shift_after, adjust_root, adjust_shift, adjust_in, adjust_out, adjust_length, last_same}
 use Rattle.orders.specs.Splices.{same_path}
 
 -- ── One splice ──────────────────────────────────────────────────────────────────────────────────────────────

@@ -12,9 +12,9 @@ use Rattle.std.proofs.Math.ListN.{get_elem?}
 use Rattle.orders.specs.Lists.{All, Pairs, pick}
 use Rattle.orders.specs.ListLaws.{some_inj, none_some, All-map, All-over, Pairs-over, All-pick}
 use Rattle.orders.specs.Tree.{Tree, forest, Path, HasRun, Run, last}
-use Rattle.orders.specs.TreeLaws.{list_forest, run_child}
+use Rattle.orders.proofs.TreeLaws.{list_forest, run_child}
 use Rattle.orders.specs.Splices.{Splice, Fits}
-use Rattle.orders.specs.Target.{Target, first_child, after_child, children, Rising}
+use Rattle.orders.proofs.Target.{Target, first_child, after_child, children, Rising}
 use Rattle.definition.specs.Basics.{Answer, refused, gives, numbered}
 use Rattle.definition.specs.Choices.{Choices}
 use Rattle.definition.specs.Elements.{Table, table, row, root?}

@@ -8,7 +8,7 @@ use Rattle.std.proofs.Math.Option.{Option, none, some, bind}
 use Rattle.std.proofs.Math.ListN.{get_elem?}
 use Rattle.orders.specs.ListLaws.{some_inj, none_some, map_some, bind_some, get_left, get_right, lt_or_le, map_append}
 use Rattle.orders.specs.Tree.{Tree, Trees, node, token, nil, cons, list, forest, label, Path, elements, elements_of, text, text_of, children, preorder, preorders}
-use Rattle.orders.specs.TreeLaws.{list_forest, forest_list}
+use Rattle.orders.proofs.TreeLaws.{list_forest, forest_list}
 use Rattle.definition.specs.Elements.{Row, Table, numbers, rows, rows_below, table}
 
 -- ── Elements where they stand ───────────────────────────────────────────────────────────────────────────────

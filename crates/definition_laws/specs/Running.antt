@@ -11,7 +11,7 @@ use Rattle.std.proofs.Math.ListN.{length, get_elem?, length-map}
 use Rattle.orders.specs.Lists.{All}
 use Rattle.orders.specs.ListLaws.{bool_absurd, some_inj, none_some, bind_some, get_lt, get_mem, All-mem, lt_or_le, length_modify, length_cut}
 use Rattle.orders.specs.Tree.{Tree, Trees, node, token, list, forest, label, Path, resolve, adjust, modify, splice, HasRun, children, last, front, strip}
-use Rattle.orders.specs.TreeLaws.{list_forest, resolve_child, resolve_append, front_child, last_child, run_here, label_splice_in, splice_in, resolve_splice}
+use Rattle.orders.proofs.TreeLaws.{list_forest, resolve_child, resolve_append, front_child, last_child, run_here, label_splice_in, splice_in, resolve_splice}
 use Rattle.definition.specs.Basics.{gives, refuse, or_refuse}
 use Rattle.definition.specs.Elements.{Table, table, is_node, no_row, row, node?, root?, parent, child, tree, depth}
 use Rattle.definition.specs.Recording.{first_child, after, Change, insert, replace, delete, replace_with_many, replace_all}

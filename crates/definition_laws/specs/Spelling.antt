@@ -9,7 +9,7 @@ use Rattle.std.proofs.Math.Seq.{take-append_seam, drop-append_seam}
 use Rattle.orders.specs.Lists.{All}
 use Rattle.orders.specs.ListLaws.{some_inj, none_some, map_some, bind_some, map_append}
 use Rattle.orders.specs.Tree.{Tree, Trees, node, token, nil, cons, list, forest, label, measure, text, text_of, preorder, preorders}
-use Rattle.orders.specs.TreeLaws.{list_forest, forest_list}
+use Rattle.orders.proofs.TreeLaws.{list_forest, forest_list}
 use Rattle.definition.specs.Elements.{is_node, Piece, pieces, plant, grow}
 use Rattle.definition_laws.specs.Measures.{preorder_node}
 use Rattle.definition_laws.specs.Basics.{All-append, append_All, flat_map_append, flat_map_map, zip_map, first_zip, second_zip}

@@ -2,7 +2,7 @@
 -- Assumes nothing.
 use Rattle.std.specs.Prelude.{◌≡◌, refl, Bool, true, false, ◌&&◌, List, [], ◌∷◌, map, ℕ}
 use Rattle.orders.specs.Lists
-use Rattle.orders.specs.Check.{each}
+use Rattle.orders.proofs.Check.{each}
 use Rattle.definition.specs.Basics.{Answer, gives, ◌>>=◌}
 use Rattle.definition.specs.Answers.{edit}
 use Rattle.definition.specs.Computing.{computed}

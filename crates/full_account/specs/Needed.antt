@@ -5,7 +5,7 @@ use Rattle.std.proofs.Common.{ap, ◌∙◌}
 use mathlib.Core.List.{List, [], ◌∷◌, map, head-eq_of_cons-eq, tail-eq_of_cons-eq}
 use Rattle.orders.specs.Lists
 use Rattle.orders.specs.ListLaws.{bool_absurd}
-use Rattle.orders.specs.Check.{each}
+use Rattle.orders.proofs.Check.{each}
 use Rattle.definition.specs.Basics.{gives, ◌>>=◌}
 use Rattle.definition.specs.Choices.{Choices}
 use Rattle.definition.specs.Refusals.{Accepted, accepted}

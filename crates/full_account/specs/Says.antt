@@ -13,9 +13,9 @@ use Rattle.std.proofs.Math.ListN.{length}
 use Rattle.orders.specs.Lists.{All, pick, more}
 use Rattle.orders.specs.ListLaws.{bool_absurd, both_true, either_true, none_some, lt_or_le, any_mem, mem_any}
 use Rattle.orders.specs.Tree.{Tree, Path, strip}
-use Rattle.orders.specs.TreeLaws.{strip_append, strip_some}
+use Rattle.orders.proofs.TreeLaws.{strip_append, strip_some}
 use Rattle.orders.specs.Splices.{Splice, Enters, EntersDeleted}
-use Rattle.orders.specs.Check.{each, Says}
+use Rattle.orders.proofs.Check.{each, Says}
 use Rattle.definition.specs.Basics.{is_some, keep, numbered}
 use Rattle.definition.specs.Elements.{Table, table, row, tree}
 use Rattle.definition.specs.Refusals.{Accepted}

@@ -8,7 +8,7 @@ use Rattle.std.proofs.Math.ListN.{get_elem?}
 use Rattle.orders.specs.Lists.{any, All}
 use Rattle.orders.specs.ListLaws.{bool_absurd, bool?, some_inj, get_take, any_mem, none_passes, total_none, All-mem}
 use Rattle.orders.specs.Tree.{Tree, node, token, list, forest, children, label, Path, resolve}
-use Rattle.orders.specs.TreeLaws.{list_forest}
+use Rattle.orders.proofs.TreeLaws.{list_forest}
 use Rattle.definition.specs.Basics.{gives, numbered}
 use Rattle.definition.specs.Choices.{Choices}
 use Rattle.definition.specs.Elements.{Table, table, row, tree}

@@ -6,7 +6,7 @@ use Rattle.std.proofs.Math.Option.{Option, none, some, get_or, bind}
 use Rattle.orders.specs.Lists.{any}
 use Rattle.orders.specs.Tree.{Tree, Path, strip}
 use Rattle.orders.specs.Splices.{Splice}
-use Rattle.orders.specs.Check.{each}
+use Rattle.orders.proofs.Check.{each}
 use Rattle.definition.specs.Basics.{Answer, gives, ◌>>=◌, is_some, numbered}
 use Rattle.definition.specs.Choices.{Choices}
 use Rattle.definition.specs.Elements.{Table, table, row, place_below, pieces, grow}

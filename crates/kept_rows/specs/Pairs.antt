@@ -8,7 +8,7 @@ use Rattle.std.proofs.lemmas.List.{length-map}
 use Rattle.orders.specs.Lists.{pick}
 use Rattle.orders.specs.ListLaws.{zone_before}
 use Rattle.orders.specs.Tree.{Tree, forest, list, children, elements_of, Path}
-use Rattle.orders.specs.TreeLaws.{list_forest}
+use Rattle.orders.proofs.TreeLaws.{list_forest}
 use Rattle.definition.specs.Basics.{gives, numbered}
 use Rattle.definition.specs.Choices.{Choices}
 use Rattle.definition.specs.Elements.{Table, table}

@@ -8,7 +8,7 @@ use Rattle.std.proofs.Common.{◌∙◌, arith, eqb-true}
 use Prim.Native.Nat.{ℕ, zero, suc, ◌+◌, ◌*◌, ◌<◌}
 use Rattle.std.proofs.Math.ListN.{length, get_or}
 use Rattle.orders.specs.Tree.{Path, strip}
-use Rattle.orders.specs.TreeLaws.{front_same, last_same, strip_append}
+use Rattle.orders.proofs.TreeLaws.{front_same, last_same, strip_append}
 use Rattle.definition.specs.Elements.{row, place_below}
 use Rattle.read_element_table.specs.View.{field, path_to, row_at, view}
 use Rattle.read_element_table.specs.Wellformed.{Lines}

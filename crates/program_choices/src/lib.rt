@@ -4,8 +4,10 @@ ghost use Rattle.std.specs.Prelude.{◌≡◌, ◌≤◌, length};
 ghost use Rattle.definition.specs.Choices.{digit, given};
 ghost use Rattle.choices.specs.Meant.{meant};
 ghost use Rattle.program_choices.specs.Given.{arguments, Given, Gives};
+ghost use Rattle.program_input.specs.Counts.{IsPrefixLen};
 
 use choices::Choices;
+use std::env::{Env, FillError};
 
 // The number of an argument that is not one digit: no choice has it.
 const NO_CHOICE: usize = 10;
@@ -59,15 +61,36 @@ pub struct Arguments {
     pub choices: Choices,
 }
 
+// How many arguments there are, the program's name among them.
+fn count(rt: &impl Env) -> usize {
+    let mut none = [0u8; 0];
+    for i in 0..usize::MAX {
+        if let Err(FillError::NotPresent) = rt.arg(i, &mut none) {
+            return i;
+        }
+    }
+    usize::MAX
+}
+
+// Reads argument `i` into the front of `buf`. One that is missing or longer is read as an empty one.
+pub fn read_argument(rt: &impl Env, i: usize, buf: &mut [u8]) -> usize
+    ensures { IsPrefixLen result buf.new }
+{
+    match rt.arg(i, buf) {
+        Ok(n) => n,
+        Err(_) => 0,
+    }
+}
+
 // Reads the first two arguments into the fronts of `first` and `second`. One that is longer is read as an empty one, so it is no choice either. Promised is that
 // the choices are those that the bytes read give; no contract says which bytes, nor what count, the operating system gives.
-pub fn read_arguments(first: &mut [u8], second: &mut [u8]) -> Arguments
+pub fn read_arguments(rt: &impl Env, first: &mut [u8], second: &mut [u8]) -> Arguments
     requires { (1 ≤ length first.old) × (1 ≤ length second.old) }
     ensures { Given first.new second.new result.count result.first result.second result.choices }
 {
-    let one = os::arg(1, first);
-    let two = os::arg(2, second);
-    let count = os::arg_count();
+    let one = read_argument(rt, 1, first);
+    let two = read_argument(rt, 2, second);
+    let count = count(rt);
     let choices = given_by(count, &first[..one], &second[..two]);
     Arguments {
         count,
@@ -78,11 +101,11 @@ pub fn read_arguments(first: &mut [u8], second: &mut [u8]) -> Arguments
 }
 
 // The program's choices.
-pub fn choices() -> Choices
+pub fn choices(rt: &impl Env) -> Choices
     ensures { Gives result }
 {
     let mut first = [0u8; 2];
     let mut second = [0u8; 2];
-    let read = read_arguments(&mut first, &mut second);
+    let read = read_arguments(rt, &mut first, &mut second);
     read.choices
 }

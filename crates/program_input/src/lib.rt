@@ -1,17 +1,21 @@
 // A program's batch, read from its input.
 #![tactic(auto)]
-ghost use Rattle.std.specs.Prelude.{◌≡◌, length};
-ghost use Rattle.std.specs.Io.{ReadsAtMost};
+ghost use Rattle.std.specs.Prelude.{◌≡◌, ◌<◌, length, take, IfOk};
+ghost use Rattle.std.specs.Io.KnownBytes.{Consumes, IsAtEnd};
+ghost use Rattle.program_input.specs.Counts.{IsPrefixLen};
 
 use std::io;
 use std::io::Read;
 
-// Reads into the front of `buf` until it is full or the input ends, and answers how many bytes were read: a count that lies in the buffer.
+// Reads into the front of `buf` until it is full or the input ends, and answers how many bytes were read: a count that lies in the buffer. Where it is known what
+// bytes the input has left, these are the next of them, and fewer than the buffer holds only where no more are left.
 pub fn read_full<R: Read>(from: &mut R, buf: &mut [u8]) -> io::Result<usize>
-    ensures { ReadsAtMost result buf.new }
+    ensures bound { IfOk result (λ n. IsPrefixLen n buf.new) }
+    ensures bytes { IfOk result (λ n. Consumes (R.remaining from.old) (R.remaining from.new) (take n buf.new)) }
+    ensures end { IfOk result (λ n. n < length buf.new → IsAtEnd (R.remaining from.new)) }
 {
     let mut done = 0;
-    for _ in 0..u64::MAX {
+    while done < buf.len() {
         let n = from.read(&mut buf[done..])?;
         if n == 0 {
             break;
@@ -22,11 +26,13 @@ pub fn read_full<R: Read>(from: &mut R, buf: &mut [u8]) -> io::Result<usize>
 }
 
 // Reads a batch into the front of its buffer and answers how many bytes were read. "Its batch and result buffers have 65,536 bytes each; of a longer input it
-// judges the first 65,536": so no buffer of another length is taken. Promised besides is only that the count lies in the buffer: no contract says which bytes
-// the operating system puts there, nor how many they are.
+// judges the first 65,536": so no buffer of another length is taken. The count lies in the buffer, and what is known of the input's bytes is told as `read_full`
+// tells it. Of standard input nothing is known: no contract says which bytes the operating system puts there, nor how many they are.
 pub fn read_batch<R: Read>(from: &mut R, batch: &mut [u8]) -> io::Result<usize>
     requires { 65536 ≡ length batch.old }
-    ensures { ReadsAtMost result batch.new }
+    ensures bound { IfOk result (λ n. IsPrefixLen n batch.new) }
+    ensures bytes { IfOk result (λ n. Consumes (R.remaining from.old) (R.remaining from.new) (take n batch.new)) }
+    ensures end { IfOk result (λ n. n < length batch.new → IsAtEnd (R.remaining from.new)) }
 {
     read_full(from, batch)
 }

@@ -6,7 +6,7 @@ use Rattle.std.proofs.lemmas.Bool.{eqb-false}
 use Rattle.orders.specs.Lists.{any}
 use Rattle.orders.specs.Tree.{Tree, text}
 use Rattle.orders.specs.Splices
-use Rattle.orders.specs.Check
+use Rattle.orders.proofs.Check
 use Rattle.definition.specs.Basics.{Answer, refused, gives, ◌>>=◌}
 use Rattle.definition.specs.Choices.{by_default}
 use Rattle.definition.specs.Refusals.{accepted}

@@ -1,7 +1,7 @@
 -- THE THEOREMS of line 5 and the element table, for a batch that spells trees.
 -- Assumes nothing.
 use Rattle.std.specs.Prelude.{◌≡◌, Bool, ◌&&◌, ◌||◌, leb, eqb, get_or}
-use Rattle.std.proofs.Math.Path.{refl, sym, ap}
+use Rattle.std.proofs.Math.Path.{refl, sym, ap, subst}
 use Rattle.std.proofs.Common.{◌∙◌, arith, eqb-true, take_at}
 use Rattle.std.proofs.Math.Bool.{true, false, cond, not}
 use mathlib.Core.List.{List, [], ◌∷◌, ◌++◌, zip, append-nil}
@@ -12,8 +12,8 @@ use Rattle.std.proofs.Math.ListN.{length, take, drop}
 use Rattle.std.proofs.lemmas.List.{length-map}
 use Rattle.std.proofs.Math.Seq.{paste, take_all, length-paste}
 use Rattle.orders.specs.ListLaws.{bind_some, some_inj, none_some, bool_absurd}
-use Rattle.orders.specs.Tree.{Tree, node, forest, deepest, elements_of}
-use Rattle.orders.specs.TreeLaws.{list_forest}
+use Rattle.orders.specs.Tree.{Tree, node, forest, text_of, deepest, elements_of}
+use Rattle.orders.proofs.TreeLaws.{list_forest}
 use Rattle.definition.specs.Basics.{any, is_some}
 use Rattle.definition.specs.Words.{words}
 use Rattle.definition.specs.Batch.{Batch}
@@ -22,11 +22,11 @@ use Rattle.definition_laws.specs.Rows.{table_length}
 use Rattle.definition.specs.EdgeRule.{at_or_below}
 use Rattle.definition_laws.specs.Intervals.{after, interval}
 use Rattle.read_element_table.specs.View.{view, field}
-use Rattle.rows_model.specs.Row.{nod, rows_of, first_rows}
+use Rattle.rows_model.specs.Row.{nod, rows_of, rows_in, triples, first_rows}
 use Rattle.words.specs.Bytes.{length_words}
 use Rattle.read_spelling.specs.Spelling.{elements_at, accepts}
 use Rattle.read_spelling.specs.SpellingLaws.{kinds_zip, grown, spelled_grown, accepts_spelled}
-use Rattle.read_element_table.specs.Filling.{table_of, source_of, Filled}
+use Rattle.read_element_table.specs.Filling.{table_of, source_of, rows_from, Filled}
 use Rattle.read_spelling.specs.Preorder.{length_flats, Spelt, spelt}
 use Rattle.read_element_table.specs.FillingLaws.{words_all, length_all, table_words, length_source}
 use Rattle.read_element_table.specs.ViewLaws.{told_all}
@@ -119,7 +119,7 @@ module _ (b : Batch) (ts : List (Tree ℕ)) (h : spelled b ≡ some ts) where
         let r : List ℕ = source_of b.trees (elements_in b) in
         let l : length r ≡ 3 * (n + 1) = omega (arith, length_source b.trees (elements_in b), count) in
         let whole : take (3 * (n + 1)) (paste s₀ 0 r (3 * (n + 1))) ≡ r = rw (take_all (3 * (n + 1)) r (omega arith)) (take_at r (drop (0 + 3 * (n + 1)) s₀) (3 * (n + 1)) l) in
-        rw (whole, list_forest ts, spelled_trees) (ap (λ z. nod 2147483648 b.trees ∷ z) (rw (← s.elements, ← s.text) (source_told (forest ts) s.worded)))
+        rw (whole, list_forest ts, spelled_trees) (ap (λ z. nod 2147483648 b.trees ∷ z) (subst (λ x. triples x (rows_from 0 (elements_in b)) ≡ rows_in (forest ts)) s.text (subst (λ e. triples (text_of (forest ts)) (rows_from 0 e) ≡ rows_in (forest ts)) s.elements (source_told (forest ts) s.worded))))
 
     -- and the words are well formed
     module _ (t₀ s₀ : List ℕ) where

@@ -11,7 +11,7 @@ use native.Mathlib.Omega.{arith}
 use Rattle.std.proofs.Math.ListN.{get_or, length-append}
 use Rattle.std.proofs.Math.Dec.{eqb, eqb-suc-zero}
 use Rattle.orders.specs.Tree.{last}
-use Rattle.orders.specs.TreeLaws.{last_child}
+use Rattle.orders.proofs.TreeLaws.{last_child}
 use Rattle.definition.specs.Elements.{no_row, row, node?, root?, parent, depth, tree, child, is_node}
 use Rattle.definition_laws.specs.Basics.{up_from}
 use Rattle.read_element_table.specs.View.{field, line_from, path_to, kind_word, measure_word, siblings, row_at, view}

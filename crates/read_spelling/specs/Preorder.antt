@@ -9,7 +9,7 @@ use Rattle.std.proofs.Math.ListN.{length, take, drop}
 use Rattle.std.proofs.Math.Seq.{length-take-le}
 use Rattle.orders.specs.ListLaws.{map_append, bind_some, some_inj, none_some}
 use Rattle.orders.specs.Tree.{Tree, Trees, node, token, nil, cons, list, forest, label, measure, preorder, preorders, elements, elements_of, text, text_of}
-use Rattle.orders.specs.TreeLaws.{list_forest}
+use Rattle.orders.proofs.TreeLaws.{list_forest}
 use Rattle.definition.specs.Elements.{is_node, pieces, plant, grow}
 use Rattle.read_spelling.specs.Spelling.{length_of}
 use Rattle.read_spelling.specs.SpellingLaws.{grown, piece_at, grown_more}

@@ -6,7 +6,7 @@ use Rattle.std.proofs.Common.{arith, length-append}
 use Rattle.orders.specs.Lists.{All}
 use Rattle.orders.specs.ListLaws.{some_inj, none_some, All-mem, get_mem}
 use Rattle.orders.specs.Tree.{Tree, Trees, node, token, nil, cons, list, forest, label, measure, text, text_of, preorder, preorders, elements, elements_of, Path, resolve, splice, modify}
-use Rattle.orders.specs.TreeLaws.{list_forest, resolve_child}
+use Rattle.orders.proofs.TreeLaws.{list_forest, resolve_child}
 use Rattle.definition_laws.specs.Basics.{All-append, append_All, All-take, All-drop, All-modify}
 
 -- ── Kind words ──────────────────────────────────────────────────────────────────────────────────────────────

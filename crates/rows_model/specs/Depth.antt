@@ -9,7 +9,7 @@ use Prim.Native.Nat.{ℕ, suc, ◌+◌, ◌-◌, ◌≤◌, max}
 use Rattle.std.proofs.Math.ListN.{drop, get_elem?}
 use Rattle.orders.specs.Tree.{Tree, Trees, node, token, list, forest, Path, modify, splice, HasRun, deepest, deepest_of, children}
 use Rattle.orders.specs.ListLaws.{lt_or_le, get_split, modify_split, parts}
-use Rattle.orders.specs.TreeLaws.{forest_list, run_child, run_token}
+use Rattle.orders.proofs.TreeLaws.{forest_list, run_child, run_token}
 use Rattle.definition_laws.specs.Measures.{deepest_append}
 
 module _ {A : Type 0} where

@@ -13,7 +13,7 @@ use Rattle.std.proofs.lemmas.List.{take-append-le}
 use Rattle.orders.specs.Lists.{more, pick, All}
 use Rattle.orders.specs.Tree.{Tree, node, list, Path, resolve, label, adjust, shift, splice, HasRun, forest, strip}
 use Rattle.orders.specs.ListLaws.{some_inj, before, inside, after, zone?, get_lt, get_left, get_right, All-over}
-use Rattle.orders.specs.TreeLaws.{shift_before, shift_inside, shift_after, adjust_root, adjust_in, resolve_splice, splice_in, label_splice_in, strip_append}
+use Rattle.orders.proofs.TreeLaws.{shift_before, shift_inside, shift_after, adjust_root, adjust_in, resolve_splice, splice_in, label_splice_in, strip_append}
 use Rattle.rows_model.specs.Place.{size_all, place, mark, mark_of, moved_mark, Held}
 use Rattle.rows_model.specs.RowLaws.{size_all_append}
 use Rattle.rows_model.specs.PlaceLaws.{place_forest, place_child, place_down, run_after}

@@ -9,7 +9,7 @@ use Rattle.std.proofs.Math.ListN.{length, take, drop, get_elem?}
 use Rattle.std.proofs.Math.Seq.{take-append-add}
 use Rattle.orders.specs.Tree.{Tree, Trees, node, token, list, forest, Path, resolve, adjust, shift, modify, splice, HasRun, strip}
 use Rattle.orders.specs.ListLaws.{some_inj, none_some, Zone, before, inside, after, zone?, zone_before, zone_inside, zone_after, get_take, get_cut_before, get_cut_after, take_cut_before, get_modify, get_modify_other, take_modify, take_modify_before}
-use Rattle.orders.specs.TreeLaws.{resolve_child, run_here, run_child, shift_before, shift_inside, shift_after, shift_add, adjust_root, adjust_shift, adjust_in, adjust_out}
+use Rattle.orders.proofs.TreeLaws.{resolve_child, run_here, run_child, shift_before, shift_inside, shift_after, shift_add, adjust_root, adjust_shift, adjust_in, adjust_out}
 use Rattle.rows_model.specs.Place.{size, size_all, place, in_run}
 use Rattle.rows_model.specs.RowLaws.{size_pos, size_all_append, rows_get, rows_modify}
 use Rattle.rows_model.specs.PlaceLaws.{place_at, place_forest, place_child, place_bound, place_lt, size_all_suc, size_all_mono, run_order, run_after, run_within, size_splice}

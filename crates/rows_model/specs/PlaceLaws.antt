@@ -9,7 +9,7 @@ use Rattle.std.proofs.Math.ListN.{length, drop, get_elem?, length-append, length
 use Rattle.std.proofs.Math.Seq.{drop_at, length-take-le}
 use Rattle.orders.specs.Tree.{Tree, Trees, node, token, list, forest, Path, resolve, modify, splice, HasRun}
 use Rattle.orders.specs.ListLaws.{some_inj, none_some, bind_some, lt_or_le, lt_get, get_none, get_right, length_cut, length_modify, modify_right, parts, part_out}
-use Rattle.orders.specs.TreeLaws.{list_forest, resolve_child, resolve_append}
+use Rattle.orders.proofs.TreeLaws.{list_forest, resolve_child, resolve_append}
 use Rattle.rows_model.specs.Row.{Row, nod, row_of, rows_of, rows_in, rows_all, skip, bytes}
 use Rattle.rows_model.specs.Place.{size, size_all, or_zero, place, run_of, rows_after, child_row, follow, between, subtree, remeasure, splice_rows}
 use Rattle.rows_model.specs.RowLaws.{rows_in_list, rows_node, rows_append, size_all_append, rows_get, rows_modify, size_pos, bytes_append, skip_none, skip_tree, skip_all}

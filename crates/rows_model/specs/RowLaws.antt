@@ -7,7 +7,7 @@ use Rattle.std.proofs.Math.Option.{some}
 use Rattle.std.proofs.Math.ListN.{get_elem?}
 use Rattle.orders.specs.Tree.{Tree, Trees, node, token, nil, cons, list, forest, label, modify, preorder, preorders, elements, elements_of, text, text_of, deepest, deepest_of, children, measure as measure_of}
 use Rattle.orders.specs.ListLaws.{map_append, get_split, modify_split}
-use Rattle.orders.specs.TreeLaws.{list_forest}
+use Rattle.orders.proofs.TreeLaws.{list_forest}
 use Rattle.definition_laws.specs.Basics.{flat_map_append}
 use Rattle.rows_model.specs.Row.{Row, nod, kind, measure, own, owes, row_of, rows_of, rows_in, rows_all, skip, trees_from, trees_in, bytes, opened, height_in, height}
 use Rattle.rows_model.specs.Place.{size, size_all}

@@ -8,7 +8,7 @@ use Rattle.std.proofs.Math.Seq.{take-append-add}
 use Rattle.std.proofs.lemmas.List.{take-append-le}
 use Rattle.orders.specs.ListLaws.{some_inj, none_some, bind_some, map_some}
 use Rattle.orders.specs.Tree.{Tree, node, token, list, forest, children, Path, resolve, text_of, elements_of}
-use Rattle.orders.specs.TreeLaws.{resolve_child}
+use Rattle.orders.proofs.TreeLaws.{resolve_child}
 use Rattle.definition.specs.Elements.{table, row, Row as Known}
 use Rattle.definition_laws.specs.Rows.{Element, row_of, before, child_of, element_at, root_of, element}
 use Rattle.definition_laws.specs.Kin.{element_at_tree, stands}

@@ -11,7 +11,7 @@ use lib.Seq.{get_or-set_same, get_or-set_other, paste, paste-suc, take-paste, dr
 use Rattle.orders.specs.Lists.{All}
 use Rattle.orders.specs.Tree.{modify}
 use Rattle.orders.specs.ListLaws.{All-at, take_modify, drop_modify_before, modify_left}
-use Rattle.orders.specs.TreeLaws.{shift_before, shift_inside, shift_after}
+use Rattle.orders.proofs.TreeLaws.{shift_before, shift_inside, shift_after}
 use Rattle.definition_laws.specs.Basics.{up_from, up_at, up_long, get_d_map}
 use Rattle.words.specs.Parts.{spliced, get_d_above, length_spliced, take_spliced}
 use Rattle.rows_model.specs.Row.{Row, owes, text_length, row_in, first_rows, triples, skip, trees_from, trees_in, bytes, opened, height_in, height}

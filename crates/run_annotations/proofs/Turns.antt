@@ -14,7 +14,7 @@ use lib.Seq.{paste, paste-zero, paste-suc, take-paste, drop-cons, take_all, drop
 use Rattle.orders.specs.Lists.{All, more, pick}
 use Rattle.orders.specs.Tree.{shift}
 use Rattle.orders.specs.ListLaws.{zone_before, zone_inside, zone_after, map_append, All-at}
-use Rattle.orders.specs.TreeLaws.{shift_before, shift_inside, shift_after}
+use Rattle.orders.proofs.TreeLaws.{shift_before, shift_inside, shift_after}
 use Rattle.definition_laws.specs.Basics.{map_All, get_d_map}
 use Rattle.rows_model.specs.Place.{in_run}
 use Rattle.run_model.specs.Store.{HeldNote, HeldChanged, with_row, at_row, put_in}

@@ -11,7 +11,7 @@ use Prim.Native.Nat.{ℕ, zero, suc, ◌-◌, ◌<◌}
 use Rattle.std.proofs.Math.ListN.{length, length-append}
 use Rattle.orders.specs.ListLaws.{some_inj, lt_get}
 use Rattle.orders.specs.Tree.{Tree, list, Path, resolve, HasRun, last, front}
-use Rattle.orders.specs.TreeLaws.{front_child, last_child, resolve_append}
+use Rattle.orders.proofs.TreeLaws.{front_child, last_child, resolve_append}
 use Rattle.definition.specs.Elements.{Table, table, row, root?, parent, depth, tree}
 use Rattle.definition.specs.Recording.{first_child, after, Change, insert, replace, delete, replace_with_many, replace_all}
 use Rattle.definition.specs.Running.{World, present, Run, from_to, empty_at, place as run_at}

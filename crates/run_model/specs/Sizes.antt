@@ -6,7 +6,7 @@ use Rattle.std.proofs.Math.Option.{Option}
 use Rattle.std.proofs.lemmas.List.{length-map}
 use Rattle.orders.specs.ListLaws.{lt_or_le}
 use Rattle.orders.specs.Tree.{Tree, node, token, Path, splice, HasRun, text, text_of, deepest_of, children}
-use Rattle.orders.specs.TreeLaws.{run_token}
+use Rattle.orders.proofs.TreeLaws.{run_token}
 use Rattle.definition.specs.Running.{World, Yield, Run, spliced, too_large}
 use Rattle.rows_model.specs.Row.{rows_of, bytes, height}
 use Rattle.rows_model.specs.RowLaws.{size_below, bytes_tree, height_all}

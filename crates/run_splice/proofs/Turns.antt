@@ -13,7 +13,7 @@ use lib.Seq.{paste, drop-drop, get_or-drop, get_or-take, length-take-le}
 use Rattle.orders.specs.Lists.{All, more, pick}
 use Rattle.orders.specs.ListLaws.{All-map}
 use Rattle.orders.specs.Tree.{shift}
-use Rattle.orders.specs.TreeLaws.{shift_before, shift_inside, shift_after}
+use Rattle.orders.proofs.TreeLaws.{shift_before, shift_inside, shift_after}
 use Rattle.words.specs.Parts.{get_d_below, get_d_inside}
 use Rattle.rows_syntax_node.specs.Promises.{Spliced, Shifted}
 use Rattle.run_model.specs.Store.{HeldNote, with_row, put_in}

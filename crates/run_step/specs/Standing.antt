@@ -10,7 +10,7 @@ use Rattle.std.proofs.Math.ListN.{length, length-map}
 use Rattle.std.proofs.Math.Seq.{ext_get_or}
 use Rattle.orders.specs.Lists.{All}
 use Rattle.orders.specs.Tree.{Tree, node, forest, text as text_in, deepest, children, Path}
-use Rattle.orders.specs.TreeLaws.{list_forest}
+use Rattle.orders.proofs.TreeLaws.{list_forest}
 use Rattle.definition.specs.Basics.{Answer, gives, ◌>>=◌}
 use Rattle.definition.specs.Elements.{Table, table, row, no_row}
 use Rattle.definition.specs.Planning.{Planned}

@@ -12,7 +12,7 @@ use Rattle.std.proofs.Math.ListN.{length}
 use Rattle.orders.specs.Lists.{All, pick}
 use Rattle.orders.specs.ListLaws.{some_inj, none_some, map_some, bind_some, pick_none, pick_some}
 use Rattle.orders.specs.Tree.{Tree, Path, Run, adjust}
-use Rattle.orders.specs.TreeLaws.{adjust_in, adjust_shift, shift_inside}
+use Rattle.orders.proofs.TreeLaws.{adjust_in, adjust_shift, shift_inside}
 use Rattle.definition.specs.Basics.{gives}
 use Rattle.definition.specs.Elements.{Table, table}
 use Rattle.definition.specs.Planning.{Planned}

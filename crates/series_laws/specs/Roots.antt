@@ -10,7 +10,7 @@ use Rattle.std.proofs.Math.ListN.{get_elem?}
 use Rattle.orders.specs.Lists.{any, All}
 use Rattle.orders.specs.ListLaws.{bool_absurd, some_inj, bind_some, get_mem, All-mem}
 use Rattle.orders.specs.Tree.{Tree, node, token, forest, list, children, label, preorder, deepest_of, Path, Run, resolve, splice, HasRun, strip, front}
-use Rattle.orders.specs.TreeLaws.{list_forest, label_splice_in, front_child, Origin, kept, came, splice_origin}
+use Rattle.orders.proofs.TreeLaws.{list_forest, label_splice_in, front_child, Origin, kept, came, splice_origin}
 use Rattle.definition.specs.Basics.{gives}
 use Rattle.definition.specs.Elements.{Table, table, row, node?, root?, is_node, malformed, starts_with_token, spelled}
 use Rattle.definition.specs.Recording.{first_child, after, Change, insert, replace, delete, replace_with_many, replace_all, call}

@@ -10,7 +10,7 @@ use native.Mathlib.Omega.{arith}
 use Rattle.std.proofs.Math.ListN.{length, get_elem?, length-drop}
 use Rattle.orders.specs.ListLaws.{some_inj, none_some, bind_some}
 use Rattle.orders.specs.Tree.{Tree, node, forest, list, Path, resolve}
-use Rattle.orders.specs.TreeLaws.{list_forest, resolve_child}
+use Rattle.orders.proofs.TreeLaws.{list_forest, resolve_child}
 use Rattle.definition_laws.specs.Running.{top}
 use Rattle.rows_model.specs.Row.{rows_of, first_rows, triples, skip}
 use Rattle.rows_model.specs.Place.{place, subtree, mark_of}

@@ -10,7 +10,7 @@ use Rattle.std.proofs.Math.ListN.{length, get_or, take, get_elem?, length-map}
 use Rattle.std.proofs.Math.Seq.{length-take-le}
 use Rattle.orders.specs.ListLaws.{some_inj, none_some, map_some, bind_some, get_lt}
 use Rattle.orders.specs.Tree.{Tree, Trees, node, list, forest, Path, resolve, HasRun}
-use Rattle.orders.specs.TreeLaws.{resolve_append}
+use Rattle.orders.proofs.TreeLaws.{resolve_append}
 use Rattle.definition.specs.Elements.{Table, table, row, no_row}
 use Rattle.definition.specs.Running.{World}
 use Rattle.definition_laws.specs.Basics.{get_d_map}

@@ -7,7 +7,7 @@ use Rattle.std.specs.Prelude.{ℕ, ◌+◌, ◌-◌, ◌*◌, ◌/◌, ◌^◌, 
 use Rattle.std.proofs.Math.ListN.{length, length-map}
 use Rattle.orders.specs.ListLaws.{map_append}
 use Rattle.orders.specs.Tree.{Tree, list, children, label, measure, text, preorder}
-use Rattle.orders.specs.TreeLaws.{list_forest}
+use Rattle.orders.proofs.TreeLaws.{list_forest}
 use Rattle.definition.specs.Basics.{gives}
 use Rattle.definition.specs.Words.{words}
 use Rattle.definition.specs.Refusals.{Accepted, accepted}

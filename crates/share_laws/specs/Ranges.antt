@@ -9,7 +9,7 @@ use native.Mathlib.Omega.{arith}
 use Rattle.std.proofs.Math.ListN.{length, get_elem?, get_or-eq_default}
 use Rattle.orders.specs.ListLaws.{some_inj, none_some, bind_some, map_some, lt_or_le, get_lt}
 use Rattle.orders.specs.Tree.{Tree, Trees, node, token, list, forest, Path, text, text_of, children, elements, strip}
-use Rattle.orders.specs.TreeLaws.{forest_list}
+use Rattle.orders.proofs.TreeLaws.{forest_list}
 use Rattle.definition.specs.Elements.{Row, Table, table, no_row, row, place_below}
 use Rattle.definition_laws.specs.Rows.{Element, row_of, before, child_of, element_at, root_of, element}
 use Rattle.definition_laws.specs.Kin.{child_is, stands}

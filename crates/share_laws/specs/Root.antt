@@ -15,7 +15,7 @@ use Rattle.std.proofs.lemmas.Bool.{not-true, not-false}
 use Rattle.orders.specs.Lists.{All, any, pick}
 use Rattle.orders.specs.ListLaws.{bool_absurd, both_true, either_true, some_inj, mem_pick, mem_any, any_mem, any_perm, none_passes, passes_none, All-map, zone_before}
 use Rattle.orders.specs.Tree.{Tree, node, token, list, children, Path, adjust, front, last, text}
-use Rattle.orders.specs.TreeLaws.{front_child, adjust_root}
+use Rattle.orders.proofs.TreeLaws.{front_child, adjust_root}
 use Rattle.definition.specs.Basics.{gives, is_some, keep, numbered}
 use Rattle.definition.specs.Choices.{Choices}
 use Rattle.definition.specs.Elements.{Table, table, row, rows, root?, tree, descend}

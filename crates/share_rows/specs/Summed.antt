@@ -10,7 +10,7 @@ use Rattle.std.proofs.Math.ListN.{length}
 use Rattle.std.proofs.Math.Dec.{eqb}
 use Rattle.orders.specs.Lists.{All, total}
 use Rattle.orders.specs.Tree.{Tree, token, list, forest, children, Path, text}
-use Rattle.orders.specs.TreeLaws.{list_forest}
+use Rattle.orders.proofs.TreeLaws.{list_forest}
 use Rattle.definition.specs.Basics.{gives, is_some}
 use Rattle.definition.specs.Choices.{Choices}
 use Rattle.definition.specs.Elements.{descend}

@@ -11,7 +11,7 @@ use lib.Dec.{ltb, eqb}
 use lib.ListN.{get_or}
 use borrow.Author.Tests.{lt-ltb, le-ltb, le-leb, lt-leb, eq-eqb, ne_eqb}
 use Rattle.orders.specs.ListLaws.{lt_or_le}
-use Rattle.orders.specs.Check.{each, pairs}
+use Rattle.orders.proofs.Check.{each, pairs}
 use Rattle.rows_syntax_node.specs.Promises.{ChildAt}
 use Rattle.rows_model.specs.Row.{Row, first_rows}
 use Rattle.splices_model.specs.Cuts.{Cut, cut_at, cuts_to}

@@ -1,7 +1,7 @@
 -- What the functions that tell splices apart promise. Text and prepared rows are not read, so that each promise holds for any.
 -- Assumes nothing.
 use Rattle.std.specs.Prelude.{◌≡◌, Bool, List, ℕ, ◌+◌, ◌*◌, ◌<◌, get_or}
-use Rattle.orders.specs.Check.{each, pairs}
+use Rattle.orders.proofs.Check.{each, pairs}
 use Rattle.rows_model.specs.Row.{first_rows}
 use Rattle.splices_model.specs.Cuts.{cut_at, cuts_to}
 use Rattle.splices_model.specs.Verdict.{enters_cut, overlap_cut, apart_cut}

@@ -1,7 +1,7 @@
 -- What the functions that judge a list of splices promise. Text is not read, so that each promise holds for any.
 -- Assumes nothing.
 use Rattle.std.specs.Prelude.{◌≡◌, Bool, true, List, ℕ}
-use Rattle.orders.specs.Check.{pairs}
+use Rattle.orders.proofs.Check.{pairs}
 use Rattle.rows_model.specs.Row.{triples, first_rows}
 use Rattle.splices_model.specs.Cuts.{cuts_to}
 use Rattle.splices_model.specs.Verdict.{closed, tree_rows, fit_at, fits_to, apart_cut, first_wrong, judged_by}

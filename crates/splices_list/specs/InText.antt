@@ -13,9 +13,9 @@ use Rattle.orders.specs.Lists.{All}
 use Rattle.orders.specs.ListLaws.{lt_or_le, both_true, All-pick}
 use Rattle.orders.specs.Tree.{Tree, Trees, node, token, nil, cons}
 use Rattle.orders.specs.Splices.{Splice, under, from_root, from_child, at_root, below, left_to_right, new_children, one_go, one_go_all}
-use Rattle.orders.specs.Parts.{from_root_some, from_child_some}
-use Rattle.orders.specs.Children.{All-sort}
-use Rattle.orders.specs.Check.{fits?}
+use Rattle.orders.proofs.Parts.{from_root_some, from_child_some}
+use Rattle.orders.proofs.Children.{All-sort}
+use Rattle.orders.proofs.Check.{fits?}
 use Rattle.definition_laws.specs.Basics.{All-append, append_All, All-take, All-drop, up_from, up_long}
 use Rattle.rows_model.specs.Row.{Row, tok, nod, outside, row_at, rows_of, rows_in, rows_all, triples, first_rows}
 use Rattle.rows_model.specs.RowLaws.{rows_node}

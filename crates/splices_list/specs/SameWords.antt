@@ -11,9 +11,9 @@ use Rattle.orders.specs.Lists.{total}
 use Rattle.orders.specs.ListLaws.{total_perm}
 use Rattle.orders.specs.Tree.{Tree}
 use Rattle.orders.specs.Splices.{Splice, one_go}
-use Rattle.orders.specs.Check.{each, pairs, apart?}
-use Rattle.orders.specs.Parts.{neat}
-use Rattle.orders.specs.Order.{one_go_same, path_same, apart_perm}
+use Rattle.orders.proofs.Check.{each, pairs, apart?}
+use Rattle.orders.proofs.Parts.{neat}
+use Rattle.orders.proofs.Order.{one_go_same, path_same, apart_perm}
 use Rattle.definition.specs.Basics.{Answer, gives, ◌>>=◌, refuse}
 use Rattle.rows_model.specs.Place.{mark_of}
 use Rattle.splices_model.specs.Bounds.{rows_to}

@@ -9,11 +9,11 @@ use Rattle.std.proofs.Math.ListN.{get_elem?}
 use Rattle.orders.specs.ListLaws.{none_some}
 use Rattle.orders.specs.Tree.{Tree, Path, resolve}
 use Rattle.orders.specs.Splices.{Splice, State, begin, performs, one_go, EntersDeleted, AllApart}
-use Rattle.orders.specs.Parts.{neat}
-use Rattle.orders.specs.Paths.{one_go_path, down}
-use Rattle.orders.specs.Order.{one_go_same, path_same, apart_perm}
-use Rattle.orders.specs.Demand.{Demanded, demand}
-use Rattle.orders.specs.Done.{performs_one_go, reversed}
+use Rattle.orders.proofs.Parts.{neat}
+use Rattle.orders.proofs.Paths.{one_go_path, down}
+use Rattle.orders.proofs.Order.{one_go_same, path_same, apart_perm}
+use Rattle.orders.proofs.Demand.{Demanded, demand}
+use Rattle.orders.proofs.Done.{performs_one_go, reversed}
 use Rattle.rows_model.specs.Row.{Row, tok, nod, outside, rows_of}
 use Rattle.rows_model.specs.Place.{size, place, mark_of, Held}
 use Rattle.rows_model.specs.PlaceLaws.{place_pos}

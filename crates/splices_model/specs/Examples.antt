@@ -5,9 +5,9 @@ use Rattle.std.proofs.Math.Option.{bind}
 use Rattle.orders.specs.Lists.{pick, any}
 use Rattle.orders.specs.Tree.{list, forest, resolve}
 use Rattle.orders.specs.Splices.{same_path, left_of, under, from_root, from_child, at_root, below, insert_by_left, left_to_right, new_children, one_go}
-use Rattle.orders.specs.Numbers.{holds, new_number}
-use Rattle.orders.specs.Paths.{one_go_path}
-use Rattle.orders.specs.Check.{each, pairs, enters?, run?, fits?, apart?}
+use Rattle.orders.proofs.Numbers.{holds, new_number}
+use Rattle.orders.proofs.Paths.{one_go_path}
+use Rattle.orders.proofs.Check.{each, pairs, enters?, run?, fits?, apart?}
 use Rattle.definition.specs.Basics.{refused, gives, ◌>>=◌, refuse}
 use Rattle.definition_laws.specs.Basics.{up_from}
 use Rattle.rows_model.specs.Place.{mark_of}

@@ -10,9 +10,9 @@ use Rattle.std.proofs.Math.Seq.{take-append_seam, drop-append_seam}
 use Rattle.orders.specs.Lists.{All}
 use Rattle.orders.specs.ListLaws.{bool?, both_true, lt_or_le, lt_get, All-map}
 use Rattle.orders.specs.Tree.{Tree, Trees, node, token, nil, cons, list}
-use Rattle.orders.specs.TreeLaws.{forest_list}
+use Rattle.orders.proofs.TreeLaws.{forest_list}
 use Rattle.orders.specs.Splices.{AllApart, Fits}
-use Rattle.orders.specs.Check.{each, pairs, fits?, apart?, all_apart?, says_all_apart, says_run}
+use Rattle.orders.proofs.Check.{each, pairs, fits?, apart?, all_apart?, says_all_apart, says_run}
 use Rattle.definition.specs.Basics.{refused, gives, ◌>>=◌, refuse}
 use Rattle.definition_laws.specs.Basics.{All-take, All-drop, up_from, up_long}
 use Rattle.definition_laws.specs.Kin.{get_get_d}

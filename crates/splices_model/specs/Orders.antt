@@ -5,9 +5,9 @@ use Rattle.std.proofs.Common.{ap, ◌∙◌, arith}
 use mathlib.Core.List.{List, [], ◌∷◌, map, reverse_aux}
 use Rattle.orders.specs.Tree.{Tree, Run}
 use Rattle.orders.specs.Splices.{Splice, State, perform, performs, start, deleted, one_go, AllApart}
-use Rattle.orders.specs.Paths.{one_go_path}
-use Rattle.orders.specs.Step.{apart_rest}
-use Rattle.orders.specs.Done.{After, ready, perform_after, begin_after}
+use Rattle.orders.proofs.Paths.{one_go_path}
+use Rattle.orders.proofs.Step.{apart_rest}
+use Rattle.orders.proofs.Done.{After, ready, perform_after, begin_after}
 use Rattle.rows_model.specs.Row.{rows_of, first_rows}
 use Rattle.rows_model.specs.Place.{mark_of}
 use Rattle.splices_model.specs.Cuts.{cuts_to, paths, Holds, Told, state_of}

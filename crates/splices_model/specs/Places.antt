@@ -8,7 +8,7 @@ use Rattle.std.proofs.lemmas.List.{length-map}
 use Rattle.orders.specs.Lists.{All}
 use Rattle.orders.specs.Tree.{Tree, Trees, node, token, nil, cons, list, Path, resolve}
 use Rattle.orders.specs.ListLaws.{some_inj, none_some, lt_or_le, get_lt, get_left, get_right}
-use Rattle.orders.specs.TreeLaws.{resolve_child, resolve_at}
+use Rattle.orders.proofs.TreeLaws.{resolve_child, resolve_at}
 use Rattle.definition_laws.specs.Basics.{up_from}
 use Rattle.rows_model.specs.Row.{rows_of, rows_in, rows_all}
 use Rattle.rows_model.specs.Place.{size, size_all, place}

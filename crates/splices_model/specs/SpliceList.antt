@@ -4,8 +4,8 @@
 use Rattle.std.specs.Prelude.{Bool, true, cond, not, ◌&&◌, List, [], ◌∷◌, ◌++◌, map, ℕ, zero, suc, ◌+◌, ◌-◌, ◌*◌, ◌/◌, length, take, drop, get_or, replicate, leb, ltb}
 use Rattle.orders.specs.Tree.{Tree, node, token, forest}
 use Rattle.orders.specs.Splices.{Splice, one_go}
-use Rattle.orders.specs.Paths.{one_go_path}
-use Rattle.orders.specs.Check.{pairs, fits?, apart?}
+use Rattle.orders.proofs.Paths.{one_go_path}
+use Rattle.orders.proofs.Check.{pairs, fits?, apart?}
 use Rattle.definition.specs.Basics.{Answer, gives, ◌>>=◌, refuse}
 use Rattle.rows_model.specs.Row.{Row, tok, nod, outside, rows_of}
 use Rattle.rows_model.specs.Place.{size, mark_of}

@@ -10,8 +10,8 @@ use Rattle.orders.specs.Lists.{All, total}
 use Rattle.orders.specs.ListLaws.{bool?, bool_absurd, map_some, All-map}
 use Rattle.orders.specs.Tree.{Tree, Path, adjust, splice, Run, HasRun}
 use Rattle.orders.specs.Splices.{Splice, State, begin, perform, perform_at, run_now, start, left_in, left_of, inserted, deleted, same_path}
-use Rattle.orders.specs.Check.{says_same}
-use Rattle.orders.specs.Done.{perform_at_lem}
+use Rattle.orders.proofs.Check.{says_same}
+use Rattle.orders.proofs.Done.{perform_at_lem}
 use Rattle.definition_laws.specs.Kin.{get_get_d}
 use Rattle.rows_model.specs.Row.{Row, rows_of, rows_all, first_rows, skip, owes, trees_in, triples}
 use Rattle.rows_model.specs.Place.{size, size_all, place, mark_of, moved_mark, Held, rows_after, child_row, splice_rows}

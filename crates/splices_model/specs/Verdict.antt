@@ -10,9 +10,9 @@ use Rattle.std.proofs.lemmas.Bool.{lt-leb}
 use Rattle.orders.specs.Lists.{All}
 use Rattle.orders.specs.ListLaws.{both_true, lt_or_le, before, inside, after, zone?}
 use Rattle.orders.specs.Tree.{Tree, Trees, node, token, nil, cons, list, Path, resolve, adjust, shift, splice}
-use Rattle.orders.specs.TreeLaws.{adjust_shift, shift_before, shift_inside, shift_after}
+use Rattle.orders.proofs.TreeLaws.{adjust_shift, shift_before, shift_inside, shift_after}
 use Rattle.orders.specs.Splices.{Splice, Fits}
-use Rattle.orders.specs.Check.{each, pairs, enters?, run?, fits?, apart?}
+use Rattle.orders.proofs.Check.{each, pairs, enters?, run?, fits?, apart?}
 use Rattle.rows_model.specs.Row.{Row, owes, rows_of, rows_in, rows_all, triples, first_rows, trees_in}
 use Rattle.rows_model.specs.Place.{place, child_row}
 use Rattle.rows_model.specs.RowLaws.{children_few, trees_count}

@@ -5,17 +5,8 @@ use Prim.Native.Nat.{◌-◌, ◌≤◌, ◌<◌}
 use Rattle.read_element_table.proofs.Writing.{writing_start, writing_close, writing_table, writing_rows, writing_start_of, writing_tree_of, writing_more, writing_shallow, writing_open}
 use Rattle.read_element_table.proofs.fill_elements.Goals as goal
 
--- a child is to come: there is an element, its depth is at most 64
-more : (c : tie.Else1 invariant-loop decreases-loop) → c.before.before.before.before.loop.i < c.before.before.before.before.before.before.before.before.args.n
-more c = writing_more c.before.before.before.before.loop.invariant c.before.before.before.loop-test.true c.if1.false
-
-low : (c : tie.After-read-word2 invariant-loop decreases-loop) → c.before.before.before.before.before.before.loop.d ≤ 64
-low c =
-    let l = c.before.before.before.before.before.before.loop in
-    writing_shallow l.invariant c.before.before.before.before.before.loop-test.true c.before.before.if1.false c.before.read_word.ensures.0 c.read-word2.ensures.0
-
 pub loop-d-init : goal.loop-d-init
-loop-d-init c = writing_start _ _ _ _ _ c.requires.1 refl
+loop-d-init c = writing_start _ _ _ _ _ c.requires.accepted refl
 
 pub close-requires : goal.close-requires
 close-requires c = let l = c.loop-d in omega (arith, l.invariant.owners (l.d - 1))
@@ -24,33 +15,31 @@ pub loop-d-preserved-then-x-eq0 : goal.loop-d-preserved-then-x-eq0
 loop-d-preserved-then-x-eq0 c =
     let l = c.loop-d in
     let s = c.close in
-    writing_close l.invariant c.loop-d-test.true c.if-x-eq0.true s.auto.0 s.ensures
+    writing_close l.invariant c.loop-d-test.true c.if-x-eq0.true s.auto.table s.ensures
 
 pub read_word-k-requires : goal.read_word-k-requires
-read_word-k-requires c = omega (arith, more c)
+read_word-k-requires c = let more : c.loop-d.i < c.args.n = writing_more c.loop-d.invariant c.loop-d-test.true c.if-x-eq0.false in omega (arith, more)
 
 pub read_word-m-requires : goal.read_word-m-requires
-read_word-m-requires c = omega (arith, more c)
+read_word-m-requires c = let more : c.loop-d.i < c.args.n = writing_more c.loop-d.invariant c.loop-d-test.true c.if-x-eq0.false in omega (arith, more)
 
 pub store8-requires : goal.store8-requires
-store8-requires c =
-    let l = c.loop-d in
+store8-requires c = let more : c.loop-d.i < c.args.n = writing_more c.loop-d.invariant c.loop-d-test.true c.if-x-eq0.false in let low : c.loop-d.d ≤ 64 = writing_shallow c.loop-d.invariant c.loop-d-test.true c.if-x-eq0.false c.read_word-k.ensures.0 c.read_word-m.ensures.0 in let l = c.loop-d in
     let v = l.invariant in
-    omega (arith, more c, low c, v.owners (l.d - 1), v.nexts (l.d - 1), writing_start_of v c.if_root-s.ensures, writing_tree_of v c.if_root-t.ensures)
+    omega (arith, more, low, v.owners (l.d - 1), v.nexts (l.d - 1), writing_start_of v c.if_root-s.ensures, writing_tree_of v c.if_root-t.ensures)
 
 pub store3-requires : goal.store3-requires
-store3-requires c =
-    let l = c.loop-d in
-    omega (arith, more c, l.invariant.few, l.invariant.source_long, c.read_word-k.ensures.1, c.read_word-m.ensures.1)
+store3-requires c = let more : c.loop-d.i < c.args.n = writing_more c.loop-d.invariant c.loop-d-test.true c.if-x-eq0.false in let l = c.loop-d in
+    omega (arith, more, l.invariant.few, l.invariant.source_long, c.read_word-k.ensures.1, c.read_word-m.ensures.1)
 
 pub overflow_add-next : goal.overflow_add-next
-overflow_add-next c = let l = c.loop-d in omega (arith, l.invariant.nexts (l.d - 1), l.invariant.inside, c.requires.0.2)
+overflow_add-next c = let l = c.loop-d in omega (arith, l.invariant.nexts (l.d - 1), l.invariant.inside, c.requires.n_in_bounds.2)
 
 pub overflow_add-owner : goal.overflow_add-owner
-overflow_add-owner c = omega (arith, more c, c.requires.0.2)
+overflow_add-owner c = let more : c.loop-d.i < c.args.n = writing_more c.loop-d.invariant c.loop-d-test.true c.if-x-eq0.false in omega (arith, more, c.requires.n_in_bounds.2)
 
 pub bounds-stack-d : goal.bounds-stack-d
-bounds-stack-d c = omega (arith, low c)
+bounds-stack-d c = let low : c.loop-d.d ≤ 64 = writing_shallow c.loop-d.invariant c.loop-d-test.true c.if-x-eq0.false c.read_word-k.ensures.0 c.read_word-m.ensures.0 in omega (arith, low)
 
 pub overflow_add-at : goal.overflow_add-at
 overflow_add-at c =
@@ -58,10 +47,10 @@ overflow_add-at c =
     omega (arith, l.invariant.few, writing_start_of l.invariant c.if_root-s.ensures, c.length_of-len.ensures.1, c.read_word-m.ensures.1)
 
 pub overflow_add-i-else-x-eq0 : goal.overflow_add-i-else-x-eq0
-overflow_add-i-else-x-eq0 c = omega (arith, more c, c.requires.0.2)
+overflow_add-i-else-x-eq0 c = let more : c.loop-d.i < c.args.n = writing_more c.loop-d.invariant c.loop-d-test.true c.if-x-eq0.false in omega (arith, more, c.requires.n_in_bounds.2)
 
 pub loop-d-smaller : goal.loop-d-smaller
-loop-d-smaller c = omega (arith, more c)
+loop-d-smaller c = let more : c.loop-d.i < c.args.n = writing_more c.loop-d.invariant c.loop-d-test.true c.if-x-eq0.false in omega (arith, more)
 
 pub loop-d-preserved : goal.loop-d-preserved
 loop-d-preserved c =
@@ -70,8 +59,8 @@ loop-d-preserved c =
     let m = c.read_word-m in
     let s = c.store8 in
     let r = c.store3 in
-    let p = c.requires.0 in
-    writing_open l.invariant c.loop-d-test.true c.if-x-eq0.false k.ensures.0 m.ensures.0 c.if_root-s.ensures c.if_root-t.ensures c.children_of-left.ensures c.length_of-len.ensures.0 s.auto.0 s.ensures r.auto.0 r.ensures refl refl p.3 p.4
+    let p = c.requires.n_in_bounds in
+    writing_open l.invariant c.loop-d-test.true c.if-x-eq0.false k.ensures.0 m.ensures.0 c.if_root-s.ensures c.if_root-t.ensures c.children_of-left.ensures c.length_of-len.ensures.0 s.auto.s s.ensures r.auto.s r.ensures refl refl p.3 p.4
 
 pub returns : goal.returns
-returns c = let l = c.loop-d in (writing_table l.invariant (omega arith), writing_rows l.invariant (omega arith))
+returns c = let l = c.loop-d in record { table_after = writing_table l.invariant (omega arith); source_after = writing_rows l.invariant (omega arith) }

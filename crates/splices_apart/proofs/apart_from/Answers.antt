@@ -10,12 +10,11 @@ loop-j-init c = search (parting_start, rules)
 
 pub apart-requires : goal.apart-requires
 apart-requires c =
-    let c = c in
     let r = c.requires.3 in
     let h = c.loop-j-test.true in
     let x = r.row c.args.i (omega arith) in
     let y = r.row c.loop-j.j (omega (arith, h)) in
-    cearch rules
+    search rules
 
 pub loop-j-preserved : goal.loop-j-preserved
 loop-j-preserved c = search (parting_next, rules)

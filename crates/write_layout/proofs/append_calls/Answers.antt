@@ -8,7 +8,7 @@ pub loop-i-init : goal.loop-i-init
 loop-i-init c = search (calling_start, rules)
 
 pub loop-i-preserved : goal.loop-i-preserved
-loop-i-preserved c = calling_next c.loop-i.invariant c.requires.0 c.loop-i-test.true c.requires.1 c.call_word.ensures c.draft-1.given c.write_word.ensures
+loop-i-preserved c = calling_next c.loop-i.invariant c.requires.operations_len c.loop-i-test.true c.requires.operations_in_bounds c.call_word.ensures c.draft-1.given c.write_word.ensures
 
 pub returns : goal.returns
 returns c = search (calling_done, rules)

@@ -5,19 +5,19 @@ use borrow.Author.Rules.{rules}
 use Rattle.write_layout.proofs.lay_out.Goals as goal
 
 pub append_sizes-trees_at-requires : goal.append_sizes-trees_at-requires
-append_sizes-trees_at-requires c = (in_limits _ c.requires.0, omega (arith, c.requires.1))
+append_sizes-trees_at-requires c = record { limits = in_limits _ c.requires.in_step; in_bounds = omega (arith, c.requires.in_bounds) }
 
 pub append_two-calls_at-requires : goal.append_two-calls_at-requires
-append_two-calls_at-requires c = room_trees _ c.requires.0 c.requires.1 c.append_sizes-trees_at.ensures c.draft-1.given
+append_two-calls_at-requires c = room_trees _ c.requires.in_step c.requires.in_bounds c.append_sizes-trees_at.ensures c.draft-1.given
 
 pub append_queue-names_at-requires : goal.append_queue-names_at-requires
-append_queue-names_at-requires c = ((c.requires.0.counts, c.requires.0.rules), room_queue _ c.requires.0 c.requires.1 c.append_sizes-trees_at.ensures c.draft-1.given c.append_two-calls_at.ensures c.draft-2-1.given)
+append_queue-names_at-requires c = record { operations_len = (c.requires.in_step.counts, c.requires.in_step.rules); listed_in_bounds = room_queue _ c.requires.in_step c.requires.in_bounds c.append_sizes-trees_at.ensures c.draft-1.given c.append_two-calls_at.ensures c.draft-2-1.given }
 
 pub append_names-text_at-requires : goal.append_names-text_at-requires
-append_names-text_at-requires c = room_names _ c.requires.0 c.requires.1 c.append_sizes-trees_at.ensures c.draft-1.given c.append_two-calls_at.ensures c.draft-2-1.given c.append_queue-names_at.ensures c.draft-3-1.given
+append_names-text_at-requires c = room_names _ c.requires.in_step c.requires.in_bounds c.append_sizes-trees_at.ensures c.draft-1.given c.append_two-calls_at.ensures c.draft-2-1.given c.append_queue-names_at.ensures c.draft-3-1.given
 
 pub append_text-requires : goal.append_text-requires
-append_text-requires c = room_text _ c.requires.0 c.requires.1 c.append_sizes-trees_at.ensures c.draft-1.given c.append_two-calls_at.ensures c.draft-2-1.given c.append_queue-names_at.ensures c.draft-3-1.given c.append_names-text_at.ensures c.draft-4-1.given
+append_text-requires c = room_text _ c.requires.in_step c.requires.in_bounds c.append_sizes-trees_at.ensures c.draft-1.given c.append_two-calls_at.ensures c.draft-2-1.given c.append_queue-names_at.ensures c.draft-3-1.given c.append_names-text_at.ensures c.draft-4-1.given
 
 pub returns : goal.returns
-returns c = all_laid _ c.requires.0 c.requires.1 c.append_sizes-trees_at.ensures c.draft-1.given c.append_two-calls_at.ensures c.draft-2-1.given c.append_queue-names_at.ensures c.draft-3-1.given c.append_names-text_at.ensures c.draft-4-1.given c.append_text.ensures
+returns c = all_laid _ c.requires.in_step c.requires.in_bounds c.append_sizes-trees_at.ensures c.draft-1.given c.append_two-calls_at.ensures c.draft-2-1.given c.append_queue-names_at.ensures c.draft-3-1.given c.append_names-text_at.ensures c.draft-4-1.given c.append_text.ensures

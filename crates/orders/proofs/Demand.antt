@@ -7,9 +7,9 @@ use Rattle.std.proofs.Math.Option.{none, some}
 use Rattle.orders.specs.Lists.{All}
 use Rattle.orders.specs.Tree.{Tree, Path, resolve}
 use Rattle.orders.specs.Splices.{Splice, State, begin, performs, one_go, EntersDeleted, AtOrBelow, splices_in, unnamed, one_go_named, Finds, AllApart}
-use Rattle.orders.specs.Paths.{dropped_enters, enters_dropped, resolve_one_go, none_in, rewrite_nothing}
-use Rattle.orders.specs.Done.{performs_one_go}
-use Rattle.orders.specs.Names.{finds, finds_only, unnamed_one_go}
+use Rattle.orders.proofs.Paths.{dropped_enters, enters_dropped, resolve_one_go, none_in, rewrite_nothing}
+use Rattle.orders.proofs.Done.{performs_one_go}
+use Rattle.orders.proofs.Names.{finds, finds_only, unnamed_one_go}
 
 -- what demand 3 says of the state that comes of the old tree by the splices S
 pub record Demanded {A : Type 0} (old : Tree A) (S : List (Splice A)) (now : State A) : Type 0 where

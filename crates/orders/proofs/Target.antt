@@ -14,14 +14,14 @@ use Rattle.orders.specs.Lists.{any, All, Pairs}
 use Rattle.orders.specs.Tree.{Tree, Path, Run, front, last}
 use Rattle.orders.specs.Splices.{Splice, State, inserted, deleted, left_of, start, begin, run_now, perform_at, perform, performs, under, from_root, from_child, at_root, below, splices_in, AllApart}
 use Rattle.orders.specs.ListLaws.{some_inj, map_some, bind_some, bool?, All-map, All-map₂, All-pick, total_none, total_same}
-use Rattle.orders.specs.TreeLaws.{front_child, last_child}
-use Rattle.orders.specs.Left.{Ordered, left_le, left_why, left_if, OneLeft, first, second}
-use Rattle.orders.specs.Numbers.{child, holds, new_number, number_some, all_apart, start_among, start_exact, run_kept, run_number}
-use Rattle.orders.specs.Parts.{from_root_some, from_child_some, below_in, Neat, neat, below_neat, root_ordered, root_apart, at_root_root, start_below, start_root}
-use Rattle.orders.specs.Paths.{one_go_path, down}
-use Rattle.orders.specs.Order.{apart_perm}
-use Rattle.orders.specs.Done.{After, Ready, ready, perform_at_lem, perform_after, apart_done, begin_after, reversed}
-use Rattle.orders.specs.Demand.{Demanded, demand}
+use Rattle.orders.proofs.TreeLaws.{front_child, last_child}
+use Rattle.orders.proofs.Left.{Ordered, left_le, left_why, left_if, OneLeft, first, second}
+use Rattle.orders.proofs.Numbers.{child, holds, new_number, number_some, all_apart, start_among, start_exact, run_kept, run_number}
+use Rattle.orders.proofs.Parts.{from_root_some, from_child_some, below_in, Neat, neat, below_neat, root_ordered, root_apart, at_root_root, start_below, start_root}
+use Rattle.orders.proofs.Paths.{one_go_path, down}
+use Rattle.orders.proofs.Order.{apart_perm}
+use Rattle.orders.proofs.Done.{After, Ready, ready, perform_at_lem, perform_after, apart_done, begin_after, reversed}
+use Rattle.orders.proofs.Demand.{Demanded, demand}
 
 -- ── Performed by targets ────────────────────────────────────────────────────────────────────────────────────
 

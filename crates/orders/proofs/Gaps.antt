@@ -11,10 +11,10 @@ use Rattle.std.proofs.Math.ListN.{get_elem?}
 use Rattle.orders.specs.Lists.{any}
 use Rattle.orders.specs.Tree.{Tree, Trees, node, token, nil, cons, list, forest}
 use Rattle.orders.specs.Splices.{Splice, at_root, below, left_to_right, new_children, one_go, one_go_all, AllApart}
-use Rattle.orders.specs.Numbers.{holds, holds_yes, holds_no}
-use Rattle.orders.specs.Children.{Chain, chain_le, left_over, level_chain}
-use Rattle.orders.specs.Parts.{root_level, below_apart}
-use Rattle.orders.specs.Paths.{length_children}
+use Rattle.orders.proofs.Numbers.{holds, holds_yes, holds_no}
+use Rattle.orders.proofs.Children.{Chain, chain_le, left_over, level_chain}
+use Rattle.orders.proofs.Parts.{root_level, below_apart}
+use Rattle.orders.proofs.Paths.{length_children}
 
 -- ── The walk ────────────────────────────────────────────────────────────────────────────────────────────────
 

@@ -9,11 +9,11 @@ use Rattle.orders.specs.Lists.{All, Pairs}
 use Rattle.orders.specs.Tree.{Tree, Trees, node, token, nil, cons, Path}
 use Rattle.orders.specs.Splices.{Splice, left_of, from_root, from_child, at_root, below, insert_by_left, left_to_right, one_go, one_go_all, inserted, deleted, Fits, Apart, AllApart}
 use Rattle.orders.specs.ListLaws.{All-perm, Pairs-perm, any_perm, total_perm, pick_perm}
-use Rattle.orders.specs.Left.{Ordered, left_trans, left_asym, OneLeft, first, second, one_left_sym}
-use Rattle.orders.specs.Numbers.{child, holds, start_among, new_number}
-use Rattle.orders.specs.Children.{All-sort}
-use Rattle.orders.specs.Parts.{Neat, root_ordered, root_apart, below_neat}
-use Rattle.orders.specs.Paths.{one_go_path}
+use Rattle.orders.proofs.Left.{Ordered, left_trans, left_asym, OneLeft, first, second, one_left_sym}
+use Rattle.orders.proofs.Numbers.{child, holds, start_among, new_number}
+use Rattle.orders.proofs.Children.{All-sort}
+use Rattle.orders.proofs.Parts.{Neat, root_ordered, root_apart, below_neat}
+use Rattle.orders.proofs.Paths.{one_go_path}
 
 module _ {A : Type 0} where
   pub apart_sym : (s t : Splice A) → Apart s t → Apart t s

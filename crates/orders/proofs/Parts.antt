@@ -12,10 +12,10 @@ use Rattle.orders.specs.Lists.{pick, more, All, Pairs, total}
 use Rattle.orders.specs.Tree.{Tree, Trees, node, list, Path, HasRun}
 use Rattle.orders.specs.Splices.{same_path, Splice, inserted, deleted, left_of, left_in, start, under, from_root, from_child, at_root, below, Enters, Fits, Apart, AllApart}
 use Rattle.orders.specs.ListLaws.{some_inj, none_some, pick_none, pick_some, All-pick, Pairs-pick, Pairs-with, All-map}
-use Rattle.orders.specs.TreeLaws.{run_here, run_child}
-use Rattle.orders.specs.Left.{Ordered, OneLeft, one_left}
-use Rattle.orders.specs.Numbers.{start_among}
-use Rattle.orders.specs.Children.{Level}
+use Rattle.orders.proofs.TreeLaws.{run_here, run_child}
+use Rattle.orders.proofs.Left.{Ordered, OneLeft, one_left}
+use Rattle.orders.proofs.Numbers.{start_among}
+use Rattle.orders.proofs.Children.{Level}
 
 -- ── The root's own, and those of a child ────────────────────────────────────────────────────────────────────
 

@@ -15,11 +15,11 @@ use Rattle.orders.specs.Lists.{more, pick, All}
 use Rattle.orders.specs.Tree.{Tree, Trees, node, token, nil, cons, list, forest, label, Path, resolve, strip, adjust, Run, HasRun}
 use Rattle.orders.specs.Splices.{Splice, inserted, deleted, left_of, under, from_root, from_child, at_root, below, insert_by_left, left_to_right, new_children, one_go, one_go_all, State, begin, perform_at, perform, performs, Enters, Apart, Fits, AllApart, splices_in, relabel, relabel_all, Named, named, named_all, nameless, unnamed, map_prepared, one_go_named, Finds}
 use Rattle.orders.specs.ListLaws.{some_inj, none_some, map_some, map_append, map_take, map_drop, All-over, Pairs-over, All-mem, get_mem, any_over, total_over}
-use Rattle.orders.specs.TreeLaws.{Origin, kept, came, splice_origin, label_splice_in}
-use Rattle.orders.specs.Numbers.{child, holds, start_among, new_number}
-use Rattle.orders.specs.Paths.{one_go_path, resolve_one_go, label_one_go}
-use Rattle.orders.specs.Order.{apart_perm}
-use Rattle.orders.specs.Done.{After, ready, perform_at_lem, perform_after, apart_done, begin_after, reversed, performs_one_go}
+use Rattle.orders.proofs.TreeLaws.{Origin, kept, came, splice_origin, label_splice_in}
+use Rattle.orders.proofs.Numbers.{child, holds, start_among, new_number}
+use Rattle.orders.proofs.Paths.{one_go_path, resolve_one_go, label_one_go}
+use Rattle.orders.proofs.Order.{apart_perm}
+use Rattle.orders.proofs.Done.{After, ready, perform_at_lem, perform_after, apart_done, begin_after, reversed, performs_one_go}
 
 -- ── Prepared lists changed throughout ───────────────────────────────────────────────────────────────────────
 

@@ -13,8 +13,8 @@ use Rattle.orders.specs.Lists.{any, All, Pairs, total}
 use Rattle.orders.specs.Tree.{shift}
 use Rattle.orders.specs.Splices.{Splice, inserted, deleted, left_of}
 use Rattle.orders.specs.ListLaws.{bool_absurd, both_true, bool?, some_inj, none_some, Zone, before, inside, after, zone?, All-map, All-map₂, total_none, total_same, none_passes, passes_none}
-use Rattle.orders.specs.TreeLaws.{shift_before, shift_inside, shift_after}
-use Rattle.orders.specs.Left.{Ordered, left_le, left_if, left_trans, left_asym, OneLeft, first, second}
+use Rattle.orders.proofs.TreeLaws.{shift_before, shift_inside, shift_after}
+use Rattle.orders.proofs.Left.{Ordered, left_le, left_if, left_trans, left_asym, OneLeft, first, second}
 
 module _ {A : Type 0} where
   -- where the run of s starts after the splices H of the same parent

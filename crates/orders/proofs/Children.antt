@@ -14,8 +14,8 @@ use Rattle.orders.specs.Lists.{All, Pairs, total}
 use Rattle.orders.specs.Tree.{Tree, modify}
 use Rattle.orders.specs.Splices.{Splice, inserted, deleted, left_of, insert_by_left, left_to_right, new_children}
 use Rattle.orders.specs.ListLaws.{parts, All-map, All-map₂, All-perm, total_none, total_one, total_perm, get_lt, get_split, get_right, modify_split, modify_right, part_out}
-use Rattle.orders.specs.Left.{Ordered, left_le, left_trans, left_asym, OneLeft, first, second}
-use Rattle.orders.specs.Numbers.{child, new_number, number_some, all_apart, start_among, start_exact}
+use Rattle.orders.proofs.Left.{Ordered, left_le, left_trans, left_asym, OneLeft, first, second}
+use Rattle.orders.proofs.Numbers.{child, new_number, number_some, all_apart, start_among, start_exact}
 
 -- ── From left to right ──────────────────────────────────────────────────────────────────────────────────────
 

@@ -10,11 +10,11 @@ use Rattle.orders.specs.Lists.{pick, any, total}
 use Rattle.orders.specs.Tree.{Tree, Path, Run, HasRun}
 use Rattle.orders.specs.Splices.{Splice, under, at_root, below, one_go, start, deleted, State, begin, run_now, perform_at, perform, performs, Apart, AllApart}
 use Rattle.orders.specs.ListLaws.{All-mem}
-use Rattle.orders.specs.Numbers.{start_among, new_number}
-use Rattle.orders.specs.Parts.{neat}
-use Rattle.orders.specs.Paths.{one_go_path, dropped_enters, rewrite_nothing}
-use Rattle.orders.specs.Step.{apart_rest, step_tree, step_path, step_run}
-use Rattle.orders.specs.Order.{one_go_same, path_same, apart_perm}
+use Rattle.orders.proofs.Numbers.{start_among, new_number}
+use Rattle.orders.proofs.Parts.{neat}
+use Rattle.orders.proofs.Paths.{one_go_path, dropped_enters, rewrite_nothing}
+use Rattle.orders.proofs.Step.{apart_rest, step_tree, step_path, step_run}
+use Rattle.orders.proofs.Order.{one_go_same, path_same, apart_perm}
 
 -- with nothing done, each path leads to itself
 path_nothing : (A : Type 0) (e : Path) → one_go_path {A = A} [] e ≡ some e

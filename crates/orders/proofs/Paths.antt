@@ -12,10 +12,10 @@ use Rattle.orders.specs.Lists.{pick, any, All}
 use Rattle.orders.specs.Tree.{Tree, Trees, node, token, nil, cons, list, label, Path, resolve}
 use Rattle.orders.specs.Splices.{Splice, under, from_root, from_child, at_root, below, left_to_right, new_children, one_go, one_go_all, Enters, EntersDeleted, AtOrBelow, splices_in, AllApart}
 use Rattle.orders.specs.ListLaws.{some_inj, none_some, map_some, bind_some, bind_none, bool?, any_mem, mem_any, All-pick, pick_mem, mem_pick}
-use Rattle.orders.specs.TreeLaws.{forest_list, resolve_child, resolve_forest}
-use Rattle.orders.specs.Numbers.{holds, holds_in, holds_yes, new_number}
-use Rattle.orders.specs.Children.{get_child}
-use Rattle.orders.specs.Parts.{from_root_some, from_child_some, from_child_in, root_level, below_apart}
+use Rattle.orders.proofs.TreeLaws.{forest_list, resolve_child, resolve_forest}
+use Rattle.orders.proofs.Numbers.{holds, holds_in, holds_yes, new_number}
+use Rattle.orders.proofs.Children.{get_child}
+use Rattle.orders.proofs.Parts.{from_root_some, from_child_some, from_child_in, root_level, below_apart}
 
 module _ {A : Type 0} where
   -- none where the one go deletes it

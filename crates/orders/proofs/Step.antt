@@ -13,12 +13,12 @@ use Rattle.orders.specs.Lists.{All, Pairs}
 use Rattle.orders.specs.Tree.{Tree, Trees, node, token, nil, cons, list, forest, Path, resolve, adjust, shift, modify, splice, HasRun}
 use Rattle.orders.specs.Splices.{Splice, under, at_root, below, left_to_right, new_children, one_go, one_go_all, inserted, deleted, start, AllApart}
 use Rattle.orders.specs.ListLaws.{some_inj, bind_none}
-use Rattle.orders.specs.TreeLaws.{list_forest, run_child, run_token, adjust_root, adjust_shift, adjust_in, adjust_out}
-use Rattle.orders.specs.Left.{Ordered, OneLeft}
-use Rattle.orders.specs.Numbers.{new_number, number_inj, moved}
-use Rattle.orders.specs.Children.{Level, splice_children, modify_child}
-use Rattle.orders.specs.Parts.{below_in, below_out, below_root, at_root_root, at_root_child, Neat, root_ordered, root_apart, root_level, below_apart, below_neat, start_below, start_root}
-use Rattle.orders.specs.Paths.{one_go_path, Down, down, length_children, get_rewritten, rewritten_child}
+use Rattle.orders.proofs.TreeLaws.{list_forest, run_child, run_token, adjust_root, adjust_shift, adjust_in, adjust_out}
+use Rattle.orders.proofs.Left.{Ordered, OneLeft}
+use Rattle.orders.proofs.Numbers.{new_number, number_inj, moved}
+use Rattle.orders.proofs.Children.{Level, splice_children, modify_child}
+use Rattle.orders.proofs.Parts.{below_in, below_out, below_root, at_root_root, at_root_child, Neat, root_ordered, root_apart, root_level, below_apart, below_neat, start_below, start_root}
+use Rattle.orders.proofs.Paths.{one_go_path, Down, down, length_children, get_rewritten, rewritten_child}
 
 -- ── The children rewritten ──────────────────────────────────────────────────────────────────────────────────
 

@@ -7,11 +7,11 @@ use Rattle.std.proofs.Math.Option.{Option, none, some, bind}
 use Rattle.orders.specs.Lists.{pick, any, total}
 use Rattle.orders.specs.Tree.{Tree, node, token, nil, cons, list, forest, Path, resolve, zone, adjust, modify, splice, text, front, last}
 use Rattle.orders.specs.Splices.{same_path, Splice, inserted, deleted, left_of, begin, left_in, start, run_now, perform_at, perform, performs, under, from_root, from_child, at_root, below, insert_by_left, left_to_right, new_children, one_go, AllApart}
-use Rattle.orders.specs.Numbers.{holds}
-use Rattle.orders.specs.Demand.{Demanded, demand}
-use Rattle.orders.specs.Gaps.{starting_at, walk}
-use Rattle.orders.specs.Check.{each, pairs, enters?, run?, fits?, apart?, all_apart?, says_all_apart}
-use Rattle.orders.specs.Target.{after_child, run_by_target, perform_by_targets}
+use Rattle.orders.proofs.Numbers.{holds}
+use Rattle.orders.proofs.Demand.{Demanded, demand}
+use Rattle.orders.proofs.Gaps.{starting_at, walk}
+use Rattle.orders.proofs.Check.{each, pairs, enters?, run?, fits?, apart?, all_apart?, says_all_apart}
+use Rattle.orders.proofs.Target.{after_child, run_by_target, perform_by_targets}
 
 -- a token whose kind word and text are this letter, a number
 abbrev letter : ℕ → Tree ℕ

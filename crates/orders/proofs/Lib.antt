@@ -1,0 +1,15 @@
+pub mod TreeLaws
+pub mod Left
+pub mod Check
+pub mod Children
+pub mod Numbers
+pub mod Parts
+pub mod Paths
+pub mod Step
+pub mod Gaps
+pub mod Order
+pub mod Done
+pub mod Names
+pub mod Demand
+pub mod Target
+pub mod Examples

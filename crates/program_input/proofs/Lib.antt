@@ -1,0 +1,2 @@
+-- What the proofs use.
+pub mod Reading

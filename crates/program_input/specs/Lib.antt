@@ -1,0 +1,2 @@
+-- What is promised of a count of bytes.
+pub mod Counts
