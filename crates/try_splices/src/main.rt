@@ -4,6 +4,7 @@
 #![tactic(auto)]
 use splices_list::Outcome;
 use splices_model::SPLICE_WORDS;
+use std::io;
 use words::{copy_in, word};
 
 const OLD: [u32; 21] = [
@@ -67,25 +68,12 @@ const ORDERS4: [u32; 96] = [
 
 // ── Printing ──
 
-fn print(n: usize) {
-    io::print_decimal(1, n as u64);
-    io::write_all(1, b" ");
-}
-
-fn end_line() {
-    io::write_all(1, b"\n");
-}
-
 // The first `n` words.
-fn print_words(words: &[u32], n: usize) {
-    let mut i = 0;
-    while i < n {
-        if i < words.len() {
-            print(word(words, i));
-        }
-        i += 1;
+fn print_words(rt: &impl Print, words: &[u32], n: usize) -> io::Result<()> {
+    for word in words.iter().take(n) {
+        print!(rt; "{word} ")?;
     }
-    end_line();
+    println!(rt)
 }
 
 // ── One order ──
@@ -225,23 +213,19 @@ fn agree(list: &[u32], orders: &[u32], c: usize, n: usize, rows: &[u32], marks: 
     true
 }
 
-fn try_list(list: &[u32], orders: &[u32], c: usize) {
+fn try_list(rt: &impl Print, list: &[u32], orders: &[u32], c: usize) -> io::Result<()> {
     let mut rows = [9u32; 42];
     let mut marks = [0u32; 7];
     match run(list, orders, 0, c, &mut rows, &mut marks) {
         Outcome::Done(n) => {
             if agree(list, orders, c, n, &rows, &marks) {
-                print(n);
-                end_line();
-                print_words(&rows, 42);
-                print_words(&marks, 7);
-                return;
+                println!(rt; "{n} ")?;
+                print_words(rt, &rows, 42)?;
+                return print_words(rt, &marks, 7);
             }
-            io::write_all(1, b"orders differ\n");
+            println!(rt; "orders differ")
         }
-        Outcome::Refused(_) => {
-            io::write_all(1, b"refused\n");
-        }
+        Outcome::Refused(_) => println!(rt; "refused"),
     }
 }
 
@@ -263,26 +247,26 @@ fn refusal(list: &[u32], at: usize, c: usize, rows: &mut [u32], marks: &mut [u32
 }
 
 // The list, and its order from `at` on: both are refused by one number.
-fn try_refused(list: &[u32], at: usize, c: usize) {
+fn try_refused(rt: &impl Print, list: &[u32], at: usize, c: usize) -> io::Result<()> {
     let mut rows = [9u32; 42];
     let mut marks = [7u32; 7];
     let number = refusal(list, 0, c, &mut rows, &mut marks);
     if refusal(list, at, c, &mut rows, &mut marks) == number {
-        print(number);
-        end_line();
-        return;
+        return println!(rt; "{number} ");
     }
-    io::write_all(1, b"orders differ\n");
+    println!(rt; "orders differ")
 }
 
 // Slices that are too short for the list.
-fn try_slices() {
+fn try_slices(rt: &impl Print) -> io::Result<()> {
     let list = [1, 0, 1, 1, 0, 1];
     // Room for no row more; six rows of the old tree, which are no tree.
     let mut rows = [9u32; 21];
-    print(refusal(&list, 0, 1, &mut rows, &mut [7u32; 7]));
+    let of_rows = refusal(&list, 0, 1, &mut rows, &mut [7u32; 7]);
+    print!(rt; "{of_rows} ")?;
     let mut more_rows = [9u32; 42];
-    print(refusal(&list, 0, 1, &mut more_rows, &mut [7u32; 6]));
+    let of_marks = refusal(&list, 0, 1, &mut more_rows, &mut [7u32; 6]);
+    print!(rt; "{of_marks} ")?;
     // Seven words for a splice.
     match splices_list::splice_all(
         &mut more_rows,
@@ -290,47 +274,48 @@ fn try_slices() {
         &[1, 0, 1, 1, 0, 1, 2],
         &PREPARED,
     ) {
-        Outcome::Refused(number) => print(number),
-        Outcome::Done(_) => print(0),
+        Outcome::Refused(number) => println!(rt; "{number} "),
+        Outcome::Done(_) => println!(rt; "0 "),
     }
-    end_line();
 }
 
-fn accepted() {
+fn accepted(rt: &impl Print) -> io::Result<()> {
     // e for a in X, Z(h) behind d in the root, c out of Y.
     try_list(
+        rt,
         &[1, 1, 0, 1, 0, 1, 2, 0, 3, 3, 3, 2, 3, 4, 0, 1, 0, 0],
         &ORDERS3,
         3,
-    );
+    )?;
     // e and f before Y, g for Y: the higher number is left.
     try_list(
+        rt,
         &[1, 0, 1, 1, 0, 1, 2, 0, 1, 1, 1, 1, 3, 0, 1, 2, 2, 1],
         &ORDERS3,
         3,
-    );
-    try_list(&FOUR, &ORDERS4, 4);
+    )?;
+    try_list(rt, &FOUR, &ORDERS4, 4)
 }
 
-fn refusals() {
+fn refusals(rt: &impl Print) -> io::Result<()> {
     // Runs that overlap, an insertion inside a run, a parent that another deletes, one number twice.
-    try_refused(&[1, 0, 0, 2, 0, 1, 2, 0, 1, 3, 0, 0], 2, 2);
-    try_refused(&[1, 0, 0, 2, 0, 1, 2, 0, 1, 1, 1, 1], 2, 2);
-    try_refused(&[1, 0, 0, 1, 0, 1, 2, 1, 0, 1, 1, 1], 2, 2);
-    try_refused(&[1, 1, 0, 1, 0, 1, 1, 4, 0, 1, 1, 1], 2, 2);
+    try_refused(rt, &[1, 0, 0, 2, 0, 1, 2, 0, 1, 3, 0, 0], 2, 2)?;
+    try_refused(rt, &[1, 0, 0, 2, 0, 1, 2, 0, 1, 1, 1, 1], 2, 2)?;
+    try_refused(rt, &[1, 0, 0, 1, 0, 1, 2, 1, 0, 1, 1, 1], 2, 2)?;
+    try_refused(rt, &[1, 1, 0, 1, 0, 1, 1, 4, 0, 1, 1, 1], 2, 2)?;
     // A token as parent, no row, a run past the children, a run reversed.
-    try_refused(&[1, 2, 0, 0, 0, 1], 3, 1);
-    try_refused(&[1, 7, 0, 0, 0, 1], 3, 1);
-    try_refused(&[1, 0, 3, 4, 0, 1], 3, 1);
-    try_refused(&[1, 0, 2, 1, 0, 1], 3, 1);
+    try_refused(rt, &[1, 2, 0, 0, 0, 1], 3, 1)?;
+    try_refused(rt, &[1, 7, 0, 0, 0, 1], 3, 1)?;
+    try_refused(rt, &[1, 0, 3, 4, 0, 1], 3, 1)?;
+    try_refused(rt, &[1, 0, 2, 1, 0, 1], 3, 1)?;
     // Rows that spell no trees, rows past the end of the slice, more rows than there is room for.
-    try_refused(&[1, 0, 1, 1, 5, 1], 3, 1);
-    try_refused(&[1, 0, 1, 1, 5, 2], 3, 1);
-    try_refused(&[1, 0, 1, 1, 0, 8], 3, 1);
+    try_refused(rt, &[1, 0, 1, 1, 5, 1], 3, 1)?;
+    try_refused(rt, &[1, 0, 1, 1, 5, 2], 3, 1)?;
+    try_refused(rt, &[1, 0, 1, 1, 0, 8], 3, 1)
 }
 
-fn main() {
-    accepted();
-    refusals();
-    try_slices();
+fn main(rt: HostRuntime) -> io::Result<()> {
+    accepted(&rt)?;
+    refusals(&rt)?;
+    try_slices(&rt)
 }

@@ -1,49 +1,49 @@
 // Line 5 and the element table on document 01's printed case: tree 0 is a node of the tokens "a" and "b", tree 1 a node of the token "c".
 #![tactic(auto)]
+use std::io;
+
 const KINDS_AND_MEASURES: [u8; 40] = [
     1, 0, 0, 0x80, 2, 0, 0, 0, 3, 0, 0, 0, 1, 0, 0, 0x80, 4, 0, 0, 0, 2, 0, 0, 0, 1, 0, 0, 0, 1, 0,
     0, 0, 1, 0, 0, 0, 1, 0, 0, 0,
 ];
 
-fn print_words(words: &[u32]) {
-    let mut i = 0;
-    while i < words.len() {
-        io::print_decimal(1, words::word(words, i) as u64);
-        io::write_all(1, b" ");
-        i += 1;
+fn print_words(rt: &impl Print, words: &[u32]) -> io::Result<()> {
+    for word in words {
+        print!(rt; "{word} ")?;
     }
-    io::write_all(1, b"\n");
+    println!(rt)
 }
 
-fn print_answer(accepted: bool) {
+fn print_answer(rt: &impl Print, accepted: bool) -> io::Result<()> {
     if accepted {
-        io::write_all(1, b"spelled\n");
+        println!(rt; "spelled")
     } else {
-        io::write_all(1, b"refused\n");
+        println!(rt; "refused")
     }
 }
 
 // Two trees with three bytes of text are spelled, one tree is not, nor two with four bytes.
-fn answers() {
+fn answers(rt: &impl Print) -> io::Result<()> {
     let b = KINDS_AND_MEASURES;
-    print_answer(read_spelling::spells(&b, 0, 20, 5, 2, 3));
-    print_answer(read_spelling::spells(&b, 0, 20, 5, 1, 3));
-    print_answer(read_spelling::spells(&b, 0, 20, 5, 2, 4));
+    print_answer(rt, read_spelling::spells(&b, 0, 20, 5, 2, 3))?;
+    print_answer(rt, read_spelling::spells(&b, 0, 20, 5, 1, 3))?;
+    print_answer(rt, read_spelling::spells(&b, 0, 20, 5, 2, 4))
 }
 
 // The table and the rows, each with one word beyond that stays.
-fn tables() {
+fn tables(rt: &impl Print) -> io::Result<()> {
     let b = KINDS_AND_MEASURES;
     let mut table = [7u32; 41];
     let mut source = [7u32; 19];
     if read_spelling::spells(&b, 0, 20, 5, 2, 3) {
         read_element_table::fill(&b, 0, 20, 5, 2, &mut table, &mut source);
-        print_words(&table);
-        print_words(&source);
+        print_words(rt, &table)?;
+        print_words(rt, &source)?;
     }
+    Ok(())
 }
 
-fn main() {
-    answers();
-    tables();
+fn main(rt: HostRuntime) -> io::Result<()> {
+    answers(&rt)?;
+    tables(&rt)
 }

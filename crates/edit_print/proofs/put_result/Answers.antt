@@ -14,7 +14,7 @@ put_found-requires c =
     let c = c in
     let a = c.args in
     let q = c.requires in
-    let e : length c.put_tree-treed.new.out ≡ length a.out.now = cearch rules in
+    let e : length c.put_tree-treed.new.out ≡ length a.out.now = search rules in
     (omega (arith, q.whole), treed_room a.b.now a.out.now a.n a.t a.c a.m a.discarded a.climbs q c.put_line-sized.ensures c.put_tree-treed.ensures e)
 
 pub returns : goal.returns

@@ -1,7 +1,5 @@
 -- `read_full` meets its contract: each turn takes more of the input, and puts it behind.
-use Rattle.std.proofs.Common.{◌≡◌, ◌+◌, ◌-◌, ◌≤◌, ◌++◌, length, take, arith, rules, length-drop}
-use Rattle.std.specs.Io.KnownBytes.{Consumes}
-use borrow.Rule.Slice.PartMut.{put_mid}
+use Rattle.std.proofs.Common.{◌-◌, length, rules}
 use Rattle.program_input.proofs.Reading.{consumes_more, front_more}
 use Rattle.program_input.proofs.read_full.Goals as goal
 

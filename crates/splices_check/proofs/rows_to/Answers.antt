@@ -1,0 +1,14 @@
+-- `rows_to` meets its contract.
+use borrow.Author.Rules.{rules}
+use Rattle.splices_check.proofs.Turns.{summed_start, summed_next, summed_done}
+use Prim.Native.Nat.{◌-◌}
+use Rattle.splices_check.proofs.rows_to.Goals as goal
+
+pub loop-k-init : goal.loop-k-init
+loop-k-init c = search (summed_start, rules)
+
+pub loop-k-preserved : goal.loop-k-preserved
+loop-k-preserved c = search (summed_next, rules)
+
+pub returns : goal.returns
+returns c = summed_done c.loop-k.invariant c.loop-k-test.false c.requires.1
