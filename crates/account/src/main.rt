@@ -1,5 +1,8 @@
 // The account program.
 #![tactic(auto)]
-fn main() {
-    account_program::run();
+
+use std::io;
+
+fn main(rt: HostRuntime) -> io::Result<()> {
+    account_program::run(&rt)
 }

@@ -29,7 +29,7 @@ use Rattle.definition_laws.specs.Answers.{gives_inj, given}
 use Rattle.definition_laws.specs.Spelling.{Worded, WordedAll, spells_read}
 use Rattle.definition_laws.specs.Running.{top}
 use Rattle.definition_laws.specs.Held.{Leads, number_found}
-use Rattle.definition_laws.specs.Limits.{edit_within, ran_known}
+use Rattle.definition_laws.proofs.Limits.{edit_within, ran_known}
 use Rattle.definition_account.specs.Words.{changed_paths, changed_in, keeps_root, no_dependent_in0}
 use Rattle.definition_account.specs.Changed.{changed_lead, changed_numbers}
 use Rattle.definition_account.specs.Account.{Performed, ran_performed}

@@ -2,7 +2,7 @@
 -- Assumes nothing.
 use Rattle.std.specs.Prelude.{◌≡◌, refl, Bool, List, ℕ, ◌≤◌, length, take}
 use Rattle.std.proofs.Common.{sym, ap, ◌∙◌, arith, length-take-le, take_all}
-use Rattle.io.specs.Counts.{IsPrefixLen}
+use Rattle.program_input.specs.Counts.{IsPrefixLen}
 use Rattle.definition.specs.Basics.{Answer, ◌>>=◌}
 use Rattle.check_laws.specs.Check.{checked}
 use Rattle.check_laws.specs.Layout.{claims_of, verdict_line, claim_room, claim_printed}

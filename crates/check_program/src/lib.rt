@@ -1,14 +1,19 @@
 // The program `check`: reads claims on standard input and prints whether they are accepted.
 #![tactic(auto)]
-ghost use Rattle.std.specs.Prelude.{◌≡◌, ◌+◌, ◌≤◌, length};
+
+ghost use Rattle.std.specs.Prelude.{◌≡◌, ◌+◌, ◌<◌, ◌≤◌, length, take, IfOk, OnOk};
+ghost use Rattle.std.specs.Io.KnownBytes.{Consumes, IsAtEnd};
 ghost use Rattle.check_laws.specs.Check.{checked};
-ghost use Rattle.check_laws.specs.Layout.{claims_from, verdict_line};
+ghost use Rattle.check_laws.specs.Layout.{claims_from, claim_printed, verdict_line};
 ghost use Rattle.check_claim.specs.Judging.{answer_of};
 ghost use Rattle.edit_print.specs.Lines.{Put};
-ghost use Rattle.io.specs.Counts.{IsPrefixLen};
+ghost use Rattle.program_input.specs.Counts.{IsPrefixLen};
+ghost use Rattle.program_input.specs.Told.{Writes};
 ghost use Rattle.check_program.specs.Responds.{answered, Responds};
 
 use check_claim::Verdict;
+use std::io;
+use std::io::{Read, Write};
 
 // The verdict on lists that stand one behind another, and on texts that do. The work slices are made here, of the lengths of docs/WORK.md.
 fn judge_lists(
@@ -97,12 +102,15 @@ fn answer(claim: &[u8], read: usize, out: &mut [u8]) -> usize
     show(verdict, out)
 }
 
-// Reads claims into the front of their buffer and answers how many bytes were read. Which bytes the operating system puts there, and how many, no contract says.
-fn read_claim(claim: &mut [u8]) -> usize
+// Reads claims into the front of their buffer and answers how many bytes were read. What is known of the input's bytes is told as `program_input::read_full` tells
+// it. Which bytes the operating system puts there, and how many, no contract says.
+fn read_claim<R: Read>(from: &mut R, claim: &mut [u8]) -> io::Result<usize>
     requires { 262144 ≡ length claim.old }
-    ensures { IsPrefixLen result claim.new }
+    ensures bound { IfOk result (λ n. IsPrefixLen n claim.new) }
+    ensures bytes { IfOk result (λ n. Consumes (R.remaining from.old) (R.remaining from.new) (take n claim.new)) }
+    ensures end { IfOk result (λ n. n < length claim.new → IsAtEnd (R.remaining from.new)) }
 {
-    io::read_full(0, claim)
+    program_input::read_full(from, claim)
 }
 
 // How many bytes of the claims were read, and how many of the output are to be printed.
@@ -112,21 +120,31 @@ pub struct Response {
     pub written: usize,
 }
 
-// Reads claims and writes what is printed of them at the front of `out`. The bytes judged are the first `read` of the claims' buffer, as reading left it.
-pub fn respond(claim: &mut [u8], out: &mut [u8]) -> Response
+// Reads claims and writes what is printed of them at the front of `out`. The bytes judged are the first `read` of the claims' buffer, as reading left it: where it is
+// known what bytes the input has left, the next of them.
+pub fn respond<R: Read>(from: &mut R, claim: &mut [u8], out: &mut [u8]) -> io::Result<Response>
     requires { (262144 ≡ length claim.old) × (32 ≤ length out.old) }
-    ensures { Responds claim.new result.read out.new result.written }
+    ensures responds { IfOk result (λ r. Responds claim.new r.read out.new r.written) }
+    ensures bytes { IfOk result (λ r. Consumes (R.remaining from.old) (R.remaining from.new) (take r.read claim.new)) }
+    ensures end { IfOk result (λ r. r.read < length claim.new → IsAtEnd (R.remaining from.new)) }
 {
-    let read = read_claim(claim);
+    let read = read_claim(from, claim)?;
     let written = answer(claim, read, out);
-    Response { read, written }
+    Ok(Response { read, written })
 }
 
-// The whole program: the first `written` bytes of the output are printed. How many of them the operating system takes is not promised.
-pub fn run() {
+// Reads claims and prints what is printed of them. Where it is known what bytes the input has left and the output holds, what is printed of those comes behind these.
+pub fn serve<R: Read, W: Write>(from: &mut R, to: &mut W) -> io::Result<()>
+    ensures { OnOk result (Writes claim_printed (R.remaining from.old) (W.contents to.old) (W.contents to.new)) }
+{
     let mut claim = [0u8; 262144];
     let mut out = [0u8; 64];
-    let response = respond(&mut claim, &mut out);
+    let response = respond(from, &mut claim, &mut out)?;
     let written = response.written;
-    io::write_all(1, &out[..written]);
+    to.write_all(&out[..written])
+}
+
+// The whole program, on standard input and output. Which bytes the operating system gives, and how many of those printed it takes, is not promised.
+pub fn run<R: Input + Print>(rt: &R) -> io::Result<()> {
+    serve(&mut rt.reader(), &mut io::writer(rt))
 }

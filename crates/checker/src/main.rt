@@ -1,5 +1,8 @@
 // The program `check`.
 #![tactic(auto)]
-fn main() {
-    check_program::run();
+
+use std::io;
+
+fn main(rt: HostRuntime) -> io::Result<()> {
+    check_program::run(&rt)
 }

@@ -28,7 +28,7 @@ use Rattle.definition_laws.specs.Moves.{stay_keeps}
 use Rattle.definition_laws.specs.Right.{Right, right_sits}
 use Rattle.definition_laws.specs.Running.{follows_begin}
 use Rattle.definition_laws.specs.Held.{Leads, Holds, begin_holds, steps_hold, number_found}
-use Rattle.definition_laws.specs.Limits.{ran_known}
+use Rattle.definition_laws.proofs.Limits.{ran_known}
 use Rattle.definition_demand.specs.Aims.{replaces_root}
 use Rattle.definition_demand.specs.Tree0.{Tree0}
 use Rattle.definition_demand.specs.Run.{splices_in0, run_made}

@@ -1,5 +1,8 @@
 // The edit program.
 #![tactic(auto)]
-fn main() {
-    edit_program::run();
+
+use std::io;
+
+fn main(rt: HostRuntime) -> io::Result<()> {
+    edit_program::run(&rt)
 }

@@ -27,7 +27,7 @@ use Rattle.definition_laws.specs.Plans.{performed_right, performed_few, performe
 use Rattle.definition_laws.specs.Right.{Right}
 use Rattle.definition_laws.specs.Staying.{staying_alike}
 use Rattle.withdraw_laws.specs.Choice.{withdrawing_length}
-use Rattle.definition_laws.specs.Limits.{performed_records, ran_changed, ran_known}
+use Rattle.definition_laws.proofs.Limits.{performed_records, ran_changed, ran_known}
 use Rattle.read_element_table.specs.View.{view}
 use Rattle.plan_mapping.specs.Mapped.{words_at}
 use Rattle.record_changes.specs.ChangeRow.{rows_of}

@@ -4,7 +4,8 @@ use Rattle.std.proofs.Common.{sym, append-nil, arith}
 use Rattle.std.specs.Prelude.{List, [], ℕ, ◌+◌, ◌*◌, ◌≤◌, length, drop}
 use Rattle.definition.specs.Words.{word}
 use Rattle.definition.specs.Finishing.{Result, encoded}
-use Rattle.definition_laws.specs.Limits.{Within, encoded_length}
+use Rattle.definition_laws.specs.Limits.{Within}
+use Rattle.definition_laws.proofs.Limits.{encoded_length}
 use Rattle.result_laws.specs.Decoded.{text_at}
 use Rattle.result_laws.specs.Encoded.{elements_read, text_read, changed_read, notes_read}
 

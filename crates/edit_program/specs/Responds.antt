@@ -2,7 +2,7 @@
 -- Assumes nothing.
 use Rattle.std.specs.Prelude.{◌≡◌, List, ℕ, ◌≤◌, length, take}
 use Rattle.std.proofs.Common.{sym, ◌∙◌, arith, length-take-le}
-use Rattle.io.specs.Counts.{IsPrefixLen}
+use Rattle.program_input.specs.Counts.{IsPrefixLen}
 use Rattle.definition.specs.Choices.{Choices}
 use Rattle.definition.specs.Printed.{printed}
 use Rattle.edit_print.specs.Lines.{Put, put_fits, put_front}

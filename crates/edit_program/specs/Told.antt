@@ -12,7 +12,7 @@ use Rattle.definition.specs.Finishing.{encoded}
 use Rattle.definition.specs.Answers.{too_short, edited}
 use Rattle.definition.specs.Printed.{print, printed}
 use Rattle.definition_laws.specs.Answers.{refused_gives}
-use Rattle.definition_laws.specs.Limits.{edit_within}
+use Rattle.definition_laws.proofs.Limits.{edit_within}
 use Rattle.promises.specs.Slices.{needed, lengths}
 use Rattle.edit_algo.specs.declared.Answer.{Answer}
 use Rattle.edit_algo.specs.declared.Answer.TheVariants.{Refused, Edited}

@@ -15,8 +15,8 @@ use Rattle.words.proofs.Turns.{Writing, writing_next}
 use Rattle.rows_model.specs.Row.{Row, nod, kind, measure, own, row_in, triples, bytes}
 use Rattle.words.specs.Bytes.{length_written}
 use Rattle.words.specs.Parts.{paste_on, paste_swap}
-use Rattle.rows_model.specs.RowLaws.{bytes_append}
-use Rattle.rows_model.specs.Words.{kind_word, measure_word, node_row, length_triples, triples_at, triples_end}
+use Rattle.rows_model.proofs.RowLaws.{bytes_append}
+use Rattle.rows_model.proofs.Words.{kind_word, measure_word, node_row, length_triples, triples_at, triples_end}
 use Rattle.rows_syntax_node.specs.Promises.{Measured}
 use Rattle.rows_syntax_node.proofs.Turns.{Summing, summing_start, summing_next}
 use Rattle.finish_model.specs.Finished.{starts}

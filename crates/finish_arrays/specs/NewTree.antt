@@ -6,7 +6,7 @@ use Rattle.std.specs.Prelude.{ℕ, ◌-◌, ◌*◌, ◌^◌, ◌≤◌, ◌<◌
 use Rattle.std.proofs.Common.{arith}
 use Rattle.rows_model.specs.Row.{bytes, skip, triples, first_rows}
 use Rattle.rows_model.specs.Place.{subtree}
-use Rattle.rows_model.specs.Words.{length_first}
+use Rattle.rows_model.proofs.Words.{length_first}
 use Rattle.rows_syntax_node.specs.Promises.{Part}
 use Rattle.finish_model.specs.Finished.{first_tree}
 use Rattle.finish_model.specs.Numbers.{tree_few}

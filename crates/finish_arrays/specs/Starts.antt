@@ -8,8 +8,8 @@ use Rattle.orders.specs.Tree.{Tree, Path, resolve}
 use Rattle.words.specs.Parts.{get_d_inside}
 use Rattle.rows_model.specs.Row.{Row, text_length, triples, rows_of, bytes}
 use Rattle.rows_model.specs.Place.{place}
-use Rattle.rows_model.specs.PlaceLaws.{place_lt}
-use Rattle.rows_model.specs.Words.{length_triples}
+use Rattle.rows_model.proofs.PlaceLaws.{place_lt}
+use Rattle.rows_model.proofs.Words.{length_triples}
 use Rattle.rows_path.specs.Offset.{offset, path_start}
 use Rattle.finish_model.specs.Finished.{starts}
 use Rattle.finish_model.specs.Numbers.{starts_at}

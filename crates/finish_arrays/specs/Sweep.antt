@@ -8,7 +8,7 @@ use Rattle.definition.specs.Words.{written}
 use Rattle.definition.specs.Running.{World}
 use Rattle.definition.specs.Finishing.{new_tree}
 use Rattle.rows_model.specs.Row.{kind, measure, triples, rows_of}
-use Rattle.rows_model.specs.Words.{length_triples}
+use Rattle.rows_model.proofs.Words.{length_triples}
 use Rattle.finish_model.specs.Finished.{first_tree}
 use Rattle.finish_model.specs.Numbers.{tree_elements}
 

@@ -5,8 +5,8 @@ use Rattle.std.proofs.Common.{sym, ap, ◌∙◌, inl, inr, arith, length-append
 use mathlib.Core.List.{List, [], ◌∷◌, flat_map}
 use Rattle.orders.specs.ListLaws.{lt_or_le}
 use Rattle.rows_model.specs.Row.{Row, tok, nod, outside, own, text_length, row_at, triples, bytes}
-use Rattle.rows_model.specs.RowLaws.{bytes_append}
-use Rattle.rows_model.specs.Words.{node_row, token_length}
+use Rattle.rows_model.proofs.RowLaws.{bytes_append}
+use Rattle.rows_model.proofs.Words.{node_row, token_length}
 
 row_any : (t u : List ℕ) (k m o : ℕ) → text_length (row_at t k m o) ≡ text_length (row_at u k m o)
 row_any t u k m o = go (lt_or_le k 2147483648)

@@ -12,8 +12,8 @@ use borrow.Author.Tests.{le-leb, lt-leb, eq-eqb, ne_eqb}
 use Rattle.definition.specs.Elements.{is_node}
 use Rattle.rows_model.specs.Row.{Row, kind, owes, skip, row_in, first_rows}
 use Rattle.rows_model.specs.Place.{subtree}
-use Rattle.rows_model.specs.RowLaws.{skip_none}
-use Rattle.rows_model.specs.Words.{kind_word, first_at, first_end}
+use Rattle.rows_model.proofs.RowLaws.{skip_none}
+use Rattle.rows_model.proofs.Words.{kind_word, first_at, first_end}
 use Rattle.rows_syntax_node.specs.Promises.{Counted, Measured}
 use Rattle.finish_model.specs.Finished.{first_tree}
 use Rattle.finish_model.specs.Alike.{alike_words, alike_from, find_row}

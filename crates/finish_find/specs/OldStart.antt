@@ -16,8 +16,8 @@ use Rattle.read_element_table.specs.Told.{length_view}
 use Rattle.read_element_table.specs.Afters.{after_within}
 use Rattle.rows_model.specs.Row.{rows_of, rows_all, triples, first_rows}
 use Rattle.rows_model.specs.Place.{place, between}
-use Rattle.rows_model.specs.RowLaws.{rows_node, size_elements}
-use Rattle.rows_model.specs.Words.{words_between}
+use Rattle.rows_model.proofs.RowLaws.{rows_node, size_elements}
+use Rattle.rows_model.proofs.Words.{words_between}
 use Rattle.rows_path.specs.Offset.{table_start}
 use Rattle.rows_path.specs.Promises.{Resolves, resolves_there}
 use Rattle.rows_path.specs.declared.Resolved.{Resolved}

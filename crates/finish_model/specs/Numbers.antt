@@ -14,10 +14,10 @@ use Rattle.definition_laws.specs.Kin.{resolve_down}
 use Rattle.definition_laws.specs.Held.{Leads, number_found}
 use Rattle.rows_model.specs.Row.{Row, rows_of, rows_in, rows_all, skip, text_length, bytes}
 use Rattle.rows_model.specs.Place.{size, place, rows_after, subtree, in_run}
-use Rattle.rows_model.specs.RowLaws.{skip_none, skip_tree, skip_le, size_all_elements}
-use Rattle.rows_model.specs.PlaceLaws.{place_child, place_forest, after_at}
-use Rattle.rows_model.specs.Moves.{strip_place}
-use Rattle.rows_model.specs.Numbers.{element_row}
+use Rattle.rows_model.proofs.RowLaws.{skip_none, skip_tree, skip_le, size_all_elements}
+use Rattle.rows_model.proofs.PlaceLaws.{place_child, place_forest, after_at}
+use Rattle.rows_model.proofs.Moves.{strip_place}
+use Rattle.rows_model.proofs.Numbers.{element_row}
 use Rattle.finish_model.specs.Finished.{first_tree, number_of, starts, start_of}
 
 -- ── Tree 0 in rows ──────────────────────────────────────────────────────────────────────────────────────────

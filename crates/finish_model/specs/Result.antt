@@ -18,7 +18,7 @@ use Rattle.definition.specs.Finishing.{new_tree, new_table, number_at, changed_e
 use Rattle.definition_laws.specs.Sorting.{map_rising}
 use Rattle.definition_laws.specs.Held.{Leads, Holds}
 use Rattle.rows_model.specs.Row.{Row, kind, measure, own, rows_of, rows_all}
-use Rattle.rows_model.specs.RowLaws.{kinds_preorder, measures_preorder, text_tree}
+use Rattle.rows_model.proofs.RowLaws.{kinds_preorder, measures_preorder, text_tree}
 use Rattle.run_model.specs.Store.{HeldNote, held_note, HeldChanged, held_changed, at_row, store}
 use Rattle.run_model.specs.Parts.{pick_square}
 use Rattle.finish_model.specs.Finished.{number_of, start_of, changed_numbers, note_numbers, result_of}

@@ -11,7 +11,7 @@ use lib.ListN.{length, take, drop, length-drop}
 use lib.Seq.{paste, take-paste, take_all, length-take-le, get_or-take}
 use Rattle.rows_model.specs.Row.{Row, own, bytes, triples, first_rows}
 use Rattle.rows_model.specs.Place.{subtree}
-use Rattle.rows_model.specs.Words.{length_triples}
+use Rattle.rows_model.proofs.Words.{length_triples}
 use Rattle.rows_syntax_node.specs.Promises.{Part}
 use Rattle.run_model.specs.Store.{HeldNote, HeldChanged}
 use Rattle.run_annotations.specs.Promises.{note_in}

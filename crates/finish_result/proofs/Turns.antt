@@ -12,7 +12,7 @@ use Rattle.words.proofs.Turns.{Writing, writing_start, writing_next, writing_don
 use Rattle.words.specs.Bytes.{length_written}
 use Rattle.words.specs.Parts.{paste_swap}
 use Rattle.rows_model.specs.Row.{kind, measure, own, triples}
-use Rattle.rows_model.specs.Words.{length_triples}
+use Rattle.rows_model.proofs.Words.{length_triples}
 use Rattle.run_model.specs.Store.{HeldChanged}
 use Rattle.run_annotations.specs.Changed.{changed_of}
 use Rattle.finish_arrays.specs.Sweep.{elements_over, Swept}

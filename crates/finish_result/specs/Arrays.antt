@@ -11,7 +11,7 @@ use Rattle.definition.specs.Words.{written}
 use Rattle.definition.specs.Finishing.{Result, six_sizes, encoded}
 use Rattle.definition_laws.specs.Basics.{get_d_map}
 use Rattle.rows_model.specs.Row.{Row, kind, measure, own, triples}
-use Rattle.rows_model.specs.Words.{length_triples}
+use Rattle.rows_model.proofs.Words.{length_triples}
 use Rattle.run_model.specs.Store.{HeldNote, HeldChanged}
 use Rattle.run_annotations.specs.Changed.{changed_of}
 use Rattle.run_annotations.specs.Notes.{note_words, note_of, notes_of, note_at, length_notes_of, note_among}

@@ -9,8 +9,8 @@ use Rattle.std.proofs.Math.Seq.{get_or-take}
 use Rattle.orders.specs.Tree.{Tree, Path, resolve}
 use Rattle.rows_model.specs.Row.{triples, rows_of}
 use Rattle.rows_model.specs.Place.{place}
-use Rattle.rows_model.specs.PlaceLaws.{place_lt}
-use Rattle.rows_model.specs.Words.{length_triples}
+use Rattle.rows_model.proofs.PlaceLaws.{place_lt}
+use Rattle.rows_model.proofs.Words.{length_triples}
 use Rattle.rows_path.specs.Offset.{offset}
 use Rattle.rows_path.specs.Promises.{standing, Resolves}
 use Rattle.rows_path.specs.declared.Resolved.TheVariants.{At}

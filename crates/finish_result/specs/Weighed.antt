@@ -9,7 +9,7 @@ use Rattle.definition.specs.Finishing.{encoded}
 use Rattle.definition_laws.specs.Sorting.{rising_length}
 use Rattle.rows_model.specs.Row.{Row, kind, measure, own, triples, first_rows}
 use Rattle.rows_model.specs.Place.{subtree}
-use Rattle.rows_model.specs.Words.{length_triples}
+use Rattle.rows_model.proofs.Words.{length_triples}
 use Rattle.rows_syntax_node.specs.Promises.{Part}
 use Rattle.run_model.specs.Store.{HeldNote, HeldChanged, Store}
 use Rattle.run_annotations.specs.Promises.{note_in}

@@ -24,7 +24,7 @@ use Rattle.definition_laws.specs.Basics.{All-take}
 use Rattle.definition_laws.specs.Measures.{preorder_list_length}
 use Rattle.definition_laws.specs.Rows.{table_length}
 use Rattle.definition_laws.specs.Spelling.{Worded, worded_list, Spells, spells_read}
-use Rattle.definition_laws.specs.Limits.{Ran, ran_known}
+use Rattle.definition_laws.proofs.Limits.{Ran, ran_known}
 use Rattle.definition_demand.specs.Run.{splices_in0}
 use Rattle.definition_account.specs.Words.{changed_in, changed_over, old_at, OneOf, EachOneOf, NowhereIfDeleted, keeps_root, no_dependent_in0}
 use Rattle.definition_account.specs.Account.{Performed, each_one_of, nowhere_if_deleted, ran_performed}

@@ -21,7 +21,7 @@ use Rattle.definition.specs.Answers.{Plan, plan, performed, ran}
 use Rattle.definition_laws.specs.Kin.{path_leads, resolve_down}
 use Rattle.definition_laws.specs.Running.{present_kind}
 use Rattle.definition_laws.specs.Held.{Holds}
-use Rattle.definition_laws.specs.Limits.{ran_known}
+use Rattle.definition_laws.proofs.Limits.{ran_known}
 use Rattle.definition_account.specs.Words.{went_to, count, old_elements, is?, old_at, OneOf, changed, old, no_dependent_in0}
 use Rattle.definition_account.specs.Run.{Kept, first_present, first_kept, steps_kept, present_within}
 use Rattle.definition_account.specs.Numbers.{went_path}

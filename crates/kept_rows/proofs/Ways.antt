@@ -18,7 +18,7 @@ use Rattle.words.specs.Bytes.{length_written, written_append}
 use Rattle.words.specs.Parts.{paste_paste, paste_swap}
 use Rattle.rows_model.specs.Row.{first_rows}
 use Rattle.rows_model.specs.Place.{in_run, rows_after, subtree}
-use Rattle.rows_model.specs.Words.{length_first}
+use Rattle.rows_model.proofs.Words.{length_first}
 use Rattle.rows_syntax_node.specs.Promises.{Part}
 use Rattle.finish_model.specs.Finished.{first_tree}
 use Rattle.finish_model.specs.Numbers.{tree_end, tree_few}

@@ -28,7 +28,7 @@ use Rattle.check_laws.specs.ListLaws.{numbers_of}
 use Rattle.check_laws.specs.Claimed.{old_tree, own_pairs}
 use Rattle.check_laws.specs.Own as own
 use Rattle.rows_model.specs.Row.{Row, rows_of, rows_all}
-use Rattle.rows_model.specs.RowLaws.{size_all_elements, size_below}
+use Rattle.rows_model.proofs.RowLaws.{size_all_elements, size_below}
 use Rattle.rows_model.specs.Place.{rows_after, in_run, mark, mark_of}
 use Rattle.finish_model.specs.Finished.{first_tree, number_of}
 use Rattle.finish_model.specs.Numbers.{first_tree_lem, tree_few, number_row}

@@ -1,5 +1,8 @@
 // The load program.
 #![tactic(auto)]
-fn main() {
-    load_program::run();
+
+use std::io;
+
+fn main(rt: HostRuntime) -> io::Result<()> {
+    load_program::run(&rt)
 }

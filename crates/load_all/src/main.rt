@@ -1,9 +1,11 @@
 // Edits the loads of 0 to 255, as the edit program does without arguments, and counts those that are accepted.
 #![tactic(auto)]
+
 ghost use Rattle.std.specs.Prelude.{◌≤◌};
 
 use choices::Choices;
 use edit_algo::Answer;
+use std::io;
 
 // How many loads are edited.
 const LOADS: u32 = 256;
@@ -18,7 +20,7 @@ const WORDS: usize = 16384;
 fn accepts(batch: &[u8]) -> usize
     ensures { result ≤ 1 }
 {
-    let mut result = io::large_buffer();
+    let mut result = [0u8; 65536];
     let mut table = [0u32; WORDS];
     let mut source = [0u32; WORDS];
     let mut changes = [0u32; WORDS];
@@ -71,9 +73,7 @@ fn accepted() -> usize {
     count
 }
 
-fn main() {
-    io::print_decimal(1, accepted() as u64);
-    io::write_all(1, b" of ");
-    io::print_decimal(1, LOADS as u64);
-    io::write_all(1, b" loads accepted\n");
+fn main(rt: HostRuntime) -> io::Result<()> {
+    let count = accepted();
+    println!(rt; "{count} of {LOADS} loads accepted")
 }

@@ -7,7 +7,7 @@ use mathlib.Core.List.{List, [], ◌∷◌, ◌++◌, zip}
 use Rattle.std.proofs.Math.Option.{Option, none, some}
 use native.Mathlib.Omega.{arith}
 use Rattle.std.proofs.Math.ListN.{length, take, drop, length-append}
-use Rattle.io.specs.Counts.{IsPrefixLen}
+use Rattle.program_input.specs.Counts.{IsPrefixLen}
 use Rattle.definition.specs.Basics.{refused, gives, ◌>>=◌, any}
 use Rattle.definition.specs.Answers.{too_short}
 use Rattle.definition.specs.Writing.{laid_out}

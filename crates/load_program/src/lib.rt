@@ -1,11 +1,16 @@
 // The load program: writes the batch of a starting number, its argument, to standard output (document 02, Note 12).
 #![tactic(auto)]
-ghost use Rattle.std.specs.Prelude.{◌≡◌, ◌<◌, ◌≤◌, length};
+
+ghost use Rattle.std.specs.Prelude.{◌≡◌, ◌<◌, ◌≤◌, length, IfOk, OnOk};
+ghost use Rattle.std.specs.Io.KnownBytes.{Appends};
 ghost use Rattle.definition.specs.Writing.{laid_out};
 ghost use Rattle.load_laws.specs.Load.{load};
 ghost use Rattle.load_program.specs.Start.{start_of, meant};
 ghost use Rattle.load_program.specs.Responds.{told, Puts};
 
+use std::io;
+use std::io::Write;
+use std::rt::Env;
 use write_batch::Written;
 
 // A starting number, or that an argument is none.
@@ -76,15 +81,25 @@ pub fn respond(argument: &[u8], out: &mut [u8]) -> usize
     }
 }
 
+// Prints what is printed of an argument, and answers how many bytes that is.
+pub fn serve<W: Write>(argument: &[u8], to: &mut W) -> io::Result<usize>
+    ensures length { IfOk result (λ n. n ≡ length (told (start_of argument.now))) }
+    ensures bytes { OnOk result (Appends (W.contents to.old) (W.contents to.new) (told (start_of argument.now))) }
+{
+    let mut out = [0u8; 8632];
+    let written = respond(argument, &mut out);
+    to.write_all(&out[..written])?;
+    Ok(written)
+}
+
 // The whole program. An argument of more than 32 bytes is read as an empty one, so it is no starting number. No contract says which bytes the operating
 // system gives, nor how many of those written it takes.
-pub fn run() {
+pub fn run<R: Env + Print + Eprint>(rt: &R) -> io::Result<()> {
     let mut argument = [0u8; 32];
-    let length = os::arg(1, &mut argument);
-    let mut out = [0u8; 8632];
-    let written = respond(&argument[..length], &mut out);
+    let length = program_input::read_argument(rt, 1, &mut argument);
+    let written = serve(&argument[..length], &mut io::writer(rt))?;
     if written == 0 {
-        io::write_all(2, b"load START: START is a number from 0 to 4294967295\n");
+        eprintln!(rt; "load START: START is a number from 0 to 4294967295")?;
     }
-    io::write_all(1, &out[..written]);
+    Ok(())
 }

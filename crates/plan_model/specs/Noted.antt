@@ -13,7 +13,7 @@ use Rattle.definition.specs.Rewriting.{settle}
 use Rattle.definition.specs.Words.{words}
 use Rattle.definition_laws.specs.Answers.{gives_inj, both_given}
 use Rattle.rows_model.specs.Place.{place}
-use Rattle.rows_model.specs.Numbers.{element_row}
+use Rattle.rows_model.proofs.Numbers.{element_row}
 use Rattle.run_model.specs.Store.{HeldNote, held_note}
 use Rattle.run_annotations.specs.Notes.{note_of as note_read, notes_of}
 use Rattle.plan_notes.specs.Notes.{note_of, settled_at, note_words}

@@ -10,7 +10,7 @@ use lib.ListN.{length, get_or, set, take, drop, length-set, length-append, take-
 use lib.Seq.{length-take-le, take_at, drop_at, drop-drop, take-suc-set, drop-set-lt}
 use Rattle.plan_sort.specs.Sorting.{ranked_places, length_ranked}
 use Rattle.plan_postorder.specs.Order.{ordered, owner_told, owned_at, runs, running_places}
-use Rattle.definition_laws.specs.Limits.{keep_length}
+use Rattle.definition_laws.proofs.Limits.{keep_length}
 use Rattle.plan_postorder.specs.Counting.{joined_same, running_most, runs_all}
 use Rattle.plan_postorder.specs.Links.{Linked, Links, owned_by, chain, linked_to, linked_runs, dependents}
 

@@ -4,7 +4,6 @@ ghost use Rattle.std.specs.Prelude.{◌≡◌, ◌≤◌, length};
 ghost use Rattle.definition.specs.Choices.{digit, given};
 ghost use Rattle.choices.specs.Meant.{meant};
 ghost use Rattle.program_choices.specs.Given.{arguments, Given, Gives};
-ghost use Rattle.program_input.specs.Counts.{IsPrefixLen};
 
 use choices::Choices;
 use std::env::{Env, FillError};
@@ -72,24 +71,14 @@ fn count(rt: &impl Env) -> usize {
     usize::MAX
 }
 
-// Reads argument `i` into the front of `buf`. One that is missing or longer is read as an empty one.
-pub fn read_argument(rt: &impl Env, i: usize, buf: &mut [u8]) -> usize
-    ensures { IsPrefixLen result buf.new }
-{
-    match rt.arg(i, buf) {
-        Ok(n) => n,
-        Err(_) => 0,
-    }
-}
-
 // Reads the first two arguments into the fronts of `first` and `second`. One that is longer is read as an empty one, so it is no choice either. Promised is that
 // the choices are those that the bytes read give; no contract says which bytes, nor what count, the operating system gives.
 pub fn read_arguments(rt: &impl Env, first: &mut [u8], second: &mut [u8]) -> Arguments
     requires { (1 ≤ length first.old) × (1 ≤ length second.old) }
     ensures { Given first.new second.new result.count result.first result.second result.choices }
 {
-    let one = read_argument(rt, 1, first);
-    let two = read_argument(rt, 2, second);
+    let one = program_input::read_argument(rt, 1, first);
+    let two = program_input::read_argument(rt, 2, second);
     let count = count(rt);
     let choices = given_by(count, &first[..one], &second[..two]);
     Arguments {

@@ -1,2 +1,5 @@
--- What is promised of a count of bytes.
+-- What programs read and write.
+--     Counts   a count that lies in a buffer
+--     Told     what is written of an input whose bytes are known
 pub mod Counts
+pub mod Told

@@ -1,10 +1,11 @@
-// A program's batch, read from its input.
+// A program's batch, read from its input, and its arguments.
 #![tactic(auto)]
 
 ghost use Rattle.std.specs.Prelude.{◌≡◌, ◌<◌, length, take, IfOk};
 ghost use Rattle.std.specs.Io.KnownBytes.{Consumes, IsAtEnd};
 ghost use Rattle.program_input.specs.Counts.{IsPrefixLen};
 
+use std::env::Env;
 use std::io;
 use std::io::Read;
 
@@ -36,4 +37,14 @@ pub fn read_batch<R: Read>(from: &mut R, batch: &mut [u8]) -> io::Result<usize>
     ensures end { IfOk result (λ n. n < length batch.new → IsAtEnd (R.remaining from.new)) }
 {
     read_full(from, batch)
+}
+
+// Reads argument `i` into the front of `buf`. One that is missing or longer is read as an empty one.
+pub fn read_argument(rt: &impl Env, i: usize, buf: &mut [u8]) -> usize
+    ensures { IsPrefixLen result buf.new }
+{
+    match rt.arg(i, buf) {
+        Ok(n) => n,
+        Err(_) => 0,
+    }
 }

@@ -8,7 +8,8 @@ use Rattle.definition.specs.Choices.{Choices, chosen}
 use Rattle.definition.specs.Finishing.{Result, encoded, fitting}
 use Rattle.definition.specs.Answers.{edit, edited, too_short, with_work, with_choices}
 use Rattle.definition.specs.FindElement.{find_element}
-use Rattle.definition_laws.specs.Limits.{edit_within, most_bytes, encoded_within}
+use Rattle.definition_laws.specs.Limits.{most_bytes}
+use Rattle.definition_laws.proofs.Limits.{edit_within, encoded_within}
 use Rattle.result_laws.specs.Worded.{Bytes, edit_worded}
 use Rattle.result_laws.specs.Decoded.{decoded}
 use Rattle.result_laws.specs.Encoded.{decoded_encoded}

@@ -14,7 +14,8 @@ use Rattle.definition.specs.Refusals.{Accepted, accepted}
 use Rattle.definition.specs.Finishing.{Result, encoded}
 use Rattle.definition.specs.Answers.{Plan, plan}
 use Rattle.definition.specs.Performed.{splices, splices_of}
-use Rattle.definition_laws.specs.Limits.{Within, encoded_length, edit_within}
+use Rattle.definition_laws.specs.Limits.{Within}
+use Rattle.definition_laws.proofs.Limits.{encoded_length, edit_within}
 use Rattle.definition_demand.specs.Answered.{ApartIn, Shows, apart_batch?, one_go_of, tested_one_go}
 use Rattle.definition_demand.specs.Demand3.{demand_3}
 use Rattle.result_laws.specs.Worded.{Bytes, edit_worded}

@@ -22,7 +22,7 @@ use Rattle.definition_laws.specs.Answers.{given, gives_inj}
 use Rattle.definition_laws.specs.Basics.{All-append}
 use Rattle.definition_laws.specs.Measures.{preorder_list_length}
 use Rattle.definition_laws.specs.Rows.{table_length}
-use Rattle.definition_laws.specs.Limits.{ran_known, new_elements}
+use Rattle.definition_laws.proofs.Limits.{ran_known, new_elements}
 use Rattle.definition_account.specs.Words.{went_to}
 use Rattle.definition_account.specs.Account.{ran_performed}
 use Rattle.words.specs.Bytes.{length_written, words_written, take_words, drop_words}

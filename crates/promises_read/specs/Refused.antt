@@ -26,7 +26,8 @@ use Rattle.definition.specs.FindElement.{find_in, find_element}
 use Rattle.definition.specs.Printed.{program_room}
 use Rattle.definition.specs.Account.{said, account, in_room, accounted}
 use Rattle.definition_laws.specs.Answers.{refused_gives}
-use Rattle.definition_laws.specs.Limits.{most_bytes, encoded_within}
+use Rattle.definition_laws.specs.Limits.{most_bytes}
+use Rattle.definition_laws.proofs.Limits.{encoded_within}
 use Rattle.share_laws.specs.Share.{share_in, share, shared}
 use Rattle.check_laws.specs.Claimed.{own_pairs}
 use Rattle.promises.specs.Slices.{needed, lengths}

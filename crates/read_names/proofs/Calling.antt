@@ -1,12 +1,12 @@
 -- Lines 6 and 16: each answer, from the tests that led there.
 -- Assumes nothing.
-use mathlib.Core.Path.{◌≡◌, refl, sym, ◌∙◌}
+use mathlib.Core.Path.{◌≡◌, refl, sym, ap, ◌∙◌}
 use mathlib.Core.Bool.{Bool, true, false, not, ◌&&◌, ◌||◌}
 use mathlib.Core.List.{List, [], ◌∷◌, head_d, zip}
 use mathlib.Core.Logic.{inl, inr}
 use Prim.Native.Nat.{ℕ, ◌+◌, ◌-◌, ◌*◌, ◌≤◌, ◌<◌}
 use native.Mathlib.Omega.{arith}
-use lib.ListN.{take, drop}
+use lib.ListN.{take, drop, length}
 use lib.Seq.{drop-drop}
 use lib.Dec.{leb, ltb, eqb}
 use borrow.Author.Tests.{ltb-false, leb-false, le-leb, lt-leb, lt-ltb, le-ltb, eq-eqb, ne_eqb, not-true, not-false}
@@ -65,7 +65,9 @@ module _ (n : ℕ) (w r : List ℕ) (word x : ℕ) (m : List ℕ) (k : ℕ) (e :
   module _ (u : Bool) (g : u ≡ not (any (leb n) (words k m))) where
     pub wrong_listed : u ≡ false → false ≡ not (wrong_call (view n w r) (call_of word x (words (count_of word) m)))
     unfolding wrong_call any
-    wrong_listed q = rw (length_view n w r, ← e, not-false (any (leb n) (words k m)) (sym g ∙ q), or_true, or_true)
+    wrong_listed q =
+        let h : any (leb (length (view n w r))) (words k m) ≡ true = ap (λ z. any (leb z) (words k m)) (length_view n w r) ∙ not-false (any (leb n) (words k m)) (sym g ∙ q) in
+        rw (← e, h, or_true, or_true)
 
     pub call_judged : (op : ℕ) → op ≡ operation_of word → (rule : ℕ) → rule ≡ rule_of word → (t : Bool) → t ≡ word_fits op k rule → t ≡ true → x < n → u ≡ true → (y : ℕ) → y ≡ head_d (words k m) 0 → (v : Bool) → v ≡ call_fits (view n w r) op x y
         → v ≡ not (wrong_call (view n w r) (call_of word x (words (count_of word) m)))

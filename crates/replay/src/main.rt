@@ -1,11 +1,14 @@
 // Replays the recorded cases on standard input: every byte of the result, every work slice, and the elements found. Each batch is also taken apart and
 // written again.
 #![tactic(auto)]
-ghost use Rattle.std.specs.Prelude.{◌^◌, ◌<◌, ◌≤◌};
+
+ghost use Rattle.std.specs.Prelude.{◌^◌, ◌<◌, ◌≤◌, IfOk};
 
 use choices::Choices;
 use edit_algo::serve;
 use promises::{Job, Outcome};
+use std::io;
+use std::io::Write;
 use write_again::write_again;
 use write_batch::Written;
 
@@ -65,27 +68,31 @@ fn wide(x: u8) -> usize
 }
 
 // The next word of the input.
-fn read_word() -> Read {
+fn read_word<R: io::Read>(from: &mut R) -> io::Result<Read> {
     let mut four = [0u8; 4];
-    let n = io::read_full(0, &mut four);
+    let n = program_input::read_full(from, &mut four)?;
     if n < 4 {
-        return Read::End;
+        return Ok(Read::End);
     }
-    Read::Word(
+    Ok(Read::Word(
         wide(four[0]) + 256 * wide(four[1]) + 65536 * wide(four[2]) + 16777216 * wide(four[3]),
-    )
+    ))
 }
 
 // The next word, and as many bytes behind it as it says, into the front of `part`.
-fn read_part(part: &mut [u8]) -> Read {
-    let Read::Word(n) = read_word() else {
-        return Read::End;
+fn read_part<R: io::Read>(from: &mut R, part: &mut [u8]) -> io::Result<Read> {
+    let Read::Word(n) = read_word(from)? else {
+        return Ok(Read::End);
     };
     if part.len() < n {
-        return Read::End;
+        return Ok(Read::End);
     }
-    let got = io::read_full(0, &mut part[..n]);
-    if got == n { Read::Word(n) } else { Read::End }
+    let got = program_input::read_full(from, &mut part[..n])?;
+    if got == n {
+        Ok(Read::Word(n))
+    } else {
+        Ok(Read::End)
+    }
 }
 
 // Whether every word is 0.
@@ -243,31 +250,41 @@ fn find_agrees(
 }
 
 // The next element to find and where it was found: whether it is.
-fn next_found(choices: Choices, batch: &[u8], refusal: usize) -> bool {
-    let Read::Word(number) = read_word() else {
-        return false;
+fn next_found<R: io::Read>(
+    from: &mut R,
+    choices: Choices,
+    batch: &[u8],
+    refusal: usize,
+) -> io::Result<bool> {
+    let Read::Word(number) = read_word(from)? else {
+        return Ok(false);
     };
-    let Read::Word(found) = read_word() else {
-        return false;
+    let Read::Word(found) = read_word(from)? else {
+        return Ok(false);
     };
-    find_agrees(choices, batch, number, refusal, found)
+    Ok(find_agrees(choices, batch, number, refusal, found))
 }
 
 // The elements to find, all of which are read: whether all are found where they were.
-fn all_found(choices: Choices, batch: &[u8], refusal: usize) -> bool {
-    let Read::Word(n) = read_word() else {
-        return false;
+fn all_found<R: io::Read>(
+    from: &mut R,
+    choices: Choices,
+    batch: &[u8],
+    refusal: usize,
+) -> io::Result<bool> {
+    let Read::Word(n) = read_word(from)? else {
+        return Ok(false);
     };
     if 4 < n {
-        return false;
+        return Ok(false);
     }
-    let mut missed = 0;
-    let mut i = 0;
-    while i < n {
-        missed += miss(next_found(choices, batch, refusal));
-        i += 1;
+    let mut all = true;
+    for _ in 0..n {
+        if !next_found(from, choices, batch, refusal)? {
+            all = false;
+        }
     }
-    missed == 0
+    Ok(all)
 }
 
 // 1 for what does not agree.
@@ -312,59 +329,71 @@ fn is_due(refusal: usize, again: usize) -> bool {
 }
 
 // Whether the elements found and the edit are as recorded.
-fn calls_agree(choices: Choices, batch: &[u8], refusal: usize, expected: &[u8]) -> bool {
-    if all_found(choices, batch, refusal) {
-        edit_agrees(choices, batch, refusal, expected)
+fn calls_agree<R: io::Read>(
+    from: &mut R,
+    choices: Choices,
+    batch: &[u8],
+    refusal: usize,
+    expected: &[u8],
+) -> io::Result<bool> {
+    if all_found(from, choices, batch, refusal)? {
+        Ok(edit_agrees(choices, batch, refusal, expected))
     } else {
-        false
+        Ok(false)
     }
 }
 
 // What a case comes to; its elements to find are read here.
-fn case_of(choices: Choices, batch: &[u8], refusal: usize, expected: &[u8]) -> Case {
-    let agrees = calls_agree(choices, batch, refusal, expected);
+fn case_of<R: io::Read>(
+    from: &mut R,
+    choices: Choices,
+    batch: &[u8],
+    refusal: usize,
+    expected: &[u8],
+) -> io::Result<Case> {
+    let agrees = calls_agree(from, choices, batch, refusal, expected)?;
     let again = again(batch);
     if is_due(refusal, again) {
-        Case { agrees, again }
+        Ok(Case { agrees, again })
     } else {
-        Case {
+        Ok(Case {
             agrees: false,
             again,
-        }
+        })
     }
 }
 
 // The next case of the input, by its choices.
-fn next_case() -> Case {
-    let Read::Word(edge) = read_word() else {
-        return MISSING;
+fn next_case<R: io::Read>(from: &mut R) -> io::Result<Case> {
+    let Read::Word(edge) = read_word(from)? else {
+        return Ok(MISSING);
     };
-    let Read::Word(stronger) = read_word() else {
-        return MISSING;
+    let Read::Word(stronger) = read_word(from)? else {
+        return Ok(MISSING);
     };
-    next_batch(Choices { edge, stronger })
+    next_batch(from, Choices { edge, stronger })
 }
 
 // The next batch of the input and what it comes to by these choices.
-fn next_batch(choices: Choices) -> Case {
-    let mut batch = io::large_buffer();
-    let Read::Word(n) = read_part(&mut batch) else {
-        return MISSING;
+fn next_batch<R: io::Read>(from: &mut R, choices: Choices) -> io::Result<Case> {
+    let mut batch = [0u8; 65536];
+    let Read::Word(n) = read_part(from, &mut batch)? else {
+        return Ok(MISSING);
     };
-    let Read::Word(refusal) = read_word() else {
-        return MISSING;
+    let Read::Word(refusal) = read_word(from)? else {
+        return Ok(MISSING);
     };
-    let mut expected = io::large_buffer();
-    let Read::Word(m) = read_part(&mut expected) else {
-        return MISSING;
+    let mut expected = [0u8; 65536];
+    let Read::Word(m) = read_part(from, &mut expected)? else {
+        return Ok(MISSING);
     };
     if 65536 < n {
-        return MISSING;
+        return Ok(MISSING);
     }
     if 65536 < m {
-        return MISSING;
+        return Ok(MISSING);
     }
-    case_of(choices, &batch[..n], refusal, &expected[..m])
+    case_of(from, choices, &batch[..n], refusal, &expected[..m])
 }
 
 // 1 for a number from `low` to `high`.
@@ -378,57 +407,58 @@ fn between(low: usize, high: usize, number: usize) -> usize
 }
 
 // The cases, counted; each that does not agree is named.
-fn replay(cases: usize) -> Counts
-    ensures { result.missed ≤ cases }
+fn replay<R: io::Read, W: Write>(from: &mut R, to: &mut W, cases: usize) -> io::Result<Counts>
+    ensures { IfOk result (λ r. r.missed ≤ cases) }
 {
     let mut missed = 0;
     let mut same = 0;
     let mut refused = 0;
     let mut whole = 0;
-    let mut i = 0;
-    while i < cases {
-        let case = next_case();
+    for i in 0..cases {
+        let case = next_case(from)?;
         let m = miss(case.agrees);
-        name(m, i);
+        name(to, m, i)?;
         missed += m;
         same += between(0, 0, case.again);
         refused += between(14, 14, case.again);
         whole += between(2, 4, case.again);
-        i += 1;
     }
-    Counts {
+    Ok(Counts {
         missed,
         same,
         refused,
         whole,
-    }
+    })
 }
 
 // A case that does not agree is named.
-fn name(missed: usize, case: usize) {
+fn name<W: Write>(to: &mut W, missed: usize, case: usize) -> io::Result<()> {
     if 0 < missed {
-        io::write_all(1, b"differs: ");
-        io::print_decimal(1, case as u64);
-        io::write_all(1, b"\n");
+        writeln!(to, "differs: {case}")?;
     }
+    Ok(())
 }
 
-fn main() {
-    let Read::Word(cases) = read_word() else {
-        return;
+// What is said of the cases of the input.
+fn tell<R: io::Read, W: Write>(from: &mut R, to: &mut W) -> io::Result<()> {
+    let Read::Word(cases) = read_word(from)? else {
+        return Ok(());
     };
     if 65536 < cases {
-        return;
+        return Ok(());
     }
-    let counts = replay(cases);
-    io::print_decimal(1, (cases - counts.missed) as u64);
-    io::write_all(1, b" of ");
-    io::print_decimal(1, cases as u64);
-    io::write_all(1, b" cases agree\nwritten again byte for byte: ");
-    io::print_decimal(1, counts.same as u64);
-    io::write_all(1, b", refused 14: ");
-    io::print_decimal(1, counts.refused as u64);
-    io::write_all(1, b", laid out from no lists: ");
-    io::print_decimal(1, counts.whole as u64);
-    io::write_all(1, b"\n");
+    let counts = replay(from, to, cases)?;
+    let agreed = cases - counts.missed;
+    let same = counts.same;
+    let refused = counts.refused;
+    let whole = counts.whole;
+    writeln!(to, "{agreed} of {cases} cases agree")?;
+    writeln!(
+        to,
+        "written again byte for byte: {same}, refused 14: {refused}, laid out from no lists: {whole}"
+    )
+}
+
+fn main(rt: HostRuntime) -> io::Result<()> {
+    tell(&mut rt.reader(), &mut io::writer(&rt))
 }

@@ -11,7 +11,8 @@ use Rattle.std.proofs.Math.Seq.{drop_at}
 use Rattle.definition.specs.Words.{word, words, written}
 use Rattle.definition.specs.Finishing.{Result, six_sizes, encoded}
 use Rattle.words.specs.Bytes.{words_written, written_append, length_written, get_d_words}
-use Rattle.definition_laws.specs.Limits.{Within, encoded_length}
+use Rattle.definition_laws.specs.Limits.{Within}
+use Rattle.definition_laws.proofs.Limits.{encoded_length}
 use Rattle.result_laws.specs.Worded.{Words, Worded}
 use Rattle.result_laws.specs.Decoded.{text_at, told, decoded}
 

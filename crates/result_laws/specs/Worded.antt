@@ -33,7 +33,8 @@ use Rattle.definition_laws.specs.Measures.{preorders_list, preorder_list_length}
 use Rattle.definition_laws.specs.Rows.{table_length}
 use Rattle.definition_laws.specs.Accepted.{accepts}
 use Rattle.definition_laws.specs.Plans.{performed_ruled}
-use Rattle.definition_laws.specs.Limits.{Small, ran_known}
+use Rattle.definition_laws.specs.Limits.{Small}
+use Rattle.definition_laws.proofs.Limits.{ran_known}
 use Rattle.orders.proofs.TreeLaws.{forest_list}
 use Rattle.definition_laws.specs.Answers.{gives_inj, given, is_there}
 use Rattle.result_laws.specs.Labels.{Labelled, labelled_list, forest_labelled, labelled_resolve, labelled_splice, labelled_preorder, preorder_labelled, measured_all}

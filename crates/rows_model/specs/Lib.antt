@@ -11,11 +11,3 @@
 --     Examples     the definitions compute
 pub mod Row
 pub mod Place
-pub mod RowLaws
-pub mod PlaceLaws
-pub mod Moves
-pub mod Marks
-pub mod Depth
-pub mod Numbers
-pub mod Words
-pub mod Examples

@@ -14,8 +14,8 @@ use Rattle.definition_laws.specs.Rows.{Element, row_of, before, child_of, elemen
 use Rattle.definition_laws.specs.Kin.{element_at_tree, stands}
 use Rattle.rows_model.specs.Row.{Row, rows_of, rows_in, rows_all, bytes}
 use Rattle.rows_model.specs.Place.{place, size_all, or_zero}
-use Rattle.rows_model.specs.RowLaws.{rows_in_list, rows_get, bytes_append, bytes_all}
-use Rattle.rows_model.specs.PlaceLaws.{place_lt}
+use Rattle.rows_model.proofs.RowLaws.{rows_in_list, rows_get, bytes_append, bytes_all}
+use Rattle.rows_model.proofs.PlaceLaws.{place_lt}
 
 -- Note 7: "the element's text start in its tree": the text of all that stands to its left, on the way down
 unfoldable pub offset : Path → Tree ℕ → ℕ

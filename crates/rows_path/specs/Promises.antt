@@ -6,7 +6,7 @@ use Rattle.std.proofs.Math.Option.{Option, none, some, map}
 use Rattle.orders.specs.Tree.{Tree, Path, resolve}
 use Rattle.rows_model.specs.Row.{Row, rows_of, triples, bytes}
 use Rattle.rows_model.specs.Place.{place, follow}
-use Rattle.rows_model.specs.PlaceLaws.{follow_path}
+use Rattle.rows_model.proofs.PlaceLaws.{follow_path}
 use Rattle.rows_path.specs.Offset.{offset, path_start}
 use Rattle.rows_path.specs.declared.Resolved.{Resolved}
 use Rattle.rows_path.specs.declared.Resolved.TheVariants.{At, Nothing}

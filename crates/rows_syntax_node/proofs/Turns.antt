@@ -16,9 +16,9 @@ use Rattle.definition_laws.specs.Basics.{up_from, up_at, up_long, get_d_map}
 use Rattle.words.specs.Parts.{spliced, get_d_above, length_spliced, take_spliced}
 use Rattle.rows_model.specs.Row.{Row, owes, text_length, row_in, first_rows, triples, skip, trees_from, trees_in, bytes, opened, height_in, height}
 use Rattle.rows_model.specs.Place.{rows_after, child_row, between, subtree, remeasure, splice_rows, moved_mark}
-use Rattle.rows_model.specs.RowLaws.{skip_none, height_closed}
-use Rattle.rows_model.specs.Marks.{marks_below}
-use Rattle.rows_model.specs.Words.{node_row, token_owes, token_length, first_at, first_end, length_triples, triples_at, triples_end, triples_append, triples_take, triples_drop, triples_set, length_first, words_between}
+use Rattle.rows_model.proofs.RowLaws.{skip_none, height_closed}
+use Rattle.rows_model.proofs.Marks.{marks_below}
+use Rattle.rows_model.proofs.Words.{node_row, token_owes, token_length, first_at, first_end, length_triples, triples_at, triples_end, triples_append, triples_take, triples_drop, triples_set, length_first, words_between}
 use Rattle.rows_syntax_node.specs.Promises.{Counted, Measured, After, ChildAt, TreesIn, TreesBetween, Bytes, Height, Part, Appended, Spliced, Moved, Shifted}
 
 -- ── One row ─────────────────────────────────────────────────────────────────────────────────────────────────

@@ -21,8 +21,8 @@ use Rattle.definition_laws.specs.Right.{Sits}
 use Rattle.definition_laws.specs.Running.{Follows, present_kind, present_depth, present_under, present_order, Fits, place_fits}
 use Rattle.rows_model.specs.Row.{rows_of, trees_in}
 use Rattle.rows_model.specs.Place.{place, run_of, rows_after, child_row, between, mark_of}
-use Rattle.rows_model.specs.RowLaws.{trees_count}
-use Rattle.rows_model.specs.PlaceLaws.{place_pos, place_first, child_at, after_child, site, run_rows}
+use Rattle.rows_model.proofs.RowLaws.{trees_count}
+use Rattle.rows_model.proofs.PlaceLaws.{place_pos, place_first, child_at, after_child, site, run_rows}
 use Rattle.run_model.specs.Store.{store, there, marked, row_or_top, parent_row, end_row, Gap, gap_of, gap_after, gap_run, gap, depth_above}
 
 -- a run of the current trees, in rows

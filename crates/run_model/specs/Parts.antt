@@ -16,8 +16,8 @@ use Rattle.definition_laws.specs.Running.{Follows, present_kind}
 use Rattle.definition_laws.specs.Held.{Leads, Holds}
 use Rattle.rows_model.specs.Row.{Row, rows_of}
 use Rattle.rows_model.specs.Place.{size, place, mark_of, in_run}
-use Rattle.rows_model.specs.PlaceLaws.{after_at, subtree_at}
-use Rattle.rows_model.specs.Moves.{strip_place}
+use Rattle.rows_model.proofs.PlaceLaws.{after_at, subtree_at}
+use Rattle.rows_model.proofs.Moves.{strip_place}
 use Rattle.run_model.specs.Store.{HeldNote, held_note, store, with_row, marked, end_row, Part, part_at, part_of}
 use Rattle.run_model.specs.Gaps.{mark_present, marked_none, marked_some}
 

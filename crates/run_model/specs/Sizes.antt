@@ -9,8 +9,8 @@ use Rattle.orders.specs.Tree.{Tree, node, token, Path, splice, HasRun, text, tex
 use Rattle.orders.proofs.TreeLaws.{run_token}
 use Rattle.definition.specs.Running.{World, Yield, Run, spliced, too_large}
 use Rattle.rows_model.specs.Row.{rows_of, bytes, height}
-use Rattle.rows_model.specs.RowLaws.{size_below, bytes_tree, height_all}
-use Rattle.rows_model.specs.Depth.{root_node, depth_splice}
+use Rattle.rows_model.proofs.RowLaws.{size_below, bytes_tree, height_all}
+use Rattle.rows_model.proofs.Depth.{root_node, depth_splice}
 use Rattle.run_model.specs.Store.{held_note, store, store_too_large}
 use Rattle.run_model.specs.Parts.{part_in}
 use Rattle.run_model.specs.Spliced.{trees_of, new_rows_lem}

@@ -16,9 +16,9 @@ use Rattle.definition.specs.Running.{Changed, World, with_path, Yield, Run, plac
 use Rattle.definition_laws.specs.Held.{Leads, Holds}
 use Rattle.rows_model.specs.Row.{Row, rows_of, rows_all}
 use Rattle.rows_model.specs.Place.{size_all, place, splice_rows, mark_of, moved_mark, Held}
-use Rattle.rows_model.specs.PlaceLaws.{rows_splice}
-use Rattle.rows_model.specs.Moves.{adjust_place}
-use Rattle.rows_model.specs.Marks.{marks_follow, new_place}
+use Rattle.rows_model.proofs.PlaceLaws.{rows_splice}
+use Rattle.rows_model.proofs.Moves.{adjust_place}
+use Rattle.rows_model.proofs.Marks.{marks_follow, new_place}
 use Rattle.run_model.specs.Store.{HeldNote, HeldChanged, Store, held_note, held_changed, store, with_row, at_row, put_in, new_rows, placed_parts, spliced_store}
 use Rattle.run_model.specs.Gaps.{gap_at}
 use Rattle.run_model.specs.Parts.{pick_square, part_in}

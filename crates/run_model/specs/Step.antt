@@ -25,9 +25,9 @@ use Rattle.definition_laws.specs.Right.{Right, Sits, right_sits, right_news}
 use Rattle.definition_laws.specs.Plans.{Planning, performed_right}
 use Rattle.definition_laws.specs.Running.{top, Follows, follows_begin, place_fits, step_follows}
 use Rattle.definition_laws.specs.Held.{Holds, begin_holds, step_holds}
-use Rattle.definition_laws.specs.Limits.{small}
+use Rattle.definition_laws.proofs.Limits.{small}
 use Rattle.rows_model.specs.Place.{Held}
-use Rattle.rows_model.specs.Numbers.{elements_held}
+use Rattle.rows_model.proofs.Numbers.{elements_held}
 use Rattle.run_model.specs.Store.{Store, store, Gap, depth_above, Part, part_of, spliced_store, store_too_large, store_step, store_steps}
 use Rattle.run_model.specs.Gaps.{gap_at, gap_place, depth_above_lem}
 use Rattle.run_model.specs.Parts.{part_in, part_yields}

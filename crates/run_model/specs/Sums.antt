@@ -13,8 +13,8 @@ use Rattle.orders.specs.Tree.{Tree, modify, HasRun}
 use Rattle.definition.specs.Running.{Run}
 use Rattle.rows_model.specs.Row.{Row, tok, nod, outside, text_length, bytes, height}
 use Rattle.rows_model.specs.Place.{size, between, remeasure, splice_rows}
-use Rattle.rows_model.specs.RowLaws.{bytes_append}
-use Rattle.rows_model.specs.PlaceLaws.{run_order, run_after, run_within}
+use Rattle.rows_model.proofs.RowLaws.{bytes_append}
+use Rattle.rows_model.proofs.PlaceLaws.{run_order, run_after, run_within}
 use Rattle.run_model.specs.Store.{Store, Gap, Part, new_rows, spliced_store, store_too_large}
 use Rattle.run_model.specs.Gaps.{gap_at}
 use Rattle.run_model.specs.Sizes.{any_same}

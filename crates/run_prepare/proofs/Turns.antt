@@ -16,7 +16,7 @@ use Rattle.orders.specs.ListLaws.{map_append, All-at}
 use Rattle.definition.specs.Words.{word, words}
 use Rattle.words.specs.Bytes.{words_append, length_words, get_d_words}
 use Rattle.rows_model.specs.Row.{Row, first_rows, triples}
-use Rattle.rows_model.specs.Words.{length_triples}
+use Rattle.rows_model.proofs.Words.{length_triples}
 use Rattle.definition_laws.specs.Basics.{up_from, up_at}
 use Rattle.run_model.specs.Store.{HeldNote, HeldChanged, with_row, Store, there, marked, Part, part_at, part_of, new_rows, placed_parts}
 use Rattle.rows_syntax_node.specs.Promises.{Appended}

@@ -12,7 +12,7 @@ use Rattle.definition.specs.Words.{words}
 use Rattle.definition_laws.specs.Basics.{All-append}
 use Rattle.words.specs.Bytes.{length_words}
 use Rattle.rows_model.specs.Row.{skip}
-use Rattle.rows_model.specs.RowLaws.{skip_le}
+use Rattle.rows_model.proofs.RowLaws.{skip_le}
 use Rattle.rows_model.specs.Place.{rows_after, subtree, in_run}
 use Rattle.run_model.specs.Store.{HeldNote, HeldChanged, with_row, Store, marked, end_row, Part, part_at, part_of, new_rows, placed_parts}
 use Rattle.run_annotations.specs.Notes.{notes_of}

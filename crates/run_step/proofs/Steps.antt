@@ -12,7 +12,7 @@ use Rattle.definition.specs.Basics.{◌>>=◌, refuse}
 use Rattle.definition.specs.Words.{words}
 use Rattle.words.specs.Bytes.{length_words}
 use Rattle.rows_model.specs.Row.{first_rows}
-use Rattle.rows_model.specs.Words.{length_first}
+use Rattle.rows_model.proofs.Words.{length_first}
 use Rattle.run_model.specs.Sums.{Within}
 use Rattle.run_annotations.specs.Changed.{changed_in, rule_by, count_by}
 use Rattle.run_annotations.specs.Places.{part_rows}

@@ -16,10 +16,10 @@ use Rattle.definition_laws.specs.Held.{Leads}
 use Rattle.definition_laws.specs.Right.{Sits}
 use Rattle.definition_laws.specs.Running.{place_fits}
 use Rattle.rows_model.specs.Row.{first_rows, rows_of, bytes}
-use Rattle.rows_model.specs.RowLaws.{size_pos, size_below, children_few, bytes_tree}
+use Rattle.rows_model.proofs.RowLaws.{size_pos, size_below, children_few, bytes_tree}
 use Rattle.rows_model.specs.Place.{size, place, mark_of, Held}
-use Rattle.rows_model.specs.PlaceLaws.{place_lt, place_bound}
-use Rattle.rows_model.specs.Words.{rows_many, node_at}
+use Rattle.rows_model.proofs.PlaceLaws.{place_lt, place_bound}
+use Rattle.rows_model.proofs.Words.{rows_many, node_at}
 use Rattle.run_model.specs.Store as model
 use Rattle.run_model.specs.Store.{held_note, held_changed, store, gap}
 use Rattle.run_model.specs.Gaps.{gap_at, gap_place}

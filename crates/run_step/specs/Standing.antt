@@ -23,12 +23,13 @@ use Rattle.definition_laws.specs.Spelling.{Worded}
 use Rattle.definition_laws.specs.Right.{Right}
 use Rattle.definition_laws.specs.Running.{follows_begin}
 use Rattle.definition_laws.specs.Held.{begin_holds}
-use Rattle.definition_laws.specs.Limits.{Small, steps_small}
+use Rattle.definition_laws.specs.Limits.{Small}
+use Rattle.definition_laws.proofs.Limits.{steps_small}
 use Rattle.rows_model.specs.Row.{first_rows, rows_of, bytes}
-use Rattle.rows_model.specs.RowLaws.{size_below}
+use Rattle.rows_model.proofs.RowLaws.{size_below}
 use Rattle.rows_model.specs.Place.{mark_of}
-use Rattle.rows_model.specs.Words.{rows_many}
-use Rattle.rows_model.specs.Numbers.{element_row}
+use Rattle.rows_model.proofs.Words.{rows_many}
+use Rattle.rows_model.proofs.Numbers.{element_row}
 use Rattle.run_model.specs.Store.{held_note, Store, store, store_step}
 use Rattle.run_model.specs.Step.{Kept, step_store, step_kept}
 use Rattle.read_element_table.specs.View.{view}

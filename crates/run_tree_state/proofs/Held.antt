@@ -7,7 +7,7 @@ use Prim.Native.Nat.{ℕ, zero, suc, ◌+◌, ◌-◌, ◌*◌, ◌%◌, ◌/◌
 use native.Mathlib.Omega.{arith}
 use lib.ListN.{length, get_or, length-map}
 use Rattle.orders.specs.Lists.{All, pick}
-use Rattle.rows_model.specs.Words.{length_triples}
+use Rattle.rows_model.proofs.Words.{length_triples}
 use Rattle.run_model.specs.Store.{HeldChanged, put_in, Part, new_rows, placed_parts, spliced_store}
 use Rattle.run_model.specs.Spliced.{store_same}
 use Rattle.run_annotations.specs.Notes.{notes_of}

@@ -12,7 +12,7 @@ use Rattle.orders.specs.ListLaws.{either_false}
 use Rattle.definition.specs.Basics.{gives, ◌>>=◌, refuse}
 use Rattle.rows_model.specs.Row.{Row, triples, first_rows, bytes, height}
 use Rattle.rows_model.specs.Place.{between}
-use Rattle.rows_model.specs.Words.{length_first, length_triples, words_between}
+use Rattle.rows_model.proofs.Words.{length_first, length_triples, words_between}
 use Rattle.run_model.specs.Store.{HeldNote, with_row, Part, new_rows, placed_parts, spliced_store, store_too_large}
 use Rattle.run_model.specs.Sums.{splice_bytes, too_large_by, too_large_sums}
 use Rattle.rows_syntax_node.specs.Promises.{Bytes, Height}

@@ -27,7 +27,7 @@ use Rattle.definition_laws.specs.Answers.{gives_inj, given, not_wrong, is_there}
 use Rattle.definition_laws.specs.Rows.{Element, row_of, element}
 use Rattle.definition_laws.specs.Kin.{element_path, element_tree, element_stands, stands_within, row_told_lem}
 use Rattle.definition_laws.specs.Running.{top, present_kind}
-use Rattle.definition_laws.specs.Limits.{edit_within, ran_known}
+use Rattle.definition_laws.proofs.Limits.{edit_within, ran_known}
 use Rattle.definition_account.specs.Account.{Performed, ran_performed}
 use Rattle.definition_account.specs.Moved.{moves_of, in_a_row, performed_moved}
 use Rattle.check_laws.specs.Check.{Flat, alone, no_repeat, same_bytes}

@@ -21,7 +21,7 @@ use Rattle.definition.specs.Answers.{performed, at_first}
 use Rattle.definition_laws.specs.Answers.{given}
 use Rattle.definition_laws.specs.Kin.{root_is}
 use Rattle.definition_laws.specs.Right.{Right, right_sits}
-use Rattle.definition_laws.specs.Limits.{ran_known}
+use Rattle.definition_laws.proofs.Limits.{ran_known}
 use Rattle.definition_demand.specs.Aims.{replaces_root}
 use Rattle.definition_account.specs.Words.{keeps_root}
 use Rattle.definition_account.specs.Run.{performs}

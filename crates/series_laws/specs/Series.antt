@@ -16,7 +16,7 @@ use Rattle.definition.specs.Finishing.{Result, result, fitting}
 use Rattle.definition.specs.Answers.{too_short, with_work, with_choices, edit}
 use Rattle.definition.specs.Writing.{differ}
 use Rattle.definition_laws.specs.Answers.{gives_inj, given, not_wrong}
-use Rattle.definition_laws.specs.Limits.{edit_within}
+use Rattle.definition_laws.proofs.Limits.{edit_within}
 use Rattle.definition_laws.specs.Moves.{adjust_keeps}
 use Rattle.definition_account.specs.Moved.{in_a_row}
 use Rattle.result_laws.specs.Worded.{edit_worded}

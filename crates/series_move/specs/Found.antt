@@ -14,8 +14,8 @@ use Rattle.orders.proofs.TreeLaws.{list_forest, resolve_child}
 use Rattle.definition_laws.specs.Running.{top}
 use Rattle.rows_model.specs.Row.{rows_of, first_rows, triples, skip}
 use Rattle.rows_model.specs.Place.{place, subtree, mark_of}
-use Rattle.rows_model.specs.PlaceLaws.{place_forest, place_pos, subtree_at}
-use Rattle.rows_model.specs.Words.{length_first}
+use Rattle.rows_model.proofs.PlaceLaws.{place_forest, place_pos, subtree_at}
+use Rattle.rows_model.proofs.Words.{length_first}
 use Rattle.rows_syntax_node.specs.Promises.{Part}
 use Rattle.rows_path.specs.Promises.{Resolves, resolves_there}
 use Rattle.rows_path.specs.Offset.{offset}

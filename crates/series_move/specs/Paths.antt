@@ -7,7 +7,7 @@ use Rattle.orders.specs.Tree.{Tree, forest, Path, resolve}
 use Rattle.definition_laws.specs.Running.{top}
 use Rattle.rows_model.specs.Row.{rows_of, first_rows, trees_in}
 use Rattle.rows_model.specs.Place.{place, child_row, between}
-use Rattle.rows_model.specs.PlaceLaws.{place_child}
+use Rattle.rows_model.proofs.PlaceLaws.{place_child}
 use Rattle.rows_syntax_node.specs.Promises.{ChildAt, TreesBetween}
 use Rattle.series_move.specs.Standing.{Stood, path_long, mark_now, child_told, Between, between_told}
 

@@ -19,7 +19,7 @@ use Rattle.definition.specs.Running.{World}
 use Rattle.definition.specs.Finishing.{result}
 use Rattle.definition.specs.Answers.{Plan, plan, ran}
 use Rattle.definition_laws.specs.Running.{top, Follows, present_moved}
-use Rattle.definition_laws.specs.Limits.{ran_known}
+use Rattle.definition_laws.proofs.Limits.{ran_known}
 use Rattle.definition_account.specs.Moved.{in_a_row}
 use Rattle.rows_model.specs.Row.{rows_of, first_rows}
 use Rattle.rows_model.specs.Place.{mark_of}

@@ -20,10 +20,10 @@ use Rattle.definition_laws.specs.Running.{top, Follows}
 use Rattle.definition_account.specs.Moving.{keeps_above, parts_same}
 use Rattle.rows_model.specs.Row.{Row, rows_of, first_rows, trees_in}
 use Rattle.rows_model.specs.Place.{place, size, child_row, between, mark_of, run_of}
-use Rattle.rows_model.specs.PlaceLaws.{child_at, place_first, place_lt, parent_of, run_rows, run_order}
-use Rattle.rows_model.specs.RowLaws.{trees_count}
-use Rattle.rows_model.specs.Numbers.{element_row}
-use Rattle.rows_model.specs.Words.{length_first}
+use Rattle.rows_model.proofs.PlaceLaws.{child_at, place_first, place_lt, parent_of, run_rows, run_order}
+use Rattle.rows_model.proofs.RowLaws.{trees_count}
+use Rattle.rows_model.proofs.Numbers.{element_row}
+use Rattle.rows_model.proofs.Words.{length_first}
 
 -- what a run leaves: the rows of the batch's e elements behind that of the node above all trees, n rows of the current trees, and where each element stands
 pub record Stood (source : List ℕ) (e : ℕ) (marks rows : List ℕ) (n : ℕ) : Type 0 where

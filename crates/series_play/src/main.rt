@@ -2,11 +2,14 @@
 // Input, in words of four bytes and parts (a length and as many bytes): how many series; of each the tree's slice and the bookmarks' slice as parts, how many batches; of each
 // batch the edge rule, how many bytes the result slice has, and the batch as a part.
 #![tactic(auto)]
+
 ghost use Rattle.std.specs.Prelude.{◌^◌, ◌<◌, ◌≤◌, length};
 
 use choices::Choices;
 use promises::Outcome;
 use series_check::{PATH, PATH_LENGTH, SLOT_WORDS, slot_at};
+use std::io;
+use std::io::Write;
 use words::word;
 
 // The most words that a work slice needs.
@@ -27,90 +30,97 @@ fn wide(x: u8) -> usize
 }
 
 // The next word of the input.
-fn read_word() -> Read {
+fn read_word<R: io::Read>(from: &mut R) -> io::Result<Read> {
     let mut four = [0u8; 4];
-    let n = io::read_full(0, &mut four);
+    let n = program_input::read_full(from, &mut four)?;
     if n < 4 {
-        return Read::End;
+        return Ok(Read::End);
     }
-    Read::Word(
+    Ok(Read::Word(
         wide(four[0]) + 256 * wide(four[1]) + 65536 * wide(four[2]) + 16777216 * wide(four[3]),
-    )
+    ))
 }
 
 // The next word, and as many bytes behind it as it says, into the front of `part`.
-fn read_part(part: &mut [u8]) -> Read {
-    let Read::Word(n) = read_word() else {
-        return Read::End;
+fn read_part<R: io::Read>(from: &mut R, part: &mut [u8]) -> io::Result<Read> {
+    let Read::Word(n) = read_word(from)? else {
+        return Ok(Read::End);
     };
     if part.len() < n {
-        return Read::End;
+        return Ok(Read::End);
     }
-    let got = io::read_full(0, &mut part[..n]);
-    if got == n { Read::Word(n) } else { Read::End }
+    let got = program_input::read_full(from, &mut part[..n])?;
+    if got == n {
+        Ok(Read::Word(n))
+    } else {
+        Ok(Read::End)
+    }
 }
 
 // A name and a number.
-fn print_named(name: &[u8], n: usize) {
-    io::write_all(1, name);
-    io::print_decimal(1, n as u64);
+fn print_named<W: Write>(to: &mut W, name: &str, n: usize) -> io::Result<()> {
+    write!(to, "{name}{n}")
 }
 
 // A path, by its child numbers.
-fn print_path(path: &[u32]) {
-    let mut j = 0;
-    while j < path.len() {
-        print_named(b"/", word(path, j));
-        j += 1;
+fn print_path<W: Write>(to: &mut W, path: &[u32]) -> io::Result<()> {
+    for step in path {
+        write!(to, "/{step}")?;
     }
+    Ok(())
 }
 
 // Bookmark `i`: its number and its path, where it stands in the slice.
-fn print_bookmark(bookmarks: &[u32], i: usize)
+fn print_bookmark<W: Write>(to: &mut W, bookmarks: &[u32], i: usize) -> io::Result<()>
     requires { i < 2 ^ 32 }
 {
     let at = slot_at(i);
     if bookmarks.len() < at + SLOT_WORDS {
-        return;
+        return Ok(());
     }
-    print_named(b" ", word(bookmarks, at));
-    io::write_all(1, b"=");
+    print_named(to, " ", word(bookmarks, at))?;
+    write!(to, "=")?;
     let n = word(bookmarks, at + PATH_LENGTH);
     if 63 < n {
-        return;
+        return Ok(());
     }
     let from = at + PATH;
-    let to = from + n;
-    print_path(&bookmarks[from..to]);
+    let end = from + n;
+    print_path(to, &bookmarks[from..end])
 }
 
 // All bookmarks in a line.
-fn print_bookmarks(bookmarks: &[u32]) {
+fn print_bookmarks<W: Write>(to: &mut W, bookmarks: &[u32]) -> io::Result<()> {
     if bookmarks.len() == 0 {
-        return;
+        return Ok(());
     }
     let k = word(bookmarks, 0);
-    let mut i = 0;
-    while i < k {
-        print_bookmark(bookmarks, i);
-        i += 1;
+    for i in 0..k {
+        print_bookmark(to, bookmarks, i)?;
     }
-    io::write_all(1, b"\n");
+    writeln!(to)
 }
 
 // What a later call answers. (It finds no element and tells no share.)
-fn print_outcome(told: Outcome) {
+fn print_outcome<W: Write>(to: &mut W, told: Outcome) -> io::Result<()> {
     match told {
-        Outcome::Refused(n) => print_named(b"refused ", n),
-        Outcome::Bytes(n) => print_named(b"bytes ", n),
-        Outcome::Nothing => print_named(b"", 0),
-        Outcome::At(n) => print_named(b"", n),
-        Outcome::Of(n, _) => print_named(b"", n),
+        Outcome::Refused(n) => print_named(to, "refused ", n),
+        Outcome::Bytes(n) => print_named(to, "bytes ", n),
+        Outcome::Nothing => print_named(to, "", 0),
+        Outcome::At(n) => print_named(to, "", n),
+        Outcome::Of(n, _) => print_named(to, "", n),
     }
 }
 
 // A later call.
-fn play_batch(edge: usize, batch: &[u8], res: &mut [u8], tree: &mut [u8], bookmarks: &mut [u32]) {
+fn play_batch<W: Write>(
+    to: &mut W,
+    edge: usize,
+    batch: &[u8],
+    res: &mut [u8],
+    tree: &mut [u8],
+    bookmarks: &mut [u32],
+) -> io::Result<()> {
     let mut table = [0u32; WORDS];
     let mut source = [0u32; WORDS];
     let mut changes = [0u32; WORDS];
@@ -136,95 +146,121 @@ fn play_batch(edge: usize, batch: &[u8], res: &mut [u8], tree: &mut [u8], bookma
         &mut rows,
         &mut prepared,
     );
-    print_outcome(told);
+    print_outcome(to, told)
 }
 
 // The next batch of the input, on the memory; false at the input's end.
-fn next_batch(tree: &mut [u8], bookmarks: &mut [u32]) -> bool {
-    let Read::Word(edge) = read_word() else {
-        return false;
+fn next_batch<R: io::Read, W: Write>(
+    from: &mut R,
+    to: &mut W,
+    tree: &mut [u8],
+    bookmarks: &mut [u32],
+) -> io::Result<bool> {
+    let Read::Word(edge) = read_word(from)? else {
+        return Ok(false);
     };
-    let Read::Word(room) = read_word() else {
-        return false;
+    let Read::Word(room) = read_word(from)? else {
+        return Ok(false);
     };
-    let mut batch = io::large_buffer();
-    let Read::Word(n) = read_part(&mut batch) else {
-        return false;
+    let mut batch = [0u8; 65536];
+    let Read::Word(n) = read_part(from, &mut batch)? else {
+        return Ok(false);
     };
     if 65536 < n {
-        return false;
+        return Ok(false);
     }
     if 65536 < room {
-        return false;
+        return Ok(false);
     }
-    let mut result = io::large_buffer();
-    play_batch(edge, &batch[..n], &mut result[..room], tree, bookmarks);
-    print_bookmarks(bookmarks);
-    true
+    let mut result = [0u8; 65536];
+    play_batch(to, edge, &batch[..n], &mut result[..room], tree, bookmarks)?;
+    print_bookmarks(to, bookmarks)?;
+    Ok(true)
 }
 
 // The batches of a series.
-fn play_batches(tree: &mut [u8], bookmarks: &mut [u32], batches: usize) {
-    let mut i = 0;
-    while i < batches {
-        if !next_batch(tree, bookmarks) {
-            return;
+fn play_batches<R: io::Read, W: Write>(
+    from: &mut R,
+    to: &mut W,
+    tree: &mut [u8],
+    bookmarks: &mut [u32],
+    batches: usize,
+) -> io::Result<()> {
+    for _ in 0..batches {
+        if !next_batch(from, to, tree, bookmarks)? {
+            return Ok(());
         }
-        i += 1;
     }
+    Ok(())
 }
 
 // The first call, and then the batches.
-fn play(tree: &mut [u8], bookmarks: &mut [u32], batches: usize) {
+fn play<R: io::Read, W: Write>(
+    from: &mut R,
+    to: &mut W,
+    tree: &mut [u8],
+    bookmarks: &mut [u32],
+    batches: usize,
+) -> io::Result<()> {
     let mut rows = [0u32; WORDS];
-    print_named(b"start ", series::start(tree, bookmarks, &mut rows));
-    print_bookmarks(bookmarks);
-    play_batches(tree, bookmarks, batches);
+    print_named(to, "start ", series::start(tree, bookmarks, &mut rows))?;
+    print_bookmarks(to, bookmarks)?;
+    play_batches(from, to, tree, bookmarks, batches)
 }
 
 // The bookmarks' words from their bytes, and then the series.
-fn play_words(tree: &mut [u8], bytes: &[u8], batches: usize) {
+fn play_words<R: io::Read, W: Write>(
+    from: &mut R,
+    to: &mut W,
+    tree: &mut [u8],
+    bytes: &[u8],
+    batches: usize,
+) -> io::Result<()> {
     let mut bookmarks = [0u32; WORDS];
     let n = bytes.len() / 4;
     if WORDS < n {
-        return;
+        return Ok(());
     }
     words::read_words(bytes, 0, n, &mut bookmarks, 0);
-    play(tree, &mut bookmarks[..n], batches);
+    play(from, to, tree, &mut bookmarks[..n], batches)
 }
 
 // The next series of the input; false at the input's end.
-fn next_series() -> bool {
-    let mut tree = io::large_buffer();
-    let Read::Word(n) = read_part(&mut tree) else {
-        return false;
+fn next_series<R: io::Read, W: Write>(from: &mut R, to: &mut W) -> io::Result<bool> {
+    let mut tree = [0u8; 65536];
+    let Read::Word(n) = read_part(from, &mut tree)? else {
+        return Ok(false);
     };
-    let mut bytes = io::large_buffer();
-    let Read::Word(m) = read_part(&mut bytes) else {
-        return false;
+    let mut bytes = [0u8; 65536];
+    let Read::Word(m) = read_part(from, &mut bytes)? else {
+        return Ok(false);
     };
-    let Read::Word(batches) = read_word() else {
-        return false;
+    let Read::Word(batches) = read_word(from)? else {
+        return Ok(false);
     };
     if 65536 < n {
-        return false;
+        return Ok(false);
     }
     if 65536 < m {
-        return false;
+        return Ok(false);
     }
-    play_words(&mut tree[..n], &bytes[..m], batches);
-    true
+    play_words(from, to, &mut tree[..n], &bytes[..m], batches)?;
+    Ok(true)
 }
 
-fn main() {
-    let Read::Word(all) = read_word() else {
-        return;
+// All series of the input.
+fn play_all<R: io::Read, W: Write>(from: &mut R, to: &mut W) -> io::Result<()> {
+    let Read::Word(all) = read_word(from)? else {
+        return Ok(());
     };
-    let mut i = 0;
-    while i < all {
-        if !next_series() {
-            return;
+    for _ in 0..all {
+        if !next_series(from, to)? {
+            return Ok(());
         }
-        i += 1;
     }
+    Ok(())
+}
+
+fn main(rt: HostRuntime) -> io::Result<()> {
+    play_all(&mut rt.reader(), &mut io::writer(&rt))
 }

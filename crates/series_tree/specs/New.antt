@@ -16,8 +16,8 @@ use Rattle.definition.specs.Running.{World}
 use Rattle.definition.specs.Finishing.{new_tree, result}
 use Rattle.words.specs.Bytes.{length_bytes, written_cons, written_append, length_written}
 use Rattle.rows_model.specs.Row.{Row, kind, measure, own, rows_of, first_rows, triples}
-use Rattle.rows_model.specs.Words.{length_triples}
-use Rattle.rows_model.specs.RowLaws.{kinds_preorder, measures_preorder}
+use Rattle.rows_model.proofs.Words.{length_triples}
+use Rattle.rows_model.proofs.RowLaws.{kinds_preorder, measures_preorder}
 use Rattle.rows_syntax_node.specs.Promises.{Part}
 use Rattle.finish_model.specs.Finished.{first_tree}
 use Rattle.finish_model.specs.Numbers.{first_tree_lem}

@@ -16,7 +16,7 @@ use Rattle.definition_laws.specs.Spelling.{Spells}
 use Rattle.definition_laws.specs.Running.{top}
 use Rattle.words.specs.Bytes.{length_words, take_words}
 use Rattle.rows_model.specs.Row.{kind, rows_of, rows_all, first_rows, bytes}
-use Rattle.rows_model.specs.RowLaws.{kinds_preorder, bytes_tree}
+use Rattle.rows_model.proofs.RowLaws.{kinds_preorder, bytes_tree}
 use Rattle.rows_syntax_node.specs.Promises.{Part, Bytes}
 use Rattle.read_layout.specs.declared.Layout.{Layout}
 use Rattle.finish_model.specs.Finished.{first_tree}

@@ -1,5 +1,8 @@
 // The share program.
 #![tactic(auto)]
-fn main() {
-    share_program::run();
+
+use std::io;
+
+fn main(rt: HostRuntime) -> io::Result<()> {
+    share_program::run(&rt)
 }

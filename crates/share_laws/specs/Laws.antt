@@ -15,7 +15,8 @@ use Rattle.definition.specs.Running.{World, Changed, begin, news, records}
 use Rattle.definition.specs.Finishing.{new_tree, new_table, number_at, changed_elements, Result, result}
 use Rattle.definition.specs.Answers.{Plan, plan, performed, at_first, ran, edit, too_short, with_work, with_choices}
 use Rattle.definition_laws.specs.Answers.{gives_inj, given}
-use Rattle.definition_laws.specs.Limits.{Small, keep_length, steps_changed, ran_known}
+use Rattle.definition_laws.specs.Limits.{Small}
+use Rattle.definition_laws.proofs.Limits.{keep_length, steps_changed, ran_known}
 use Rattle.definition_laws.specs.Stages.{numbered_length}
 use Rattle.definition_account.specs.Words.{changed_in}
 use Rattle.share_laws.specs.Share.{lies_in_one, bytes_in, new_text, rewritten_bytes, thousandths, share_in, share, shared}

@@ -28,7 +28,7 @@ use Rattle.definition.specs.Finishing.{new_tree, new_table, number_at}
 use Rattle.definition.specs.Answers.{Plan, plan, performed, ran}
 use Rattle.definition_laws.specs.Answers.{gives_inj, given, bound}
 use Rattle.definition_laws.specs.Kin.{root_is}
-use Rattle.definition_laws.specs.Limits.{ran_known}
+use Rattle.definition_laws.proofs.Limits.{ran_known}
 use Rattle.definition_laws.specs.Spelling.{Worded}
 use Rattle.definition_laws.specs.Right.{Right, Sits, right_sits}
 use Rattle.definition_laws.specs.Running.{Follows, follows_begin, step_follows}

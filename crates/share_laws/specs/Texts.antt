@@ -20,7 +20,7 @@ use Rattle.definition.specs.Answers.{Plan, plan, ran}
 use Rattle.definition_laws.specs.Rows.{Element, row_of, element, root_of, element_at}
 use Rattle.definition_laws.specs.Kin.{resolve_down, element_at_tree, row_told_lem, descend_element}
 use Rattle.definition_laws.specs.Held.{Leads, Holds}
-use Rattle.definition_laws.specs.Limits.{ran_known}
+use Rattle.definition_laws.proofs.Limits.{ran_known}
 use Rattle.definition_account.specs.Words.{changed_paths, ChangedApartInNew}
 use Rattle.definition_account.specs.Changed.{changed_lead}
 use Rattle.definition_account.specs.Account.{ran_apart}

@@ -4,7 +4,7 @@ use Rattle.std.specs.Prelude.{◌≡◌, refl, false, ℕ, ◌≤◌, length, ta
 use Rattle.std.proofs.Math.Path.{sym, ap}
 use Rattle.std.proofs.Common.{◌∙◌, arith, take_all, length-take-le}
 use mathlib.Core.List.{List, [], ◌∷◌}
-use Rattle.io.specs.Counts.{IsPrefixLen}
+use Rattle.program_input.specs.Counts.{IsPrefixLen}
 use Rattle.definition.specs.Basics as basics
 use Rattle.definition.specs.Basics.{gives, refused, ◌>>=◌}
 use Rattle.definition.specs.Choices.{Choices, chosen}

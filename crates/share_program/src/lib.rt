@@ -1,11 +1,18 @@
 // The share program: it reads a batch and prints how much of the text is rewritten.
 #![tactic(auto)]
-ghost use Rattle.std.specs.Prelude.{◌≡◌, ◌≤◌, length};
+
+ghost use Rattle.std.specs.Prelude.{◌≡◌, ◌<◌, ◌≤◌, length, take, IfOk, OnOk};
+ghost use Rattle.std.specs.Io.KnownBytes.{Consumes, IsAtEnd};
 ghost use Rattle.choices.specs.Meant.{meant};
+ghost use Rattle.share_laws.specs.Printed.{share_printed};
+ghost use Rattle.program_input.specs.Told.{Writes};
 ghost use Rattle.share_program.specs.Responds.{Tells, Responds};
 
 use choices::Choices;
 use edit_algo::Shared;
+use std::io;
+use std::io::{Read, Write};
+use std::rt::Env;
 
 // The share of a batch. The work slices are made here, of the lengths of docs/WORK.md.
 fn share_batch(choices: Choices, batch: &[u8]) -> Shared
@@ -56,23 +63,37 @@ pub struct Response {
     pub written: usize,
 }
 
-// Reads a batch and writes what is printed of it at the front of `out`. The bytes judged are the first `read` of the batch's buffer, as reading left it; that
-// these are the bytes that came on standard input is not promised (`program_input::read_batch`).
-pub fn respond(choices: Choices, batch: &mut [u8], out: &mut [u8]) -> Response
+// Reads a batch and writes what is printed of it at the front of `out`. The bytes judged are the first `read` of the batch's buffer, as reading left it: where it is
+// known what bytes the input has left, the next of them. That they are the bytes that came on standard input is not promised (`program_input::read_batch`).
+pub fn respond<R: Read>(
+    choices: Choices,
+    from: &mut R,
+    batch: &mut [u8],
+    out: &mut [u8],
+) -> io::Result<Response>
     requires { (65536 ≡ length batch.old) × (64 ≡ length out.old) }
-    ensures { Responds (meant choices) batch.new result.read out.new result.written }
+    ensures responds { IfOk result (λ r. Responds (meant choices) batch.new r.read out.new r.written) }
+    ensures bytes { IfOk result (λ r. Consumes (R.remaining from.old) (R.remaining from.new) (take r.read batch.new)) }
+    ensures end { IfOk result (λ r. r.read < length batch.new → IsAtEnd (R.remaining from.new)) }
 {
-    let read = program_input::read_batch(batch);
+    let read = program_input::read_batch(from, batch)?;
     let written = answer(choices, batch, read, out);
-    Response { read, written }
+    Ok(Response { read, written })
 }
 
-// The whole program: the first `written` bytes of the output are printed. How many of them the operating system takes is not promised.
-pub fn run() {
-    let choices = program_choices::choices();
-    let mut batch = io::large_buffer();
+// Reads a batch and prints what is printed of it. Where it is known what bytes the input has left and the output holds, what is printed of those comes behind these.
+pub fn serve<R: Read, W: Write>(choices: Choices, from: &mut R, to: &mut W) -> io::Result<()>
+    ensures { OnOk result (Writes (share_printed (meant choices)) (R.remaining from.old) (W.contents to.old) (W.contents to.new)) }
+{
+    let mut batch = [0u8; 65536];
     let mut out = [0u8; 64];
-    let response = respond(choices, &mut batch, &mut out);
+    let response = respond(choices, from, &mut batch, &mut out)?;
     let written = response.written;
-    io::write_all(1, &out[..written]);
+    to.write_all(&out[..written])
+}
+
+// The whole program, on standard input and output. Which bytes the operating system gives, and how many of those printed it takes, is not promised.
+pub fn run<R: Env + Input + Print>(rt: &R) -> io::Result<()> {
+    let choices = program_choices::choices(rt);
+    serve(choices, &mut rt.reader(), &mut io::writer(rt))
 }

@@ -13,9 +13,9 @@ use Rattle.orders.specs.ListLaws.{zone_before, zone_inside, zone_after}
 use Rattle.definition.specs.Basics.{is_some}
 use Rattle.definition_laws.specs.Basics.{total_append}
 use Rattle.rows_model.specs.Row.{Row, skip, bytes, first_rows}
-use Rattle.rows_model.specs.RowLaws.{bytes_append, skip_le}
+use Rattle.rows_model.proofs.RowLaws.{bytes_append, skip_le}
 use Rattle.rows_model.specs.Place.{rows_after, subtree, in_run}
-use Rattle.rows_model.specs.Words.{length_first}
+use Rattle.rows_model.proofs.Words.{length_first}
 use Rattle.rows_syntax_node.specs.Promises.{Part, Bytes}
 use Rattle.run_annotations.specs.Changed.{changed_of, changed_in, changed_to}
 use Rattle.finish_model.specs.Finished.{first_tree, number_of}

@@ -20,12 +20,12 @@ use Rattle.definition.specs.Finishing.{new_tree, new_table, number_at}
 use Rattle.definition.specs.Answers.{Plan, plan, ran}
 use Rattle.definition_laws.specs.Measures.{text_of_list}
 use Rattle.definition_laws.specs.Held.{Leads, number_found}
-use Rattle.definition_laws.specs.Limits.{ran_known}
+use Rattle.definition_laws.proofs.Limits.{ran_known}
 use Rattle.definition_account.specs.Words.{changed_paths}
 use Rattle.rows_model.specs.Row.{Row, rows_of, bytes}
-use Rattle.rows_model.specs.RowLaws.{bytes_tree, bytes_all}
+use Rattle.rows_model.proofs.RowLaws.{bytes_tree, bytes_all}
 use Rattle.rows_model.specs.Place.{subtree}
-use Rattle.rows_model.specs.PlaceLaws.{subtree_at}
+use Rattle.rows_model.proofs.PlaceLaws.{subtree_at}
 use Rattle.run_model.specs.Store.{HeldChanged, held_changed}
 use Rattle.finish_model.specs.Finished.{first_tree, number_of}
 use Rattle.finish_model.specs.Numbers.{first_tree_lem, number_row}

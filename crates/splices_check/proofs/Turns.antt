@@ -14,7 +14,7 @@ use borrow.Author.Tests.{ltb-true, lt-ltb, le-ltb, le-leb, lt-leb, eq-eqb, ne_eq
 use Rattle.orders.specs.ListLaws.{both_true, lt_or_le}
 use Rattle.rows_syntax_node.specs.Promises.{Counted, TreesIn}
 use Rattle.rows_model.specs.Row.{Row, owes, row_in, triples}
-use Rattle.rows_model.specs.Words.{triples_at, triples_end}
+use Rattle.rows_model.proofs.Words.{triples_at, triples_end}
 use Rattle.splices_model.specs.Cuts.{part_at}
 use Rattle.splices_model.specs.Bounds.{rows_to, rows_to_more, part_is}
 use Rattle.splices_model.specs.Verdict.{owed, closed, bounded_at, has_run_at, fit_at, tree_rows, fits_to, limited, roomy, judged_by, and-false, fits_each}

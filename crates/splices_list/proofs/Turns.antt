@@ -13,7 +13,7 @@ use Rattle.orders.specs.Tree.{Tree}
 use Rattle.orders.specs.Splices.{Splice, begin, one_go, AllApart}
 use Rattle.rows_model.specs.Row.{rows_of}
 use Rattle.rows_model.specs.Place.{size}
-use Rattle.rows_model.specs.Words.{rows_many}
+use Rattle.rows_model.proofs.Words.{rows_many}
 use Rattle.splices_model.specs.Cuts.{cuts_to, Holds, Told, state_of}
 use Rattle.splices_model.specs.Bounds.{BoundedTo, BoundedAll, rows_to, rows_to_more, rows_to_mono, bounded_to}
 use Rattle.splices_model.specs.Orders.{one_more, one_go_rows}

@@ -18,8 +18,8 @@ use Rattle.orders.proofs.Children.{All-sort}
 use Rattle.orders.proofs.Check.{fits?}
 use Rattle.definition_laws.specs.Basics.{All-append, append_All, All-take, All-drop, up_from, up_long}
 use Rattle.rows_model.specs.Row.{Row, tok, nod, outside, row_at, rows_of, rows_in, rows_all, triples, first_rows}
-use Rattle.rows_model.specs.RowLaws.{rows_node}
-use Rattle.rows_model.specs.Words.{token_row, node_row}
+use Rattle.rows_model.proofs.RowLaws.{rows_node}
+use Rattle.rows_model.proofs.Words.{token_row, node_row}
 use Rattle.splices_model.specs.Cuts.{part_at}
 use Rattle.splices_model.specs.Verdict.{closed}
 use Rattle.splices_model.specs.SpliceList.{row_told, rows_told, trees_of, old_tree, words_of, splice_at, splices_to, tells_at, suits_at, suits_to}

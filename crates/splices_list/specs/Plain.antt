@@ -11,7 +11,7 @@ use Rattle.orders.specs.ListLaws.{lt_or_le}
 use Rattle.orders.specs.Tree.{Tree, Trees, node, token, nil, cons}
 use Rattle.definition_laws.specs.Basics.{All-append, up_from, up_at, up_long}
 use Rattle.rows_model.specs.Row.{Row, rows_of, rows_in, row_at, first_rows}
-use Rattle.rows_model.specs.Words.{token_row, node_row, thrice, thrice₀}
+use Rattle.rows_model.proofs.Words.{token_row, node_row, thrice, thrice₀}
 use Rattle.splices_model.specs.Places.{up_from_part}
 use Rattle.splices_model.specs.SpliceList.{words_of}
 use Rattle.splices_model.specs.Found.{Inside, places_below}

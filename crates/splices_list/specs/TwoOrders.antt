@@ -16,8 +16,8 @@ use Rattle.orders.proofs.Demand.{Demanded, demand}
 use Rattle.orders.proofs.Done.{performs_one_go, reversed}
 use Rattle.rows_model.specs.Row.{Row, tok, nod, outside, rows_of}
 use Rattle.rows_model.specs.Place.{size, place, mark_of, Held}
-use Rattle.rows_model.specs.PlaceLaws.{place_pos}
-use Rattle.rows_model.specs.Moves.{place_inj}
+use Rattle.rows_model.proofs.PlaceLaws.{place_pos}
+use Rattle.rows_model.proofs.Moves.{place_inj}
 use Rattle.definition_laws.specs.Kin.{get_get_d}
 use Rattle.splices_model.specs.Cuts.{paths, state_of}
 use Rattle.splices_model.specs.Places.{get_map, paths_at}

@@ -17,8 +17,8 @@ use Rattle.definition.specs.Basics.{refused, gives, ◌>>=◌, refuse}
 use Rattle.definition_laws.specs.Basics.{All-take, All-drop, up_from, up_long}
 use Rattle.definition_laws.specs.Kin.{get_get_d}
 use Rattle.rows_model.specs.Row.{Row, tok, nod, outside, owes, rows_of, rows_in, rows_all, row_at, triples, first_rows, trees_in}
-use Rattle.rows_model.specs.RowLaws.{rows_node, rows_append, trees_count}
-use Rattle.rows_model.specs.Words.{rows_many, token_row, node_row}
+use Rattle.rows_model.proofs.RowLaws.{rows_node, rows_append, trees_count}
+use Rattle.rows_model.proofs.Words.{rows_many, token_row, node_row}
 use Rattle.splices_model.specs.Cuts.{Cut, cut_of, cut_at, cuts_to, part_at, paths, Stands, Told}
 use Rattle.splices_model.specs.Places.{paths_many, paths_stood, up_from_part}
 use Rattle.splices_model.specs.Bounds.{rows_to}

@@ -12,7 +12,7 @@ use Rattle.orders.proofs.TreeLaws.{resolve_child, resolve_at}
 use Rattle.definition_laws.specs.Basics.{up_from}
 use Rattle.rows_model.specs.Row.{rows_of, rows_in, rows_all}
 use Rattle.rows_model.specs.Place.{size, size_all, place}
-use Rattle.rows_model.specs.PlaceLaws.{place_at}
+use Rattle.rows_model.proofs.PlaceLaws.{place_at}
 use Rattle.splices_model.specs.Cuts.{paths, paths_from}
 
 -- ── Elements of a mapped list ───────────────────────────────────────────────────────────────────────────────

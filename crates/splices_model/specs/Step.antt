@@ -15,11 +15,11 @@ use Rattle.orders.proofs.Done.{perform_at_lem}
 use Rattle.definition_laws.specs.Kin.{get_get_d}
 use Rattle.rows_model.specs.Row.{Row, rows_of, rows_all, first_rows, skip, owes, trees_in, triples}
 use Rattle.rows_model.specs.Place.{size, size_all, place, mark_of, moved_mark, Held, rows_after, child_row, splice_rows}
-use Rattle.rows_model.specs.RowLaws.{trees_count}
-use Rattle.rows_model.specs.PlaceLaws.{child_at, rows_splice}
-use Rattle.rows_model.specs.Moves.{place_inj}
-use Rattle.rows_model.specs.Marks.{mark_follows, held_after}
-use Rattle.rows_model.specs.Words.{length_triples}
+use Rattle.rows_model.proofs.RowLaws.{trees_count}
+use Rattle.rows_model.proofs.PlaceLaws.{child_at, rows_splice}
+use Rattle.rows_model.proofs.Moves.{place_inj}
+use Rattle.rows_model.proofs.Marks.{mark_follows, held_after}
+use Rattle.rows_model.proofs.Words.{length_triples}
 use Rattle.splices_model.specs.Cuts.{Cut, cut_of, cut_at, cuts_to, part_at, gain, loss, left_cut, start_cut, paths, Holds, Stands, Told}
 use Rattle.definition_laws.specs.Basics.{up_from}
 use Rattle.splices_model.specs.Places.{get_map, paths_at, places_count, paths_lead}

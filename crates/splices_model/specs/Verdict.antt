@@ -15,10 +15,10 @@ use Rattle.orders.specs.Splices.{Splice, Fits}
 use Rattle.orders.proofs.Check.{each, pairs, enters?, run?, fits?, apart?}
 use Rattle.rows_model.specs.Row.{Row, owes, rows_of, rows_in, rows_all, triples, first_rows, trees_in}
 use Rattle.rows_model.specs.Place.{place, child_row}
-use Rattle.rows_model.specs.RowLaws.{children_few, trees_count}
-use Rattle.rows_model.specs.PlaceLaws.{child_at, place_lt, place_bound}
-use Rattle.rows_model.specs.Moves.{adjust_place}
-use Rattle.rows_model.specs.Words.{node_at, token_at, rows_many}
+use Rattle.rows_model.proofs.RowLaws.{children_few, trees_count}
+use Rattle.rows_model.proofs.PlaceLaws.{child_at, place_lt, place_bound}
+use Rattle.rows_model.proofs.Moves.{adjust_place}
+use Rattle.rows_model.proofs.Words.{node_at, token_at, rows_many}
 use Rattle.splices_model.specs.Cuts.{Cut, cut_of, cut_at, cuts_to, part_at, Stands}
 use Rattle.splices_model.specs.Step.{same_place}
 use Rattle.splices_model.specs.Bounds.{Bounded, BoundedAll, rows_to}

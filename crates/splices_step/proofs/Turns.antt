@@ -16,9 +16,9 @@ use Rattle.orders.specs.Tree.{Tree, node, list, Run}
 use Rattle.orders.specs.Splices.{Splice, State}
 use Rattle.rows_syntax_node.specs.Promises.{TreesIn, After, ChildAt}
 use Rattle.rows_model.specs.Place.{place}
-use Rattle.rows_model.specs.RowLaws.{children_few}
-use Rattle.rows_model.specs.PlaceLaws.{place_bound}
-use Rattle.rows_model.specs.Words.{node_at, rows_many}
+use Rattle.rows_model.proofs.RowLaws.{children_few}
+use Rattle.rows_model.proofs.PlaceLaws.{place_bound}
+use Rattle.rows_model.proofs.Words.{node_at, rows_many}
 use Rattle.run_splice.specs.Promises.{SplicedMarks}
 use Rattle.splices_model.specs.Cuts.{part_at, gain, left_cut, start_cut, cut_at, cuts_to, Holds, Told}
 use Rattle.splices_model.specs.Bounds.{Bounded, BoundedTo, part_is, part_long}

@@ -15,7 +15,7 @@ use Rattle.definition.specs.Refusals.{accepted}
 use Rattle.definition.specs.Writing.{differ}
 use Rattle.definition.specs.Finishing.{encoded, fitting}
 use Rattle.definition.specs.Answers.{too_short, with_work, with_choices, plan, performed, at_first, ran, edit}
-use Rattle.definition_laws.specs.Limits.{encoded_within}
+use Rattle.definition_laws.proofs.Limits.{encoded_within}
 use Rattle.promises.specs.Slices.{needed, lengths, zeros, zeroed}
 use Rattle.promises.specs.Promises as promises
 use Rattle.promises.specs.Serving.{of_length}

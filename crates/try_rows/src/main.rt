@@ -1,5 +1,6 @@
 // Runs the functions on rows: S is root(X(a), b) with one-letter tokens, as the only tree under the root of all.
 #![tactic(auto)]
+
 use rows_path::{Resolved, resolve};
 use std::io;
 

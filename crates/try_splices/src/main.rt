@@ -2,6 +2,7 @@
 // their numbers.
 // The old tree is root(X(a, b), Y(c), d), with one-letter tokens: rows 0 to 6.
 #![tactic(auto)]
+
 use splices_list::Outcome;
 use splices_model::SPLICE_WORDS;
 use std::io;

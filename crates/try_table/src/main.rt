@@ -1,5 +1,6 @@
 // Line 5 and the element table on document 01's printed case: tree 0 is a node of the tokens "a" and "b", tree 1 a node of the token "c".
 #![tactic(auto)]
+
 use std::io;
 
 const KINDS_AND_MEASURES: [u8; 40] = [

@@ -12,10 +12,9 @@ returns-then-n-target c = search (wrong_target, rules)
 pub returns-then-not-all_below : goal.returns-then-not-all_below
 returns-then-not-all_below c = search (wrong_listed, rules)
 
-pub call_fits-requires : goal.call_fits-requires
-call_fits-requires c =
-    let c = c in
-    (search rules, (search (known_operation, rules), search rules, first_below _ _ _ _ _ c.if-n-target.false c.all_below.ensures c.if-not-all_below.false c.first_listed-first.ensures))
+pub call_fits-requires-clause-operation_bound : goal.call_fits-requires-clause-operation_bound
+call_fits-requires-clause-operation_bound c =
+    (search (known_operation, rules), search rules, first_below _ _ _ _ _ c.if-n-target.false c.all_below.ensures c.if-not-all_below.false c.first_listed-first.ensures)
 
 pub returns : goal.returns
 returns c = search (call_judged, rules)
