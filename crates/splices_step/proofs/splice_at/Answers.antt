@@ -9,11 +9,11 @@ use Rattle.splices_step.proofs.splice_at.Goals as goal
 pub splice-requires : goal.splice-requires
 splice-requires c =
     let c = c in
-    let l = run_long c.args.splices.now c.args.prepared.now c.args.i c.requires.1.0.1 c.word-from.ensures c.word.ensures in
-    let t = c.requires.1.1.1 in
-    let w = c.requires.1.1.0 in
-    let f : 3 * c.args.n ≤ length c.args.rows.now = omega (arith, c.requires.0.0) in
-    ((f, c.requires.0.1, w.low, w.order, w.high, c.requires.0.2), (search rules, (takes_node _ _ _ _ t, takes_lost _ _ _ _ t, takes_gained _ _ _ _ t)))
+    let l = run_long c.args.splices.now c.args.prepared.now c.args.i c.requires.i_in_bounds_2.1 c.word-from.ensures c.word.ensures in
+    let t = c.requires.gap_at.1 in
+    let w = c.requires.gap_at.0 in
+    let f : 3 * c.args.n ≤ length c.args.rows.now = omega (arith, c.requires.i_in_bounds.0) in
+    record { n_in_bounds = (f, c.requires.i_in_bounds.1, w.low, w.order, w.high, c.requires.i_in_bounds.2); run_len = search rules; bound = (takes_node _ _ _ _ t, takes_lost _ _ _ _ t, takes_gained _ _ _ _ t) }
 
 pub returns : goal.returns
 returns c = search (stepped, rules)
