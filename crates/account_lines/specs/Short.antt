@@ -19,7 +19,7 @@ use Rattle.definition.specs.Account.{renumbered, account_of, overlap_line, said,
 use Rattle.definition_laws.specs.Answers.{given, gives_inj}
 use Rattle.definition_laws.specs.Accepted.{Known, accepts}
 use Rattle.definition_laws.specs.Plans.{checked, sorted_count}
-use Rattle.withdraw_laws.specs.Choice.{withdrawing_length}
+use Rattle.withdraw_laws.proofs.Choice.{withdrawing_length}
 use Rattle.edit_print.specs.Lines.{line_of, line_of_length, spaced}
 use Rattle.account_lines.specs.Lines.{lines_length, sayings_length}
 

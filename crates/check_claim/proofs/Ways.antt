@@ -232,13 +232,13 @@ module _ (c : Claims) (o n p m : List ℕ) {x : Bool} (ex : x ≡ too_short (len
             let (s, pairs) = either_false (not (eqb (length c.old.kinds) (length c.old.measures)) || not (eqb (length c.new.kinds) (length c.new.measures))) _ step in
             let (s, s') = either_false (not (eqb (length c.old.kinds) (length c.old.measures))) _ s in
             record {
-              old_alike = sym (eqb-true _ _ s);
+              old_alike = sym (eqb-true _ _ (not-false _ s));
               old_few = ltb-false _ _ ak;
               old_short = ltb-false _ _ at;
-              new_alike = sym (eqb-true _ _ s');
+              new_alike = sym (eqb-true _ _ (not-false _ s'));
               new_few = ltb-false _ _ bk;
               new_short = ltb-false _ _ bt;
-              pairs = sym (eqb-true _ _ pairs);
+              pairs = sym (eqb-true _ _ (not-false _ pairs));
             }
 
         module _ {b : Bool} {old new : List ℕ} (k : ReadsBoth (zip c.old.kinds c.old.measures) (length c.old.text) (zip c.new.kinds c.new.measures) (length c.new.text) b old new) where

@@ -17,11 +17,5 @@ pub mod Check
 pub mod Layout
 pub mod Examples
 pub mod ListLaws
-pub mod Meaning
-pub mod Sweep
 pub mod Claimed
 pub mod ClaimedExamples
-pub mod Alone
-pub mod Own
-pub mod Formed
-pub mod Output

@@ -18,8 +18,8 @@ use Rattle.definition.specs.Elements.{Table, table, parent}
 use Rattle.definition_laws.specs.Kin.{IsParent, Kin, root, below, kin}
 use Rattle.read_element_table.specs.Told.{element_of}
 use Rattle.check_laws.specs.Check.{is_covered}
-use Rattle.check_laws.specs.Meaning.{ParentsPair, Covered, Says, covered_told, told_covered}
-use Rattle.check_laws.specs.Sweep.{covered_root, covered_below}
+use Rattle.check_laws.proofs.Meaning.{ParentsPair, Covered, Says, covered_told, told_covered}
+use Rattle.check_laws.proofs.Sweep.{covered_root, covered_below}
 use Rattle.check_model.specs.Clauses.{entry, loose, accounted}
 
 -- a test against 0

@@ -11,8 +11,8 @@ use Rattle.definition.specs.Elements.{Table, table, row, parent, child}
 use Rattle.definition_laws.specs.Rows.{row_of}
 use Rattle.definition_laws.specs.Kin.{IsParent, Kin, root, below, kin, parent_is, stands}
 use Rattle.definition_laws.specs.Intervals.{after, line_interval, interval_line}
-use Rattle.check_laws.specs.Meaning.{Before, ParentsPair, Says}
-use Rattle.check_laws.specs.Sweep.{sibling_order}
+use Rattle.check_laws.proofs.Meaning.{Before, ParentsPair, Says}
+use Rattle.check_laws.proofs.Sweep.{sibling_order}
 use Rattle.check_model.specs.Pairing.{same?}
 
 -- two that are told apart by a number, and have the same, are one

@@ -13,13 +13,5 @@
 --     Numbers   from paths to the element numbers of the result
 --     Dropped   which old paths are dropped
 pub mod Words
-pub mod Changed
-pub mod Moving
-pub mod Splice
-pub mod Run
-pub mod Numbers
-pub mod Dropped
-pub mod Account
 pub mod Moved
-pub mod Tokens
 pub mod Examples

@@ -5,7 +5,7 @@ use mathlib.Core.List.{List, ◌∷◌, Permᴰ}
 use Rattle.orders.specs.Lists.{All}
 use Rattle.orders.specs.Tree.{Tree, Path}
 use Rattle.orders.specs.Splices.{Splice, begin, performs, AllApart}
-use Rattle.orders.proofs.Demand.{Demanded, demand, orders_agree}
+use Rattle.orders.proofs.Demand.{Demanded}
 use Rattle.definition.specs.Basics.{gives}
 use Rattle.definition.specs.Choices.{Choices}
 use Rattle.definition.specs.Elements.{table}
@@ -18,8 +18,8 @@ use Rattle.definition.specs.Finishing.{Result, encoded}
 use Rattle.definition.specs.Answers.{Plan, plan, edit, edited}
 use Rattle.definition_laws.specs.Right.{Sits}
 use Rattle.definition_demand.specs.Aims.{replaces_root}
-use Rattle.definition_demand.specs.Run.{splices_in0, DemandedOf, run_demanded}
-use Rattle.definition_demand.specs.Answered.{ApartIn, AnswersOneGo, answers_one_go, edited_result}
+use Rattle.definition_demand.specs.Run.{splices_in0, DemandedOf}
+use Rattle.definition_demand.specs.Answered.{ApartIn, AnswersOneGo}
 
 -- what demand 3 says
 pub record Demand3 : Type 1 where
@@ -39,6 +39,3 @@ pub record Demand3 : Type 1 where
   pub answer : (h : Choices) (bytes : List ℕ) (r : Result) → edit h bytes ≡ gives r → (a : Accepted) (p : Plan) → accepted bytes ≡ gives a → plan h a ≡ gives p → (old : Tree ℕ) → ApartIn old a p → AnswersOneGo old a p r
   -- and what THE EDIT writes is such an answer, as bytes
   pub bytes : (h : Choices) (work : List (ℕ × ℕ)) (bytes : List ℕ) (room : ℕ) (out : List ℕ) → edited h work bytes room ≡ gives out → (r : Result) × (edit h bytes ≡ gives r) × (encoded r ≡ out)
-
-pub demand_3 : Demand3
-demand_3 = record { law = demand; agree = orders_agree; run = run_demanded; answer = answers_one_go; bytes = edited_result }

@@ -5,11 +5,7 @@
 --     Run      any performed list of changes whose splices are apart: tree 0 and its paths are as demand 3 says
 --     Answered a batch whose splices are apart answers with the one-go tree; a test for that
 --     Demand3  DEMAND 3, whole
---     Examples a batch whose splices are apart, one whose are not, and one that replaces the root
-pub mod Tree0
 pub mod Aims
-pub mod Step
-pub mod Run
 pub mod Answered
 pub mod Demand3
-pub mod Examples
+pub mod Run

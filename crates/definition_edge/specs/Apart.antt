@@ -34,7 +34,8 @@ use Rattle.definition_laws.specs.Stages.{numbered_all}
 use Rattle.definition_laws.specs.Moves.{stay_keeps}
 use Rattle.definition_laws.specs.Performed.{met_all, splices_placed}
 use Rattle.definition_demand.specs.Aims.{replaces_root}
-use Rattle.definition_demand.specs.Run.{splices_in0, splices_rise, run_made, tree0_begin}
+use Rattle.definition_demand.specs.Run.{splices_in0}
+use Rattle.definition_demand.proofs.Run.{splices_rise, run_made, tree0_begin}
 use Rattle.definition_demand.specs.Answered.{ApartIn}
 use Rattle.definition_account.specs.Words.{dependent_in0, keeps_root, no_dependent_in0}
 use Rattle.definition_edge.specs.Gone.{Missed, missed}

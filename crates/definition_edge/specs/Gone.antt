@@ -12,7 +12,7 @@ use Rattle.orders.specs.Tree.{Run, Path, adjust}
 use Rattle.orders.specs.Splices.{Splice, State, inserted, perform_at}
 use Rattle.orders.proofs.Target.{Target, first_child, after_child, children, run_by_target, perform_by_targets}
 use Rattle.definition_laws.specs.Moves.{Keeps, adjust_keeps, more_keeps}
-use Rattle.definition_account.specs.Dropped.{target_drops}
+use Rattle.definition_account.proofs.Dropped.{target_drops}
 
 -- child k is the first or the last that t deletes
 pub record End {A : Type 0} (t : Splice A) (k : ℕ) : Type 0 where

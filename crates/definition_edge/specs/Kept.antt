@@ -34,10 +34,12 @@ use Rattle.definition_laws.specs.Plans.{checked, changes, changes_right, plan_pa
 use Rattle.definition_laws.specs.Stages.{fates_by_1}
 use Rattle.definition_laws.specs.Right.{Right, Sits, right_sits}
 use Rattle.definition_demand.specs.Aims.{replaces_root}
-use Rattle.definition_demand.specs.Run.{splices_in0, DemandedOf, met_step}
-use Rattle.definition_demand.specs.Answered.{ApartIn, AnswersOneGo, ran_demanded, answers_one_go}
+use Rattle.definition_demand.specs.Run.{splices_in0, DemandedOf}
+use Rattle.definition_demand.proofs.Run.{met_step}
+use Rattle.definition_demand.specs.Answered.{ApartIn, AnswersOneGo}
+use Rattle.definition_demand.proofs.Answered.{ran_demanded, answers_one_go}
 use Rattle.definition_account.specs.Words.{keeps_root, no_dependent_in0}
-use Rattle.definition_account.specs.Run.{first_present}
+use Rattle.definition_account.proofs.Run.{first_present}
 use Rattle.definition_edge.specs.Fates.{FateAt}
 use Rattle.definition_edge.specs.Where.{goes_at}
 use Rattle.definition_edge.specs.Own.{planned_by, planned1, performed_right, alone, mem_numbered, own_performed}

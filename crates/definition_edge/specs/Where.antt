@@ -23,7 +23,7 @@ use Rattle.definition_laws.specs.Spelling.{Worded, forest_worded}
 use Rattle.definition_laws.specs.Kin.{IsParent, Kin, root, below, kin, path_leads, path_tells, not_root, root_is}
 use Rattle.definition_laws.specs.Right.{Sits}
 use Rattle.definition_laws.specs.Running.{worded_resolve}
-use Rattle.definition_account.specs.Run.{first_present}
+use Rattle.definition_account.proofs.Run.{first_present}
 
 -- ── Words ───────────────────────────────────────────────────────────────────────────────────────────────────
 

@@ -12,7 +12,7 @@ use Rattle.std.proofs.Math.ListN.{length}
 use Rattle.std.proofs.lemmas.List.{length-map}
 use Rattle.orders.specs.Lists.{All, pick, more, total}
 use Rattle.orders.specs.ListLaws.{some_inj, none_some, map_some}
-use Rattle.orders.specs.Tree.{list, forest, label, measure, text, preorder, Path, adjust, elements_of, text_of, deepest_of, children}
+use Rattle.orders.specs.Tree.{list, forest, label, measure, text, preorder, Path, adjust, elements_of, text_of, children}
 use Rattle.orders.proofs.TreeLaws.{list_forest, forest_list}
 use Rattle.definition.specs.Basics.{Answer, refused, gives, ◌>>=◌, refuse, or_refuse, keep}
 use Rattle.definition.specs.Words.{bytes, written}

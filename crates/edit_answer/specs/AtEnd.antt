@@ -41,9 +41,10 @@ use Rattle.run_annotations.specs.Notes.{notes_of}
 use Rattle.run_annotations.specs.Changed.{changed_in}
 use Rattle.run_tree_store.specs.Stored.{stored}
 use Rattle.finish_model.specs.Finished.{result_of, first_tree}
-use Rattle.finish_model.specs.Alike.{find_row, find_in_lem}
+use Rattle.finish_model.specs.Alike.{find_row}
+use Rattle.finish_model.proofs.Alike.{find_in_lem}
 use Rattle.finish_find.specs.OldStart.{TreesTold}
-use Rattle.finish_model.specs.Result.{result_rows}
+use Rattle.finish_model.proofs.Result.{result_rows}
 use Rattle.finish_result.specs.Weighed.{Weighs}
 use Rattle.finish_result.specs.Answered.{length_of, fitted, over_front, Answered, answered_result}
 use Rattle.finish_result.specs.declared.Finished.{Finished}

@@ -20,7 +20,7 @@ use Rattle.definition_laws.specs.Answers.{given, gives_inj}
 use Rattle.account_lines.specs.Short.{most_text, account_short}
 use Rattle.definition_laws.specs.Basics.{All-append}
 use Rattle.share_laws.specs.Share.{shared}
-use Rattle.share_laws.specs.Laws.{share_ran, ran_fits}
+use Rattle.share_laws.proofs.Laws.{share_ran, ran_fits}
 use Rattle.definition_laws.specs.Limits.{most_bytes}
 use Rattle.definition_laws.proofs.Limits.{encoded_within, ran_known}
 

@@ -26,7 +26,7 @@ use Rattle.definition_laws.specs.Basics.{map_All}
 use Rattle.definition_laws.specs.Plans.{performed_right, performed_few, performed_ruled}
 use Rattle.definition_laws.specs.Right.{Right}
 use Rattle.definition_laws.specs.Staying.{staying_alike}
-use Rattle.withdraw_laws.specs.Choice.{withdrawing_length}
+use Rattle.withdraw_laws.proofs.Choice.{withdrawing_length}
 use Rattle.definition_laws.proofs.Limits.{performed_records, ran_changed, ran_known}
 use Rattle.read_element_table.specs.View.{view}
 use Rattle.plan_mapping.specs.Mapped.{words_at}
@@ -40,7 +40,7 @@ use Rattle.read_batch.specs.Leaving.{Leaves}
 use Rattle.run_annotations.specs.Changed.{length_changed_in}
 use Rattle.run_prepare.specs.Parts.{notes_in, notes_part}
 use Rattle.run_model.specs.Store.{held_changed, Store, store, store_steps}
-use Rattle.run_model.specs.Step.{in_rows, ran_store}
+use Rattle.run_model.proofs.Step.{in_rows, ran_store}
 use Rattle.run_tree_store.specs.Stored.{stored, stored_first}
 use Rattle.plan_model.specs.Ready.{listed_in, leaves_ready, ready_facts}
 use Rattle.plan_model.specs.Fated.{rows_each}

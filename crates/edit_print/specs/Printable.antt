@@ -7,7 +7,7 @@ use Rattle.definition.specs.Finishing.{Result, encoded}
 use Rattle.definition_laws.specs.Limits.{Within}
 use Rattle.definition_laws.proofs.Limits.{encoded_length}
 use Rattle.result_laws.specs.Decoded.{text_at}
-use Rattle.result_laws.specs.Encoded.{elements_read, text_read, changed_read, notes_read}
+use Rattle.result_laws.proofs.Encoded.{elements_read, text_read, changed_read, notes_read}
 
 -- `long` bytes hold what the sizes say, and there is room for what is printed of it: at most 69 bytes for the sizes, 24 for an element, 6 and 2 for each byte
 -- for the text, 30 for a changed element and 27 for a note

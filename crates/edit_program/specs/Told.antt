@@ -18,9 +18,9 @@ use Rattle.edit_algo.specs.declared.Answer.{Answer}
 use Rattle.edit_algo.specs.declared.Answer.TheVariants.{Refused, Edited}
 use Rattle.promises.specs.Promises.{Edits, applied, wrongly_chosen}
 use Rattle.edit_algo.specs.Numbers.{answer_of}
-use Rattle.result_laws.specs.Worded.{Bytes, edit_worded}
+use Rattle.result_laws.proofs.Worded.{Bytes, edit_worded}
 use Rattle.result_laws.specs.Decoded.{decoded}
-use Rattle.result_laws.specs.Encoded.{decoded_encoded}
+use Rattle.result_laws.proofs.Encoded.{decoded_encoded}
 use Rattle.edit_print.specs.Printable.{Printable, encoded_printable}
 use Rattle.edit_print.specs.Lines.{Put}
 use Rattle.promises_read.specs.Answered.{answer_in}

@@ -20,7 +20,7 @@ use Rattle.rows_model.proofs.Words.{kind_word, measure_word, node_row, length_tr
 use Rattle.rows_syntax_node.specs.Promises.{Measured}
 use Rattle.rows_syntax_node.proofs.Turns.{Summing, summing_start, summing_next}
 use Rattle.finish_model.specs.Finished.{starts}
-use Rattle.finish_model.specs.Numbers.{starts_at}
+use Rattle.finish_model.proofs.Numbers.{starts_at}
 use Rattle.finish_arrays.specs.Starts.{Starts, length_starts, starts_listed}
 use Rattle.finish_arrays.specs.Sweep.{elements_over, Swept, row_each}
 use Rattle.finish_arrays.specs.TextSizes.{bytes_any, own_few}

@@ -9,7 +9,7 @@ use Rattle.rows_model.specs.Place.{subtree}
 use Rattle.rows_model.proofs.Words.{length_first}
 use Rattle.rows_syntax_node.specs.Promises.{Part}
 use Rattle.finish_model.specs.Finished.{first_tree}
-use Rattle.finish_model.specs.Numbers.{tree_few}
+use Rattle.finish_model.proofs.Numbers.{tree_few}
 use Rattle.finish_arrays.specs.TextSizes.{bytes_any, bytes_part}
 
 module _ {rows : List ℕ} {n : ℕ} {tree : List ℕ} (p : Part rows n 1 tree) where

@@ -12,7 +12,7 @@ use Rattle.rows_model.proofs.PlaceLaws.{place_lt}
 use Rattle.rows_model.proofs.Words.{length_triples}
 use Rattle.rows_path.specs.Offset.{offset, path_start}
 use Rattle.finish_model.specs.Finished.{starts}
-use Rattle.finish_model.specs.Numbers.{starts_at}
+use Rattle.finish_model.proofs.Numbers.{starts_at}
 
 -- l is d with the text start of each row of a tree at its front
 pub record Starts (tree d l : List ℕ) : Type 0 where

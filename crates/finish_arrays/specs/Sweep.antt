@@ -10,7 +10,7 @@ use Rattle.definition.specs.Finishing.{new_tree}
 use Rattle.rows_model.specs.Row.{kind, measure, triples, rows_of}
 use Rattle.rows_model.proofs.Words.{length_triples}
 use Rattle.finish_model.specs.Finished.{first_tree}
-use Rattle.finish_model.specs.Numbers.{tree_elements}
+use Rattle.finish_model.proofs.Numbers.{tree_elements}
 
 -- the kinds of n elements at `at`, and their measures behind them
 unfoldable pub elements_over : ℕ → List ℕ → List ℕ → ℕ → List ℕ → List ℕ

@@ -4,6 +4,4 @@
 --     Result     the result: the definition's
 --     Alike      the first node with a kind and a text start, by the rows
 pub mod Finished
-pub mod Numbers
-pub mod Result
 pub mod Alike

@@ -15,7 +15,7 @@ use Rattle.rows_syntax_node.specs.Promises.{Part}
 use Rattle.run_model.specs.Store.{HeldNote, HeldChanged, Store, store}
 use Rattle.run_tree_store.specs.Stored.{stored}
 use Rattle.finish_model.specs.Finished.{first_tree, result_of}
-use Rattle.finish_model.specs.Result.{result_rows}
+use Rattle.finish_model.proofs.Result.{result_rows}
 use Rattle.finish_arrays.specs.Sweep.{Counts}
 use Rattle.finish_result.specs.declared.Finished.{Finished}
 use Rattle.finish_result.specs.declared.Finished.TheVariants.{Short, Bytes}

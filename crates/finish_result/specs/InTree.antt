@@ -15,7 +15,7 @@ use Rattle.rows_model.specs.Place.{rows_after}
 use Rattle.run_model.specs.Store.{HeldNote, HeldChanged, Store, with_row}
 use Rattle.run_annotations.specs.Promises.{note_in}
 use Rattle.finish_model.specs.Finished.{first_tree, number_of, starts, start_of, changed_numbers, note_numbers, result_of}
-use Rattle.finish_model.specs.Numbers.{tree_end}
+use Rattle.finish_model.proofs.Numbers.{tree_end}
 use Rattle.finish_sort.specs.Keys.{element_in, start_key, note_key}
 
 -- the result, from the number of discarded changes, the climb steps, the rows of the new tree, its changed elements and its notes, whose rows are element numbers

@@ -10,7 +10,7 @@ use Rattle.definition.specs.Finishing.{Result, result}
 use Rattle.definition.specs.Answers.{Plan, plan, performed, ran, edit}
 use Rattle.definition_laws.specs.Answers.{gives_inj, given}
 use Rattle.definition_account.specs.Words.{keeps_root, no_dependent_in0}
-use Rattle.result_laws.specs.Worded.{Bytes}
+use Rattle.result_laws.proofs.Worded.{Bytes}
 use Rattle.result_laws.specs.Decoded.{decoded}
 use Rattle.promises.specs.Promises.{Edits}
 use Rattle.promises_read.specs.Demand1.{demand_1}

@@ -27,7 +27,7 @@ use Rattle.definition_laws.specs.Spelling.{Worded, worded_list, Spells, spells_r
 use Rattle.definition_laws.proofs.Limits.{Ran, ran_known}
 use Rattle.definition_demand.specs.Run.{splices_in0}
 use Rattle.definition_account.specs.Words.{changed_in, changed_over, old_at, OneOf, EachOneOf, NowhereIfDeleted, keeps_root, no_dependent_in0}
-use Rattle.definition_account.specs.Account.{Performed, each_one_of, nowhere_if_deleted, ran_performed}
+use Rattle.definition_account.proofs.Account.{Performed, each_one_of, nowhere_if_deleted, ran_performed}
 use Rattle.full_account.specs.Words.{trees_in, table_in, changed_above, Accounted, Sheet, sheet_of, sheet, condition?, full?}
 use Rattle.full_account.specs.Says.{full_says}
 

@@ -11,7 +11,7 @@ use Rattle.definition.specs.Computing.{computed}
 use Rattle.definition.specs.Examples.{in_lists, in_bytes}
 use Rattle.definition.specs.EdgeExamples.{edge}
 use Rattle.definition_laws.specs.Answers.{gives_inj, given}
-use Rattle.result_laws.specs.Worded.{tested_bytes}
+use Rattle.result_laws.proofs.Worded.{tested_bytes}
 use Rattle.result_laws.specs.Decoded.{decoded}
 use Rattle.promises.specs.Promises.{Edits}
 use Rattle.promises_read.specs.Demand1.{demand_1}

@@ -23,10 +23,10 @@ use Rattle.definition_laws.specs.Running.{present_kind}
 use Rattle.definition_laws.specs.Held.{Holds}
 use Rattle.definition_laws.proofs.Limits.{ran_known}
 use Rattle.definition_account.specs.Words.{went_to, count, old_elements, is?, old_at, OneOf, changed, old, no_dependent_in0}
-use Rattle.definition_account.specs.Run.{Kept, first_present, first_kept, steps_kept, present_within}
-use Rattle.definition_account.specs.Numbers.{went_path}
-use Rattle.definition_account.specs.Account.{Performed, ran_performed}
-use Rattle.definition_account.specs.Tokens.{performed_tokens}
+use Rattle.definition_account.proofs.Run.{Kept, first_present, first_kept, steps_kept, present_within}
+use Rattle.definition_account.proofs.Numbers.{went_path}
+use Rattle.definition_account.proofs.Account.{Performed, ran_performed}
+use Rattle.definition_account.proofs.Tokens.{performed_tokens}
 use Rattle.full_account.specs.Words.{trees_in, table_in, changed_above}
 use Rattle.full_account.specs.Says.{all_kept, each_of}
 use Rattle.full_account.specs.Holds.{trees_read, each_accounted}

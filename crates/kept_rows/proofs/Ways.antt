@@ -21,7 +21,7 @@ use Rattle.rows_model.specs.Place.{in_run, rows_after, subtree}
 use Rattle.rows_model.proofs.Words.{length_first}
 use Rattle.rows_syntax_node.specs.Promises.{Part}
 use Rattle.finish_model.specs.Finished.{first_tree}
-use Rattle.finish_model.specs.Numbers.{tree_end, tree_few}
+use Rattle.finish_model.proofs.Numbers.{tree_end, tree_few}
 use Rattle.promises.specs.Promises.{left_in}
 use Rattle.promises.specs.Keeping.{pair_bytes}
 use Rattle.promises.specs.Serving.{outcome, written as answered, Tells}

@@ -21,17 +21,17 @@ use Rattle.definition_laws.specs.Rows.{table_length}
 use Rattle.definition_laws.specs.Running.{top}
 use Rattle.definition_laws.specs.Held.{Holds}
 use Rattle.definition_account.specs.Words.{went_to}
-use Rattle.definition_account.specs.Run.{Kept}
-use Rattle.definition_account.specs.Numbers.{present_leads}
-use Rattle.definition_account.specs.Account.{ran_performed}
+use Rattle.definition_account.proofs.Run.{Kept}
+use Rattle.definition_account.proofs.Numbers.{present_leads}
+use Rattle.definition_account.proofs.Account.{ran_performed}
 use Rattle.check_laws.specs.ListLaws.{numbers_of}
 use Rattle.check_laws.specs.Claimed.{old_tree, own_pairs}
-use Rattle.check_laws.specs.Own as own
+use Rattle.check_laws.proofs.Own as own
 use Rattle.rows_model.specs.Row.{Row, rows_of, rows_all}
 use Rattle.rows_model.proofs.RowLaws.{size_all_elements, size_below}
 use Rattle.rows_model.specs.Place.{rows_after, in_run, mark, mark_of}
 use Rattle.finish_model.specs.Finished.{first_tree, number_of}
-use Rattle.finish_model.specs.Numbers.{first_tree_lem, tree_few, number_row}
+use Rattle.finish_model.proofs.Numbers.{first_tree_lem, tree_few, number_row}
 
 -- the pair of the element x, where there is a new number
 unfoldable pub pair_at : ℕ → Option ℕ → List (ℕ × ℕ)

@@ -22,7 +22,7 @@ use Rattle.definition.specs.Answers.{withdrawing}
 use Rattle.definition_laws.specs.Basics.{up_from, up_long}
 use Rattle.definition_laws.specs.Answers.{gives_inj}
 use Rattle.definition_laws.specs.Staying.{staying_whole}
-use Rattle.withdraw_laws.specs.Choice.{none_off}
+use Rattle.withdraw_laws.proofs.Choice.{none_off}
 use Rattle.read_element_table.specs.Told.{length_view}
 use Rattle.record_changes.specs.ChangeRow.{ChangeRow, rows_of}
 use Rattle.record_changes.specs.ChangeRowLaws.{row_at, rows_words, rows_read, rows_front, row_among, length_rows_of}

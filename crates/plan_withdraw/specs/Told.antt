@@ -25,8 +25,8 @@ use Rattle.definition_laws.specs.Stages.{numbered_all}
 use Rattle.definition.specs.Withdrawing as rule
 use Rattle.definition.specs.Withdrawing.{Numbered, replaces, numbers_left}
 use Rattle.withdraw_laws.specs.Lists.{keep_passes}
-use Rattle.withdraw_laws.specs.Kept.{shares_element}
-use Rattle.withdraw_laws.specs.Numbers.{numbers_from, numbers_are}
+use Rattle.withdraw_laws.proofs.Kept.{shares_element}
+use Rattle.withdraw_laws.proofs.Numbers.{numbers_from, numbers_are}
 use Rattle.read_element_table.specs.View.{field, line_from, row_at as element_at, view}
 use Rattle.read_element_table.specs.Wellformed.{Wellformed}
 use Rattle.read_element_table.specs.Told.{length_view, row_view, deep}

@@ -10,9 +10,9 @@ use Rattle.definition.specs.Answers.{edit, edited, too_short, with_work, with_ch
 use Rattle.definition.specs.FindElement.{find_element}
 use Rattle.definition_laws.specs.Limits.{most_bytes}
 use Rattle.definition_laws.proofs.Limits.{edit_within, encoded_within}
-use Rattle.result_laws.specs.Worded.{Bytes, edit_worded}
+use Rattle.result_laws.proofs.Worded.{Bytes, edit_worded}
 use Rattle.result_laws.specs.Decoded.{decoded}
-use Rattle.result_laws.specs.Encoded.{decoded_encoded}
+use Rattle.result_laws.proofs.Encoded.{decoded_encoded}
 use Rattle.promises.specs.Slices.{needed, lengths}
 use Rattle.promises.specs.Promises.{left_in, Edits, Finds, applied, found, long_edited, long_found}
 

@@ -10,7 +10,7 @@ use Rattle.definition.specs.Choices.{Choices, chosen}
 use Rattle.definition.specs.Finishing.{Result, encoded, fitting}
 use Rattle.definition.specs.Answers.{edit, edited, too_short, with_work, with_choices}
 use Rattle.definition_laws.specs.Answers.{gives_inj, refused_gives, given, not_wrong}
-use Rattle.definition_demand.specs.Answered.{edited_result}
+use Rattle.definition_demand.proofs.Answered.{edited_result}
 use Rattle.promises.specs.Slices.{needed, lengths, zeros, zeroed}
 use Rattle.promises.specs.Promises.{left_in, Edits, Finds}
 use Rattle.promises_read.specs.Refused.{edit_numbers, find_numbers, refused_inj, edited_numbered, found_numbered}

@@ -16,11 +16,12 @@ use Rattle.definition.specs.Answers.{Plan, plan}
 use Rattle.definition.specs.Performed.{splices, splices_of}
 use Rattle.definition_laws.specs.Limits.{Within}
 use Rattle.definition_laws.proofs.Limits.{encoded_length, edit_within}
-use Rattle.definition_demand.specs.Answered.{ApartIn, Shows, apart_batch?, one_go_of, tested_one_go}
-use Rattle.definition_demand.specs.Demand3.{demand_3}
-use Rattle.result_laws.specs.Worded.{Bytes, edit_worded}
+use Rattle.definition_demand.specs.Answered.{ApartIn, Shows, apart_batch?, one_go_of}
+use Rattle.definition_demand.proofs.Answered.{tested_one_go}
+use Rattle.definition_demand.proofs.Demand3.{demand_3}
+use Rattle.result_laws.proofs.Worded.{Bytes, edit_worded}
 use Rattle.result_laws.specs.Decoded.{text_at, told, decoded}
-use Rattle.result_laws.specs.Encoded.{elements_read, text_read, text_behind, decoded_encoded}
+use Rattle.result_laws.proofs.Encoded.{elements_read, text_read, text_behind, decoded_encoded}
 use Rattle.promises.specs.Promises.{Edits}
 use Rattle.promises_read.specs.Demand1.{Finished, demand_1}
 

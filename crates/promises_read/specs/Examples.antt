@@ -18,7 +18,7 @@ use Rattle.definition.specs.Computing.{computed}
 use Rattle.definition.specs.Examples.{Told, in_lists, in_bytes, node_of, token_of, Summary, Short, short, marked, further, told, answered, printed_case, printed_lines, with_notes, with_notes_lines, examples}
 use Rattle.definition.specs.EdgeExamples.{edge, closing_call}
 use Rattle.definition_laws.specs.Answers.{gives_inj, refused_gives}
-use Rattle.result_laws.specs.Worded.{Bytes, take_bytes, tested_bytes}
+use Rattle.result_laws.proofs.Worded.{Bytes, take_bytes, tested_bytes}
 use Rattle.result_laws.specs.Decoded.{decoded}
 use Rattle.promises.specs.Slices.{needed, lengths}
 use Rattle.promises.specs.Promises.{Edits, Finds}

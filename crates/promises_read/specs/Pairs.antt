@@ -24,15 +24,15 @@ use Rattle.definition_laws.specs.Measures.{preorder_list_length}
 use Rattle.definition_laws.specs.Rows.{table_length}
 use Rattle.definition_laws.proofs.Limits.{ran_known, new_elements}
 use Rattle.definition_account.specs.Words.{went_to}
-use Rattle.definition_account.specs.Account.{ran_performed}
+use Rattle.definition_account.proofs.Account.{ran_performed}
 use Rattle.words.specs.Bytes.{length_written, words_written, take_words, drop_words}
-use Rattle.result_laws.specs.Worded.{all_words}
+use Rattle.result_laws.proofs.Worded.{all_words}
 use Rattle.check_laws.specs.Check.{Claims, checked}
 use Rattle.check_laws.specs.ListLaws.{numbers_of}
-use Rattle.check_laws.specs.Alone.{first_row}
+use Rattle.check_laws.proofs.Alone.{first_row}
 use Rattle.check_laws.specs.Claimed.{old_tree, flat_of, own_pairs, own_claims, own_output, plain_run}
-use Rattle.check_laws.specs.Own as own
-use Rattle.check_laws.specs.Output.{own_accepted}
+use Rattle.check_laws.proofs.Own as own
+use Rattle.check_laws.proofs.Output.{own_accepted}
 use Rattle.promises.specs.Slices.{needed, lengths}
 use Rattle.promises.specs.Keeping.{kept_pairs, pair_bytes, paired, kept}
 use Rattle.promises.specs.Promises.{left_in, Keeps}

@@ -7,7 +7,7 @@ use Rattle.definition.specs.Choices.{Choices, chosen}
 use Rattle.definition.specs.Finishing.{fitting}
 use Rattle.definition.specs.Answers.{edit, too_short}
 use Rattle.definition.specs.Printed.{print, printed}
-use Rattle.result_laws.specs.Worded.{Bytes}
+use Rattle.result_laws.proofs.Worded.{Bytes}
 use Rattle.promises.specs.Slices.{needed, lengths}
 use Rattle.promises.specs.Promises.{Edits}
 use Rattle.promises_read.specs.Answered.{answer_in, edit_fitted}

@@ -17,7 +17,7 @@ use Rattle.definition.specs.Computing.{computed}
 use Rattle.definition.specs.Examples.{Told, in_lists, in_bytes, call, on_s, two_after_x, with_notes}
 use Rattle.definition_demand.specs.Aims.{replaces_root}
 use Rattle.definition_demand.specs.Answered.{apart_in?, apart_plan?, apart_batch?, one_go_of}
-use Rattle.result_laws.specs.Worded.{tested_bytes}
+use Rattle.result_laws.proofs.Worded.{tested_bytes}
 use Rattle.promises.specs.Promises.{Edits}
 use Rattle.promises_read.specs.Answered.{Lent, Leaves, answer_in, edit_answered}
 use Rattle.promises_read.specs.Demand3.{Shown, demand_3_tested}

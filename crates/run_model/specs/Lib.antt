@@ -7,9 +7,4 @@
 --     Sums       rows and text bytes told before a splice
 --     Step       one step, and all steps: the definition's
 pub mod Store
-pub mod Gaps
-pub mod Parts
-pub mod Spliced
-pub mod Sizes
 pub mod Sums
-pub mod Step

@@ -8,7 +8,8 @@ use Rattle.orders.specs.Lists.{pick}
 use Rattle.orders.specs.Tree.{shift}
 use Rattle.rows_model.specs.Row.{bytes, height}
 use Rattle.run_model.specs.Store.{HeldNote, HeldChanged, with_row, Store, Gap, Part, new_rows, spliced_store, store_too_large}
-use Rattle.run_model.specs.Sums.{Within, splice_length}
+use Rattle.run_model.specs.Sums.{Within}
+use Rattle.run_model.proofs.Sums.{splice_length}
 use Rattle.run_prepare.specs.declared.Prepared.TheVariants.{TooMany}
 use Rattle.run_prepare.specs.Yields.{new_notes, prepared_by, over, part_in}
 use Rattle.run_prepare.specs.Promises.{ElementsPrepared}

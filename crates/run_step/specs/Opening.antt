@@ -22,9 +22,10 @@ use Rattle.rows_model.proofs.PlaceLaws.{place_lt, place_bound}
 use Rattle.rows_model.proofs.Words.{rows_many, node_at}
 use Rattle.run_model.specs.Store as model
 use Rattle.run_model.specs.Store.{held_note, held_changed, store, gap}
-use Rattle.run_model.specs.Gaps.{gap_at, gap_place}
-use Rattle.run_model.specs.Sums.{Within, gap_within}
-use Rattle.run_model.specs.Step.{paths_held}
+use Rattle.run_model.proofs.Gaps.{gap_at, gap_place}
+use Rattle.run_model.specs.Sums.{Within}
+use Rattle.run_model.proofs.Sums.{gap_within}
+use Rattle.run_model.proofs.Step.{paths_held}
 use Rattle.read_element_table.specs.View.{view}
 use Rattle.run_annotations.specs.Notes.{notes_of, length_notes_of}
 use Rattle.run_annotations.specs.Changed.{changed_in, count_by}

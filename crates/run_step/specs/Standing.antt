@@ -31,7 +31,7 @@ use Rattle.rows_model.specs.Place.{mark_of}
 use Rattle.rows_model.proofs.Words.{rows_many}
 use Rattle.rows_model.proofs.Numbers.{element_row}
 use Rattle.run_model.specs.Store.{held_note, Store, store, store_step}
-use Rattle.run_model.specs.Step.{Kept, step_store, step_kept}
+use Rattle.run_model.proofs.Step.{Kept, step_store, step_kept}
 use Rattle.read_element_table.specs.View.{view}
 use Rattle.read_element_table.specs.Told.{length_view}
 use Rattle.read_element_table.specs.Wellformed.{Lines}

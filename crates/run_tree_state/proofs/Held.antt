@@ -9,7 +9,7 @@ use lib.ListN.{length, get_or, length-map}
 use Rattle.orders.specs.Lists.{All, pick}
 use Rattle.rows_model.proofs.Words.{length_triples}
 use Rattle.run_model.specs.Store.{HeldChanged, put_in, Part, new_rows, placed_parts, spliced_store}
-use Rattle.run_model.specs.Spliced.{store_same}
+use Rattle.run_model.proofs.Spliced.{store_same}
 use Rattle.run_annotations.specs.Notes.{notes_of}
 use Rattle.run_annotations.specs.Places.{part_rows, part_rows_lem}
 use Rattle.run_annotations.specs.Changed.{changed_in, rule_by, count_by, put_by}
@@ -36,14 +36,14 @@ module _ {s : TreeState} {rows marks notes changed : List ℕ} {g : Gap} {record
   pub asks_notes : (3 * (s.rows - (g.to - g.from)) + length run ≤ length rows) × (3 * (length (pick (moved_note g.from g.to (length run / 3)) (notes_of s.notes notes)) + c) ≤ length notes)
       → ((3 * s.notes ≤ length notes) × (g.from ≤ g.to) × (g.to < 2 ^ 16) × (length run / 3 < 2 ^ 16) × All (λ n. n.row < 2 ^ 16) (notes_of s.notes notes))
       × ((3 * c ≤ length incoming) × (3 * (length (pick (moved_note g.from g.to (length run / 3)) (notes_of s.notes notes)) + c) ≤ length notes))
-  asks_notes h = ((v.long_notes, v.order, omega (arith, v.high, v.few), omega (arith, w.short), v.noted), (w.longComing, h.1))
+  asks_notes h = ((v.long_notes, v.order, omega (arith, v.high, v.few), omega (arith, w.short), v.noted), (w.long_coming, h.1))
 
   pub asks_changed : ((g.from ≤ g.to) × (g.to < 2 ^ 16) × (length run / 3 < 2 ^ 16) × All (λ c. c.row < 2 ^ 16) (changed_in s.changed changed))
       × ((s.changed + count_by recorded (length sizes) ≤ length changed) × (recorded ≤ 4096))
       × ((length sizes < 2 ^ 12) × All (λ x. x < 2 ^ 16) sizes × All (λ x. x < 131072) (part_rows g.from sizes))
   asks_changed =
       let at : g.from ≤ 4097 = omega (arith, v.order, v.high, v.few) in
-      ((v.order, omega (arith, v.high, v.few), omega (arith, w.short), v.held), (v.room, v.ruled), (omega (arith, w.fewParts), w.sized, places_small g.from 0 g.from sizes (omega arith) (omega arith) w.placed))
+      ((v.order, omega (arith, v.high, v.few), omega (arith, w.short), v.held), (v.room, v.ruled), (omega (arith, w.few_parts), w.sized, places_small g.from 0 g.from sizes (omega arith) (omega arith) w.placed))
 
 -- what is recorded, by the parts
 put_parts : (recorded at : ℕ) (new : List Part) → put_by recorded (part_rows at (map (λ y. length y.rows) new)) ≡ elim (rule_by recorded) as (λ _. List HeldChanged) [ none ↦ [] | some rule ↦ map (λ y. put_in rule y.0) (placed_parts at new) ]

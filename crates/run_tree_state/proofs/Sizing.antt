@@ -14,7 +14,8 @@ use Rattle.rows_model.specs.Row.{Row, triples, first_rows, bytes, height}
 use Rattle.rows_model.specs.Place.{between}
 use Rattle.rows_model.proofs.Words.{length_first, length_triples, words_between}
 use Rattle.run_model.specs.Store.{HeldNote, with_row, Part, new_rows, placed_parts, spliced_store, store_too_large}
-use Rattle.run_model.specs.Sums.{splice_bytes, too_large_by, too_large_sums}
+use Rattle.run_model.specs.Sums.{too_large_by}
+use Rattle.run_model.proofs.Sums.{splice_bytes, too_large_sums}
 use Rattle.rows_syntax_node.specs.Promises.{Bytes, Height}
 use Rattle.run_annotations.specs.Notes.{notes_of, length_notes_of}
 use Rattle.run_annotations.specs.Changed.{rule_by}

@@ -27,7 +27,7 @@ pub struct TreeState {
     pub changed: usize,
 }
 
-// The covered splice, by value: the rows of the gap give way to a run of parts of these sizes, with `c` notes that come in; what is held then has `bytes`
+// The splice, by value: the rows of the gap give way to a run of parts of these sizes, with `c` notes that come in; what is held then has `bytes`
 // text bytes. `recorded` is one more than the rule number that the parts are recorded by, 0 if they are not.
 fn splice_store(
     s: TreeState,
@@ -107,10 +107,9 @@ fn replace_store(
 }
 
 // ── The state, lent to each splice step ──
-// Two thin functions over `&mut TreeState`, proved by hand: the covered splice does the work. A function that lends a record is not walked by the prover,
-// nor is its caller, so above each stands one by value, and the run calls that.
+// Two thin functions over `&mut TreeState`: the splice by value does the work. Above each stands one by value, and the run calls that.
 
-// Rust: TreeState::splice. The state is lent, and the covered function's answer is stored in it.
+// Rust: TreeState::splice. The state is lent, and the answer of the function by value is stored in it.
 fn splice(
     t: &mut TreeState,
     rows: &mut [u32],

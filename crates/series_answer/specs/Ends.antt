@@ -35,7 +35,7 @@ use Rattle.edit_perform.specs.declared.Performed.TheVariants.{Refused as Stopped
 use Rattle.edit_answer.specs.AtEnd.{answered_edit}
 use Rattle.series_laws.specs.Follow.{Step, step}
 use Rattle.series_laws.specs.Lent.{tree_bytes, fits, left_in}
-use Rattle.series_laws.specs.Passing.{Done}
+use Rattle.series_laws.proofs.Passing.{Done}
 use Rattle.series_move.specs.Ready.{LeftBy, step_of, done_of, step_of_lem}
 use Rattle.series_tree.specs.New.{new_in, room_left}
 use Rattle.series_leave.specs.Leaving.{lent_of, Leaving}

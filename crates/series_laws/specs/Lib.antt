@@ -16,9 +16,3 @@ pub mod Memory
 pub mod Follow
 pub mod Lent
 pub mod Examples
-pub mod Moves
-pub mod Roots
-pub mod Passing
-pub mod ReadBack
-pub mod Series
-pub mod Replaced

@@ -8,7 +8,7 @@ use Rattle.rows_model.specs.Row.{rows_of, first_rows, bytes}
 use Rattle.series_laws.specs.Memory.{Memory, most_later}
 use Rattle.series_laws.specs.Follow.{Step}
 use Rattle.series_laws.specs.Lent.{Lent, tree_bytes, tree_out, over, lent, left_in}
-use Rattle.series_laws.specs.Passing.{Done}
+use Rattle.series_laws.proofs.Passing.{Done}
 use Rattle.series_move.specs.Packing.{Moving, bookmarks_after}
 use Rattle.series_move.specs.Ready.{LeftBy, ready_moving, ready_room, ready_left}
 use Rattle.series_tree.specs.New.{new_in, room_left, tree_left}

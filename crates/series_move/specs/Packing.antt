@@ -11,11 +11,11 @@ use Rattle.orders.specs.Lists.{All, pick}
 use Rattle.orders.specs.ListLaws.{map_some, pick_none, pick_some}
 use Rattle.orders.specs.Tree.{Path, Run}
 use Rattle.definition_laws.specs.Basics.{All-append}
-use Rattle.series_laws.specs.Series.{moved_length}
+use Rattle.series_laws.proofs.Series.{moved_length}
 use Rattle.series_laws.specs.Memory.{Bookmark}
 use Rattle.series_laws.specs.Follow.{moved, kept, survivors}
 use Rattle.series_laws.specs.Lent.{slot_words, longest_path, slots, slots_in, bookmark_in, bookmark_out, over, slots_out}
-use Rattle.series_laws.specs.ReadBack.{slots_length}
+use Rattle.series_laws.proofs.ReadBack.{slots_length}
 use Rattle.series_check.specs.Slots.{slot_at}
 use Rattle.series_move.specs.Kept.{Moves, Leads, Here, put_at, slot_after, Put, front_short}
 

@@ -24,13 +24,13 @@ use Rattle.definition_account.specs.Moved.{in_a_row}
 use Rattle.rows_model.specs.Row.{rows_of, first_rows}
 use Rattle.rows_model.specs.Place.{mark_of}
 use Rattle.check_laws.specs.Claimed.{old_tree, flat_of}
-use Rattle.check_laws.specs.Alone.{first_resolve}
+use Rattle.check_laws.proofs.Alone.{first_resolve}
 use Rattle.series_laws.specs.Memory.{Bookmark, Memory, most_later, astray, same_tree}
 use Rattle.series_laws.specs.Follow.{moves, survivors, tree_of, Step, step}
 use Rattle.series_laws.specs.Lent.{Lent, slot_words, longest_path, tree_bytes, cut_off, slots, slots_in, bookmark_in, beyond_slot, memory_in, lent, slots_out, left_in}
-use Rattle.series_laws.specs.Moves.{row_head}
-use Rattle.series_laws.specs.Passing.{Held, held_passed, Done, tree_left, moves_in0, bookmark_stands}
-use Rattle.series_laws.specs.Series.{lent_passed}
+use Rattle.series_laws.proofs.Moves.{row_head}
+use Rattle.series_laws.proofs.Passing.{Held, held_passed, Done, tree_left, moves_in0, bookmark_stands}
+use Rattle.series_laws.proofs.Series.{lent_passed}
 use Rattle.series_check.specs.Slots.{slot_at}
 use Rattle.series_move.specs.Kept.{Moves, Leads}
 use Rattle.series_move.specs.Packing.{Moving, bookmarks_after}

@@ -17,7 +17,7 @@ use Rattle.definition_laws.specs.Basics.{get_d_map}
 use Rattle.definition_laws.specs.Rows.{Element, row_of, element}
 use Rattle.definition_laws.specs.Kin.{element_tree, element_path, element_stands, stands_within, row_told_lem}
 use Rattle.definition_laws.specs.Running.{top, Follows}
-use Rattle.definition_account.specs.Moving.{keeps_above, parts_same}
+use Rattle.definition_account.proofs.Moving.{keeps_above, parts_same}
 use Rattle.rows_model.specs.Row.{Row, rows_of, first_rows, trees_in}
 use Rattle.rows_model.specs.Place.{place, size, child_row, between, mark_of, run_of}
 use Rattle.rows_model.proofs.PlaceLaws.{child_at, place_first, place_lt, parent_of, run_rows, run_order}

@@ -20,7 +20,7 @@ use Rattle.read_batch.specs.Leaving.{Leaves}
 use Rattle.check_laws.specs.Check.{Flat}
 use Rattle.series_laws.specs.Memory.{Memory, same_tree}
 use Rattle.series_laws.specs.Lent.{Lent, slot_words, tree_in, tree_bytes, memory_in, cut_off, lent}
-use Rattle.series_laws.specs.Series.{lent_passed}
+use Rattle.series_laws.proofs.Series.{lent_passed}
 use Rattle.series_tree.specs.Old.{Read}
 
 -- the slices held t₀ and s₀ before: long enough for the batch's elements
@@ -36,7 +36,7 @@ leaves_read {b} {l} {t₀} {s₀} {t} {s} v lt ls long =
       accepts = v.accepted;
       spells = subst (λ (c : Batch). Spells v.what.trees c.kinds c.measures c.text) same k.spells;
       text = drop l.text b;
-      rows = w.rows_told;
+      rows = w.rows_told_lem;
       kinds = v.within.kinds;
       measures = v.within.measures;
       text_from = omega (arith, v.within.text);

@@ -20,15 +20,15 @@ use Rattle.rows_model.proofs.Words.{length_triples}
 use Rattle.rows_model.proofs.RowLaws.{kinds_preorder, measures_preorder}
 use Rattle.rows_syntax_node.specs.Promises.{Part}
 use Rattle.finish_model.specs.Finished.{first_tree}
-use Rattle.finish_model.specs.Numbers.{first_tree_lem}
-use Rattle.finish_model.specs.Result.{one_told, one_text}
+use Rattle.finish_model.proofs.Numbers.{first_tree_lem}
+use Rattle.finish_model.proofs.Result.{one_told, one_text}
 use Rattle.finish_arrays.specs.Sweep.{elements_over, Swept}
 use Rattle.finish_arrays.specs.Encoding.{Wrote, wrote_more}
 use Rattle.check_laws.specs.Check.{Flat}
 use Rattle.series_laws.specs.Memory.{Memory}
 use Rattle.series_laws.specs.Follow.{tree_of, Step}
 use Rattle.series_laws.specs.Lent.{Lent, tree_bytes, tree_out, over, left_in}
-use Rattle.series_laws.specs.Passing.{Done}
+use Rattle.series_laws.proofs.Passing.{Done}
 
 -- a tree by its rows
 unfoldable pub flat_in : List Row → Flat

@@ -20,8 +20,8 @@ use Rattle.rows_model.proofs.RowLaws.{kinds_preorder, bytes_tree}
 use Rattle.rows_syntax_node.specs.Promises.{Part, Bytes}
 use Rattle.read_layout.specs.declared.Layout.{Layout}
 use Rattle.finish_model.specs.Finished.{first_tree}
-use Rattle.finish_model.specs.Numbers.{first_tree_lem}
-use Rattle.finish_model.specs.Result.{one_told}
+use Rattle.finish_model.proofs.Numbers.{first_tree_lem}
+use Rattle.finish_model.proofs.Result.{one_told}
 use Rattle.check_laws.specs.Check.{Flat}
 use Rattle.check_laws.specs.Claimed.{old_tree, flat_of}
 

@@ -10,9 +10,5 @@
 --     Ranges    the text ranges of elements of one tree: within its text, and apart where neither element is at or below the other
 pub mod Share
 pub mod Printed
-pub mod Ranges
 pub mod Sum
 pub mod Texts
-pub mod Laws
-pub mod Root
-pub mod Examples

@@ -19,7 +19,7 @@ use Rattle.rows_model.proofs.Words.{length_first}
 use Rattle.rows_syntax_node.specs.Promises.{Part, Bytes}
 use Rattle.run_annotations.specs.Changed.{changed_of, changed_in, changed_to}
 use Rattle.finish_model.specs.Finished.{first_tree, number_of}
-use Rattle.finish_model.specs.Numbers.{tree_end}
+use Rattle.finish_model.proofs.Numbers.{tree_end}
 use Rattle.share_laws.specs.Share.{thousandths}
 use Rattle.share_rows.specs.Summed.{in_new, text_at, texts_of, share_of}
 use Rattle.share_rows.specs.Promises.{ElementBytes, ChangedText, before, ChangedTexts, Divided, Shares}

@@ -28,9 +28,10 @@ use Rattle.rows_model.specs.Place.{subtree}
 use Rattle.rows_model.proofs.PlaceLaws.{subtree_at}
 use Rattle.run_model.specs.Store.{HeldChanged, held_changed}
 use Rattle.finish_model.specs.Finished.{first_tree, number_of}
-use Rattle.finish_model.specs.Numbers.{first_tree_lem, number_row}
+use Rattle.finish_model.proofs.Numbers.{first_tree_lem, number_row}
 use Rattle.share_laws.specs.Share.{new_text, thousandths, share_in}
-use Rattle.share_laws.specs.Texts.{in0, length_at, ran_share}
+use Rattle.share_laws.specs.Texts.{in0, length_at}
+use Rattle.share_laws.proofs.Texts.{ran_share}
 
 -- a changed element stands in tree 0
 unfoldable pub in_new : List Row → HeldChanged → Bool

@@ -28,8 +28,8 @@ use Rattle.edit_numbers.specs.Returned.{returned}
 use Rattle.series_laws.specs.Memory.{Memory, most_at_start, most_later, too_big, wrong_numbers, astray, held}
 use Rattle.series_laws.specs.Follow.{Step, step}
 use Rattle.series_laws.specs.Lent.{Lent, slots_in, beyond_slot, memory_in, cut_off, lent, started, fits, followed, answers, leaves}
-use Rattle.series_laws.specs.Passing.{step_done}
-use Rattle.series_laws.specs.Series.{answered}
+use Rattle.series_laws.proofs.Passing.{step_done}
+use Rattle.series_laws.proofs.Series.{answered}
 use Rattle.series_check.specs.Judged.{number_of}
 use Rattle.series_answer.specs.Telling.{result_bytes}
 use Rattle.series.specs.Promises.{start_needs, Starts, call_of, Follows}

@@ -9,6 +9,3 @@
 --     Lists        of tests on lists, and of elements with their places
 pub mod Lists
 pub mod Words
-pub mod Kept
-pub mod Numbers
-pub mod Choice

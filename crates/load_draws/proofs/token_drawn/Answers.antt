@@ -4,4 +4,4 @@ use Rattle.load_draws.proofs.token_drawn.Goals as goal
 
 pub returns : goal.returns
 unfolding token_drawn
-returns c = c.Block_token.ensures
+returns c = c.block_token.ensures

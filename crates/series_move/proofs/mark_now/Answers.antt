@@ -1,5 +1,6 @@
 -- `mark_now` meets its contract.
 use native.Mathlib.Omega.{arith}
+use mathlib.Core.Path.{refl}
 use Rattle.series_move.specs.Found.{number_low, mark_told, mark_nothing, part_short}
 use Rattle.series_move.proofs.mark_now.Goals as goal
 
@@ -13,10 +14,10 @@ pub resolve-requires : goal.resolve-requires
 resolve-requires c = part_short c.requires c.subtree-tree.ensures
 
 pub word-requires : goal.word-requires
-word-requires c = number_low c.requires c.subtree-tree.ensures c.resolve.ensures c.k-1.given.1
+word-requires c = number_low c.requires c.subtree-tree.ensures c.in-At.ensures refl
 
 pub returns-in-At : goal.returns-in-At
-returns-in-At c = λ s. mark_told s c.subtree-tree.ensures c.resolve.ensures c.k-1.given.1 c.word.ensures
+returns-in-At c = λ s. mark_told s c.subtree-tree.ensures c.in-At.ensures refl c.word.ensures
 
 pub returns-in-Nothing : goal.returns-in-Nothing
-returns-in-Nothing c = λ s. mark_nothing s c.subtree-tree.ensures c.resolve.ensures c.enum_told-1.given.1
+returns-in-Nothing c = λ s. mark_nothing s c.subtree-tree.ensures c.in-Nothing.ensures refl

@@ -15,10 +15,10 @@ read_at : (l : List ℕ) (at r n : ℕ) → l ≡ paste (7 ∷ 7 ∷ 7 ∷ 7 ∷
 unfolding bytes
 read_at l at r n p q e = eq-eqb r n (q ∙ rw (p, e))
 
-pub expect-requires : goal.expect-requires
+pub returns-else-back : goal.returns-else-back
 unfolding word
-expect-requires c = search (read_at, rules)
+returns-else-back c = search (read_at, rules)
 
-pub expect-requires-2 : goal.expect-requires-2
+pub returns-then-back : goal.returns-then-back
 unfolding word
-expect-requires-2 c = search (read_at, rules)
+returns-then-back c = search (read_at, rules)

@@ -15,8 +15,8 @@ read_at : (l : List ℕ) (i r n : ℕ) → l ≡ spliced 1 2 (8 ∷ 9 ∷ []) (t
 unfolding spliced
 read_at l i r n p q e = eq-eqb r n (q ∙ rw (p, e))
 
-pub expect-requires : goal.expect-requires
-expect-requires c = search (read_at, rules)
+pub returns-else-moved : goal.returns-else-moved
+returns-else-moved c = search (read_at, rules)
 
-pub expect-requires-2 : goal.expect-requires-2
-expect-requires-2 c = search (read_at, rules)
+pub returns-then-moved : goal.returns-then-moved
+returns-then-moved c = search (read_at, rules)

@@ -1,0 +1,19 @@
+-- `serve` meets its contract: what it writes is said of all the input.
+-- Assumes nothing.
+use Rattle.std.specs.Prelude.{◌≡◌, List, ℕ, take}
+use Rattle.std.proofs.Common.{refl, rules, arith}
+use Rattle.std.proofs.lemmas.List.{take-take}
+use Rattle.std.proofs.lemmas.Result.{on_ok_weaker}
+use Rattle.check_laws.specs.Layout.{claim_printed}
+use Rattle.program_input.specs.Told.{written_said}
+use Rattle.check_program.proofs.serve.Goals as goal
+
+-- no more of the input is judged than the buffer has room for
+judged : (bs : List ℕ) → claim_printed (take 262144 bs) ≡ claim_printed bs
+unfolding claim_printed
+judged bs = rw (take-take 262144 262144 bs (omega arith)) refl
+
+pub returns : goal.returns
+returns g c =
+    let e = c.in_ok-response.ensures in
+    on_ok_weaker c.write_all.result (written_said claim_printed 262144 judged _ _ _ _ c.respond.new.claim _ c.in_ok-response.response.read (search rules) e.responds.judged e.bytes e.end e.responds.says) c.write_all.ensures.bytes

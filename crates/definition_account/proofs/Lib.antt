@@ -1,0 +1,9 @@
+pub mod Moved
+pub mod Account
+pub mod Changed
+pub mod Dropped
+pub mod Moving
+pub mod Numbers
+pub mod Run
+pub mod Splice
+pub mod Tokens

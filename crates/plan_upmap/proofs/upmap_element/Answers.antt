@@ -1,0 +1,23 @@
+-- `upmap_element` meets its contract. At the loop's head the rest of the definition's moves stands before it, with as many left.
+use borrow.Author.Rules.{rules}
+use Rattle.plan_upmap.proofs.Notes.{settling_start, settling_done, settling_10, settling_refused, settling_next}
+use Rattle.plan_upmap.specs.Answers.{within_at}
+use Rattle.plan_upmap.proofs.upmap_element.Goals as goal
+
+pub loop-a-init : goal.loop-a-init
+loop-a-init c = search (settling_start, rules)
+
+pub returns-in_default : goal.returns-in_default
+returns-in_default c = search (settling_done, rules)
+
+pub returns-then-left-eq0 : goal.returns-then-left-eq0
+returns-then-left-eq0 c = search (settling_10, rules)
+
+pub upmap_from-requires : goal.upmap_from-requires
+upmap_from-requires c = record { wellformed = search rules; mapped = search rules; a_lt_n = (within_at _ _ _ c.nearest_mapped.ensures.within c.in-At.is, search rules) }
+
+pub returns-in-Refused : goal.returns-in-Refused
+returns-in-Refused c = search (settling_refused, rules)
+
+pub loop-a-preserved : goal.loop-a-preserved
+loop-a-preserved c = search (settling_next, rules)

@@ -1,0 +1,21 @@
+-- `same_arrays` meets its contract.
+use mathlib.Core.Path.{ap}
+use mathlib.Core.Bool.{not}
+use native.Mathlib.Omega.{arith}
+use Rattle.series_tree.specs.Same.{other_size, other_length, other_kinds, other_measures, same_text}
+use Rattle.series_tree.proofs.same_arrays.Goals as goal
+
+pub returns-then-size-n : goal.returns-then-size-n
+returns-then-size-n c = other_size _ _ _ _ _ _ _ c.read_word-n.ensures c.read_word-m.ensures c.if-size-n.true
+
+pub returns-then-bytes-m : goal.returns-then-bytes-m
+returns-then-bytes-m c = other_length _ _ _ _ _ _ _ c.read_word-n.ensures c.read_word-m.ensures c.requires.size_in_bounds.2 (omega (arith, c.requires.in_bounds, c.read_word-n.ensures.0, c.read_word-m.ensures.0)) c.if-bytes-m.true
+
+pub returns-then-not-same_words : goal.returns-then-not-same_words
+returns-then-not-same_words c = other_kinds _ _ _ _ _ _ _ c.read_word-n.ensures c.read_word-m.ensures c.if-size-n.false c.same_words.ensures (ap not c.if-not-same_words.true)
+
+pub returns-then-not-same_words-2 : goal.returns-then-not-same_words-2
+returns-then-not-same_words-2 c = other_measures _ _ _ _ _ _ _ c.read_word-n.ensures c.read_word-m.ensures c.if-size-n.false c.same_words.ensures (ap not c.if-not-same_words.false) c.same_words-2.ensures (ap not c.if-not-same_words-2.true)
+
+pub returns : goal.returns
+returns c = same_text _ _ _ _ _ _ _ c.read_word-n.ensures c.read_word-m.ensures c.if-size-n.false c.same_words.ensures (ap not c.if-not-same_words.false) c.same_words-2.ensures (ap not c.if-not-same_words-2.false) c.same_bytes.ensures

@@ -1,0 +1,18 @@
+-- `splice_list` meets its contract.
+use native.Mathlib.Omega.{arith}
+use lib.ListN.{length}
+use Prim.Native.Nat.{◌<◌}
+use borrow.Author.Rules.{rules}
+use Rattle.splices_list.proofs.Turns.{numbered_below, numbered_few, numbered_bounds, listed_all}
+use Rattle.splices_list.proofs.splice_list.Goals as goal
+
+pub splice_each-requires : goal.splice_each-requires
+splice_each-requires c =
+    let c = c in
+    let e = c.number_from.ensures in
+    let g = c.requires in
+    let h : length c.args.marks.now < 65536 = omega (arith, g.room.rows) in
+    record { c_in_bounds = (search rules, search rules, numbered_below (length c.args.marks.now) e); marks_len_bound = (numbered_few (length c.args.marks.now) _ e h, g.room.few, g.room.short, numbered_bounds (length c.args.marks.now) _ e g.bounds) }
+
+pub returns : goal.returns
+returns c = search (listed_all, rules)
