@@ -11,11 +11,5 @@
 --     Stacks    the stack of each tree: nested, and its regions are those that no later change leaves
 --     Counts    lists in which each number stands as often are permutations of each other
 pub mod Words
-pub mod Below
-pub mod Stacks
-pub mod Owners
-pub mod Overlap
-pub mod Counts
-pub mod Runs
 pub mod Account
 pub mod Examples

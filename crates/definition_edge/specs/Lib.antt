@@ -13,13 +13,8 @@
 --     Own       own changes: no region takes them, none is rewritten, all are performed
 --     Stands    every prepared list of splices that are apart stands in the new tree
 pub mod Region
-pub mod Depths
 pub mod Fates
-pub mod Gone
-pub mod Where
-pub mod Taking
 pub mod Own
-pub mod Apart
 pub mod Stands
 pub mod Kept
 pub mod Examples

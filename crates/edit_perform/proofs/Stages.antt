@@ -78,7 +78,7 @@ told_of {b} {l} L =
     let v = L.leaves in
     let few = v.within.limits.elements in
     let w = tells v (omega (arith, L.long)) (omega (arith, L.long_rows)) in
-    record { batch = v.what; accepts = v.accepted; table = v.told; text = (arrays_at l b).text; rows = w.rows_told; formed = v.formed }
+    record { batch = v.what; accepts = v.accepted; table = v.told; text = (arrays_at l b).text; rows = w.rows_told_lem; formed = v.formed }
 
 -- ── The steps ───────────────────────────────────────────────────────────────────────────────────────────────
 

@@ -67,8 +67,8 @@ module _ {b : List ℕ} {l : Layout} {t₀ s₀ t s : List ℕ} (v : Leaves b l 
           text = drop l.text b;
           trees = v.what.trees;
           notes = p.notes;
-          table_told = w.table-told;
-          rows_told = w.rows_told;
+          table_told = w.table_told_lem;
+          rows_told = w.rows_told_lem;
           notes_told = n ∙ first_notes;
           noted = subst (λ (T : Table). All (λ n. (e : ℕ) × (e < length T) × (n.path ≡ (row T e).path)) p.notes) known.table planned.noted;
           some = omega (arith, known.roots, known.limits.some_tree);

@@ -8,7 +8,7 @@ use Rattle.definition.specs.Writing.{laid_out}
 use Rattle.promises.specs.Slices.{lengths}
 use Rattle.promises.specs.Writing.{writer_needs, wrote, Writes}
 use Rattle.load_laws.specs.Load as Load
-use Rattle.load_laws.specs.Good.{load_written, load_short}
+use Rattle.load_laws.proofs.Good.{load_written, load_short}
 
 -- THE PROMISE of `load`: "The writer lays it out, 15 included". So the writer's promise, of the lists of a starting number
 abbrev pub Loads : ℕ → List ℕ → List (List ℕ) → Answer ℕ → List ℕ → List (List ℕ) → Type 0

@@ -12,10 +12,4 @@
 --     Calls     every call is as lines 6 and 16 ask
 pub mod Load
 pub mod Draws
-pub mod Trees
-pub mod Calls
-pub mod Good
-pub mod Uses
-pub mod Differ
-pub mod Note12
 pub mod Examples

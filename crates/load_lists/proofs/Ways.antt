@@ -7,7 +7,7 @@ use lib.ListN.{get_or}
 use borrow.Author.Tests.{ne_eqb, lt-ltb, le-ltb}
 use Rattle.load_laws.specs.Load.{next, drawn, kind_at, measure_at, byte_at, first_calls, call_at}
 use Rattle.load_laws.specs.Draws.{none}
-use Rattle.load_laws.specs.Calls.{drawn_low}
+use Rattle.load_laws.proofs.Calls.{drawn_low}
 use Rattle.load_draws.specs.declared.DrawnCall.{DrawnCall}
 use Rattle.load_draws.specs.Called.{Called}
 use Rattle.load_lists.specs.Numbered.{numbered, passed}

@@ -7,7 +7,7 @@ use mathlib.Core.List.{List, [], ◌∷◌, map, flat_map}
 use Rattle.definition.specs.Refusals.{Call}
 use Rattle.load_laws.specs.Load.{next, drawn, after, draws, along, calls, noted}
 use Rattle.load_laws.specs.Draws.{none}
-use Rattle.load_laws.specs.Calls.{calls_many}
+use Rattle.load_laws.proofs.Calls.{calls_many}
 use Rattle.load_draws.specs.declared.DrawnCall.{DrawnCall}
 use Rattle.load_draws.specs.Called.{call_of, Called}
 use Rattle.load_lists.specs.Numbered.{before, numbered, passed, before_next, call_numbered}

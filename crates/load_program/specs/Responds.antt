@@ -19,7 +19,7 @@ use Rattle.write_batch.specs.Handing.{answer_of}
 use Rattle.write_batch.specs.declared.Written.{Written}
 use Rattle.write_batch.specs.declared.Written.TheVariants.{Refused, Bytes}
 use Rattle.load_laws.specs.Load.{load}
-use Rattle.load_laws.specs.Good.{load_length}
+use Rattle.load_laws.proofs.Good.{load_length}
 use Rattle.load_batch.specs.Loads.{Loads, loads_bytes}
 use Rattle.load_program.specs.declared.Start.{Start}
 use Rattle.load_program.specs.declared.Start.TheVariants.{Number, Wrong}

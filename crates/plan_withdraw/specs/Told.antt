@@ -306,7 +306,7 @@ module _ (n : ℕ) (w s : List ℕ) (W : Wellformed n w s) {X : Type 0} (row : X
   keeping_x ks [] = refl
   keeping_x ks (q ∷ qs) =
       ap (λ b. rule.keeping S (cond b (map numb ks) (map numb ks ++ (numb q ∷ []))) (map numb qs)) (ap is_some (stronger_x q.1 ks) ∙ (same_some (first_x q.1 ks)).1)
-      ∙ (ap (λ l. rule.keeping S l (map numb qs)) (cond_map numb (is_some (first_x q.1 ks)) ks q) ∙ keeping_x _ qs)
+      ∙ (ap (λ l. rule.keeping S l (map numb qs)) (cond_map numb (is_some (first_x q.1 ks)) ks q) ∙ keeping_x (cond (is_some (first_x q.1 ks)) ks (ks ++ (q ∷ []))) qs)
 
   good_more : (ks : List (ℕ × X)) (q : ℕ × X) (b : Bool) → All (λ q. Good q.1) ks → Good q.1 → All (λ q. Good q.1) (cond b ks (ks ++ (q ∷ [])))
   good_more ks q true h g = h

@@ -11,7 +11,8 @@ use Rattle.definition.specs.Answers.{Plan, plan, performed, ran, edit}
 use Rattle.definition.specs.Performed.{splices}
 use Rattle.definition_laws.specs.Answers.{both_given}
 use Rattle.definition_account.specs.Words.{keeps_root, no_dependent_in0}
-use Rattle.definition_edge.specs.Kept.{Kept1, kept_by_rule_1}
+use Rattle.definition_edge.specs.Kept.{Kept1}
+use Rattle.definition_edge.proofs.Kept.{kept_by_rule_1}
 use Rattle.result_laws.proofs.Worded.{Bytes}
 use Rattle.promises.specs.Promises.{Edits}
 use Rattle.promises_read.specs.Demand1.{demand_1}

@@ -12,7 +12,7 @@ returns-then-field-ne0 c =
     c.if-field-ne0.true
 
 pub returns-then-field-ne0-2 : goal.returns-then-field-ne0-2
-returns-then-field-ne0-2 c = let c = c in not_in_tree_0 c.args.changes.now c.args.k c.field.ensures c.field-2.ensures c.if-field-ne0.false c.if-field-ne0-2.true
+returns-then-field-ne0-2 c = not_in_tree_0 c.args.changes.now c.args.k c.field.ensures c.field-2.ensures c.if-field-ne0.false c.if-field-ne0-2.true
 
 pub returns : goal.returns
 returns c = search (recorded_by, rules)

@@ -10,7 +10,6 @@ loop-k-init c = search (going_start, rules)
 
 pub splice_once-m-requires : goal.splice_once-m-requires
 splice_once-m-requires c =
-    let c = c in
     let v = c.loop-k.invariant in
     let h = c.loop-k-test.true in
     record { i_in_bounds = search (going_room, going_small, rules); marks_len_bound = (omega (arith, v.many, c.requires.marks_len_bound.0), omega (arith, c.requires.marks_len_bound.1, h), c.requires.marks_len_bound.2, going_bounds v c.requires.c_in_bounds.0 h c.requires.marks_len_bound.3) }

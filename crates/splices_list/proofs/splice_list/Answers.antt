@@ -8,7 +8,6 @@ use Rattle.splices_list.proofs.splice_list.Goals as goal
 
 pub splice_each-requires : goal.splice_each-requires
 splice_each-requires c =
-    let c = c in
     let e = c.number_from.ensures in
     let g = c.requires in
     let h : length c.args.marks.now < 65536 = omega (arith, g.room.rows) in

@@ -5,5 +5,4 @@ use Rattle.splices_list.proofs.splice_tidy.Goals as goal
 
 pub returns : goal.returns
 returns c =
-    let c = c in
     tidied_all c.rows_to.ensures c.splice_list-n.ensures (search rules) c.tidy.ensures

@@ -8,7 +8,6 @@ use Rattle.splices_step.proofs.splice_at.Goals as goal
 
 pub splice-requires : goal.splice-requires
 splice-requires c =
-    let c = c in
     let l = run_long c.args.splices.now c.args.prepared.now c.args.i c.requires.i_in_bounds_2.1 c.word-from.ensures c.word.ensures in
     let t = c.requires.gap_at.1 in
     let w = c.requires.gap_at.0 in

@@ -1,0 +1,10 @@
+pub mod Region
+pub mod Fates
+pub mod Own
+pub mod Stands
+pub mod Kept
+pub mod Apart
+pub mod Depths
+pub mod Gone
+pub mod Taking
+pub mod Where

@@ -1,0 +1,39 @@
+-- `run_plan` meets its contract: what the run asks for is there, and what it answers is the definition's.
+use mathlib.Core.Path.{sym}
+use native.Mathlib.Omega.{arith}
+use lib.Seq.{length-take-le}
+use Rattle.edit_perform.proofs.Stages.{notes_within, list_within, runs_within, may_begin, may_list, may_run, may_record, steps_refused, steps_ended}
+use Rattle.edit_perform.proofs.run_plan.Goals as goal
+
+pub overflow_mul-settled : goal.overflow_mul-settled
+overflow_mul-settled c = let v = c.requires in omega (arith, v.laid_out.leaves.within.limits.notes)
+
+pub overflow_mul-end : goal.overflow_mul-end
+overflow_mul-end c = let v = c.requires in omega (arith, v.laid_out.leaves.within.limits.listed)
+
+pub overflow_add-end : goal.overflow_add-end
+overflow_add-end c = let v = c.requires in let y = c.args.b in let q = list_within v.laid_out v.planning _ v.marks_len.0 in omega (arith, c.well_formed)
+
+pub slice_bounds-execute-end-2 : goal.slice_bounds-execute-end-2
+slice_bounds-execute-end-2 c = let v = c.requires in sym (length-take-le _ _ (notes_within v.laid_out v.planning _ v.marks_len.0 v.in_bounds.2))
+
+pub slice_bounds-execute-count : goal.slice_bounds-execute-count
+slice_bounds-execute-count c = omega arith
+
+pub slice_bounds-execute-start : goal.slice_bounds-execute-start
+slice_bounds-execute-start c = omega arith
+
+pub slice_bounds-execute-end-3 : goal.slice_bounds-execute-end-3
+slice_bounds-execute-end-3 c = let v = c.requires in list_within v.laid_out v.planning _ v.marks_len.0
+
+pub slice_bounds-execute-end-4 : goal.slice_bounds-execute-end-4
+slice_bounds-execute-end-4 c = let v = c.requires in sym (length-take-le _ _ (runs_within v.laid_out v.planning _ v.marks_len.0 v.in_bounds.1))
+
+pub execute-done-requires : goal.execute-done-requires
+execute-done-requires c = let v = c.requires in let r = v.in_bounds in let w = v.marks_len in record { begun = may_begin v.laid_out v.planning _ v.marks_len.0 r.0 r.2; in_bounds = (w.4, w.1, w.5, omega arith, w.2); listed_len_bound = may_list v.laid_out v.planning _ v.marks_len.0; all = may_run v.laid_out v.planning _ v.marks_len.0; running_in_bounds = may_record v.laid_out v.planning _ v.marks_len.0 _ w.3 }
+
+pub returns-in-Refused : goal.returns-in-Refused
+returns-in-Refused c = let v = c.requires in steps_refused v.laid_out v.planning _ v.marks_len.0 v.in_bounds.0 v.in_bounds.2 c.execute-done.ensures _ c.in-Refused.is
+
+pub returns-in-Done : goal.returns-in-Done
+returns-in-Done c = let v = c.requires in steps_ended v.laid_out v.planning _ v.marks_len.0 v.in_bounds.0 v.in_bounds.2 c.execute-done.ensures _ c.in-Done.is (omega (arith, c.execute-done.auto.notes, v.marks_len.1))

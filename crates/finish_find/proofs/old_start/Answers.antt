@@ -1,0 +1,16 @@
+-- `old_start` meets its contract: the element's own path leads to it.
+use borrow.Author.Rules.{rules}
+use Rattle.finish_find.proofs.OldPath.{first_ends, first_short, start_there, start_nowhere}
+use Rattle.finish_find.proofs.old_start.Goals as goal
+
+pub slice_bounds-resolve-end : goal.slice_bounds-resolve-end
+slice_bounds-resolve-end c = first_ends c.requires.trees_told c.requires.k_lt_n c.entry-end.ensures
+
+pub resolve-requires : goal.resolve-requires
+resolve-requires c = first_short c.requires.trees_told c.requires.k_lt_n c.entry-end.ensures
+
+pub returns-in-At : goal.returns-in-At
+returns-in-At c = search (start_there, rules)
+
+pub returns-in-Nothing : goal.returns-in-Nothing
+returns-in-Nothing c = search (start_nowhere, rules)

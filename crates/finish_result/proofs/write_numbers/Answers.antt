@@ -1,0 +1,14 @@
+-- `write_numbers` meets its contract. What is told of the changed elements passed is written.
+use Prim.Native.Nat.{◌-◌}
+use Rattle.finish_result.proofs.Turns.{parts_start, parts_next, parts_done}
+use borrow.Author.Rules.{rules}
+use Rattle.finish_result.proofs.write_numbers.Goals as goal
+
+pub loop-i-init : goal.loop-i-init
+loop-i-init c = search (parts_start (λ c. c.row), rules)
+
+pub loop-i-preserved : goal.loop-i-preserved
+loop-i-preserved c = search (parts_next (λ c. c.row), rules)
+
+pub returns : goal.returns
+returns c = parts_done (λ c. c.row) c.args.changed.now c.loop-i.invariant c.loop-i-test.false

@@ -1,0 +1,7 @@
+-- `replay` is safe and ends: no more cases are counted than were run.
+-- Assumes nothing.
+use Rattle.std.proofs.Common.{◌≤◌}
+use Rattle.replay.proofs.replay.Given as goal
+
+abbrev pub invariant-loop-i : goal.invariant-loop-i
+invariant-loop-i g l = (l.missed ≤ l.i) × (l.same ≤ l.i) × (l.refused ≤ l.i) × (l.whole ≤ l.i)
