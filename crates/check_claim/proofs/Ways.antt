@@ -16,7 +16,8 @@ use Rattle.definition.specs.Writing.{differ}
 use Rattle.promises.specs.Slices.{lengths, zeros, zeroed}
 use Rattle.check_laws.specs.Check.{Flat, Claims, too_big, unequal, checked}
 use Rattle.check_model.specs.Clauses.{fresh, partnered, marked, judged_by, judged}
-use Rattle.check_model.specs.Pairing.{Below, length_partnered, length_marked}
+use Rattle.check_model.specs.Pairing.{Below}
+use Rattle.check_model.proofs.Pairing.{length_partnered, length_marked}
 use Rattle.check_table.specs.Walk.{Reads}
 use Rattle.check_table.specs.Spelled.{Tells, reads_none, reads_tells}
 use Rattle.check_clauses.specs.Asked.{Linked, Reached, Ready, PairsUp}

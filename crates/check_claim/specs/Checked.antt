@@ -16,7 +16,7 @@ use Rattle.definition.specs.Writing.{differ}
 use Rattle.check_laws.specs.Check.{Flat, Claims, too_big, unequal, alone, names_none, accepts, checked}
 use Rattle.check_model.specs.Clauses.{judged}
 use Rattle.check_model.specs.Pairing.{Below}
-use Rattle.check_model.specs.Judged.{judged_accepts}
+use Rattle.check_model.proofs.Judged.{judged_accepts}
 use Rattle.check_table.specs.Spelled.{Tells}
 use Rattle.check_claim.specs.Judging.{big_sizes, sizes_refusal, naming, judging}
 

@@ -14,7 +14,8 @@ use Rattle.orders.specs.Lists.{any}
 use Rattle.orders.specs.ListLaws.{bool_absurd, All-at}
 use Rattle.check_laws.specs.Check.{every, same_bytes}
 use Rattle.check_model.specs.Clauses.{partnered, fresh, marked, rises, each}
-use Rattle.check_model.specs.Pairing.{Below, pairs_from, pairs_more, pairs_none}
+use Rattle.check_model.specs.Pairing.{Below}
+use Rattle.check_model.proofs.Pairing.{pairs_from, pairs_more, pairs_none}
 use Rattle.check_clauses.specs.Asked.{Reaches, Climbs, Linked, Climbed, Reached, PairsUp}
 
 -- a number of a list whose numbers are all below n

@@ -7,7 +7,4 @@
 --     Judged    THE LAW: the definition accepts exactly if `judged` says so
 pub mod Clauses
 pub mod Pairing
-pub mod Rising
-pub mod Covered
 pub mod Table
-pub mod Judged

@@ -13,7 +13,7 @@ use Rattle.orders.specs.ListLaws.{bool_absurd}
 use Rattle.read_spelling.specs.Spelling.{children_of, length_of, stands, fills, accepts}
 use Rattle.read_spelling.specs.SpellingLaws.{fills_close, stands_shallow, fills_open, fills_short, fills_long, fills_end, fills_over}
 use Rattle.read_spelling.specs.Stack.{stack, length_stack, stack_top, stack_push}
-use Rattle.check_model.specs.Pairing.{length_zip, pairs_from, pairs_more, pairs_none}
+use Rattle.check_model.proofs.Pairing.{length_zip, pairs_from, pairs_more, pairs_none}
 use Rattle.check_table.specs.Walk.{words_from, words_of, Reads}
 use Rattle.check_table.specs.WalkLaws.{words_close, words_open, words_none}
 

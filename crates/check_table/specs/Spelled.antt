@@ -17,7 +17,7 @@ use Rattle.read_spelling.specs.SpellingLaws.{accepts_spelled}
 use Rattle.read_spelling.specs.Preorder.{flats, Spelt}
 use Rattle.read_element_table.specs.Filled.{elements_in, accepted, spelled_trees, spelled_spelt, spelled_count}
 use Rattle.check_laws.specs.Check.{Flat, alone}
-use Rattle.check_model.specs.Pairing.{length_zip}
+use Rattle.check_model.proofs.Pairing.{length_zip}
 use Rattle.check_model.specs.Table.{Known, Sound, told_all, told_known, told_sound}
 use Rattle.check_table.specs.Walk.{words_of, Reads}
 use Rattle.check_table.specs.WalkLaws.{walk_words}

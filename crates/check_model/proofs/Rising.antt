@@ -13,7 +13,7 @@ use Rattle.definition_laws.specs.Kin.{IsParent, Kin, root, below, kin, parent_is
 use Rattle.definition_laws.specs.Intervals.{after, line_interval, interval_line}
 use Rattle.check_laws.proofs.Meaning.{Before, ParentsPair, Says}
 use Rattle.check_laws.proofs.Sweep.{sibling_order}
-use Rattle.check_model.specs.Pairing.{same?}
+use Rattle.check_model.proofs.Pairing.{same?}
 
 -- two that are told apart by a number, and have the same, are one
 pub pairs_same : {A : Type 0} (f : A → ℕ) (l : List A) → Pairs (λ p q. f p ≡ f q → ⊥) l → (p q : A) → Memᴰ p l → Memᴰ q l → f p ≡ f q → p ≡ q

@@ -23,9 +23,10 @@ use Rattle.check_laws.specs.ListLaws.{every_all, same_bytes_lem}
 use Rattle.check_laws.proofs.Meaning.{Before, ParentsPair, Covered, Says, accepts_says, says_accepts, every_mem, bytes_same}
 use Rattle.check_laws.proofs.Sweep.{sibling_order}
 use Rattle.check_model.specs.Clauses.{entry, part, partnered, fresh, marked, alike, meet, parents_meet, rises, accounted, each, judged_by, judged}
-use Rattle.check_model.specs.Pairing.{same?, zeros_at, Within, Apart, length_partnered, mem_partner, partner_mem, fresh_apart, apart_fresh, length_marked, marks_told, rises_told, told_rises}
-use Rattle.check_model.specs.Rising.{pairs_rise}
-use Rattle.check_model.specs.Covered.{asked_new, asked_kept, says_accounted}
+use Rattle.check_model.specs.Pairing.{Within, Apart}
+use Rattle.check_model.proofs.Pairing.{same?, zeros_at, length_partnered, mem_partner, partner_mem, fresh_apart, apart_fresh, length_marked, marks_told, rises_told, told_rises}
+use Rattle.check_model.proofs.Rising.{pairs_rise}
+use Rattle.check_model.proofs.Covered.{asked_new, asked_kept, says_accounted}
 use Rattle.check_model.specs.Table.{Known}
 
 -- ── Tests ───────────────────────────────────────────────────────────────────────────────────────────────────

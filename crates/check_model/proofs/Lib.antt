@@ -1,0 +1,4 @@
+pub mod Pairing
+pub mod Covered
+pub mod Judged
+pub mod Rising
