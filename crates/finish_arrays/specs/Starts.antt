@@ -10,7 +10,8 @@ use Rattle.rows_model.specs.Row.{Row, text_length, triples, rows_of, bytes}
 use Rattle.rows_model.specs.Place.{place}
 use Rattle.rows_model.proofs.PlaceLaws.{place_lt}
 use Rattle.rows_model.proofs.Words.{length_triples}
-use Rattle.rows_path.specs.Offset.{offset, path_start}
+use Rattle.rows_path.specs.Offset.{offset}
+use Rattle.rows_path.proofs.Offset.{path_start}
 use Rattle.finish_model.specs.Finished.{starts}
 use Rattle.finish_model.proofs.Numbers.{starts_at}
 

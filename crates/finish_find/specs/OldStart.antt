@@ -18,8 +18,9 @@ use Rattle.rows_model.specs.Row.{rows_of, rows_all, triples, first_rows}
 use Rattle.rows_model.specs.Place.{place, between}
 use Rattle.rows_model.proofs.RowLaws.{rows_node, size_elements}
 use Rattle.rows_model.proofs.Words.{words_between}
-use Rattle.rows_path.specs.Offset.{table_start}
-use Rattle.rows_path.specs.Promises.{Resolves, resolves_there}
+use Rattle.rows_path.proofs.Offset.{table_start}
+use Rattle.rows_path.specs.Promises.{Resolves}
+use Rattle.rows_path.proofs.Promises.{resolves_there}
 use Rattle.rows_path.specs.declared.Resolved.{Resolved}
 use Rattle.rows_path.specs.declared.Resolved.TheVariants.{At}
 

@@ -17,7 +17,8 @@ use Rattle.rows_model.specs.Row.{first_rows, triples, bytes}
 use Rattle.rows_model.specs.Place.{child_row, follow}
 use Rattle.rows_model.proofs.Words.{first_get, length_first, length_triples, triples_take}
 use Rattle.rows_syntax_node.specs.Promises.{Counted, ChildAt, Bytes}
-use Rattle.rows_path.specs.Promises.{resolved, Resolves, resolves}
+use Rattle.rows_path.specs.Promises.{resolved, Resolves}
+use Rattle.rows_path.proofs.Promises.{resolves}
 use Rattle.rows_path.specs.declared.Resolved.{Resolved}
 use Rattle.rows_path.specs.declared.Resolved.TheVariants.{At, Nothing}
 

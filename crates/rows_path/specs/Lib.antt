@@ -4,4 +4,3 @@
 --     Examples     the definitions compute
 pub mod Offset
 pub mod Promises
-pub mod Examples

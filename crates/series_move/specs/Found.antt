@@ -17,7 +17,8 @@ use Rattle.rows_model.specs.Place.{place, subtree, mark_of}
 use Rattle.rows_model.proofs.PlaceLaws.{place_forest, place_pos, subtree_at}
 use Rattle.rows_model.proofs.Words.{length_first}
 use Rattle.rows_syntax_node.specs.Promises.{Part}
-use Rattle.rows_path.specs.Promises.{Resolves, resolves_there}
+use Rattle.rows_path.specs.Promises.{Resolves}
+use Rattle.rows_path.proofs.Promises.{resolves_there}
 use Rattle.rows_path.specs.Offset.{offset}
 use Rattle.rows_path.specs.declared.Resolved.{Resolved}
 use Rattle.rows_path.specs.declared.Resolved.TheVariants.{At, Nothing}
