@@ -30,7 +30,7 @@ use Rattle.definition_laws.specs.Accepted.{Known, accepts}
 use Rattle.definition_laws.specs.Stages.{planned_fates, judge_fated, rewritten_all, fates_length, fates1_length, fates_by_0, fates_by_1}
 use Rattle.definition_laws.specs.Plans.{disjoint_fated, checked, changes, changes_right}
 use Rattle.definition_edge.proofs.Depths.{taken_deeper}
-use Rattle.definition_edge.specs.Fates.{FateAt, Says, owns}
+use Rattle.definition_edge.specs.Fates.{FateAt, Says}
 use Rattle.definition_edge.proofs.Fates.{fates_true, numbered_get}
 use Rattle.account_laws.specs.Words.{at, tree_of, InTrees, fate_at, Overlap}
 use Rattle.account_laws.proofs.Owners.{named_exactly, own_exactly, dependent_exactly, named_contains}

@@ -10,7 +10,6 @@ use Rattle.definition.specs.Recording.{Change}
 use Rattle.definition.specs.Planning.{Fate, own, dependent, is_discarded, node_by_node}
 use Rattle.definition.specs.Finishing.{Result, six_sizes}
 use Rattle.definition.specs.Answers.{Plan, performed}
-use Rattle.definition_laws.specs.Plans.{changes}
 use Rattle.account_laws.specs.Words.{at, named, Contains, Owns, Owner}
 
 -- the fates fs of changes cs in sorted order are told truly

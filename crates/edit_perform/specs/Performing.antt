@@ -43,7 +43,7 @@ use Rattle.run_model.specs.Store.{held_changed, Store, store, store_steps}
 use Rattle.run_model.proofs.Step.{in_rows, ran_store}
 use Rattle.run_tree_store.specs.Stored.{stored, stored_first}
 use Rattle.plan_model.specs.Ready.{listed_in, leaves_ready, ready_facts}
-use Rattle.plan_model.specs.Fated.{rows_each}
+use Rattle.plan_model.proofs.Fated.{rows_each}
 use Rattle.plan_withdraw.specs.Rule.{told}
 use Rattle.plan_edit.specs.Stages.{Withdrew}
 use Rattle.plan_edit.specs.Answers.{PlanMade}

@@ -37,9 +37,10 @@ use Rattle.plan_withdraw.specs.Told.{number_told}
 use Rattle.record_rewritten.specs.Stated.{plan_of}
 use Rattle.read_layout.specs.declared.Layout.{Layout}
 use Rattle.plan_rewrite.specs.Rewritten.{no_change}
-use Rattle.plan_model.specs.Fated.{gone, left_rows, fated_rows, rows_many, fated_rows_lem, rule_0, rule_1, gone_on}
+use Rattle.plan_model.specs.Fated.{gone, left_rows, fated_rows}
+use Rattle.plan_model.proofs.Fated.{rows_many, fated_rows_lem, rule_0, rule_1, gone_on}
 use Rattle.plan_model.specs.Ready.{listed_in, calls_in, table_in, Ready, ready_facts}
-use Rattle.plan_model.specs.Outcome.{gone_is, judged_overlap, judged_fated, out_overlap}
+use Rattle.plan_model.proofs.Outcome.{gone_is, judged_overlap, judged_fated, out_overlap}
 use Rattle.plan_edit.specs.Stages.{Sorted, rule_words, LeftBy, rule_rows, judged_by, judgement_of, RowsJudged, Withdrew, ChangesFated, ChangesJudged}
 use Rattle.plan_edit.specs.Answers.{planned_by, PlanMade, recorded_as, Planning}
 use Rattle.plan_edit.specs.declared.Judgement.{Judgement}

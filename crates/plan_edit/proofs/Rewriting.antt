@@ -17,9 +17,11 @@ use Rattle.plan_rewrite.specs.Answers.{rewritten_by, steps_of, RowsRewritten}
 use Rattle.plan_rewrite.specs.declared.Rewritten.{Rewritten}
 use Rattle.plan_rewrite.specs.declared.Rewritten.TheVariants.{Steps, Refused as NotRewritten}
 use Rattle.read_layout.specs.declared.Layout.{Layout}
-use Rattle.plan_model.specs.Fated.{RowsFated, rewritable}
+use Rattle.plan_model.specs.Fated.{RowsFated}
+use Rattle.plan_model.proofs.Fated.{rewritable}
 use Rattle.plan_model.specs.Ready.{listed_in, mappings_in, table_in, Ready, Facts, ready_facts}
-use Rattle.plan_model.specs.Outcome.{judging, out_dependents}
+use Rattle.plan_model.specs.Outcome.{judging}
+use Rattle.plan_model.proofs.Outcome.{out_dependents}
 use Rattle.plan_edit.specs.Stages.{ChangesFated, Rewriting, Rewrote}
 use Rattle.plan_edit.specs.Answers.{planned_by, PlanMade}
 use Rattle.plan_edit.specs.declared.Planned.TheVariants.{Refused}

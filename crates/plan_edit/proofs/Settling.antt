@@ -30,9 +30,11 @@ use Rattle.record_rewritten.specs.Stated.{plan_of}
 use Rattle.plan_rewrite.specs.Kept.{Kept, rewritten_kept}
 use Rattle.read_layout.specs.declared.Layout.{Layout}
 use Rattle.plan_model.specs.Running.{running_low, running_told}
-use Rattle.plan_model.specs.Noted.{note_held, notes_pasted, length_settled, length_pairs}
+use Rattle.plan_model.specs.Noted.{note_held}
+use Rattle.plan_model.proofs.Noted.{notes_pasted, length_settled, length_pairs}
 use Rattle.plan_model.specs.Ready.{listed_in, mappings_in, notes_in, table_in, Ready, Facts, ready_facts}
-use Rattle.plan_model.specs.Outcome.{rows_outcome, out_notes, out_made}
+use Rattle.plan_model.specs.Outcome.{rows_outcome}
+use Rattle.plan_model.proofs.Outcome.{out_notes, out_made}
 use Rattle.run_annotations.specs.Notes.{notes_of}
 use Rattle.plan_edit.specs.Counted.{discarded_of, discarded_told}
 use Rattle.plan_edit.specs.Stages.{Rewrote}

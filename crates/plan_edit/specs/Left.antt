@@ -19,7 +19,8 @@ use Rattle.run_annotations.specs.Notes.{notes_of}
 use Rattle.run_model.specs.Store.{store}
 use Rattle.read_layout.specs.declared.Layout.{Layout}
 use Rattle.plan_model.specs.Ready.{listed_in}
-use Rattle.plan_model.specs.Outcome.{Outcome, outcome, by_numbers, judging, planning, fated_by, overlaps_by}
+use Rattle.plan_model.specs.Outcome.{Outcome, outcome, by_numbers, judging, planning}
+use Rattle.plan_model.proofs.Outcome.{fated_by, overlaps_by}
 use Rattle.plan_edit.specs.Answers.{planned_by, outcome_in, AllFated, PlanMade}
 use Rattle.plan_edit.specs.declared.Counts.{Counts}
 use Rattle.plan_edit.specs.declared.Planned.TheVariants.{Refused, Made}

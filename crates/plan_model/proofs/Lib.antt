@@ -1,0 +1,3 @@
+pub mod Fated
+pub mod Noted
+pub mod Outcome
