@@ -1,4 +1,4 @@
-/* The proved checker of another editor's output, for C. Link target/staticlib/libsyntax_check.a (`rt staticlib syntax_check`), by itself or beside libsyntax_edit.a;
+/* The proved checker of another editor's output, for C. Link crates/syntax_check/out/libsyntax_check.a (`rt lib` in crates/syntax_check), by itself or beside libsyntax_edit.a;
  * nothing else is needed.
  *
  * A claim is an old tree, a new tree, pairs of kept elements (an old number and a new one each) and changed elements (new numbers). A tree is its elements in

@@ -1,4 +1,4 @@
-/* The proved editor of syntax trees, for C. Link target/staticlib/libsyntax_edit.a (`rt staticlib syntax_edit`); nothing else is needed.
+/* The proved editor of syntax trees, for C. Link crates/syntax_edit/out/libsyntax_edit.a (`rt lib` in crates/syntax_edit); nothing else is needed.
  *
  * A batch is bytes as document 01 lays them out: seven sizes (trees, elements, text bytes, calls, listed elements, mappings, notes), then kinds,
  * measures, call words, targets, listed elements, mapping inputs and outputs, note elements and numbers (32-bit little-endian words), then the text.

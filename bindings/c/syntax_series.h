@@ -1,4 +1,4 @@
-/* A series of edits with bookmarks that follow, proved, for C. Link target/staticlib/libsyntax_series.a (`rt staticlib syntax_series`), by itself or beside the other two;
+/* A series of edits with bookmarks that follow, proved, for C. Link crates/syntax_series/out/libsyntax_series.a (`rt lib` in crates/syntax_series), by itself or beside the other two;
  * nothing else is needed. Work memory, choices and the numbers of a batch's refusals are the editor's: syntax_edit.h.
  *
  * The memory of a series is two buffers of the caller's, which are handed to every call:
