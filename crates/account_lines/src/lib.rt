@@ -1,5 +1,6 @@
 // The account's text (document 02, Notes 5 and 9), written into a lent slice. It is drafted first, so that 13 is told before anything is written.
 #![tactic(auto)]
+
 ghost use Rattle.std.specs.Prelude.{◌+◌, ◌*◌, ◌≤◌, length, take};
 ghost use Rattle.definition.specs.Basics.{refused};
 ghost use Rattle.definition.specs.Account.{withdrawn, fate_line, said_line, said_lines, overlap_line, tell};

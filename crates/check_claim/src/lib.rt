@@ -1,5 +1,6 @@
 // THE CHECKER of another editor's output (document 02, Note 11).
 #![tactic(auto)]
+
 ghost use Rattle.std.specs.Prelude.{◌≡◌, ◌≤◌, length};
 ghost use mathlib.Core.List.{◌∷◌, [], zip};
 ghost use Rattle.definition.specs.Answers.{too_short};

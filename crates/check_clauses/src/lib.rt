@@ -1,5 +1,6 @@
 // The clauses of the checker, each in one pass over the pairs or the new elements.
 #![tactic(auto)]
+
 ghost use Rattle.std.specs.Prelude.{◌≡◌, ◌+◌, ◌*◌, ◌≤◌, ◌<◌, leb, length, take};
 ghost use mathlib.Core.List.{zip};
 ghost use Rattle.orders.specs.Lists.{any};

@@ -1,5 +1,6 @@
 // A tree given as lists of kind words and measures: whether line 5 accepts it, and four words for each of its elements.
 #![tactic(auto)]
+
 ghost use Rattle.std.specs.Prelude.{◌≡◌, ◌+◌, ◌*◌, ◌^◌, ◌≤◌, ◌<◌, length};
 ghost use mathlib.Core.List.{◌∷◌, [], zip};
 ghost use Rattle.std.proofs.Math.Seq.{paste};

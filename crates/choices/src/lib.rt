@@ -1,5 +1,6 @@
 // How a batch is to be edited: one record by value, which every call that edits takes. A further choice is a further field and changes no signature.
 #![tactic(auto)]
+
 ghost use Rattle.std.specs.Prelude.{◌≡◌};
 ghost use Rattle.definition.specs.Choices.{chosen};
 ghost use Rattle.choices.specs.Meant.{meant, refusal_of};

@@ -1,5 +1,6 @@
 // The public calls: one for every job, and the edit, the found element, the account, the share and the surviving pairs, each thin over it.
 #![tactic(auto)]
+
 ghost use Rattle.std.specs.Prelude.{◌∷◌, []};
 ghost use Rattle.choices.specs.Meant.{meant};
 ghost use Rattle.promises.specs.Promises.{Edits, Finds, Accounts, Shares, Keeps};

@@ -1,5 +1,6 @@
 // From what a run leaves to what each job answers.
 #![tactic(auto)]
+
 ghost use Rattle.std.specs.Prelude.{◌≡◌, ◌≤◌, ◌<◌, length};
 ghost use Rattle.choices.specs.Meant.{meant};
 ghost use Rattle.read_element_table.specs.View.{view};

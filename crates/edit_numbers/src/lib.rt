@@ -1,5 +1,6 @@
 // An outcome as one number, for callers in C and Rust.
 #![tactic(auto)]
+
 ghost use Rattle.std.specs.Prelude.{◌≡◌, ◌≤◌, ◌<◌, pos, neg_ℤ};
 ghost use Rattle.write_batch.specs.Handing.{answer_of};
 ghost use Rattle.edit_numbers.specs.Told.{Small, number_of, share_word};

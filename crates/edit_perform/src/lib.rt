@@ -1,5 +1,6 @@
 // From a batch to what its run leaves: refusals 17 and 18, lines 1 to 7, planning, and the steps.
 #![tactic(auto)]
+
 ghost use Rattle.std.specs.Prelude.{◌≡◌, ◌∷◌, [], ◌≤◌, length};
 ghost use Rattle.definition.specs.Basics.{gives};
 ghost use Rattle.definition.specs.Answers.{with_choices};

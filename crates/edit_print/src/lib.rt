@@ -1,5 +1,6 @@
 // What the edit program prints of an answer, written into a lent slice.
 #![tactic(auto)]
+
 ghost use Rattle.std.specs.Prelude.{◌≡◌, ◌+◌, ◌*◌, ◌≤◌, ◌<◌, ◌^◌, length, take, drop};
 ghost use mathlib.Core.List.{◌∷◌, [], ◌++◌, flat_map};
 ghost use Rattle.definition.specs.Printed.{digits, hex_digit, hex, element_line, text_line, print};

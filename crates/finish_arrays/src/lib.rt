@@ -1,5 +1,6 @@
 // Finishing: text starts, and the result's sizes and arrays written as bytes.
 #![tactic(auto)]
+
 ghost use Rattle.std.specs.Prelude.{◌≡◌, ◌+◌, ◌*◌, ◌/◌, ◌^◌, ◌≤◌, ◌<◌, length, get_or};
 ghost use mathlib.Core.List.{flat_map, ◌∷◌, []};
 ghost use Rattle.std.proofs.Math.Seq.{paste};

@@ -1,5 +1,6 @@
 // `find_element`: where the old node's text starts, and in the new tree the first node in preorder with its kind word and that start.
 #![tactic(auto)]
+
 ghost use Rattle.std.specs.Prelude.{◌≡◌, List, ℕ, ◌*◌, ◌^◌, ◌≤◌, ◌<◌, length};
 ghost use Rattle.definition.specs.Elements.{row, tree as tree_of};
 ghost use Rattle.read_element_table.specs.View.{view};

@@ -1,5 +1,6 @@
 // The result from what the run leaves: changed elements and notes in order, refusal 13, and the bytes.
 #![tactic(auto)]
+
 ghost use Rattle.std.specs.Prelude.{◌≡◌, ℕ, ◌+◌, ◌*◌, ◌/◌, ◌^◌, ◌≤◌, ◌<◌, length};
 ghost use mathlib.Core.List.{List, flat_map, ◌∷◌, []};
 ghost use Rattle.std.proofs.Math.Seq.{paste};

@@ -1,5 +1,6 @@
 // The surviving elements of tree 0 as pairs (document 02, Note 11), from the marks and the rows that a run leaves.
 #![tactic(auto)]
+
 ghost use Rattle.std.specs.Prelude.{◌≡◌, List, ℕ, ◌+◌, ◌*◌, ◌^◌, ◌≤◌, ◌<◌, length};
 ghost use Rattle.std.proofs.Math.Seq.{paste};
 ghost use Rattle.rows_model.specs.Row.{first_rows};

@@ -1,5 +1,6 @@
 // A load that anyone can repeat (document 02, Note 12): the batch of a starting number, as the writer lays it out.
 #![tactic(auto)]
+
 ghost use Rattle.std.specs.Prelude.{◌∷◌, []};
 ghost use Rattle.promises.specs.Writing.{Writes};
 ghost use Rattle.write_batch.specs.Handing.{answer_of};

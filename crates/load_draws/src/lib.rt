@@ -1,5 +1,6 @@
 // The draws of a starting number, and the call that they choose (document 02, Note 12; docs/LOAD.md).
 #![tactic(auto)]
+
 ghost use Rattle.std.specs.Prelude.{◌≡◌, ◌∷◌, [], ◌<◌, get_or};
 ghost use Rattle.load_laws.specs.Load.{next as next_of, drawn as drawn_of, separator as separator_of, block as block_of, block_token, donor as donor_of, call, replaced, token_drawn, donor_drawn, other_drawn, first_calls, free_call, own_call, call_at};
 ghost use Rattle.load_laws.specs.Draws.{none};

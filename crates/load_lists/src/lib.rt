@@ -1,5 +1,6 @@
 // The lists of a load (document 02, Note 12): its trees, its calls and its notes.
 #![tactic(auto)]
+
 ghost use Rattle.std.specs.Prelude.{◌≡◌, ◌<◌, ◌≤◌, length};
 ghost use Rattle.load_laws.specs.Load.{after, along, kind_at, measure_at, byte_at};
 ghost use Rattle.load_draws.specs.Called.{Called};

@@ -1,6 +1,7 @@
 // What becomes of each change: own, dependent or discarded, by the regions of earlier changes. The region around a change is the one that its fate
 // names, so the rows' own words hold the stacks: a stack is the place of its last region (index + 1; 0 = none), and each region's owner is the one below.
 #![tactic(auto)]
+
 ghost use Rattle.std.specs.Prelude.{◌≡◌, cond, ◌++◌, suc, ◌+◌, ◌-◌, ◌*◌, ◌^◌, ◌≤◌, ◌<◌, length, get_or, set, drop, eqb};
 ghost use Rattle.orders.specs.Lists.{All};
 ghost use Rattle.definition.specs.Planning.{fate};

@@ -1,5 +1,6 @@
 // What becomes of each change by edge rule 1: own, dependent or discarded, by where it stands in the tree. The Rust goes by offsets: plan_changed_region.
 #![tactic(auto)]
+
 ghost use Rattle.std.specs.Prelude.{◌≡◌, false, ◌++◌, suc, ◌+◌, ◌-◌, ◌*◌, ◌^◌, ◌≤◌, ◌<◌, length, get_or, drop};
 ghost use Rattle.record_changes.specs.ChangeRow.{rows_of, fate_of};
 ghost use Rattle.record_changes.specs.ChangeRowLaws.{row_at, rows_words};

@@ -1,5 +1,6 @@
 // Mappings: the mapped node of an element, its place below another, and the climb from a replaced node to its replacement.
 #![tactic(auto)]
+
 ghost use Rattle.std.specs.Prelude.{◌≡◌, ◌+◌, ◌*◌, ◌≤◌, ◌<◌, length};
 ghost use Rattle.std.proofs.Math.Option.{get_or};
 ghost use mathlib.Core.List.{zip};

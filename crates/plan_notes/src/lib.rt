@@ -1,5 +1,6 @@
 // Where the notes of a batch settle, as words of rows.
 #![tactic(auto)]
+
 ghost use mathlib.Core.List.{zip};
 ghost use Rattle.std.specs.Prelude.{◌+◌, ◌*◌, ◌≤◌, ◌<◌, length, drop};
 ghost use Rattle.orders.specs.Lists.{All};

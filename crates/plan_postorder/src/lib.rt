@@ -1,5 +1,6 @@
 // The order in which changes run: dependents before their owner, siblings from the highest key to the lowest.
 #![tactic(auto)]
+
 ghost use Rattle.std.specs.Prelude.{◌≡◌, ◌++◌, ◌+◌, ◌^◌, ◌≤◌, ◌<◌, length, take, drop, replicate};
 ghost use Rattle.plan_sort.specs.Sorting.{ranked_places};
 ghost use Rattle.plan_postorder.specs.Order.{running_places};

@@ -1,5 +1,6 @@
 // Mapping elements into a replacement: the way down by child numbers, where a dependent's target goes, where a note's element settles.
 #![tactic(auto)]
+
 ghost use Rattle.std.specs.Prelude.{◌≤◌, ◌<◌, length};
 ghost use Rattle.read_element_table.specs.Wellformed.{Lines, Wellformed};
 ghost use Rattle.plan_mapping.specs.Mapped.{Mapped};

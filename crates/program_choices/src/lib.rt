@@ -1,5 +1,6 @@
 // A program's choices, read from its arguments.
 #![tactic(auto)]
+
 ghost use Rattle.std.specs.Prelude.{◌≡◌, ◌≤◌, length};
 ghost use Rattle.definition.specs.Choices.{digit, given};
 ghost use Rattle.choices.specs.Meant.{meant};

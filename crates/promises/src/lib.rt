@@ -1,5 +1,6 @@
 // What is asked for and answered; the work slices: whether one is too short, and all of them cleared.
 #![tactic(auto)]
+
 ghost use Rattle.std.specs.Prelude.{◌≡◌, ◌∷◌, [], length, ltb};
 ghost use Rattle.definition.specs.Answers.{too_short};
 ghost use Rattle.promises.specs.Slices.{asked, needed, lengths, zeros, zeroed};

@@ -1,5 +1,6 @@
 // Lines 2 to 7, with 16 right after 6.
 #![tactic(auto)]
+
 ghost use Rattle.std.specs.Prelude.{◌≡◌, not, ◌≤◌, length};
 ghost use mathlib.Core.List.{zip};
 ghost use Rattle.definition.specs.Basics.{gives, any};

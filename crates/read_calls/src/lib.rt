@@ -1,5 +1,6 @@
 // One call: what its word says, and its judgement by what the element table tells, for a batch's calls and for rewritten ones.
 #![tactic(auto)]
+
 ghost use Rattle.std.specs.Prelude.{◌≡◌, suc, ◌+◌, ◌*◌, ◌^◌, ◌≤◌, ◌<◌, length, get_or, drop, eqb};
 ghost use mathlib.Core.List.{head_d};
 ghost use Rattle.definition.specs.Words.{words as words_of};

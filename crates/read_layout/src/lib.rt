@@ -1,5 +1,6 @@
 // Lines 2 to 4: a batch is refused, or it is known where each of its arrays stands.
 #![tactic(auto)]
+
 ghost use Rattle.std.specs.Prelude.{◌≡◌, not, ◌+◌, ◌*◌, ◌≤◌, ◌<◌, length};
 ghost use Rattle.definition.specs.Batch.{sizes, beyond};
 ghost use Rattle.read_layout.specs.Layout.{sizes_of, layout_of, Limits, laid_of, ends_at, laid};

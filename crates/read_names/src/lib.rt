@@ -1,5 +1,6 @@
 // Lines 6, 16 and 7: the calls, the mappings and the notes of a batch, judged by what the element table tells.
 #![tactic(auto)]
+
 ghost use Rattle.std.specs.Prelude.{◌≡◌, not, ◌+◌, ◌*◌, ◌≤◌, ◌<◌, length, drop, leb};
 ghost use mathlib.Core.List.{zip};
 ghost use Rattle.definition.specs.Basics.{any};

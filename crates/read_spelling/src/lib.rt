@@ -1,5 +1,6 @@
 // Line 5: whether the elements of a batch spell trees.
 #![tactic(auto)]
+
 ghost use Rattle.std.specs.Prelude.{◌≡◌, ◌+◌, ◌*◌, ◌≤◌, ◌<◌, length};
 ghost use Rattle.read_spelling.specs.Spelling.{children_of, length_of, stands as stands_at, elements_at, accepts};
 

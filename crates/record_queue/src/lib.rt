@@ -1,5 +1,6 @@
 // Recording: from the calls of an accepted batch to change rows, editor after editor.
 #![tactic(auto)]
+
 ghost use Rattle.std.specs.Prelude.{◌≡◌, ◌+◌, ◌*◌, ◌^◌, ◌≤◌, ◌<◌, length, get_or, drop};
 ghost use mathlib.Core.List.{zip};
 ghost use Rattle.definition.specs.Words.{words as words_of};

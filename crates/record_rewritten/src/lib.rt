@@ -1,5 +1,6 @@
 // The row of a dependent with the ends that it has in the replacement: written as recording writes rows, with fate, owner and rule number kept.
 #![tactic(auto)]
+
 ghost use Rattle.std.specs.Prelude.{[], ◌∷◌, ◌≡◌, ◌+◌, ◌*◌, ◌≤◌, ◌<◌, length, drop};
 ghost use Rattle.std.proofs.Math.Seq.{paste};
 ghost use Rattle.read_element_table.specs.View.{view};

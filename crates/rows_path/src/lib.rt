@@ -1,5 +1,6 @@
 // Paths in the rows of a tree: the element to which a path leads, and where its text starts.
 #![tactic(auto)]
+
 ghost use Rattle.std.specs.Prelude.{◌*◌, ◌^◌, ◌<◌, length};
 ghost use Rattle.rows_path.specs.Promises.{Resolves};
 

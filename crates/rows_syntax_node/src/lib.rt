@@ -1,5 +1,6 @@
 // Rows of three words in preorder: the kind word, the measure, and where a token's text starts in the text of all.
 #![tactic(auto)]
+
 ghost use Rattle.std.specs.Prelude.{◌≡◌, ◌+◌, ◌-◌, ◌*◌, ◌%◌, ◌^◌, ◌≤◌, ◌<◌, max, length, get_or};
 ghost use Rattle.orders.specs.Lists.{All};
 ghost use Rattle.definition_laws.specs.Basics.{up_from};

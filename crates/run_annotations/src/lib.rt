@@ -1,5 +1,6 @@
 // The changed elements and the notes that are held, moved through one splice.
 #![tactic(auto)]
+
 ghost use Rattle.std.specs.Prelude.{◌≡◌, ◌+◌, ◌-◌, ◌*◌, ◌/◌, ◌%◌, ◌^◌, ◌≤◌, ◌<◌, length, get_or};
 ghost use Rattle.std.proofs.Math.Seq.{paste};
 ghost use Rattle.orders.specs.Lists.{All};

@@ -1,5 +1,6 @@
 // What the row of a change tells one step of the run.
 #![tactic(auto)]
+
 ghost use Rattle.std.specs.Prelude.{◌≡◌, ◌*◌, ◌^◌, ◌≤◌, ◌<◌, length};
 ghost use Rattle.orders.specs.Lists.{All};
 ghost use Rattle.read_element_table.specs.Wellformed.{Lines};

@@ -1,5 +1,6 @@
 // The run: from the batch's own trees, the performed changes step by step.
 #![tactic(auto)]
+
 ghost use Rattle.std.specs.Prelude.{◌≡◌, ◌+◌, ◌*◌, ◌≤◌, ◌<◌, length};
 ghost use Rattle.orders.specs.Lists.{All};
 ghost use Rattle.definition.specs.Refusals.{most_listed};

@@ -1,5 +1,6 @@
 // What the listed elements of a step yield: their rows one behind another, the number of rows of each, and the notes that come along.
 #![tactic(auto)]
+
 ghost use Rattle.std.specs.Prelude.{◌+◌, ◌*◌, ◌/◌, ◌≤◌, ◌<◌, length, get_or};
 ghost use Rattle.orders.specs.Lists.{All};
 ghost use Rattle.run_prepare.specs.Parts.{words_in};

@@ -1,5 +1,6 @@
 // One splice of what is held, slice by slice: rows and marks, notes, changed elements.
 #![tactic(auto)]
+
 ghost use Rattle.std.specs.Prelude.{◌≡◌, ◌+◌, ◌-◌, ◌*◌, ◌%◌, ◌^◌, ◌≤◌, ◌<◌, length, get_or};
 ghost use Rattle.orders.specs.Lists.{All, pick};
 ghost use Rattle.run_annotations.specs.Notes.{notes_of};

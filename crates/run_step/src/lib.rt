@@ -1,5 +1,6 @@
 // One step of the run over all that is held.
 #![tactic(auto)]
+
 ghost use Rattle.std.specs.Prelude.{◌≡◌, List, ℕ, ◌+◌, ◌*◌, ◌/◌, ◌^◌, ◌≤◌, ◌<◌, length};
 ghost use Rattle.orders.specs.Lists.{All};
 ghost use Rattle.definition.specs.Refusals.{most_listed};

@@ -1,6 +1,7 @@
 // The state of a run: where the root of tree 0 stands, and how much is held; lent to each splice step, which rows, marks, notes and changed elements
 // go through together. 12 is decided before anything is written.
 #![tactic(auto)]
+
 ghost use Rattle.std.specs.Prelude.{◌≡◌, List, ℕ, ◌+◌, ◌-◌, ◌*◌, ◌/◌, ◌^◌, ◌≤◌, ◌<◌, length};
 ghost use Rattle.orders.specs.Lists.{pick};
 ghost use Rattle.run_annotations.specs.Notes.{notes_of};

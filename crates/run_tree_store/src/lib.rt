@@ -1,5 +1,6 @@
 // The current trees as rows and marks: what a listed element yields, and where a change goes.
 #![tactic(auto)]
+
 ghost use Rattle.std.specs.Prelude.{◌≡◌, ◌+◌, ◌*◌, ◌^◌, ◌≤◌, ◌<◌, length};
 ghost use Rattle.orders.specs.Lists.{All};
 ghost use Rattle.read_element_table.specs.Wellformed.{Lines};

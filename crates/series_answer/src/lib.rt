@@ -1,5 +1,6 @@
 // What a later call of a series answers from what its run leaves: 13, or the result's bytes and the memory as it is left (document 02, Note 14).
 #![tactic(auto)]
+
 ghost use Rattle.std.specs.Prelude.{length};
 ghost use Rattle.choices.specs.Meant.{meant};
 ghost use Rattle.series_leave.specs.Leaving.{lent_of};

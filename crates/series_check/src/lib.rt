@@ -1,5 +1,6 @@
 // What a lent memory is held to: lines 3, 4, 5, 20 and 21 (document 02, Note 14). How the memory lies in its two slices: series_laws/specs/Lent.antt.
 #![tactic(auto)]
+
 ghost use Rattle.std.specs.Prelude.{◌≡◌, not, ◌+◌, ◌*◌, ◌^◌, ◌≤◌, ◌<◌, length, get_or};
 ghost use Rattle.std.proofs.Math.Seq.{paste};
 ghost use Rattle.definition.specs.Basics.{among};

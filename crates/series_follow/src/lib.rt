@@ -1,5 +1,6 @@
 // A later call of a series, from what is lent to the end of its run: 17, 18, 1, the memory's own lines, 2 to 7 with 16, 22, then planning and the steps (document 02, Note 14).
 #![tactic(auto)]
+
 ghost use Rattle.std.specs.Prelude.{◌≡◌, ◌∷◌, [], ◌+◌, ◌*◌, ◌≤◌, length, drop};
 ghost use Rattle.definition.specs.Words.{word};
 ghost use Rattle.definition.specs.Answers.{with_choices};

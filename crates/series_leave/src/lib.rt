@@ -1,5 +1,6 @@
 // The memory that an accepted batch leaves (document 02, Note 14).
 #![tactic(auto)]
+
 ghost use Rattle.std.specs.Prelude.{◌≡◌};
 ghost use Rattle.series_laws.specs.Lent.{left_in};
 ghost use Rattle.series_leave.specs.Leaving.{Leaving, lent_of};

@@ -1,5 +1,6 @@
 // Bookmarks moved by a run: a bookmark is an old element, and the element's mark says where it stands now.
 #![tactic(auto)]
+
 ghost use Rattle.std.specs.Prelude.{◌≡◌, ◌+◌, ◌*◌, ◌^◌, ◌≤◌, ◌<◌, length, get_or, take};
 ghost use Rattle.std.proofs.Math.Seq.{paste};
 ghost use Rattle.rows_model.specs.Place.{mark_of};

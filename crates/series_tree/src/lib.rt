@@ -1,5 +1,6 @@
 // The tree of a memory: whether a batch's tree 0 is that tree (22), whether the new tree fits (13), and that tree written.
 #![tactic(auto)]
+
 ghost use Rattle.std.specs.Prelude.{◌≡◌, ◌+◌, ◌*◌, ◌/◌, ◌^◌, ◌≤◌, ◌<◌, ltb, length, drop};
 ghost use mathlib.Core.List.{flat_map};
 ghost use Rattle.definition.specs.Basics.{gives};

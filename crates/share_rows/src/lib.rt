@@ -1,5 +1,6 @@
 // The share of text rewritten (document 02, Note 10), from the rows and the changed elements that a run leaves.
 #![tactic(auto)]
+
 ghost use Rattle.std.specs.Prelude.{◌≡◌, List, [], ℕ, ◌*◌, ◌^◌, ◌≤◌, ◌<◌, length};
 ghost use Rattle.rows_model.specs.Row.{bytes, first_rows};
 ghost use Rattle.share_rows.specs.Promises.{ElementBytes, ChangedText, ChangedTexts, Divided, Shares};

@@ -1,5 +1,6 @@
 // Whether any two splices of a list are apart: they have two numbers, neither's parent is below what the other deletes, and their runs do not overlap.
 #![tactic(auto)]
+
 ghost use Rattle.std.specs.Prelude.{◌+◌, ◌*◌, ◌^◌, ◌≤◌, ◌<◌, length, get_or};
 ghost use Rattle.splices_apart.specs.Promises.{EntersAt, Overlaps, ApartAt, RowsTo, ApartFrom, ApartAll};
 

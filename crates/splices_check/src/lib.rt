@@ -1,6 +1,7 @@
 // The first refusal of a list of splices, six words each (number, row of its parent in the old tree, from, to, where its prepared rows start, how many they are):
 // whether the slices have room for it, it fits the old tree and is apart. Nothing is written.
 #![tactic(auto)]
+
 ghost use Rattle.std.specs.Prelude.{◌≡◌, true, ◌+◌, ◌*◌, ◌^◌, ◌≤◌, ◌<◌, length, get_or, take};
 ghost use Rattle.splices_model.specs.Bounds.{rows_to};
 ghost use Rattle.splices_model.specs.Cuts.{part_at};

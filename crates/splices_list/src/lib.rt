@@ -1,6 +1,7 @@
 // A list of splices, done in the order given on the rows and marks of one old tree. Six words a splice: number, row of its parent in the old tree, from, to,
 // where its prepared rows start, how many they are. The mark of an old element is the row where it stands now.
 #![tactic(auto)]
+
 ghost use Rattle.std.specs.Prelude.{◌≡◌, ◌+◌, ◌*◌, ◌^◌, ◌≤◌, ◌<◌, length, take};
 ghost use Rattle.orders.specs.Lists.{All};
 ghost use Rattle.splices_list.specs.Plain.{plain_word, plain};

@@ -1,6 +1,7 @@
 // One splice of a list on the rows and marks of one old tree. Six words a splice: number, row of its parent in the old tree, from, to, where its prepared rows
 // start, how many they are. The mark of an old element is the row where it stands now.
 #![tactic(auto)]
+
 ghost use Rattle.std.specs.Prelude.{◌≡◌, true, ◌+◌, ◌*◌, ◌^◌, ◌≤◌, ◌<◌, length, get_or};
 ghost use Rattle.orders.specs.Lists.{All};
 ghost use Rattle.splices_step.specs.Promises.{left_run, left_at, TreesOf, Deletes, Shifted, Started, ParentAt, GapAt, takes_by, Stepped};

@@ -1,5 +1,6 @@
 // The writer: lists laid out as a batch (document 02, Note 2).
 #![tactic(auto)]
+
 ghost use Rattle.std.specs.Prelude.{◌≡◌, ◌∷◌, [], ◌≤◌, length};
 ghost use Rattle.definition.specs.Answers.{too_short};
 ghost use Rattle.promises.specs.Slices.{lengths, zeroed};

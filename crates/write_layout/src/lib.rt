@@ -1,5 +1,6 @@
 // Lists laid out as a batch: which can be, and each array behind the one before it.
 #![tactic(auto)]
+
 ghost use Rattle.std.specs.Prelude.{◌≡◌, not, ◌||◌, ◌++◌, ◌+◌, ◌*◌, ◌≤◌, ◌<◌, length, get_or, leb};
 ghost use Rattle.definition.specs.Basics.{any};
 ghost use Rattle.definition.specs.Refusals.{call_word};

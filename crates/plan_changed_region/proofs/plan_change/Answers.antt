@@ -5,4 +5,3 @@ use Rattle.plan_changed_region.proofs.plan_change.Goals as goal
 
 pub returns : goal.returns
 returns c = record { rows_after = search (rows_next, rules); tops_after = search (tops_after, rules) }
-

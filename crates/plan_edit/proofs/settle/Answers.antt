@@ -8,4 +8,3 @@ settle_notes-requires c =
     let p = c.requires in
     let r = p.ready in
     let L = r.within.limits in record { wellformed = r.formed; mapped = p.mapped.0; k_in_bounds = (r.within.noted, r.within.numbers, L.elements, omega (arith, L.notes), omega (arith, L.notes, p.mapped.1)); all = (ready_facts r).notes }
-

@@ -12,4 +12,3 @@ append_postorder-requires c = record { links = search (links_kept, rules); owner
 
 pub returns : goal.returns
 returns c = record { value = search (all_counted, rules); running_after = search (all_written, rules); ranked_after = search rules }
-
