@@ -18,7 +18,8 @@ use Rattle.promises.specs.Slices.{lengths, zeroed}
 use Rattle.promises.specs.Promises.{left_in}
 use Rattle.promises.specs.Writing.{writer_needs, wrote, Writes}
 use Rattle.promises_read.specs.Refused.{by_number}
-use Rattle.promises_read.specs.Written.{write_numbers, wrote_by}
+use Rattle.promises_read.specs.Written.{write_numbers}
+use Rattle.promises_read.proofs.Written.{wrote_by}
 use Rattle.write_laws.specs.CallWords.{length_calls}
 use Rattle.write_laws.specs.RoundTrip.{InStep, layable}
 use Rattle.edit_numbers.specs.Negated.{neg_told, pos_told}

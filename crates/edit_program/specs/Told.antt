@@ -25,8 +25,8 @@ use Rattle.edit_print.specs.Printable.{Printable, encoded_printable}
 use Rattle.edit_print.specs.Lines.{Put}
 use Rattle.promises_read.specs.Answered.{answer_in}
 use Rattle.promises_read.specs.Printing.{printed_run}
-use Rattle.promises_read.specs.Demand1.{demand_1}
-use Rattle.promises_read.specs.Demand3.{finished_read}
+use Rattle.promises_read.proofs.Demand1.{demand_1}
+use Rattle.promises_read.proofs.Demand3.{finished_read}
 
 -- the bytes of a result that is n bytes long are in the slice, and can be printed
 pub record Holds (n : ℕ) (result : List ℕ) (room : ℕ) : Type 0 where

@@ -10,10 +10,4 @@
 -- The proof:
 --     Says      the test says just what the statement says (`full_says`)
 pub mod Words
-pub mod Says
-pub mod Holds
-pub mod Suffices
-pub mod Answered
 pub mod Examples
-pub mod Shown
-pub mod Needed

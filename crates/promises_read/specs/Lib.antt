@@ -16,7 +16,6 @@ pub mod Printing
 pub mod Examples
 pub mod Demand1
 pub mod Demand3
-pub mod Kept
 pub mod Pairs
 pub mod Written
 pub mod WrongEditors

@@ -28,8 +28,8 @@ use Rattle.definition_account.proofs.Numbers.{went_path}
 use Rattle.definition_account.proofs.Account.{Performed, ran_performed}
 use Rattle.definition_account.proofs.Tokens.{performed_tokens}
 use Rattle.full_account.specs.Words.{trees_in, table_in, changed_above}
-use Rattle.full_account.specs.Says.{all_kept, each_of}
-use Rattle.full_account.specs.Holds.{trees_read, each_accounted}
+use Rattle.full_account.proofs.Says.{all_kept, each_of}
+use Rattle.full_account.proofs.Holds.{trees_read, each_accounted}
 
 -- what stands at the element n of these trees, with what is below it
 unfoldable pub standing : List (Tree ℕ) → ℕ → Option (Tree ℕ)

@@ -19,7 +19,7 @@ use Rattle.definition_laws.specs.Answers.{gives_inj}
 use Rattle.definition_demand.specs.Aims.{replaces_root}
 use Rattle.definition_account.specs.Words.{went_to, count, old_elements, is?, old_at, dependent_in0, keeps_root, no_dependent_in0}
 use Rattle.full_account.specs.Words.{trees_in, table_in, changed_above, Accounted, in_run?, deleted?, Sheet, sheet_of, sheet, condition?, one_of?, alike?, full?}
-use Rattle.full_account.specs.Holds.{tested, sheet_full}
+use Rattle.full_account.proofs.Holds.{tested, sheet_full}
 use Rattle.full_account.specs.Examples.{new, went, stays, goes}
 
 -- ── The batches ─────────────────────────────────────────────────────────────────────────────────────────────

@@ -29,7 +29,7 @@ use Rattle.definition_demand.specs.Run.{splices_in0}
 use Rattle.definition_account.specs.Words.{changed_in, changed_over, old_at, OneOf, EachOneOf, NowhereIfDeleted, keeps_root, no_dependent_in0}
 use Rattle.definition_account.proofs.Account.{Performed, each_one_of, nowhere_if_deleted, ran_performed}
 use Rattle.full_account.specs.Words.{trees_in, table_in, changed_above, Accounted, Sheet, sheet_of, sheet, condition?, full?}
-use Rattle.full_account.specs.Says.{full_says}
+use Rattle.full_account.proofs.Says.{full_says}
 
 -- ── A result is read as its new tree ────────────────────────────────────────────────────────────────────────
 

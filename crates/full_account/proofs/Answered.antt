@@ -13,11 +13,11 @@ use Rattle.definition_account.specs.Words.{keeps_root, no_dependent_in0}
 use Rattle.result_laws.proofs.Worded.{Bytes}
 use Rattle.result_laws.specs.Decoded.{decoded}
 use Rattle.promises.specs.Promises.{Edits}
-use Rattle.promises_read.specs.Demand1.{demand_1}
-use Rattle.promises_read.specs.Demand3.{finished_read}
+use Rattle.promises_read.proofs.Demand1.{demand_1}
+use Rattle.promises_read.proofs.Demand3.{finished_read}
 use Rattle.full_account.specs.Words.{changed_above, Accounted, sheet_of, sheet}
-use Rattle.full_account.specs.Holds.{accounted}
-use Rattle.full_account.specs.Suffices.{AsItWas, rest_as_it_was}
+use Rattle.full_account.proofs.Holds.{accounted}
+use Rattle.full_account.proofs.Suffices.{AsItWas, rest_as_it_was}
 
 -- what a reader of the result slice counts there
 pub record Counted (h : Choices) (b holds : List ℕ) : Type 0 where

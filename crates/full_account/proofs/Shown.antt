@@ -14,10 +14,10 @@ use Rattle.definition_laws.specs.Answers.{gives_inj, given}
 use Rattle.result_laws.proofs.Worded.{tested_bytes}
 use Rattle.result_laws.specs.Decoded.{decoded}
 use Rattle.promises.specs.Promises.{Edits}
-use Rattle.promises_read.specs.Demand1.{demand_1}
-use Rattle.promises_read.specs.Demand3.{finished_read}
+use Rattle.promises_read.proofs.Demand1.{demand_1}
+use Rattle.promises_read.proofs.Demand3.{finished_read}
 use Rattle.full_account.specs.Words.{sheet_of, sheet}
-use Rattle.full_account.specs.Answered.{Counted, note_13_answered}
+use Rattle.full_account.proofs.Answered.{Counted, note_13_answered}
 use Rattle.full_account.specs.Examples.{Case, table, account, counted}
 
 -- every call on this batch by this edge rule that keeps its promise and does not refuse: in its slice stand the changed elements that are told, and what is counted there is the sheet that is told

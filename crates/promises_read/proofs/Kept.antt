@@ -15,8 +15,9 @@ use Rattle.definition_edge.specs.Kept.{Kept1}
 use Rattle.definition_edge.proofs.Kept.{kept_by_rule_1}
 use Rattle.result_laws.proofs.Worded.{Bytes}
 use Rattle.promises.specs.Promises.{Edits}
-use Rattle.promises_read.specs.Demand1.{demand_1}
-use Rattle.promises_read.specs.Demand3.{Shown, demand_3_answered}
+use Rattle.promises_read.proofs.Demand1.{demand_1}
+use Rattle.promises_read.specs.Demand3.{Shown}
+use Rattle.promises_read.proofs.Demand3.{demand_3_answered}
 
 -- By rule 1, a batch that is not refused, does not replace the root of tree 0 and has no dependent change ending there: the result slice shows the one-go tree, and what
 -- each own change puts into tree 0 stands in it (`Kept1`, its field `own`).

@@ -1,0 +1,25 @@
+-- `judge` meets its contract.
+-- Assumes nothing.
+use Rattle.check_program.proofs.Ways.{short_claim, other_length, right_length, front_words, texts_left}
+use Rattle.check_claim.specs.Judging.{answer_of}
+use native.Mathlib.Omega.{arith}
+use lib.ListN.{length, replicate}
+use Prim.Native.Nat.{ℕ, ◌+◌, ◌-◌, ◌*◌}
+use Rattle.check_program.proofs.judge.Goals as goal
+
+pub returns-then-claim-lt32 : goal.returns-then-claim-lt32
+unfolding answer_of
+returns-then-claim-lt32 c = short_claim _ (omega arith)
+
+pub returns-then-claim-n : goal.returns-then-claim-n
+unfolding answer_of
+returns-then-claim-n c = other_length _ (omega arith) c.read_word-a.ensures.0 c.read_word-b.ensures.0 c.read_word-c.ensures.0 c.read_word-d.ensures.0 c.read_word-e.ensures.0 c.read_word-f.ensures.0 c.read_word-g.ensures.0 c.read_word-h.ensures.0 c.if-claim-n.true
+
+pub returns : goal.returns
+returns c =
+    let n : ℕ = c.read_word-a.result + c.read_word-b.result + c.read_word-d.result + c.read_word-e.result + 2 * c.read_word-g.result + c.read_word-h.result in
+    let x = c.args.claim.now in
+    right_length x (omega arith) c.read_word-a.ensures.0 c.read_word-b.ensures.0 c.read_word-c.ensures.0 c.read_word-d.ensures.0 c.read_word-e.ensures.0 c.read_word-f.ensures.0 c.read_word-g.ensures.0 c.read_word-h.ensures.0 (omega arith)
+    (front_words n _ (replicate 65536 0) _ c.read_words.ensures (omega arith))
+    (texts_left x (32 + 4 * n) (length x - (32 + 4 * n)) (omega arith))
+    c.judge_lists.ensures

@@ -1,0 +1,6 @@
+pub mod Answered
+pub mod Holds
+pub mod Needed
+pub mod Says
+pub mod Shown
+pub mod Suffices
