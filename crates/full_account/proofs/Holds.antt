@@ -9,10 +9,10 @@ use Rattle.std.proofs.Math.Option.{bind}
 use Rattle.std.proofs.Math.ListN.{length-map}
 use Rattle.orders.specs.Lists.{All}
 use Rattle.orders.specs.ListLaws.{both_true}
-use Rattle.orders.specs.Tree.{Tree, node, token, list, children, label, text, preorder}
+use Rattle.orders.specs.Tree.{Tree, node, token, list, children, label, preorder}
 use Rattle.definition.specs.Basics.{gives}
 use Rattle.definition.specs.Choices.{Choices}
-use Rattle.definition.specs.Elements.{Table, table}
+use Rattle.definition.specs.Elements.{Table}
 use Rattle.definition.specs.Refusals.{Accepted, accepted}
 use Rattle.definition.specs.Planning.{Planned}
 use Rattle.definition.specs.Running.{World, begin}

@@ -5,7 +5,7 @@ use Rattle.std.proofs.Common.{sym, ap, ◌∙◌}
 use mathlib.Core.List.{List, [], ◌∷◌, map, head-eq_of_cons-eq, tail-eq_of_cons-eq}
 use Rattle.orders.specs.Lists.{any, All}
 use Rattle.orders.specs.ListLaws.{none_passes}
-use Rattle.definition.specs.Basics.{Answer, gives, ◌>>=◌}
+use Rattle.definition.specs.Basics.{Answer, gives}
 use Rattle.definition.specs.Answers.{edit}
 use Rattle.definition.specs.Computing.{computed}
 use Rattle.definition.specs.Examples.{in_lists, in_bytes}

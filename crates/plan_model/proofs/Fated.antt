@@ -65,21 +65,21 @@ module _ (T : Table) (cs : List Call) where
   change_at p = p.1.change
 
   module _ (h : Choices) where
-    rows_left : (left_rows T cs) h ≡ map (row_for T) ((left_at T cs) h)
+    rows_left : left_rows T cs h ≡ map (row_for T) (left_at T cs h)
     unfolding left_rows left_at
-    rows_left = ap (staying ((gone T cs) h)) rows_sorted ∙ staying_map (row_for T) ((gone T cs) h) (sorted_at T cs)
+    rows_left = ap (staying (gone T cs h)) rows_sorted ∙ staying_map (row_for T) (gone T cs h) (sorted_at T cs)
 
-    recorded_left : (left T cs) h ≡ map snd ((left_at T cs) h)
+    recorded_left : left T cs h ≡ map snd (left_at T cs h)
     unfolding left_at
-    recorded_left = ap (staying ((gone T cs) h)) recorded_sorted ∙ staying_map snd ((gone T cs) h) (sorted_at T cs)
+    recorded_left = ap (staying (gone T cs h)) recorded_sorted ∙ staying_map snd (gone T cs h) (sorted_at T cs)
 
-    changes_left : changes_of ((left T cs) h) ≡ map change_at ((left_at T cs) h)
+    changes_left : changes_of (left T cs h) ≡ map change_at (left_at T cs h)
     unfolding changes_of
-    changes_left = ap (map (λ r. r.change)) recorded_left ∙ map-map (λ r. r.change) snd ((left_at T cs) h)
+    changes_left = ap (map (λ r. r.change)) recorded_left ∙ map-map (λ r. r.change) snd (left_at T cs h)
 
     -- refusal 8 is the definition's
-    pub overlap_left : rows_overlap ((left_rows T cs) h) ≡ overlap T (changes_of ((left T cs) h))
-    overlap_left = rw (rows_left, changes_left) (overlap_told T (row_for T) change_at (λ x. row_tells T x.0 x.1.rule x.1.change) ((left_at T cs) h))
+    pub overlap_left : rows_overlap (left_rows T cs h) ≡ overlap T (changes_of (left T cs h))
+    overlap_left = rw (rows_left, changes_left) (overlap_told T (row_for T) change_at (λ x. row_tells T x.0 x.1.rule x.1.change) (left_at T cs h))
 
 -- ── Fated ───────────────────────────────────────────────────────────────────────────────────────────────────
 

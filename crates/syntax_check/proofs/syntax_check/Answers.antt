@@ -1,4 +1,5 @@
 -- `syntax_check` meets its contract: the number of what `check` tells.
+-- Assumes nothing.
 use Rattle.syntax_check.specs.Returned.{checks_by, check_returned}
 use Rattle.syntax_check.proofs.syntax_check.Goals as goal
 

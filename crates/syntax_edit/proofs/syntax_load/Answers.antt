@@ -1,4 +1,5 @@
 -- `syntax_load` meets its contract: the number of what `load` tells.
+-- Assumes nothing.
 use Rattle.edit_numbers.specs.ReturnedBatch.{write_small, write_returned}
 use Rattle.syntax_edit.proofs.syntax_load.Goals as goal
 

@@ -1,4 +1,5 @@
 -- `syntax_write` meets its contract: the number of what `write_batch` tells.
+-- Assumes nothing.
 use Rattle.edit_numbers.specs.ReturnedBatch.{write_small, write_returned}
 use Rattle.syntax_edit.proofs.syntax_write.Goals as goal
 

@@ -1,4 +1,5 @@
 -- `syntax_series_follow` meets its contract.
+-- Assumes nothing.
 use Rattle.syntax_series.specs.Returned.{follow_small, follow_returned}
 use Rattle.syntax_series.proofs.syntax_series_follow.Goals as goal
 

@@ -1,4 +1,5 @@
 -- `syntax_series_start` meets its contract.
+-- Assumes nothing.
 use Rattle.syntax_series.specs.Returned.{start_small, start_returned}
 use Rattle.syntax_series.proofs.syntax_series_start.Goals as goal
 

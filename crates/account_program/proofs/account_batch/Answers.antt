@@ -1,0 +1,9 @@
+-- `account_batch` meets its contract.
+-- Assumes nothing.
+use borrow.Author.Rules.{rules}
+use Rattle.promises.specs.Slices.{lengths_suffice}
+use Rattle.account_program.specs.Responds.{account_tells}
+use Rattle.account_program.proofs.account_batch.Goals as goal
+
+pub returns : goal.returns
+returns c = account_tells c.account.ensures c.requires.1 (search rules) (search (lengths_suffice, rules))
