@@ -7,8 +7,8 @@ use Rattle.syntax_check.proofs.verdict_number.Goals as goal
 pub overflow_cast-m : goal.overflow_cast-m
 overflow_cast-m c = search (refused_fits, rules)
 
-pub overflow_neg-result : goal.overflow_neg-result
-overflow_neg-result c = search (refused_minus, rules)
+pub overflow_sub-result : goal.overflow_sub-result
+overflow_sub-result c = search (refused_minus, rules)
 
 pub returns-in-Refused : goal.returns-in-Refused
 returns-in-Refused c = search (tells_refused, rules)
