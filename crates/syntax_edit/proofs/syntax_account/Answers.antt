@@ -1,6 +1,6 @@
 -- `syntax_account` meets its contract: the number of what `serve` answers.
 -- Assumes nothing.
-use Rattle.edit_numbers.specs.Returned.{account_small, account_returned}
+use Rattle.edit_numbers.proofs.Returned.{account_small, account_returned}
 use Rattle.syntax_edit.proofs.syntax_account.Goals as goal
 
 pub number_of-requires : goal.number_of-requires

@@ -1,6 +1,6 @@
 -- `syntax_edit` meets its contract: the number of what `serve` answers.
 -- Assumes nothing.
-use Rattle.edit_numbers.specs.Returned.{edit_small, edit_returned}
+use Rattle.edit_numbers.proofs.Returned.{edit_small, edit_returned}
 use Rattle.syntax_edit.proofs.syntax_edit.Goals as goal
 
 pub number_of-requires : goal.number_of-requires

@@ -1,6 +1,6 @@
 -- `syntax_find_element` meets its contract: the number of what `serve` answers.
 -- Assumes nothing.
-use Rattle.edit_numbers.specs.Returned.{find_small, find_returned}
+use Rattle.edit_numbers.proofs.Returned.{find_small, find_returned}
 use Rattle.syntax_edit.proofs.syntax_find_element.Goals as goal
 
 pub number_of-requires : goal.number_of-requires

@@ -1,6 +1,6 @@
 -- `syntax_kept` meets its contract: the number of what `serve` answers.
 -- Assumes nothing.
-use Rattle.edit_numbers.specs.Returned.{kept_small, kept_returned}
+use Rattle.edit_numbers.proofs.Returned.{kept_small, kept_returned}
 use Rattle.syntax_edit.proofs.syntax_kept.Goals as goal
 
 pub number_of-requires : goal.number_of-requires

@@ -1,6 +1,6 @@
 -- `syntax_share` meets its contract: the number of what `serve` answers.
 -- Assumes nothing.
-use Rattle.edit_numbers.specs.Returned.{share_fits, share_returned}
+use Rattle.edit_numbers.proofs.Returned.{share_fits, share_returned}
 use Rattle.syntax_edit.proofs.syntax_share.Goals as goal
 
 pub number_of-requires : goal.number_of-requires
