@@ -1,5 +1,6 @@
 // The checker for C and Rust (document 02, Note 11): a slice is a pointer and a length, a verdict is one number.
 #![tactic(auto)]
+
 ghost use Rattle.std.specs.Prelude.{◌≡◌, ◌∷◌, []};
 ghost use Rattle.promises_read.specs.Refused.{By};
 ghost use Rattle.check_claim.specs.Judging.{answer_of};

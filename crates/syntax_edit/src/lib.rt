@@ -1,5 +1,6 @@
 // The public calls for C and Rust: a slice is a pointer and a length, an outcome is one number.
 #![tactic(auto)]
+
 ghost use Rattle.std.specs.Prelude.{◌∷◌, []};
 ghost use Rattle.write_layout.specs.Laying.{lists_in};
 ghost use Rattle.load_laws.specs.Load.{load};

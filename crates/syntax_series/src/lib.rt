@@ -1,5 +1,6 @@
 // The calls on a series of edits for C and Rust (document 02, Note 14): a slice is a pointer and a length, an outcome is one number.
 #![tactic(auto)]
+
 ghost use Rattle.std.specs.Prelude.{◌∷◌, []};
 ghost use Rattle.series_leave.specs.Leaving.{lent_of};
 ghost use Rattle.syntax_series.specs.Returned.{ReturnsStart, ReturnsFollow};

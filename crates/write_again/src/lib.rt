@@ -1,5 +1,6 @@
 // A batch taken apart into its lists, and written again (document 02, Note 2). Its sizes may be beyond their limits: that is the writer's to judge.
 #![tactic(auto)]
+
 ghost use Rattle.std.specs.Prelude.{◌≡◌, ◌+◌, ◌*◌, ◌≤◌, length};
 ghost use Rattle.write_again.specs.Counted.{word_count, Worded};
 
