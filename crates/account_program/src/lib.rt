@@ -1,7 +1,7 @@
 // The account program: reads its choices, the first two arguments, and a batch on standard input, and prints what becomes of each change.
 #![tactic(auto)]
 
-ghost use Rattle.std.specs.Prelude.{◌≡◌, ◌<◌, ◌≤◌, length, take, IfOk, OnOk};
+ghost use Rattle.std.specs.Prelude.{◌≡◌, ◌<◌, ◌≤◌, length, take, OnOk};
 ghost use Rattle.std.specs.Io.KnownBytes.{Consumes, IsAtEnd};
 ghost use Rattle.choices.specs.Meant.{meant};
 ghost use Rattle.definition.specs.Account.{account_printed};
@@ -56,11 +56,12 @@ fn answer(choices: Choices, batch: &[u8], read: usize, out: &mut [u8]) -> usize
     }
 }
 
-// How many bytes of the batch were read, and how many of the output are to be printed.
-#[derive(Clone, Copy)]
+// How many bytes of the batch were read, how many of the output are to be printed, and whether reading ended well.
+#[derive(Drop)]
 pub struct Response {
     pub read: usize,
     pub written: usize,
+    pub ended: io::Result<()>,
 }
 
 // Reads a batch and writes what is printed of it at the front of `out`. The bytes judged are the first `read` of the batch's buffer, as reading left it: where it is
@@ -70,26 +71,32 @@ pub fn respond<R: Read>(
     from: &mut R,
     batch: &mut [u8],
     out: &mut [u8],
-) -> io::Result<Response>
+) -> Response
     requires { (65536 ≡ length batch.old) × (8192 ≡ length out.old) }
-    ensures responds { IfOk result (λ r. Responds (meant choices) batch.new r.read out.new r.written) }
-    ensures bytes { IfOk result (λ r. Consumes (R.remaining from.old) (R.remaining from.new) (take r.read batch.new)) }
-    ensures end { IfOk result (λ r. r.read < length batch.new → IsAtEnd (R.remaining from.new)) }
+    ensures responds { Responds (meant choices) batch.new result.read out.new result.written }
+    ensures bytes { Consumes (R.remaining from.old) (R.remaining from.new) (take result.read batch.new) }
+    ensures end { OnOk result.ended (result.read < length batch.new → IsAtEnd (R.remaining from.new)) }
 {
-    let read = program_input::read_batch(from, batch)?;
+    let filled = program_input::read_batch(from, batch);
+    let read = filled.count;
     let written = answer(choices, batch, read, out);
-    Ok(Response { read, written })
+    Response {
+        read,
+        written,
+        ended: filled.ended,
+    }
 }
 
-// Reads a batch and prints what is printed of it. Where it is known what bytes the input has left and the output holds, what is printed of those comes behind these.
+// Reads a batch and prints what is printed of it. Where a read fails, of what was read before, and then ends with that error. Where it is known what bytes the input has left and the output holds, what is printed of those comes behind these.
 pub fn serve<R: Read, W: Write>(choices: Choices, from: &mut R, to: &mut W) -> io::Result<()>
     ensures { OnOk result (Writes (account_printed (meant choices)) (R.remaining from.old) (W.contents to.old) (W.contents to.new)) }
 {
     let mut batch = [0u8; 65536];
     let mut out = [0u8; 8192];
-    let response = respond(choices, from, &mut batch, &mut out)?;
+    let response = respond(choices, from, &mut batch, &mut out);
     let written = response.written;
-    to.write_all(&out[..written])
+    to.write_all(&out[..written])?;
+    response.ended
 }
 
 // The whole program, on standard input and output. Which bytes the operating system gives, and how many of those printed it takes, is not promised.

@@ -1,7 +1,7 @@
 // The program `check`: reads claims on standard input and prints whether they are accepted.
 #![tactic(auto)]
 
-ghost use Rattle.std.specs.Prelude.{◌≡◌, ◌+◌, ◌<◌, ◌≤◌, length, take, IfOk, OnOk};
+ghost use Rattle.std.specs.Prelude.{◌≡◌, ◌+◌, ◌<◌, ◌≤◌, length, take, OnOk};
 ghost use Rattle.std.specs.Io.KnownBytes.{Consumes, IsAtEnd};
 ghost use Rattle.check_laws.specs.Check.{checked};
 ghost use Rattle.check_laws.specs.Layout.{claims_from, claim_printed, verdict_line};
@@ -12,6 +12,7 @@ ghost use Rattle.program_input.specs.Told.{Writes};
 ghost use Rattle.check_program.specs.Responds.{answered, Responds};
 
 use check_claim::Verdict;
+use program_input::Filled;
 use std::io;
 use std::io::{Read, Write};
 
@@ -104,44 +105,51 @@ fn answer(claim: &[u8], read: usize, out: &mut [u8]) -> usize
 
 // Reads claims into the front of their buffer and answers how many bytes were read. What is known of the input's bytes is told as `program_input::read_full` tells
 // it. Which bytes the operating system puts there, and how many, no contract says.
-fn read_claim<R: Read>(from: &mut R, claim: &mut [u8]) -> io::Result<usize>
+fn read_claim<R: Read>(from: &mut R, claim: &mut [u8]) -> Filled
     requires { 262144 ≡ length claim.old }
-    ensures bound { IfOk result (λ n. IsPrefixLen n claim.new) }
-    ensures bytes { IfOk result (λ n. Consumes (R.remaining from.old) (R.remaining from.new) (take n claim.new)) }
-    ensures end { IfOk result (λ n. n < length claim.new → IsAtEnd (R.remaining from.new)) }
+    ensures bound { IsPrefixLen result.count claim.new }
+    ensures bytes { Consumes (R.remaining from.old) (R.remaining from.new) (take result.count claim.new) }
+    ensures end { OnOk result.ended (result.count < length claim.new → IsAtEnd (R.remaining from.new)) }
 {
     program_input::read_full(from, claim)
 }
 
-// How many bytes of the claims were read, and how many of the output are to be printed.
-#[derive(Clone, Copy)]
+// How many bytes of the claims were read, how many of the output are to be printed, and whether reading ended well.
+#[derive(Drop)]
 pub struct Response {
     pub read: usize,
     pub written: usize,
+    pub ended: io::Result<()>,
 }
 
 // Reads claims and writes what is printed of them at the front of `out`. The bytes judged are the first `read` of the claims' buffer, as reading left it: where it is
 // known what bytes the input has left, the next of them.
-pub fn respond<R: Read>(from: &mut R, claim: &mut [u8], out: &mut [u8]) -> io::Result<Response>
+pub fn respond<R: Read>(from: &mut R, claim: &mut [u8], out: &mut [u8]) -> Response
     requires { (262144 ≡ length claim.old) × (32 ≤ length out.old) }
-    ensures responds { IfOk result (λ r. Responds claim.new r.read out.new r.written) }
-    ensures bytes { IfOk result (λ r. Consumes (R.remaining from.old) (R.remaining from.new) (take r.read claim.new)) }
-    ensures end { IfOk result (λ r. r.read < length claim.new → IsAtEnd (R.remaining from.new)) }
+    ensures responds { Responds claim.new result.read out.new result.written }
+    ensures bytes { Consumes (R.remaining from.old) (R.remaining from.new) (take result.read claim.new) }
+    ensures end { OnOk result.ended (result.read < length claim.new → IsAtEnd (R.remaining from.new)) }
 {
-    let read = read_claim(from, claim)?;
+    let filled = read_claim(from, claim);
+    let read = filled.count;
     let written = answer(claim, read, out);
-    Ok(Response { read, written })
+    Response {
+        read,
+        written,
+        ended: filled.ended,
+    }
 }
 
-// Reads claims and prints what is printed of them. Where it is known what bytes the input has left and the output holds, what is printed of those comes behind these.
+// Reads claims and prints what is printed of them. Where a read fails, of what was read before, and then ends with that error. Where it is known what bytes the input has left and the output holds, what is printed of those comes behind these.
 pub fn serve<R: Read, W: Write>(from: &mut R, to: &mut W) -> io::Result<()>
     ensures { OnOk result (Writes claim_printed (R.remaining from.old) (W.contents to.old) (W.contents to.new)) }
 {
     let mut claim = [0u8; 262144];
     let mut out = [0u8; 64];
-    let response = respond(from, &mut claim, &mut out)?;
+    let response = respond(from, &mut claim, &mut out);
     let written = response.written;
-    to.write_all(&out[..written])
+    to.write_all(&out[..written])?;
+    response.ended
 }
 
 // The whole program, on standard input and output. Which bytes the operating system gives, and how many of those printed it takes, is not promised.

@@ -6,6 +6,7 @@
 ghost use Rattle.std.specs.Prelude.{◌^◌, ◌<◌, ◌≤◌, length};
 
 use choices::Choices;
+use program_input::Filled;
 use promises::Outcome;
 use series_check::{PATH, PATH_LENGTH, SLOT_WORDS, slot_at};
 use std::io;
@@ -32,8 +33,9 @@ fn wide(x: u8) -> usize
 // The next word of the input.
 fn read_word<R: io::Read>(from: &mut R) -> io::Result<Read> {
     let mut four = [0u8; 4];
-    let n = program_input::read_full(from, &mut four)?;
-    if n < 4 {
+    let Filled { count, ended } = program_input::read_full(from, &mut four);
+    ended?;
+    if count < 4 {
         return Ok(Read::End);
     }
     Ok(Read::Word(
@@ -49,8 +51,9 @@ fn read_part<R: io::Read>(from: &mut R, part: &mut [u8]) -> io::Result<Read> {
     if part.len() < n {
         return Ok(Read::End);
     }
-    let got = program_input::read_full(from, &mut part[..n])?;
-    if got == n {
+    let Filled { count, ended } = program_input::read_full(from, &mut part[..n]);
+    ended?;
+    if count == n {
         Ok(Read::Word(n))
     } else {
         Ok(Read::End)
