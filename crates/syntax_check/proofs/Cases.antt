@@ -11,7 +11,8 @@ use Rattle.check_claim.specs.declared.Verdict.{Verdict}
 use Rattle.check_claim.specs.declared.Verdict.TheVariants.{Refused, Accepted, Rejected}
 use Rattle.check_claim.specs.Judging.{answer_of}
 use Rattle.edit_numbers.specs.Negated.{minus_fits, minus_reads}
-use Rattle.syntax_check.specs.Returned.{verdict_number, check_numbers, number_small}
+use Rattle.syntax_check.specs.Returned.{verdict_number, check_numbers}
+use Rattle.syntax_check.proofs.Returned.{number_small}
 
 module _ (a : Verdict) (n : ℕ) (e : a ≡ Refused n) (h : By check_numbers (answer_of a)) where
   few : n ≤ 134217728

@@ -1,2 +1,3 @@
 -- What the proofs use.
 mod Cases
+pub mod Returned

@@ -1,6 +1,6 @@
 -- `syntax_check` meets its contract: the number of what `check` tells.
 -- Assumes nothing.
-use Rattle.syntax_check.specs.Returned.{checks_by, check_returned}
+use Rattle.syntax_check.proofs.Returned.{checks_by, check_returned}
 use Rattle.syntax_check.proofs.syntax_check.Goals as goal
 
 pub verdict_number-requires : goal.verdict_number-requires
