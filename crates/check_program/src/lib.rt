@@ -103,7 +103,7 @@ fn answer(claim: &[u8], read: usize, out: &mut [u8]) -> usize
     show(verdict, out)
 }
 
-// Reads claims into the front of their buffer and answers how many bytes were read. What is known of the input's bytes is told as `program_input::read_full` tells
+// Reads claims into the front of their buffer. What is known of the input's bytes is told as `program_input::read_full` tells
 // it. Which bytes the operating system puts there, and how many, no contract says.
 fn read_claim<R: Read>(from: &mut R, claim: &mut [u8]) -> Filled
     requires { 262144 ≡ length claim.old }
@@ -114,30 +114,29 @@ fn read_claim<R: Read>(from: &mut R, claim: &mut [u8]) -> Filled
     program_input::read_full(from, claim)
 }
 
-// How many bytes of the claims were read, how many of the output are to be printed, and whether reading ended well.
-#[derive(Drop)]
+// How many bytes of the claims were read, and how many of the output are to be printed.
+#[derive(Clone, Copy)]
 pub struct Response {
     pub read: usize,
     pub written: usize,
-    pub ended: io::Result<()>,
 }
 
-// Reads claims and writes what is printed of them at the front of `out`. The bytes judged are the first `read` of the claims' buffer, as reading left it: where it is
+// Reads claims and writes what is printed of them at the front of `out`, and answers besides whether reading ended well. The bytes judged are the first `read` of the claims' buffer, as reading left it: where it is
 // known what bytes the input has left, the next of them.
-pub fn respond<R: Read>(from: &mut R, claim: &mut [u8], out: &mut [u8]) -> Response
+pub fn respond<R: Read>(
+    from: &mut R,
+    claim: &mut [u8],
+    out: &mut [u8],
+) -> (Response, io::Result<()>)
     requires { (262144 ≡ length claim.old) × (32 ≤ length out.old) }
-    ensures responds { Responds claim.new result.read out.new result.written }
-    ensures bytes { Consumes (R.remaining from.old) (R.remaining from.new) (take result.read claim.new) }
-    ensures end { OnOk result.ended (result.read < length claim.new → IsAtEnd (R.remaining from.new)) }
+    ensures responds { Responds claim.new result.0.read out.new result.0.written }
+    ensures bytes { Consumes (R.remaining from.old) (R.remaining from.new) (take result.0.read claim.new) }
+    ensures end { OnOk result.1 (result.0.read < length claim.new → IsAtEnd (R.remaining from.new)) }
 {
     let filled = read_claim(from, claim);
     let read = filled.count;
     let written = answer(claim, read, out);
-    Response {
-        read,
-        written,
-        ended: filled.ended,
-    }
+    (Response { read, written }, filled.ended)
 }
 
 // Reads claims and prints what is printed of them. Where a read fails, of what was read before, and then ends with that error. Where it is known what bytes the input has left and the output holds, what is printed of those comes behind these.
@@ -146,10 +145,10 @@ pub fn serve<R: Read, W: Write>(from: &mut R, to: &mut W) -> io::Result<()>
 {
     let mut claim = [0u8; 262144];
     let mut out = [0u8; 64];
-    let response = respond(from, &mut claim, &mut out);
+    let (response, ended) = respond(from, &mut claim, &mut out);
     let written = response.written;
     to.write_all(&out[..written])?;
-    response.ended
+    ended
 }
 
 // The whole program, on standard input and output. Which bytes the operating system gives, and how many of those printed it takes, is not promised.

@@ -67,35 +67,30 @@ fn answer(choices: Choices, batch: &[u8], read: usize, out: &mut [u8]) -> usize
     show(answer, &result, out)
 }
 
-// How many bytes of the batch were read, how many of the output are to be printed, and whether reading ended well.
-#[derive(Drop)]
+// How many bytes of the batch were read, and how many of the output are to be printed.
+#[derive(Clone, Copy)]
 pub struct Response {
     pub read: usize,
     pub written: usize,
-    pub ended: io::Result<()>,
 }
 
-// Reads a batch and writes what is printed of it at the front of `out`. The bytes judged are the first `read` of the batch's buffer, as reading left it: where it is
+// Reads a batch and writes what is printed of it at the front of `out`, and answers besides whether reading ended well. The bytes judged are the first `read` of the batch's buffer, as reading left it: where it is
 // known what bytes the input has left, the next of them. That they are the bytes that came on standard input is not promised (`program_input::read_batch`).
 pub fn respond<R: Read>(
     choices: Choices,
     from: &mut R,
     batch: &mut [u8],
     out: &mut [u8],
-) -> Response
+) -> (Response, io::Result<()>)
     requires { (65536 ≡ length batch.old) × (190000 ≤ length out.old) }
-    ensures responds { Responds (meant choices) batch.new result.read out.new result.written }
-    ensures bytes { Consumes (R.remaining from.old) (R.remaining from.new) (take result.read batch.new) }
-    ensures end { OnOk result.ended (result.read < length batch.new → IsAtEnd (R.remaining from.new)) }
+    ensures responds { Responds (meant choices) batch.new result.0.read out.new result.0.written }
+    ensures bytes { Consumes (R.remaining from.old) (R.remaining from.new) (take result.0.read batch.new) }
+    ensures end { OnOk result.1 (result.0.read < length batch.new → IsAtEnd (R.remaining from.new)) }
 {
     let filled = program_input::read_batch(from, batch);
     let read = filled.count;
     let written = answer(choices, batch, read, out);
-    Response {
-        read,
-        written,
-        ended: filled.ended,
-    }
+    (Response { read, written }, filled.ended)
 }
 
 // Reads a batch and prints what is printed of it. Where a read fails, of what was read before, and then ends with that error. Where it is known what bytes the input has left and the output holds, what is printed of those comes behind these.
@@ -104,10 +99,10 @@ pub fn serve<R: Read, W: Write>(choices: Choices, from: &mut R, to: &mut W) -> i
 {
     let mut batch = [0u8; 65536];
     let mut out = [0u8; 190000];
-    let response = respond(choices, from, &mut batch, &mut out);
+    let (response, ended) = respond(choices, from, &mut batch, &mut out);
     let written = response.written;
     to.write_all(&out[..written])?;
-    response.ended
+    ended
 }
 
 // The whole program, on standard input and output. Which bytes the operating system gives, and how many of those printed it takes, is not promised.

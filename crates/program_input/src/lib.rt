@@ -50,7 +50,7 @@ pub fn read_full<R: Read>(from: &mut R, buf: &mut [u8]) -> Filled
     }
 }
 
-// Reads a batch into the front of its buffer and answers how many bytes were read. "Its batch and result buffers have 65,536 bytes each; of a longer input it
+// Reads a batch into the front of its buffer. "Its batch and result buffers have 65,536 bytes each; of a longer input it
 // judges the first 65,536": so no buffer of another length is taken. The count lies in the buffer, and what is known of the input's bytes is told as `read_full`
 // tells it. Of standard input nothing is known: no contract says which bytes the operating system puts there, nor how many they are.
 pub fn read_batch<R: Read>(from: &mut R, batch: &mut [u8]) -> Filled

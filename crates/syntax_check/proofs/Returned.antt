@@ -13,8 +13,6 @@ use Rattle.check_claim.specs.Promise.{checker_needs, told, Checks}
 use Rattle.edit_numbers.specs.Negated.{neg_told, pos_told}
 use Rattle.syntax_check.specs.Returned.{verdict_number, ReturnsVerdict, check_numbers}
 
--- ── The promise ─────────────────────────────────────────────────────────────────────────────────────────────
-
 -- ── By which numbers the checker refuses ────────────────────────────────────────────────────────────────────
 
 -- the definition gives no other

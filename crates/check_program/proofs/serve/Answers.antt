@@ -15,6 +15,6 @@ judged bs = rw (take-take 262144 262144 bs (omega arith)) refl
 
 pub returns : goal.returns
 returns g c =
-    let e = c.respond-response.ensures in
-    on_ok_weaker c.respond-response.result.ended
-    (λ z. written_said claim_printed 262144 judged _ _ _ _ c.respond-response.new.claim _ c.respond-response.result.read (search rules) e.responds.judged e.bytes z e.responds.says c.in_ok-write_all.ensures.bytes) e.end
+    let e = c.respond-ended.ensures in
+    on_ok_weaker c.respond-ended.result.1
+    (λ z. written_said claim_printed 262144 judged _ _ _ _ c.respond-ended.new.claim _ c.respond-ended.result.0.read (search rules) e.responds.judged e.bytes z e.responds.says c.in_ok-write_all.ensures.bytes) e.end

@@ -17,6 +17,6 @@ judged h bs = rw (take-take 65536 65536 bs (omega arith)) refl
 
 pub returns : goal.returns
 returns g c =
-    let e = c.respond-response.ensures in
-    on_ok_weaker c.respond-response.result.ended
-    (λ z. written_said (share_printed (meant c.args.choices)) 65536 (judged (meant c.args.choices)) _ _ _ _ c.respond-response.new.batch _ c.respond-response.result.read (search rules) e.responds.judged e.bytes z e.responds.says c.in_ok-write_all.ensures.bytes) e.end
+    let e = c.respond-ended.ensures in
+    on_ok_weaker c.respond-ended.result.1
+    (λ z. written_said (share_printed (meant c.args.choices)) 65536 (judged (meant c.args.choices)) _ _ _ _ c.respond-ended.new.batch _ c.respond-ended.result.0.read (search rules) e.responds.judged e.bytes z e.responds.says c.in_ok-write_all.ensures.bytes) e.end
