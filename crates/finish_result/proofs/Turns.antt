@@ -41,9 +41,9 @@ module _ (f : HeldChanged → ℕ) where
   parts_start d at w = writing_start d at (changed_column f w)
 
   module _ (w : List ℕ) {d : List ℕ} {at : ℕ} {l : List ℕ} {i : ℕ} (v : Writing d at (changed_column f w) l i) where
-    pub parts_next : {l' : List ℕ} {x y : ℕ} → at + 4 * length w ≤ length d → i < length w → (y ≡ get_or w i 0) × (y < 2 ^ 32) → x ≡ f (changed_of y) → length l' ≡ length l → l' ≡ paste l (at + 4 * i) (bytes_of x) 4
+    pub parts_next : {l' : List ℕ} {x : ℕ} → at + 4 * length w ≤ length d → i < length w → x ≡ f (changed_of (get_or w i 0)) → length l' ≡ length l → l' ≡ paste l (at + 4 * i) (bytes_of x) 4
         → Writing d at (changed_column f w) l' (i + 1)
-    parts_next p h e g m q = writing_next v (omega (arith, length_parts f w)) (omega (arith, length_parts f w)) (g ∙ (ap (λ y. f (changed_of y)) e.0 ∙ sym (part_at_lem f w i h))) m q
+    parts_next p h g m q = writing_next v (omega (arith, length_parts f w)) (omega (arith, length_parts f w)) (g ∙ sym (part_at_lem f w i h)) m q
 
     pub parts_done : length w ≤ i → l ≡ paste d at (written (changed_column f w)) (4 * length w)
     parts_done h = writing_done v (omega (arith, length_parts f w)) ∙ ap (λ n. paste d at (written (changed_column f w)) (4 * n)) (length_parts f w)

@@ -29,12 +29,9 @@ fn write_column(b: &mut [u8], at: usize, notes: &[u32], j: usize)
     requires { (at + 4 * (length notes.now / 3) ≤ length b.old) × (j < 3) }
     ensures { b.new ≡ paste b.old at (written (note_column j notes.now)) (4 * (length notes.now / 3)) }
 {
-    let m = notes.len() / NOTE_WORDS;
-    let mut i = 0;
-    while i < m {
+    for i in 0..notes.len() / NOTE_WORDS {
         let w = word(notes, NOTE_WORDS * i + j);
         write_word(b, at + 4 * i, w);
-        i += 1;
     }
 }
 
@@ -43,11 +40,8 @@ fn write_numbers(b: &mut [u8], at: usize, changed: &[u32])
     requires { at + 4 * length changed.now ≤ length b.old }
     ensures { b.new ≡ paste b.old at (written (element_column changed.now)) (4 * length changed.now) }
 {
-    let mut i = 0;
-    while i < changed.len() {
-        let w = word(changed, i);
-        write_word(b, at + 4 * i, changed_row(w));
-        i += 1;
+    for (i, w) in changed.iter().enumerate() {
+        write_word(b, at + 4 * i, changed_row(*w as usize));
     }
 }
 
@@ -56,11 +50,8 @@ fn write_rules(b: &mut [u8], at: usize, changed: &[u32])
     requires { at + 4 * length changed.now ≤ length b.old }
     ensures { b.new ≡ paste b.old at (written (rule_column changed.now)) (4 * length changed.now) }
 {
-    let mut i = 0;
-    while i < changed.len() {
-        let w = word(changed, i);
-        write_word(b, at + 4 * i, changed_rule(w));
-        i += 1;
+    for (i, w) in changed.iter().enumerate() {
+        write_word(b, at + 4 * i, changed_rule(*w as usize));
     }
 }
 
