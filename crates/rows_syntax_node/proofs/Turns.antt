@@ -49,12 +49,12 @@ pub owing_start : (rows : List ℕ) (n at owed : ℕ) → at ≤ n → owed < 2 
 unfolding rows_after
 owing_start rows n at owed h k = record { low = omega arith; high = h; small = omega arith; rest = λ text. refl }
 
-skip_cons : (o : ℕ) (l l' : List Row) (r : Row) → l ≡ r ∷ l' → 0 < o → skip o l ≡ suc (skip (o - 1 + owes r) l')
-skip_cons zero l l' r e h = absurd (omega arith)
+skip_cons : (o : ℕ) (l l' : List Row) (r : Row) → l ≡ r ∷ l' → (o ≡ 0 → ⊥) → skip o l ≡ suc (skip (o - 1 + owes r) l')
+skip_cons zero l l' r e h = absurd (h refl)
 skip_cons (suc o) l l' r e h = let q : suc o - 1 ≡ o = omega arith in rw (e, q)
 
 module _ {rows : List ℕ} {n at owed i o : ℕ} (v : Owing rows n at owed i o) (long : 3 * n ≤ length rows) where
-  pub owing_next : {m : ℕ} → i < n → 0 < o → Counted rows i m → Owing rows n at owed (i + 1) (o - 1 + m)
+  pub owing_next : {m : ℕ} → i < n → (o ≡ 0 → ⊥) → Counted rows i m → Owing rows n at owed (i + 1) (o - 1 + m)
   owing_next {m} h k c =
       record {
         low = omega (arith, v.low);
@@ -64,12 +64,11 @@ module _ {rows : List ℕ} {n at owed i o : ℕ} (v : Owing rows n at owed i o) 
       }
 
   -- where no row is left, or nothing is owed
-  pub owing_out : n ≤ i → After rows n at owed i
-  owing_out h = record { row = λ text. sym (v.rest text ∙ rw (first_end text n rows long i h) (omega arith)); low = v.low; high = v.high }
+  pub owing_out : n ≤ i → After rows n at owed n
+  owing_out h = record { row = λ text. sym (v.rest text ∙ rw (first_end text n rows long i h) (omega (arith, v.high))); low = omega (arith, v.low, v.high); high = omega arith }
 
-  pub owing_done : o ≤ 0 → After rows n at owed i
-  owing_done h =
-      let z : o ≡ 0 = omega arith in
+  pub owing_done : o ≡ 0 → After rows n at owed i
+  owing_done z =
       record { row = λ text. sym (v.rest text ∙ rw z (ap (λ k. i + k) (skip_none (drop i (first_rows text n rows))) ∙ omega arith)); low = v.low; high = v.high }
 
 pub child_found : {rows : List ℕ} {n parent i r : ℕ} → After rows n (parent + 1) i r → ChildAt rows n parent i r
@@ -162,18 +161,18 @@ pub summing_start : (run : List ℕ) → Summing run 0 0
 summing_start run = record { inside = omega arith; small = omega arith; rest = λ text. omega arith }
 
 module _ {run : List ℕ} {sum i : ℕ} (v : Summing run sum i) where
-  pub summing_next : {r : ℕ} → 3 * i + 2 < length run → Measured run i r → Summing run (sum + r) (i + 1)
+  pub summing_next : {r : ℕ} → i < length run / 3 → Measured run i r → Summing run (sum + r) (i + 1)
   summing_next h c =
       record {
         inside = omega arith;
         small = omega (arith, v.small, c.small);
-        rest = λ text. rw (add-one i) (v.rest text ∙ rw (triples_at text i run h) (omega (arith, c.own text)));
+        rest = λ text. rw (add-one i) (v.rest text ∙ rw (triples_at text i run (omega arith)) (omega (arith, c.own text)));
       }
 
-  pub summing_done : length run < 3 * 2 ^ 16 → length run ≤ 3 * i + 2 → Bytes run sum
+  pub summing_done : length run < 3 * 2 ^ 16 → length run / 3 ≤ i → Bytes run sum
   summing_done k h =
       record {
-        sum = λ text. sym (v.rest text ∙ rw (triples_end text i run h) (omega arith));
+        sum = λ text. sym (v.rest text ∙ rw (triples_end text i run (omega arith)) (omega arith));
         small = omega (arith, v.small, v.inside);
       }
 
@@ -192,28 +191,30 @@ trees_cons zero l l' r e h = absurd (h refl)
 trees_cons (suc o) l l' r e h = let q : suc o - 1 ≡ o = omega arith in rw (e, q)
 
 module _ {run : List ℕ} {trees o i : ℕ} (v : Grouping run trees o i) where
-  pub grouping_first : {m : ℕ} → 3 * i + 2 < length run → Counted run i m → o ≡ 0 → Grouping run (trees + 1) m (i + 1)
-  grouping_first h c z =
+  -- a tree begins where nothing is owed
+  pub grouping_first : {m t k : ℕ} → i < length run / 3 → Counted run i m → o ≡ 0 → t ≡ trees + 1 → k ≡ o - 1 → Grouping run t (k + m) (i + 1)
+  grouping_first {m} {k = k} h c z e f =
+      let p : k + m ≡ m = omega arith in
       record {
         inside = omega arith;
         few = omega (arith, v.few);
         small = omega (arith, c.small);
-        rest = λ text. rw (add-one i) (v.rest text ∙ rw (z, triples_at text i run h, ← c.count text) (omega arith));
+        rest = λ text. rw (add-one i, p) (v.rest text ∙ rw (z, triples_at text i run (omega arith), ← c.count text) (omega arith));
       }
 
-  pub grouping_next : {m : ℕ} → 3 * i + 2 < length run → Counted run i m → (o ≡ 0 → ⊥) → Grouping run trees (o - 1 + m) (i + 1)
-  grouping_next h c z =
+  pub grouping_next : {m t k : ℕ} → i < length run / 3 → Counted run i m → (o ≡ 0 → ⊥) → t ≡ trees → k ≡ o - 1 → Grouping run t (k + m) (i + 1)
+  grouping_next h c z e f =
       record {
         inside = omega arith;
         few = omega (arith, v.few);
         small = omega (arith, v.small, c.small);
-        rest = λ text. rw (add-one i) (v.rest text ∙ rw (trees_cons o _ _ (row_in text run i) (triples_at text i run h) z, ← c.count text));
+        rest = λ text. rw (add-one i, e, f) (v.rest text ∙ rw (trees_cons o _ _ (row_in text run i) (triples_at text i run (omega arith)) z, ← c.count text));
       }
 
-  pub grouping_done : length run ≤ 3 * i + 2 → TreesIn run trees
+  pub grouping_done : length run / 3 ≤ i → TreesIn run trees
   grouping_done h =
       record {
-        count = λ text. sym (v.rest text ∙ rw (triples_end text i run h) (omega arith));
+        count = λ text. sym (v.rest text ∙ rw (triples_end text i run (omega arith)) (omega arith));
         few = omega (arith, v.few, v.inside);
       }
 
