@@ -8,9 +8,8 @@ use native.Mathlib.Nat.{zero-add}
 use native.Mathlib.Numerals.{add-one}
 use lib.ListN.{length, get_or, set, take, drop, length-set, length-map, length-drop, drop_of_length-le}
 use lib.Seq.{get_or-set_same, get_or-set_other, paste, paste-suc, take-paste, drop-paste, take_all, length-take-le, get_or-take, take-set-lt, drop-set-lt, drop_at}
-use Rattle.orders.specs.Lists.{All}
 use Rattle.orders.specs.Tree.{modify}
-use Rattle.orders.specs.ListLaws.{All-at, take_modify, drop_modify_before, modify_left}
+use Rattle.orders.specs.ListLaws.{take_modify, drop_modify_before, modify_left}
 use Rattle.orders.proofs.TreeLaws.{shift_before, shift_inside, shift_after}
 use Rattle.definition_laws.specs.Basics.{up_from, up_at, up_long, get_d_map}
 use Rattle.words.specs.Parts.{spliced, get_d_above, length_spliced, take_spliced}
@@ -83,9 +82,6 @@ pub record Numbering (marks : List ℕ) (first : ℕ) (l : List ℕ) (i : ℕ) :
   pub long : length l ≡ length marks
   pub copied : l ≡ paste marks 0 (up_from first (length marks)) i
 
-pub numbering_start : (marks : List ℕ) (first : ℕ) → Numbering marks first marks 0
-numbering_start marks first = record { inside = omega arith; long = refl; copied = refl }
-
 module _ {marks : List ℕ} {first : ℕ} {l : List ℕ} {i : ℕ} (v : Numbering marks first l i) where
   abbrev s : List ℕ
   s = up_from first (length marks)
@@ -122,16 +118,10 @@ pub record Shifting (marks : List ℕ) (p q m : ℕ) (l : List ℕ) (i : ℕ) : 
   pub long : length l ≡ length marks
   pub copied : l ≡ paste marks 0 (map (moved_mark p q m) marks) i
 
-pub shifting_start : (marks : List ℕ) (p q m : ℕ) → Shifting marks p q m marks 0
-shifting_start marks p q m = record { inside = omega arith; long = refl; copied = refl }
-
 module _ {marks : List ℕ} {p q m : ℕ} {l : List ℕ} {i : ℕ} (v : Shifting marks p q m l i) where
   -- a mark that the loop has not come to yet
   unmoved : i < length marks → get_or l i 0 ≡ get_or marks i 0
   unmoved h = rw v.copied (get_d_above marks 0 (map (moved_mark p q m) marks) i (omega arith) (omega (arith, length-map marks (moved_mark p q m))) 0 i (omega arith))
-
-  pub shifting_small : i < length l → All (λ x. x < 2 ^ 16) marks → get_or l i 0 < 2 ^ 16
-  shifting_small h a = rw (unmoved (omega (arith, v.long))) (All-at (λ x. x < 2 ^ 16) 0 marks i (omega (arith, v.long)) a)
 
   pub shifting_next : {y : ℕ} → i < length l → Moved p q m (get_or l i 0) y → Shifting marks p q m (set l i y) (i + 1)
   shifting_next {y} h f =
@@ -161,13 +151,17 @@ pub summing_start : (run : List ℕ) → Summing run 0 0
 summing_start run = record { inside = omega arith; small = omega arith; rest = λ text. omega arith }
 
 module _ {run : List ℕ} {sum i : ℕ} (v : Summing run sum i) where
-  pub summing_next : {r : ℕ} → i < length run / 3 → Measured run i r → Summing run (sum + r) (i + 1)
+  pub summing_next : {r : ℕ} → 3 * i + 2 < length run → Measured run i r → Summing run (sum + r) (i + 1)
   summing_next h c =
       record {
         inside = omega arith;
         small = omega (arith, v.small, c.small);
-        rest = λ text. rw (add-one i) (v.rest text ∙ rw (triples_at text i run (omega arith)) (omega (arith, c.own text)));
+        rest = λ text. rw (add-one i) (v.rest text ∙ rw (triples_at text i run h) (omega (arith, c.own text)));
       }
+
+  -- the same, where the turns are counted in rows
+  pub summing_row : {r : ℕ} → i < length run / 3 → Measured run i r → Summing run (sum + r) (i + 1)
+  summing_row h = summing_next (omega arith)
 
   pub summing_done : length run < 3 * 2 ^ 16 → length run / 3 ≤ i → Bytes run sum
   summing_done k h =
@@ -182,9 +176,6 @@ pub record Grouping (run : List ℕ) (trees o i : ℕ) : Type 0 where
   pub few : trees ≤ i
   pub small : o ≤ 2 ^ 32 * i
   pub rest : (text : List ℕ) → trees_in (triples text run) ≡ trees + trees_from o (drop i (triples text run))
-
-pub grouping_start : (run : List ℕ) → Grouping run 0 0 0
-grouping_start run = record { inside = omega arith; few = omega arith; small = omega arith; rest = λ text. omega arith }
 
 trees_cons : (o : ℕ) (l l' : List Row) (r : Row) → l ≡ r ∷ l' → (o ≡ 0 → ⊥) → trees_from o l ≡ trees_from (o - 1 + owes r) l'
 trees_cons zero l l' r e h = absurd (h refl)
@@ -350,19 +341,13 @@ pub record Stacking (run left : List ℕ) (d most i : ℕ) : Type 0 where
   pub within : most ≤ 64
   pub rest : (text : List ℕ) → height (triples text run) ≡ max most (height_in (stack left d) (drop i (triples text run)))
 
-pub stacking_start : (run left : List ℕ) → length left ≡ 65 → get_or left 0 0 ≡ length run → Stacking run left 0 0 0
-stacking_start run left h k = record { long = h; few = omega arith; inside = omega arith; base = omega arith; within = omega arith; rest = λ text. omega arith }
-
 module _ {run left : List ℕ} {d most i : ℕ} (v : Stacking run left d most i) (h : 3 * i + 2 < length run) where
-  pub stacking_open : get_or left d 0 ≡ 0 → 0 < d
+  stacking_open : get_or left d 0 ≡ 0 → 0 < d
   stacking_open z = go d refl
     where
       go : (c : ℕ) → c ≡ d → 0 < c
       go zero w = absurd (omega (arith, v.base, ap (λ (y : ℕ). get_or left y 0) w))
       go (suc c) w = omega arith
-
-  pub stacking_less : get_or left d 0 ≡ 0 → (length run - i) + (length run - i) + (d - 1) < (length run - i) + (length run - i) + d
-  stacking_less z = omega (arith, stacking_open z)
 
   -- a node that owes nothing is closed
   pub stacking_pop : get_or left d 0 ≡ 0 → Stacking run left (d - 1) most i

@@ -1,5 +1,3 @@
-use lib.ListN.{length}
-use Prim.Native.Nat.{◌-◌}
 use Rattle.rows_syntax_node.proofs.Turns.{Numbering}
 use Rattle.rows_syntax_node.proofs.number_from.Given as goal
 

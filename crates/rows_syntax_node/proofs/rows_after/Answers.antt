@@ -1,5 +1,4 @@
 -- `rows_after` meets its contract. What is left from row i on is told by the elements that are still owed.
-use Prim.Native.Nat.{◌-◌}
 use borrow.Author.Rules.{rules}
 use Rattle.rows_syntax_node.proofs.Turns.{owing_start, owing_next, owing_out, owing_done}
 use Rattle.rows_syntax_node.proofs.rows_after.Goals as goal

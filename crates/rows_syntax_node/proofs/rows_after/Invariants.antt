@@ -1,4 +1,3 @@
-use Prim.Native.Nat.{◌-◌}
 use Rattle.rows_syntax_node.proofs.Turns.{Owing}
 use Rattle.rows_syntax_node.proofs.rows_after.Given as goal
 

@@ -1,5 +1,3 @@
-use Prim.Native.Nat.{◌-◌}
-use lib.ListN.{length}
 use Rattle.rows_syntax_node.proofs.Turns.{Shifting}
 use Rattle.rows_syntax_node.proofs.shift_marks.Given as goal
 

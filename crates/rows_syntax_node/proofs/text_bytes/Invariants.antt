@@ -1,5 +1,3 @@
-use Prim.Native.Nat.{◌-◌}
-use lib.ListN.{length}
 use Rattle.rows_syntax_node.proofs.Turns.{Summing}
 use Rattle.rows_syntax_node.proofs.text_bytes.Given as goal
 

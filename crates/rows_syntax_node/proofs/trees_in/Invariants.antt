@@ -1,5 +1,3 @@
-use Prim.Native.Nat.{◌-◌}
-use lib.ListN.{length}
 use Rattle.rows_syntax_node.proofs.Turns.{Grouping}
 use Rattle.rows_syntax_node.proofs.trees_in.Given as goal
 
