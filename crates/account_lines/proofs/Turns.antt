@@ -1,23 +1,26 @@
 -- What each way out and each turn of the loop has written.
 -- Assumes nothing.
+use Rattle.std.specs.Prelude.{Result, Ok, Err}
 use mathlib.Core.Path.{◌≡◌, refl, sym, ap, ◌∙◌}
 use mathlib.Core.List.{List, [], ◌∷◌, ◌++◌, flat_map, append-nil, append_assoc}
 use Prim.Native.Nat.{ℕ, suc, ◌+◌, ◌-◌, ◌*◌, ◌≤◌, ◌<◌}
-use native.Mathlib.Nat.{zero-add}
 use native.Mathlib.Numerals.{add-one}
 use native.Mathlib.Omega.{arith}
 use borrow.Author.Tests.{lt-ltb, le-ltb, ne_eqb}
 use lib.ListN.{length, get_or, take, drop, length-append, drop_of_length-le}
-use lib.Seq.{paste, paste-zero, take_all, length-take-le, drop-cons}
-use Rattle.definition.specs.Basics.{refused, refuse, numbered, ◌>>=◌}
+use lib.Seq.{paste-zero, length-take-le, drop-cons}
+use Rattle.definition.specs.Basics.{refused, gives, refuse, numbered, ◌>>=◌}
 use Rattle.definition.specs.Printed.{ascii, digits, decimal, line}
 use Rattle.definition.specs.Account.{Said, planned, withdrawn, after, fate_line, said_line, said_lines, overlap_line, in_room, tell}
 use Rattle.plan_withdraw.specs.Rule.{number_at}
 use Rattle.edit_print.specs.Lines.{Put, put_more, put_front, digits_length, line_of, spaced}
 use Rattle.promises.specs.Promises.{left_in}
 use Rattle.promises.specs.Serving.{outcome, written, Tells}
-use Rattle.promises.specs.declared.Outcome.{Outcome}
-use Rattle.promises.specs.declared.Outcome.TheVariants.{Refused, Bytes}
+use Rattle.promises.specs.declared.Told.{Told}
+use Rattle.promises.specs.declared.Told.TheVariants.{Bytes}
+use Rattle.refusals.specs.Numbers.{number, answered}
+use Rattle.refusals.specs.declared.Refusal.{Refusal}
+use Rattle.refusals.specs.declared.Refusal.TheVariants.{ShortResult}
 use Rattle.account_lines.specs.Lines.{tell_in, fate_in, said_from, said_rows, line_length, lines_from, lines_cons}
 
 -- ── One line ────────────────────────────────────────────────────────────────────────────────────────────────
@@ -121,29 +124,23 @@ module _ (draft held : List ℕ) (n : ℕ) (h : n ≤ length draft) where
   part : length (take n draft) ≡ n
   part = length-take-le n draft h
 
-  pub draft_long : n ≡ length (take n draft)
-  draft_long = sym part
-
-  pub draft_room : n ≤ length held → 0 + length (take n draft) ≤ length held
-  draft_room s = omega (arith, part)
-
-  pub draft_13 : length held < n → Tells (tell_in (length held) (take n draft)) held (Refused 13) held
-  unfolding in_room refuse outcome written left_in ◌>>=◌
+  pub draft_13 : length held < n → Tells (tell_in (length held) (take n draft)) held (Err ShortResult) held
+  unfolding in_room refuse outcome written left_in answered number ◌>>=◌
   draft_13 s = rw (lt-ltb (length held) (length (take n draft)) (omega (arith, part))) (record { answer = refl; result = refl })
 
-  pub draft_given : {holds : List ℕ} → n ≤ length held → holds ≡ paste held 0 (take n draft) (length (take n draft)) → Tells (tell_in (length held) (take n draft)) held (Bytes n) holds
-  unfolding in_room refuse outcome written left_in ◌>>=◌
+  pub draft_given : {holds : List ℕ} → n ≤ length held → holds ≡ take n draft ++ drop n held → Tells (tell_in (length held) (take n draft)) held (Ok (Bytes n)) holds
+  unfolding in_room refuse outcome written left_in answered number ◌>>=◌
   draft_given s e = rw (le-ltb (length held) (length (take n draft)) (omega (arith, part))) (record {
-    answer = ap Bytes (sym part);
-    result = e ∙ rw (take_all (length (take n draft)) (take n draft) (omega arith), zero-add (length (take n draft))) refl;
+    answer = ap (λ (m : ℕ). gives (Bytes m)) (sym part);
+    result = e ∙ ap (λ (m : ℕ). take n draft ++ drop m held) (sym part);
   })
 
 -- what stands at the front of the draft is the text
-pub text_handed : {d s l : List ℕ} {n : ℕ} {held holds : List ℕ} {r : Outcome} → Put d 0 s l n → length l ≡ length d → Tells (tell_in (length held) (take n l)) held r holds
+pub text_handed : {d s l : List ℕ} {n : ℕ} {held holds : List ℕ} {r : Result Told Refusal} → Put d 0 s l n → length l ≡ length d → Tells (tell_in (length held) (take n l)) held r holds
     → Tells (tell_in (length held) s) held r holds
 text_handed p e t = rw (put_front p e) at t
 
-pub overlap_handed : {d l : List ℕ} {n : ℕ} (j k : ℕ) {held holds : List ℕ} {r : Outcome} → Put d 0 (line_of (111 ∷ 118 ∷ 101 ∷ 114 ∷ 108 ∷ 97 ∷ 112 ∷ []) (j ∷ k ∷ [])) l n → length l ≡ length d
+pub overlap_handed : {d l : List ℕ} {n : ℕ} (j k : ℕ) {held holds : List ℕ} {r : Result Told Refusal} → Put d 0 (line_of (111 ∷ 118 ∷ 101 ∷ 114 ∷ 108 ∷ 97 ∷ 112 ∷ []) (j ∷ k ∷ [])) l n → length l ≡ length d
     → Tells (tell_in (length held) (take n l)) held r holds → Tells (tell_in (length held) (overlap_line j k)) held r holds
 unfolding overlap_line line line_of ascii spaced
 overlap_handed j k p e t = text_handed p e t

@@ -2,27 +2,27 @@
 -- Assumes nothing.
 use Rattle.std.specs.Prelude.{◌≡◌, Bool, eqb, length, get_or, drop}
 use Rattle.std.proofs.Math.Path.{refl}
-use Rattle.std.proofs.Common.{sym, ap, ◌∙◌, arith, length-append}
+use Rattle.std.proofs.Common.{ap, arith, length-append}
 use Rattle.std.proofs.Math.Bool.{true, false, cond}
 use mathlib.Core.List.{List, [], ◌∷◌, ◌++◌, map, flat_map}
 use Rattle.std.proofs.Math.Option.{Option, none, some}
-use Prim.Native.Nat.{ℕ, zero, suc, ◌+◌, ◌-◌, ◌*◌, ◌≤◌, ◌<◌}
+use Prim.Native.Nat.{ℕ, suc, ◌+◌, ◌-◌, ◌*◌, ◌≤◌}
 use Rattle.definition.specs.Basics.{Answer, ◌>>=◌, numbered}
 use Rattle.definition.specs.Planning.{Fate, own, dependent, discarded}
 use Rattle.definition.specs.Printed.{ascii, digits, decimal, line}
 use Rattle.definition.specs.Withdrawing.{staying, numbers_left}
 use Rattle.definition.specs.Account.{Said, planned, withdrawn, renumbered, sayings, account_of, after, fate_line, said_line, said_lines, in_room}
-use Rattle.record_changes.specs.ChangeRow.{ChangeRow, row_of, rows_of}
+use Rattle.record_changes.specs.ChangeRow.{row_of, rows_of}
 use Rattle.record_changes.specs.ChangeRowLaws.{row_at, rows_from}
 use Rattle.plan_sort.specs.Rows.{row_fate}
 use Rattle.plan_withdraw.specs.Rule.{told, number_at}
 use Rattle.plan_withdraw.specs.Told.{number_told}
 use Rattle.promises.specs.Serving.{tell_bytes}
-use Rattle.promises.specs.declared.Outcome.{Outcome}
+use Rattle.promises.specs.declared.Told.{Told}
 use Rattle.edit_print.specs.Lines.{digits_length, spaced, line_of, line_of_length, texts_length}
 
 -- what is told of a text, and the text, in so much room; or 13
-abbrev pub tell_in : ℕ → List ℕ → Answer (Outcome × List ℕ)
+abbrev pub tell_in : ℕ → List ℕ → Answer (Told × List ℕ)
 tell_in room text = in_room room text >>= tell_bytes
 
 -- the fate that two words of a row state

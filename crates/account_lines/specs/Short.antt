@@ -1,13 +1,12 @@
 -- The account of a batch is short: its room need never be missing.
 -- Assumes nothing.
-use Rattle.std.specs.Prelude.{◌≡◌, refl, Bool, true, false, cond, ℕ, suc, ◌+◌, ◌*◌, ◌≤◌, leb, length, take, drop}
+use Rattle.std.specs.Prelude.{◌≡◌, refl, Bool, true, false, cond, ℕ, suc, ◌≤◌, leb, length, take, drop}
 use Rattle.std.proofs.Common.{ap, arith, le-ltb}
 use mathlib.Core.List.{List, [], ◌∷◌, map, zip}
 use Rattle.std.proofs.Math.Option
 use Rattle.std.proofs.Math.Option.{none, some}
-use Rattle.std.proofs.lemmas.List.{length-map}
 use Rattle.orders.specs.ListLaws.{some_inj, none_some, map_some}
-use Rattle.definition.specs.Basics.{refused, gives, ◌>>=◌, refuse}
+use Rattle.definition.specs.Basics.{gives, ◌>>=◌, refuse}
 use Rattle.definition.specs.Choices.{Choices}
 use Rattle.definition.specs.Refusals.{Call, call_of, count_of, calls, Accepted, accepted}
 use Rattle.definition.specs.Planning.{Fate, Judgement, overlaps, fated}

@@ -9,8 +9,9 @@ ghost use Rattle.promises.specs.Serving.{Tells};
 ghost use Rattle.account_lines.specs.Lines.{fate_in, said_rows, tell_in};
 
 use edit_print::{put_digits, put_line};
-use promises::Outcome;
+use promises::Told;
 use record_changes::field;
+use refusals::Refusal;
 
 // The line of change `n` is written at `at`, by its fate and the number of its owner.
 fn put_fate(out: &mut [u8], at: usize, n: usize, fate: usize, owner: usize) -> usize
@@ -44,38 +45,35 @@ fn put_account(out: &mut [u8], rows: &[u32], withdrawn: &[u32]) -> usize
 {
     let mut to = 0;
     let mut place = 0;
-    let mut i = 0;
-    while i < withdrawn.len() {
-        let under = words::word(withdrawn, i);
-        if under == 0 {
-            let fate = field(rows, place, record_changes::FATE);
-            let owner = field(rows, place, record_changes::OWNER);
-            let number = plan_withdraw::number_of(withdrawn, owner);
-            to = put_fate(out, to, i, fate, number);
-            place += 1;
-            i += 1;
-        } else {
+    for (i, stated) in withdrawn.iter().enumerate() {
+        let under = *stated as usize;
+        if under != 0 {
             to = put_withdrawn(out, to, i, under - 1);
-            i += 1;
+            continue;
         }
+        let fate = field(rows, place, record_changes::FATE);
+        let owner = field(rows, place, record_changes::OWNER);
+        let number = plan_withdraw::number_of(withdrawn, owner);
+        to = put_fate(out, to, i, fate, number);
+        place += 1;
     }
     to
 }
 
 // The first `n` bytes of a draft go to the front of the result, or 13.
-fn hand_out(draft: &[u8], n: usize, res: &mut [u8]) -> Outcome
+fn hand_out(draft: &[u8], n: usize, res: &mut [u8]) -> Result<Told, Refusal>
     requires { n ≤ length draft.now }
     ensures { Tells (tell_in (length res.old) (take n draft.now)) res.old result res.new }
 {
     if res.len() < n {
-        return Outcome::Refused(13);
+        return Err(Refusal::ShortResult);
     }
-    words::copy_bytes(res, 0, &draft[..n]);
-    Outcome::Bytes(n)
+    res[..n].copy_from_slice(&draft[..n]);
+    Ok(Told::Bytes(n))
 }
 
 // What became of each change, a line each, at the front of the result, or 13.
-pub fn tell_account(rows: &[u32], withdrawn: &[u32], res: &mut [u8]) -> Outcome
+pub fn tell_account(rows: &[u32], withdrawn: &[u32], res: &mut [u8]) -> Result<Told, Refusal>
     requires { length withdrawn.now ≤ 256 }
     ensures { Tells (tell_in (length res.old) (said_lines (said_rows rows.now withdrawn.now))) res.old result res.new }
 {
@@ -85,7 +83,7 @@ pub fn tell_account(rows: &[u32], withdrawn: &[u32], res: &mut [u8]) -> Outcome
 }
 
 // Which two changes overlap, at the front of the result, or 13.
-pub fn tell_overlap(j: usize, k: usize, res: &mut [u8]) -> Outcome
+pub fn tell_overlap(j: usize, k: usize, res: &mut [u8]) -> Result<Told, Refusal>
     ensures { Tells (tell_in (length res.old) (overlap_line j k)) res.old result res.new }
 {
     let mut draft = [0u8; 30];

@@ -1,28 +1,32 @@
 -- The checker's ways out: each answer, from the tests and the calls that led there.
 -- Assumes nothing.
 use mathlib.Core.Path.{◌≡◌, refl, sym, ap, ◌∙◌}
-use mathlib.Core.Bool.{Bool, true, false, cond, not, ◌&&◌, ◌||◌}
-use mathlib.Core.List.{List, [], ◌∷◌, ◌++◌, zip, zip_with}
+use mathlib.Core.Bool.{Bool, true, false, not, ◌||◌}
+use mathlib.Core.List.{List, [], ◌∷◌, zip, zip_with}
 use mathlib.Core.Logic.{◌⊎◌, inl, inr}
-use Prim.Native.Nat.{ℕ, ◌*◌, ◌≤◌, ◌<◌}
+use Prim.Native.Nat.{ℕ, ◌≤◌, ◌<◌}
 use native.Mathlib.Omega.{arith}
 use lib.Dec.{leb, ltb, eqb}
 use lib.ListN.{length, replicate, length-replicate}
-use borrow.Author.Tests.{lt-ltb, le-ltb, ltb-false, eq-eqb, ne_eqb, eqb-true, not-true, not-false}
+use borrow.Author.Tests.{lt-ltb, le-ltb, ltb-true, ltb-false, eq-eqb, ne_eqb, eqb-true, not-false}
 use Rattle.orders.specs.ListLaws.{bool_absurd, either_false, All-map}
 use Rattle.definition.specs.Basics.{Answer, gives, refused, ◌>>=◌, refuse, any}
 use Rattle.definition.specs.Answers.{too_short, with_work}
 use Rattle.definition.specs.Writing.{differ}
 use Rattle.promises.specs.Slices.{lengths, zeros, zeroed}
-use Rattle.check_laws.specs.Check.{Flat, Claims, too_big, unequal, checked}
+use Rattle.check_laws.specs.Check.{Claims, too_big, unequal, checked}
 use Rattle.check_model.specs.Clauses.{fresh, partnered, marked, judged_by, judged}
 use Rattle.check_model.specs.Pairing.{Below}
 use Rattle.check_model.proofs.Pairing.{length_partnered, length_marked}
 use Rattle.check_table.specs.Walk.{Reads}
 use Rattle.check_table.specs.Spelled.{Tells, reads_none, reads_tells}
-use Rattle.check_clauses.specs.Asked.{Linked, Reached, Ready, PairsUp}
+use Rattle.check_clauses.specs.Asked.{Ready, PairsUp}
+use Rattle.std.specs.Prelude.{Result, Ok, Err}
+use Rattle.refusals.specs.Numbers.{number, answered}
+use Rattle.refusals.specs.declared.Refusal.{Refusal}
+use Rattle.refusals.specs.declared.Refusal.TheVariants.{Size as TooLong, Length}
 use Rattle.check_claim.specs.Promise.{checker_needs, told, Checks}
-use Rattle.check_claim.specs.Judging.{answer_of, big_sizes, sizes_refusal, ReadsBoth, Telling, naming, WritesClaims, judging}
+use Rattle.check_claim.specs.Judging.{big_sizes, sizes_refusal, ReadsBoth, Telling, naming, WritesClaims, judging}
 use Rattle.check_claim.specs.Checked.{any_append, named_below, sizes_refuse, sizes_pass, old_unspelled, new_unspelled, tells_checked}
 
 -- ── The work slices ─────────────────────────────────────────────────────────────────────────────────────────
@@ -80,35 +84,35 @@ module _ (k m t : ℕ) where
   big_text h j = rw (le-ltb 4096 k h, le-ltb 4096 m j)
 
 module _ (k m t k' m' t' o n : ℕ) {x : Bool} (ex : x ≡ big_sizes k m t) where
-  abbrev Size : ℕ → Type 0
-  Size r = r ≡ sizes_refusal k m t k' m' t' o n
+  abbrev Size : Result (Unit {0}) Refusal → Type 0
+  Size r = let s = sizes_refusal k m t k' m' t' o n in answered r ≡ refuse s (ltb 0 s)
 
-  pub big_old : x ≡ true → Size 3
-  unfolding sizes_refusal
+  pub big_old : x ≡ true → Size (Err TooLong)
+  unfolding sizes_refusal answered number refuse
   big_old q = rw (← ex, q)
 
   module _ (qx : x ≡ false) {y : Bool} (ey : y ≡ big_sizes k' m' t') where
-    pub big_new : y ≡ true → Size 3
-    unfolding sizes_refusal
+    pub big_new : y ≡ true → Size (Err TooLong)
+    unfolding sizes_refusal answered number refuse
     big_new q = rw (← ex, qx, ← ey, q)
 
     module _ (qy : y ≡ false) where
-      pub differ_old : (k ≡ m → ⊥) → Size 4
-      unfolding sizes_refusal
+      pub differ_old : (k ≡ m → ⊥) → Size (Err Length)
+      unfolding sizes_refusal answered number refuse
       differ_old h = rw (← ex, qx, ← ey, qy, ne_eqb k m h)
 
       module _ (h : k ≡ m) where
-        pub differ_new : (k' ≡ m' → ⊥) → Size 4
-        unfolding sizes_refusal
+        pub differ_new : (k' ≡ m' → ⊥) → Size (Err Length)
+        unfolding sizes_refusal answered number refuse
         differ_new j = rw (← ex, qx, ← ey, qy, eq-eqb k m h, ne_eqb k' m' j)
 
         module _ (j : k' ≡ m') where
-          pub differ_pairs : (o ≡ n → ⊥) → Size 4
-          unfolding sizes_refusal
+          pub differ_pairs : (o ≡ n → ⊥) → Size (Err Length)
+          unfolding sizes_refusal answered number refuse
           differ_pairs i = rw (← ex, qx, ← ey, qy, eq-eqb k m h, eq-eqb k' m' j, ne_eqb o n i)
 
-          pub none_wrong : o ≡ n → Size 0
-          unfolding sizes_refusal
+          pub none_wrong : o ≡ n → Size (Ok tt)
+          unfolding sizes_refusal answered refuse
           none_wrong i = rw (← ex, qx, ← ey, qy, eq-eqb k m h, eq-eqb k' m' j, eq-eqb o n i)
 
 -- ── Both trees ──────────────────────────────────────────────────────────────────────────────────────────────
@@ -207,11 +211,27 @@ module _ (c : Claims) (o n p m : List ℕ) {x : Bool} (ex : x ≡ too_short (len
     unfolding told with_work refuse ◌>>=◌
     then e = e ∙ rw (← ex, qx)
 
-    module _ {r : ℕ} (er : r ≡ sizes_refusal (length c.old.kinds) (length c.old.measures) (length c.old.text) (length c.new.kinds) (length c.new.measures) (length c.new.text) (length c.olds) (length c.news)) where
-      pub refused_size : (r ≡ 0 → ⊥) → Tell (refused r)
-      refused_size h = then (sizes_refuse c er h)
+    abbrev refusing : ℕ
+    refusing = sizes_refusal (length c.old.kinds) (length c.old.measures) (length c.old.text) (length c.new.kinds) (length c.new.measures) (length c.new.text) (length c.olds) (length c.news)
 
-      module _ (zr : r ≡ 0) where
+    module _ {r : Result (Unit {0}) Refusal} (er : answered r ≡ refuse refusing (ltb 0 refusing)) where
+      pub refused_size : (e : Refusal) → r ≡ Err e → Tell (refused (number e))
+      unfolding answered refuse
+      refused_size e q = then (go (ltb 0 refusing) refl (rw q at er))
+        where
+          go : (b : Bool) → ltb 0 refusing ≡ b → answered (Err e) ≡ refuse refusing b → refused (number e) ≡ checked c
+          go true p k = let q : number e ≡ refusing = cc in sizes_refuse c q (λ z. omega (arith, ltb-true 0 refusing p))
+          go false p k = absurd (cc)
+
+      module _ (ok : r ≡ Ok tt) where
+        zr : refusing ≡ 0
+        unfolding answered refuse
+        zr = go (ltb 0 refusing) refl (rw ok at er)
+          where
+            go : (b : Bool) → ltb 0 refusing ≡ b → answered (Ok tt) ≡ refuse refusing b → refusing ≡ 0
+            go true p k = absurd (cc)
+            go false p k = omega (arith, ltb-false 0 refusing p)
+
         pub record Fits : Type 0 where
           pub old_alike : length c.old.measures ≡ length c.old.kinds
           pub old_few : length c.old.kinds ≤ 4096
@@ -224,7 +244,7 @@ module _ (c : Claims) (o n p m : List ℕ) {x : Bool} (ex : x ≡ too_short (len
         pub fits : Fits
         unfolding too_big unequal differ
         fits =
-            let (big, step) = sizes_pass c (sym er ∙ zr) in
+            let (big, step) = sizes_pass c zr in
             let (a, b) = either_false (too_big c.old) (too_big c.new) big in
             let (ak, at) = either_false (ltb 4096 (length c.old.kinds) || ltb 4096 (length c.old.measures)) _ a in
             let (ak, am) = either_false (ltb 4096 (length c.old.kinds)) _ ak in
@@ -247,8 +267,8 @@ module _ (c : Claims) (o n p m : List ℕ) {x : Bool} (ex : x ≡ too_short (len
           refused_5 q = then (go (k.no q))
             where
               go : ((w : List ℕ) × Reads (zip c.old.kinds c.old.measures) (length c.old.text) false w) ⊎ ((w : List ℕ) × Reads (zip c.old.kinds c.old.measures) (length c.old.text) true old × Reads (zip c.new.kinds c.new.measures) (length c.new.text) false w) → refused 5 ≡ checked c
-              go (inl (w, e)) = old_unspelled c (sym er ∙ zr) (reads_none c.old w fits.old_alike e)
-              go (inr (w, e, f)) = let t = reads_tells c.old old fits.old_alike e in new_unspelled c (sym er ∙ zr) t.trees t.spells (reads_none c.new w fits.new_alike f)
+              go (inl (w, e)) = old_unspelled c zr (reads_none c.old w fits.old_alike e)
+              go (inr (w, e, f)) = let t = reads_tells c.old old fits.old_alike e in new_unspelled c zr t.trees t.spells (reads_none c.new w fits.new_alike f)
 
           module _ (q : b ≡ true) where
             old_tells : Tells c.old old
@@ -264,7 +284,7 @@ module _ (c : Claims) (o n p m : List ℕ) {x : Bool} (ex : x ≡ too_short (len
             new_telling h = record { few = fits.new_few; long = omega (arith, fits.new_few); sound = new_tells.sound }
 
             pub all_judged : {a : Answer Bool} {u v : ℕ} → 4096 ≤ u → 4096 ≤ v → a ≡ judging old new c.old.text c.new.text (length c.old.kinds) (length c.new.kinds) u v c.olds c.news c.changed → Tell a
-            all_judged {a} {u} {v} h j e = then (e ∙ tells_checked c (sym er ∙ zr) old new u v old_tells new_tells (omega (arith, fits.new_few)) (omega (arith, fits.new_few)))
+            all_judged {a} {u} {v} h j e = then (e ∙ tells_checked c zr old new u v old_tells new_tells (omega (arith, fits.new_few)) (omega (arith, fits.new_few)))
 
 -- ── All ─────────────────────────────────────────────────────────────────────────────────────────────────────
 

@@ -1,19 +1,18 @@
 -- The parts of the checker together answer as the definition does.
 -- Assumes nothing.
 use Rattle.std.proofs.Math.Path.{◌≡◌, refl}
-use Rattle.std.proofs.Common.{sym, ap, ◌∙◌, arith, leb-false, ltb-false, eqb-true}
-use Rattle.std.specs.Prelude.{Bool, not, ◌||◌, ℕ, ◌≤◌, ◌<◌, leb, ltb, eqb, length}
+use Rattle.std.proofs.Common.{sym, ap, ◌∙◌, arith, leb-false}
+use Rattle.std.specs.Prelude.{Bool, ◌||◌, ℕ, ◌≤◌, ◌<◌, leb, length}
 use Rattle.std.proofs.Math.Bool.{true, false, cond}
 use mathlib.Core.List.{List, [], ◌∷◌, ◌++◌, zip, zip_with}
 use Rattle.std.proofs.Math.Option.{none, some}
-use Rattle.std.proofs.lemmas.Bool.{not-true, not-false}
 use Rattle.orders.specs.Lists.{All}
-use Rattle.orders.specs.ListLaws.{bool_absurd, either_false, All-map, none_passes}
+use Rattle.orders.specs.ListLaws.{either_false, All-map, none_passes}
 use Rattle.orders.specs.Tree.{Tree}
 use Rattle.definition.specs.Basics.{Answer, gives, refused, ◌>>=◌, refuse, or_refuse, any}
 use Rattle.definition.specs.Elements.{table, spelled}
 use Rattle.definition.specs.Writing.{differ}
-use Rattle.check_laws.specs.Check.{Flat, Claims, too_big, unequal, alone, names_none, accepts, checked}
+use Rattle.check_laws.specs.Check.{Claims, too_big, unequal, alone, names_none, accepts, checked}
 use Rattle.check_model.specs.Clauses.{judged}
 use Rattle.check_model.specs.Pairing.{Below}
 use Rattle.check_model.proofs.Judged.{judged_accepts}

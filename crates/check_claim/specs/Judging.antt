@@ -1,19 +1,21 @@
 -- What the parts of the checker answer: refusals by lengths, both trees read, claims that name no element, the clauses.
 -- Assumes nothing.
-use Rattle.std.specs.Prelude.{◌≡◌, Bool, true, false, cond, not, ◌||◌, ◌⊎◌, ℕ, ◌*◌, ◌≤◌, leb, ltb, eqb, length, replicate}
+use Rattle.std.specs.Prelude.{◌≡◌, Result, Ok, Err, Bool, true, false, cond, not, ◌||◌, ◌⊎◌, ℕ, ◌*◌, ◌≤◌, leb, ltb, eqb, length, replicate}
 use mathlib.Core.List.{List, ◌++◌, zip}
 use Rattle.definition.specs.Basics.{Answer, gives, refused, ◌>>=◌, refuse, any}
 use Rattle.check_model.specs.Clauses.{fresh, partnered, marked, judged}
 use Rattle.check_model.specs.Table.{Sound}
 use Rattle.check_table.specs.Walk.{Reads}
 use Rattle.check_claim.specs.declared.Verdict.{Verdict}
-use Rattle.check_claim.specs.declared.Verdict.TheVariants.{Refused, Accepted, Rejected}
+use Rattle.check_claim.specs.declared.Verdict.TheVariants.{Accepted, Rejected}
+use Rattle.refusals.specs.Numbers.{number}
+use Rattle.refusals.specs.declared.Refusal.{Refusal}
 
 -- the refusal's number, or whether the output is accepted
-unfoldable pub answer_of : Verdict → Answer Bool
-answer_of (Refused n) = refused n
-answer_of Accepted = gives true
-answer_of Rejected = gives false
+unfoldable pub answer_of : Result Verdict Refusal → Answer Bool
+answer_of (Err r) = refused (number r)
+answer_of (Ok Accepted) = gives true
+answer_of (Ok Rejected) = gives false
 
 -- 3, of a tree whose lists have these lengths
 unfoldable pub big_sizes : ℕ → ℕ → ℕ → Bool

@@ -1,18 +1,21 @@
 // THE CHECKER of another editor's output (document 02, Note 11).
 #![tactic(auto)]
 
-ghost use Rattle.std.specs.Prelude.{◌≡◌, ◌≤◌, length};
+ghost use Rattle.std.specs.Prelude.{◌≡◌, ◌≤◌, length, ltb};
 ghost use mathlib.Core.List.{◌∷◌, [], zip};
+ghost use Rattle.definition.specs.Basics.{refuse};
 ghost use Rattle.definition.specs.Answers.{too_short};
 ghost use Rattle.promises.specs.Slices.{lengths, zeroed};
+ghost use Rattle.refusals.specs.Numbers.{answered};
 ghost use Rattle.check_claim.specs.Promise.{checker_needs, claims_in, Checks, told};
 ghost use Rattle.check_model.specs.Pairing.{Below};
 ghost use Rattle.check_claim.specs.Judging.{answer_of, big_sizes, sizes_refusal, ReadsBoth, Telling, WritesClaims, naming, judging};
 
-// The answer: a refusal's number, or whether the output is accepted.
-#[derive(Clone, Copy)]
+use refusals::Refusal;
+
+// Whether the output is accepted.
+#[derive(Clone, Copy, Debug, PartialEq, Eq)]
 pub enum Verdict {
-    Refused(usize),
     Accepted,
     Rejected,
 }
@@ -56,7 +59,7 @@ fn too_big(kinds: usize, measures: usize, text: usize) -> bool
     16384 < text
 }
 
-// 3 and 4, of lists of these lengths; 0 for neither.
+// 3 and 4, of lists of these lengths.
 fn size_refusal(
     kinds: usize,
     measures: usize,
@@ -66,25 +69,25 @@ fn size_refusal(
     new_text: usize,
     olds: usize,
     news: usize,
-) -> usize
-    ensures { result ≡ sizes_refusal kinds measures text new_kinds new_measures new_text olds news }
+) -> Result<(), Refusal>
+    ensures { let number = sizes_refusal kinds measures text new_kinds new_measures new_text olds news in answered result ≡ refuse number (ltb 0 number) }
 {
     if too_big(kinds, measures, text) {
-        return 3;
+        return Err(Refusal::Size);
     }
     if too_big(new_kinds, new_measures, new_text) {
-        return 3;
+        return Err(Refusal::Size);
     }
     if kinds != measures {
-        return 4;
+        return Err(Refusal::Length);
     }
     if new_kinds != new_measures {
-        return 4;
+        return Err(Refusal::Length);
     }
     if olds != news {
-        return 4;
+        return Err(Refusal::Length);
     }
-    0
+    Ok(())
 }
 
 // 5, of both trees; where it accepts, the words of their elements stand in the tables.
@@ -157,22 +160,22 @@ fn judge_claims(
     new_count: usize,
     partners: &mut [u32],
     marks: &mut [u32],
-) -> Verdict
+) -> Result<Verdict, Refusal>
     requires { (length news.now ≡ length olds.now) × Telling old.now (length old_text.now) old_count × Telling new.now (length new_text.now) new_count × (4096 ≤ length partners.old) × (4096 ≤ length marks.old) }
     ensures { answer_of result ≡ judging old.now new.now old_text.now new_text.now old_count new_count (length partners.old) (length marks.old) olds.now news.now changed.now }
 {
     if names_none(olds, news, changed, old_count, new_count) {
-        return Verdict::Refused(19);
+        return Err(Refusal::ClaimedName);
     }
     if !write_claims(olds, news, changed, partners, marks) {
-        return Verdict::Rejected;
+        return Ok(Verdict::Rejected);
     }
     if check_clauses::judge(
         olds, news, old, new, old_text, new_text, partners, marks, new_count,
     ) {
-        return Verdict::Accepted;
+        return Ok(Verdict::Accepted);
     }
-    Verdict::Rejected
+    Ok(Verdict::Rejected)
 }
 
 // 1, 3, 4, 5 and 19, then accepted or rejected.
@@ -190,13 +193,13 @@ fn check_lists(
     new: &mut [u32],
     partners: &mut [u32],
     marks: &mut [u32],
-) -> Verdict
+) -> Result<Verdict, Refusal>
     ensures { answer_of result ≡ told (old.old ∷ new.old ∷ partners.old ∷ marks.old ∷ []) (claims_in old_kinds.now old_measures.now old_text.now new_kinds.now new_measures.now new_text.now olds.now news.now changed.now) }
 {
     if too_short(old, new, partners, marks) {
-        return Verdict::Refused(1);
+        return Err(Refusal::ShortWork);
     }
-    let refusal = size_refusal(
+    size_refusal(
         old_kinds.len(),
         old_measures.len(),
         old_text.len(),
@@ -205,10 +208,7 @@ fn check_lists(
         new_text.len(),
         olds.len(),
         news.len(),
-    );
-    if refusal != 0 {
-        return Verdict::Refused(refusal);
-    }
+    )?;
     if !read_both(
         old_kinds,
         old_measures,
@@ -219,7 +219,7 @@ fn check_lists(
         old,
         new,
     ) {
-        return Verdict::Refused(5);
+        return Err(Refusal::Spelling);
     }
     judge_claims(
         olds,
@@ -252,7 +252,7 @@ pub fn check(
     new: &mut [u32],
     partners: &mut [u32],
     marks: &mut [u32],
-) -> Verdict
+) -> Result<Verdict, Refusal>
     ensures { Checks (claims_in old_kinds.now old_measures.now old_text.now new_kinds.now new_measures.now new_text.now olds.now news.now changed.now) (old.old ∷ new.old ∷ partners.old ∷ marks.old ∷ []) (answer_of result) (old.new ∷ new.new ∷ partners.new ∷ marks.new ∷ []) }
 {
     let verdict = check_lists(

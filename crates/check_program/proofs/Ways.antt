@@ -21,7 +21,10 @@ use Rattle.check_laws.specs.Layout.{size_of, list_words, claims_from, claims_of,
 use Rattle.check_claim.specs.Promise.{checker_needs, claims_in, told, Checks}
 use Rattle.check_claim.specs.Judging.{answer_of}
 use Rattle.check_claim.specs.declared.Verdict.{Verdict}
-use Rattle.check_claim.specs.declared.Verdict.TheVariants.{Refused, Accepted, Rejected}
+use Rattle.check_claim.specs.declared.Verdict.TheVariants.{Accepted, Rejected}
+use Rattle.std.specs.Prelude.{Result, Ok, Err}
+use Rattle.refusals.specs.Numbers.{number}
+use Rattle.refusals.specs.declared.Refusal.{Refusal}
 use Rattle.edit_print.specs.Lines.{Put, line_of, spaced}
 use Rattle.check_program.specs.Responds.{answered}
 
@@ -82,15 +85,15 @@ texts_long x i k e = ap length (rest x i k e) ∙ length-drop i x
 
 -- ── The line ────────────────────────────────────────────────────────────────────────────────────────────────
 
-module _ {v : Verdict} {d l : List ℕ} {to : ℕ} where
-  pub refused_shown : {k : ℕ} → v ≡ Refused k → Put d 0 (line_of (114 ∷ 101 ∷ 102 ∷ 117 ∷ 115 ∷ 101 ∷ 100 ∷ []) (k ∷ [])) l to → Put d 0 (verdict_line (answer_of v)) l to
+module _ {v : Result Verdict Refusal} {d l : List ℕ} {to : ℕ} where
+  pub refused_shown : {r : Refusal} {k : ℕ} → v ≡ Err r → k ≡ number r → Put d 0 (line_of (114 ∷ 101 ∷ 102 ∷ 117 ∷ 115 ∷ 101 ∷ 100 ∷ []) (k ∷ [])) l to → Put d 0 (verdict_line (answer_of v)) l to
   unfolding verdict_line answer_of line line_of spaced ascii
-  refused_shown e p = rw e p
+  refused_shown e k p = rw (e, ← k) p
 
-  pub accepted_shown : v ≡ Accepted → Put d 0 (line_of (97 ∷ 99 ∷ 99 ∷ 101 ∷ 112 ∷ 116 ∷ 101 ∷ 100 ∷ []) []) l to → Put d 0 (verdict_line (answer_of v)) l to
+  pub accepted_shown : {w : Verdict} → v ≡ Ok w → w ≡ Accepted → Put d 0 (line_of (97 ∷ 99 ∷ 99 ∷ 101 ∷ 112 ∷ 116 ∷ 101 ∷ 100 ∷ []) []) l to → Put d 0 (verdict_line (answer_of v)) l to
   unfolding verdict_line answer_of line line_of spaced ascii
-  accepted_shown e p = rw e p
+  accepted_shown e k p = rw (e, k) p
 
-  pub rejected_shown : v ≡ Rejected → Put d 0 (line_of (114 ∷ 101 ∷ 106 ∷ 101 ∷ 99 ∷ 116 ∷ 101 ∷ 100 ∷ []) []) l to → Put d 0 (verdict_line (answer_of v)) l to
+  pub rejected_shown : {w : Verdict} → v ≡ Ok w → w ≡ Rejected → Put d 0 (line_of (114 ∷ 101 ∷ 106 ∷ 101 ∷ 99 ∷ 116 ∷ 101 ∷ 100 ∷ []) []) l to → Put d 0 (verdict_line (answer_of v)) l to
   unfolding verdict_line answer_of line line_of spaced ascii
-  rejected_shown e p = rw e p
+  rejected_shown e k p = rw (e, k) p

@@ -13,6 +13,7 @@ ghost use Rattle.check_program.specs.Responds.{answered, Responds};
 
 use check_claim::Verdict;
 use program_input::Filled;
+use refusals::Refusal;
 use std::io;
 use std::io::{Read, Write};
 
@@ -26,7 +27,7 @@ fn judge_lists(
     d: usize,
     e: usize,
     g: usize,
-) -> Verdict
+) -> Result<Verdict, Refusal>
     requires { (a + b + d + e + g + g ≤ length lists.now) × (length lists.now ≤ 65536) × (c ≤ length texts.now) }
     ensures { answer_of result ≡ checked (claims_from lists.now texts.now a b c d e g) }
 {
@@ -57,12 +58,12 @@ fn judge_lists(
 }
 
 // 2 and 4 of the layout, then the verdict on the claims.
-fn judge(claim: &[u8]) -> Verdict
+fn judge(claim: &[u8]) -> Result<Verdict, Refusal>
     requires { length claim.now ≤ 262144 }
     ensures { answer_of result ≡ answered claim.now }
 {
     if claim.len() < 32 {
-        return Verdict::Refused(2);
+        return Err(Refusal::ShortBatch);
     }
     let a = words::read_word(claim, 0);
     let b = words::read_word(claim, 4);
@@ -74,7 +75,7 @@ fn judge(claim: &[u8]) -> Verdict
     let h = words::read_word(claim, 28);
     let n = a + b + d + e + 2 * g + h;
     if claim.len() != 32 + 4 * n + c + f {
-        return Verdict::Refused(4);
+        return Err(Refusal::Length);
     }
     let mut lists = [0u32; 65536];
     words::read_words(claim, 32, n, &mut lists, 0);
@@ -83,14 +84,14 @@ fn judge(claim: &[u8]) -> Verdict
 }
 
 // What is printed of a verdict is written at the front of `out`.
-fn show(verdict: Verdict, out: &mut [u8]) -> usize
+fn show(verdict: Result<Verdict, Refusal>, out: &mut [u8]) -> usize
     requires { 32 ≤ length out.old }
     ensures { Put out.old 0 (verdict_line (answer_of verdict)) out.new result }
 {
     match verdict {
-        Verdict::Refused(number) => edit_print::put_line(out, 0, b"refused", &[number]),
-        Verdict::Accepted => edit_print::put_line(out, 0, b"accepted", &[]),
-        Verdict::Rejected => edit_print::put_line(out, 0, b"rejected", &[]),
+        Err(refusal) => edit_print::put_line(out, 0, b"refused", &[refusal.number()]),
+        Ok(Verdict::Accepted) => edit_print::put_line(out, 0, b"accepted", &[]),
+        Ok(Verdict::Rejected) => edit_print::put_line(out, 0, b"rejected", &[]),
     }
 }
 

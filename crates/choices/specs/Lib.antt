@@ -1,3 +1,3 @@
 -- What the record of choices means.
---     Meant   the definition's choices, and the number by which they are refused
+--     Meant   the definition's choices, and by what they are refused
 pub mod Meant

@@ -1,12 +1,14 @@
--- What the record of choices means: the definition's choices, and the number by which they are refused.
+-- What the record of choices means: the definition's choices, and by what they are refused.
 -- Assumes nothing.
-use Rattle.std.specs.Prelude.{◌≡◌, Bool, ℕ, ◌≤◌, ◌<◌, ltb}
+use Rattle.std.specs.Prelude.{◌≡◌, Bool, ℕ, ◌≤◌, ◌<◌, ltb, Ok, Err}
 use Rattle.std.proofs.Math.Path.{refl}
 use Rattle.std.proofs.Common.{ap, arith}
 use Rattle.std.proofs.Math.Bool.{true, false}
 use borrow.Author.Tests.{lt-ltb, le-ltb}
 use Rattle.definition.specs.Basics.{Answer, refused, gives, ◌>>=◌, refuse}
 use Rattle.definition.specs.Choices as definition
+use Rattle.refusals.specs.Numbers.{number, answered}
+use Rattle.refusals.specs.declared.Refusal.TheVariants.{Edge, Stronger}
 use Rattle.choices.specs.declared.Choices.{Choices}
 
 -- the definition's choices
@@ -24,19 +26,19 @@ unfolding refusal_of
 some_refused (refused j) k e n = ap refused (omega arith)
 some_refused (gives u) k e n = absurd (n e)
 
--- ── The number ──────────────────────────────────────────────────────────────────────────────────────────────
+-- ── The judgement ───────────────────────────────────────────────────────────────────────────────────────────
 
 module _ (c : Choices) where
-  pub no_such_rule : 1 < c.edge → 17 ≡ refusal_of (definition.chosen (meant c))
-  unfolding definition.chosen refuse ◌>>=◌ refusal_of
+  pub no_such_rule : 1 < c.edge → answered (Err Edge) ≡ definition.chosen (meant c)
+  unfolding definition.chosen refuse ◌>>=◌ answered number
   no_such_rule h = rw (lt-ltb 1 c.edge h) refl
 
-  pub neither_on_nor_off : c.edge ≤ 1 → 1 < c.stronger → 18 ≡ refusal_of (definition.chosen (meant c))
-  unfolding definition.chosen refuse ◌>>=◌ refusal_of
+  pub neither_on_nor_off : c.edge ≤ 1 → 1 < c.stronger → answered (Err Stronger) ≡ definition.chosen (meant c)
+  unfolding definition.chosen refuse ◌>>=◌ answered number
   neither_on_nor_off h k = rw (le-ltb 1 c.edge h, lt-ltb 1 c.stronger k) refl
 
-  pub rightly_chosen : c.edge ≤ 1 → c.stronger ≤ 1 → 0 ≡ refusal_of (definition.chosen (meant c))
-  unfolding definition.chosen refuse ◌>>=◌ refusal_of
+  pub rightly_chosen : c.edge ≤ 1 → c.stronger ≤ 1 → answered (Ok tt) ≡ definition.chosen (meant c)
+  unfolding definition.chosen refuse ◌>>=◌ answered
   rightly_chosen h k = rw (le-ltb 1 c.edge h, le-ltb 1 c.stronger k) refl
 
   -- so 0 tells that the choices are some, and any other number is their refusal

@@ -3,7 +3,10 @@
 
 ghost use Rattle.std.specs.Prelude.{◌≡◌};
 ghost use Rattle.definition.specs.Choices.{chosen};
-ghost use Rattle.choices.specs.Meant.{meant, refusal_of};
+ghost use Rattle.refusals.specs.Numbers.{answered};
+ghost use Rattle.choices.specs.Meant.{meant};
+
+use refusals::Refusal;
 
 // The edge rule: 0 goes by offsets, 1 by where elements stand in the tree (document 02, Note 6). Stronger rules first: 0 is off, 1 is on (Note 9).
 #[derive(Clone, Copy)]
@@ -12,15 +15,15 @@ pub struct Choices {
     pub stronger: usize,
 }
 
-// 17 for an edge rule that is neither 0 nor 1, then 18 for a choice that is neither off nor on; else 0.
-pub fn refusal(c: Choices) -> usize
-    ensures { result ≡ refusal_of (chosen (meant c)) }
+// Refused if the edge rule is neither 0 nor 1, then if the choice of stronger rules first is neither off nor on.
+pub fn judge(c: Choices) -> Result<(), Refusal>
+    ensures { answered result ≡ chosen (meant c) }
 {
     if 1 < c.edge {
-        return 17;
+        return Err(Refusal::Edge);
     }
     if 1 < c.stronger {
-        return 18;
+        return Err(Refusal::Stronger);
     }
-    0
+    Ok(())
 }

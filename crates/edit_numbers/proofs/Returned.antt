@@ -1,6 +1,6 @@
 -- What the exported calls return, as one number, and what they promise.
 -- Assumes nothing.
-use Rattle.std.specs.Prelude.{◌≡◌, List, ℤ, length}
+use Rattle.std.specs.Prelude.{◌≡◌, List, ℤ, length, Result}
 use Rattle.std.proofs.Math.Path.{refl, ap}
 use Rattle.std.proofs.Common.{◌∙◌, arith}
 use Rattle.std.proofs.Math.Option.{Option, none, some}
@@ -17,7 +17,9 @@ use Rattle.promises.specs.Slices.{needed, lengths}
 use Rattle.promises.specs.Keeping.{kept}
 use Rattle.promises.specs.Serving.{place, of_length, of_place, of_share, Serves, serves_edits, serves_finds, serves_accounts, serves_shares, serves_keeps}
 use Rattle.promises.specs.declared.Job.TheVariants.{Edit, Find, Account, Share, Kept}
-use Rattle.promises.specs.declared.Outcome.{Outcome}
+use Rattle.promises.specs.declared.Told.{Told}
+use Rattle.refusals.specs.Numbers.{answered}
+use Rattle.refusals.specs.declared.Refusal.{Refusal}
 use Rattle.promises_read.specs.Refused.{By, edit_numbers, find_numbers, account_numbers, by_number, by_more, edited_by, found_by, accounted_by, shared_by, kept_by}
 use Rattle.promises_read.specs.Pairs.{pairs_short}
 use Rattle.edit_numbers.specs.Bounded.{edited_short, found_short, accounted_short, shared_few}
@@ -40,67 +42,67 @@ unfolding number_of of_length returned ◌>>=◌
 bytes_returned (refused n) = refl
 bytes_returned (gives bytes) = refl
 
-module _ {h : Choices} {b held holds : List ℕ} {work left : List (List ℕ)} {r : Outcome} (s : Serves h Edit b held work r holds left) where
+module _ {h : Choices} {b held holds : List ℕ} {work left : List (List ℕ)} {r : Result Told Refusal} (s : Serves h Edit b held work r holds left) where
   abbrev x : Answer (List ℕ)
   x = edited h (lengths needed work) b (length held)
 
-  length_told : r ≡ of_length (x >>= λ bytes. gives (length bytes))
+  length_told : answered r ≡ of_length (x >>= λ bytes. gives (length bytes))
   length_told = let (a, e, k) = serves_edits h s in e ∙ ap of_length k.answer
 
   -- what an edit tells is small
-  pub edit_small : Small r
+  pub edit_small : Small (answered r)
   edit_small = rw length_told (bytes_small x (edited_by h (lengths needed work) b (length held)) (λ bytes e. omega (arith, edited_short h (lengths needed work) b bytes (length held) e)))
 
   -- and its number is what is promised
-  pub edit_returned : (z : ℤ) → z ≡ number_of r → Returns h b held work (to_z w64 (of_z w64 z)) holds left
+  pub edit_returned : (z : ℤ) → z ≡ number_of (answered r) → Returns h b held work (to_z w64 (of_z w64 z)) holds left
   edit_returned z q =
       let (a, e, k) = serves_edits h s in
-      record { answer = ap (λ (y : ℤ). to_z w64 (of_z w64 y)) q ∙ (number_read r edit_small ∙ (ap number_of length_told ∙ bytes_returned x)); result = k.result; zeros = k.zeros; inserts = k.inserts }
+      record { answer = ap (λ (y : ℤ). to_z w64 (of_z w64 y)) q ∙ (number_read (answered r) edit_small ∙ (ap number_of length_told ∙ bytes_returned x)); result = k.result; zeros = k.zeros; inserts = k.inserts }
 
-module _ {h : Choices} {b held holds : List ℕ} {work left : List (List ℕ)} {r : Outcome} (s : Serves h Account b held work r holds left) where
+module _ {h : Choices} {b held holds : List ℕ} {work left : List (List ℕ)} {r : Result Told Refusal} (s : Serves h Account b held work r holds left) where
   abbrev text : Answer (List ℕ)
   text = accounted h (lengths needed work) b (length held)
 
-  text_told : r ≡ of_length (text >>= λ bytes. gives (length bytes))
+  text_told : answered r ≡ of_length (text >>= λ bytes. gives (length bytes))
   text_told = let (a, e, k) = serves_accounts h s in e ∙ ap of_length k.answer
 
   -- what an account tells is small
-  pub account_small : Small r
+  pub account_small : Small (answered r)
   unfolding among any
   account_small = rw text_told (bytes_small text (by_more account_numbers edit_numbers text refl (accounted_by h (lengths needed work) b (length held))) (λ bytes e. omega (arith, accounted_short h (lengths needed work) b bytes (length held) e)))
 
   -- and its number is what is promised
-  pub account_returned : (z : ℤ) → z ≡ number_of r → ReturnsAccount h b held work (to_z w64 (of_z w64 z)) holds left
+  pub account_returned : (z : ℤ) → z ≡ number_of (answered r) → ReturnsAccount h b held work (to_z w64 (of_z w64 z)) holds left
   account_returned z q =
       let (a, e, k) = serves_accounts h s in
-      record { answer = ap (λ (y : ℤ). to_z w64 (of_z w64 y)) q ∙ (number_read r account_small ∙ (ap number_of text_told ∙ bytes_returned text)); result = k.result; zeros = k.zeros }
+      record { answer = ap (λ (y : ℤ). to_z w64 (of_z w64 y)) q ∙ (number_read (answered r) account_small ∙ (ap number_of text_told ∙ bytes_returned text)); result = k.result; zeros = k.zeros }
 
-module _ {h : Choices} {b held holds : List ℕ} {work left : List (List ℕ)} {r : Outcome} (s : Serves h Kept b held work r holds left) where
+module _ {h : Choices} {b held holds : List ℕ} {work left : List (List ℕ)} {r : Result Told Refusal} (s : Serves h Kept b held work r holds left) where
   abbrev pairs : Answer (List ℕ)
   pairs = kept h (lengths needed work) b (length held)
 
-  pairs_told : r ≡ of_length (pairs >>= λ bytes. gives (length bytes))
+  pairs_told : answered r ≡ of_length (pairs >>= λ bytes. gives (length bytes))
   pairs_told = let (a, e, k) = serves_keeps h s in e ∙ ap of_length k.answer
 
   -- what is told of pairs is small
-  pub kept_small : Small r
+  pub kept_small : Small (answered r)
   kept_small = rw pairs_told (bytes_small pairs (kept_by h (lengths needed work) b (length held)) (λ bytes e. omega (arith, pairs_short h (lengths needed work) b bytes (length held) e)))
 
   -- and its number is what is promised
-  pub kept_returned : (z : ℤ) → z ≡ number_of r → ReturnsKept h b held work (to_z w64 (of_z w64 z)) holds left
+  pub kept_returned : (z : ℤ) → z ≡ number_of (answered r) → ReturnsKept h b held work (to_z w64 (of_z w64 z)) holds left
   kept_returned z q =
       let (a, e, k) = serves_keeps h s in
-      record { answer = ap (λ (y : ℤ). to_z w64 (of_z w64 y)) q ∙ (number_read r kept_small ∙ (ap number_of pairs_told ∙ bytes_returned pairs)); result = k.result; zeros = k.zeros }
+      record { answer = ap (λ (y : ℤ). to_z w64 (of_z w64 y)) q ∙ (number_read (answered r) kept_small ∙ (ap number_of pairs_told ∙ bytes_returned pairs)); result = k.result; zeros = k.zeros }
 
-module _ {h : Choices} {b held holds : List ℕ} {n : ℕ} {work left : List (List ℕ)} {r : Outcome} (s : Serves h (Find n) b held work r holds left) where
+module _ {h : Choices} {b held holds : List ℕ} {n : ℕ} {work left : List (List ℕ)} {r : Result Told Refusal} (s : Serves h (Find n) b held work r holds left) where
   abbrev y : Answer (Option ℕ)
   y = find_element h (lengths needed work) b n
 
-  place_told : r ≡ of_place y
+  place_told : answered r ≡ of_place y
   place_told = let (a, e, k) = serves_finds h s in e ∙ ap of_place k.element
 
   -- what is told of an element is small
-  pub find_small : Small r
+  pub find_small : Small (answered r)
   unfolding Small of_place place any
   find_small = rw place_told (go y (λ m. by_number find_numbers 1 18 m y refl (found_by h (lengths needed work) b n)) (found_short h (lengths needed work) b n))
     where
@@ -110,26 +112,26 @@ module _ {h : Choices} {b held holds : List ℕ} {n : ℕ} {work left : List (Li
       go (gives (some e)) h k = omega (arith, k e refl)
 
   -- and its number is what is promised
-  pub find_returned : (z : ℤ) → z ≡ number_of r → ReturnsElement h b n work (to_z w64 (of_z w64 z)) left
+  pub find_returned : (z : ℤ) → z ≡ number_of (answered r) → ReturnsElement h b n work (to_z w64 (of_z w64 z)) left
   unfolding number_of of_place place returned_element
   find_returned z q =
       let (a, e, k) = serves_finds h s in
-      record { element = ap (λ (y : ℤ). to_z w64 (of_z w64 y)) q ∙ (number_read r find_small ∙ (ap number_of place_told ∙ go y)); zeros = k.zeros; inserts = k.inserts }
+      record { element = ap (λ (y : ℤ). to_z w64 (of_z w64 y)) q ∙ (number_read (answered r) find_small ∙ (ap number_of place_told ∙ go y)); zeros = k.zeros; inserts = k.inserts }
     where
       go : (o : Answer (Option ℕ)) → number_of (of_place o) ≡ returned_element o
       go (refused m) = refl
       go (gives none) = refl
       go (gives (some e)) = refl
 
-module _ {h : Choices} {b held holds : List ℕ} {work left : List (List ℕ)} {r : Outcome} (s : Serves h Share b held work r holds left) where
+module _ {h : Choices} {b held holds : List ℕ} {work left : List (List ℕ)} {r : Result Told Refusal} (s : Serves h Share b held work r holds left) where
   abbrev part : Answer (ℕ × ℕ)
   part = shared h (lengths needed work) b
 
-  part_told : r ≡ of_share part
+  part_told : answered r ≡ of_share part
   part_told = let (a, e, k) = serves_shares h s in e ∙ ap of_share k.share
 
   -- what is told of a share is small
-  pub share_fits : Small r
+  pub share_fits : Small (answered r)
   unfolding Small of_share any
   share_fits = rw part_told (go part (λ m. by_number find_numbers 1 18 m part refl (shared_by h (lengths needed work) b)) (shared_few h (lengths needed work) b))
     where
@@ -138,11 +140,11 @@ module _ {h : Choices} {b held holds : List ℕ} {work left : List (List ℕ)} {
       go (gives q) h k = k q refl
 
   -- and its number is what is promised
-  pub share_returned : (z : ℤ) → z ≡ number_of r → ReturnsShare h b work (to_z w64 (of_z w64 z)) left
+  pub share_returned : (z : ℤ) → z ≡ number_of (answered r) → ReturnsShare h b work (to_z w64 (of_z w64 z)) left
   unfolding number_of of_share returned_share
   share_returned z q =
       let (a, e, k) = serves_shares h s in
-      record { share = ap (λ (y : ℤ). to_z w64 (of_z w64 y)) q ∙ (number_read r share_fits ∙ (ap number_of part_told ∙ go part)); zeros = k.zeros }
+      record { share = ap (λ (y : ℤ). to_z w64 (of_z w64 y)) q ∙ (number_read (answered r) share_fits ∙ (ap number_of part_told ∙ go part)); zeros = k.zeros }
     where
       go : (o : Answer (ℕ × ℕ)) → number_of (of_share o) ≡ returned_share o
       go (refused m) = refl

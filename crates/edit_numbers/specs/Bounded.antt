@@ -7,7 +7,7 @@ use Rattle.std.proofs.Common.{arith}
 use Rattle.orders.specs.Lists.{All}
 use Rattle.orders.specs.ListLaws.{some_inj, none_some}
 use Rattle.orders.specs.Tree.{Tree, Trees, node, token, nil, cons, Path, list, children, elements, elements_of, text}
-use Rattle.definition.specs.Basics.{gives, first, ◌>>=◌}
+use Rattle.definition.specs.Basics.{gives, first}
 use Rattle.definition.specs.Choices.{Choices}
 use Rattle.definition.specs.Elements.{Table, Row, row, node?, tree, rows, rows_below, table}
 use Rattle.definition.specs.Refusals.{accepted}

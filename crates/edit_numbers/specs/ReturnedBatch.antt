@@ -1,8 +1,8 @@
 -- What the exported writer returns, as one number, and what it promises.
 -- Assumes nothing.
-use Rattle.std.specs.Prelude.{◌≡◌, true, false, ℕ, ◌≤◌, ltb, ℤ, pos, neg_ℤ}
+use Rattle.std.specs.Prelude.{◌≡◌, ℕ, ◌≤◌, ltb, ℤ, pos, neg_ℤ}
 use Rattle.std.proofs.Math.Path.{refl, ap}
-use Rattle.std.proofs.Common.{sym, ◌∙◌, arith, length-append}
+use Rattle.std.proofs.Common.{◌∙◌, arith, length-append}
 use mathlib.Core.List.{List}
 use Rattle.std.proofs.Math.ListN.{length}
 use mir.Syntax.{w64}
@@ -11,7 +11,7 @@ use Rattle.orders.specs.ListLaws.{either_false}
 use Rattle.definition.specs.Basics.{Answer, refused, gives, ◌>>=◌, refuse, is_refused, any}
 use Rattle.definition.specs.Refusals.{accepted}
 use Rattle.definition.specs.Answers.{too_short, with_work}
-use Rattle.definition.specs.Writing.{Lists, sizes_of, seven_sizes, call_words, laid_out, unlayable, wrong_lists, write}
+use Rattle.definition.specs.Writing.{Lists, sizes_of, seven_sizes, laid_out, unlayable, wrong_lists, write}
 use Rattle.definition_laws.specs.Answers.{gives_inj, given, not_wrong}
 use Rattle.words.specs.Bytes.{length_written}
 use Rattle.promises.specs.Slices.{lengths, zeroed}

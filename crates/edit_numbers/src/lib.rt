@@ -2,12 +2,12 @@
 #![tactic(auto)]
 
 ghost use Rattle.std.specs.Prelude.{◌≡◌, ◌≤◌, ◌<◌, pos, neg_ℤ};
-ghost use Rattle.write_batch.specs.Handing.{answer_of};
+ghost use Rattle.refusals.specs.Numbers.{answered};
 ghost use Rattle.edit_numbers.specs.Told.{Small, number_of, share_word};
 ghost use Rattle.edit_numbers.specs.ReturnedBatch.{Few, length_number};
 
-use promises::Outcome;
-use write_batch::Written;
+use promises::Told;
+use refusals::Refusal;
 
 // A refusal's number, with a minus.
 fn negative(n: usize) -> i64
@@ -38,26 +38,26 @@ fn share_number(quotient: usize, remainder: usize) -> i64
 }
 
 // The number of an outcome.
-pub fn number_of(told: Outcome) -> i64
-    requires { Small told }
-    ensures { result ≡ number_of told }
+pub fn number_of(told: Result<Told, Refusal>) -> i64
+    requires { Small (answered told) }
+    ensures { result ≡ number_of (answered told) }
 {
     match told {
-        Outcome::Refused(n) => negative(n),
-        Outcome::Bytes(n) => positive(n),
-        Outcome::Nothing => -1000,
-        Outcome::At(n) => positive(n),
-        Outcome::Of(q, m) => share_number(q, m),
+        Err(refusal) => negative(refusal.number()),
+        Ok(Told::Bytes(n)) => positive(n),
+        Ok(Told::Nothing) => -1000,
+        Ok(Told::At(n)) => positive(n),
+        Ok(Told::Of(q, m)) => share_number(q, m),
     }
 }
 
 // The number of what the writer tells.
-pub fn number_written(told: Written) -> i64
-    requires { Few (answer_of told) }
-    ensures { result ≡ length_number (answer_of told) }
+pub fn number_written(told: Result<usize, Refusal>) -> i64
+    requires { Few (answered told) }
+    ensures { result ≡ length_number (answered told) }
 {
     match told {
-        Written::Refused(n) => negative(n),
-        Written::Bytes(n) => positive(n),
+        Err(refusal) => negative(refusal.number()),
+        Ok(n) => positive(n),
     }
 }

@@ -39,9 +39,9 @@ pub starting : (tree d : List ℕ) → Starting tree d d 0 0
 starting tree d = record { summing = summing_start tree; inside = omega arith; low = omega arith; long = refl; filled = λ text. paste-zero d 0 (starts 0 (triples text tree)) }
 
 module _ {tree d l : List ℕ} {sum i : ℕ} (v : Starting tree d l sum i) where
-  pub starting_next : {r : ℕ} → 3 * i + 2 < length tree → length tree ≤ 3 * length d → Measured tree i r → Starting tree d (set l i sum) (sum + r) (i + 1)
+  pub starting_next : {r : ℕ} → i < length tree / 3 → length tree ≤ 3 * length d → Measured tree i r → Starting tree d (set l i sum) (sum + r) (i + 1)
   starting_next h k m =
-      let next = summing_next v.summing h m in
+      let next = summing_next v.summing (omega arith) m in
       record {
         summing = next;
         inside = omega arith;
@@ -58,7 +58,7 @@ module _ {tree d l : List ℕ} {sum i : ℕ} (v : Starting tree d l sum i) where
           let e : sum ≡ get_or (starts 0 rs) i 0 = sym (starts_at rs 0 i (omega arith) ∙ omega (arith, v.summing.rest text)) in
           rw (v.filled text, e) (ap (λ n. set (paste d 0 (starts 0 rs) i) n (get_or (starts 0 rs) i 0)) (sym (zero-add i)) ∙ paste-suc d 0 (starts 0 rs) i 0 (omega arith) (omega (arith, length_starts 0 rs)))
 
-  pub starting_done : length tree ≤ 3 * i + 2 → length tree ≤ 3 * length d → Starts tree d l
+  pub starting_done : length tree / 3 ≤ i → length tree ≤ 3 * length d → Starts tree d l
   starting_done h k = let e : length tree / 3 ≡ i = omega (arith, v.inside) in starts_listed tree d (omega arith) (λ text. rw e (v.filled text))
 
 -- ── Kinds and measures ──────────────────────────────────────────────────────────────────────────────────────
@@ -100,7 +100,7 @@ sweeping tree d at h = record {
 }
 
 module _ {tree d : List ℕ} {at measures : ℕ} {l : List ℕ} {reads i : ℕ} (v : Sweeping tree d at measures l reads i) where
-  module _ (text : List ℕ) (h : 3 * i + 2 < length tree) where
+  module _ (text : List ℕ) (h : i < length tree / 3) where
     -- one kind more goes below the measures that are written
     kind_more : paste l (at + 4 * i) (bytes_of (get_or tree (3 * i) 0)) 4 ≡ paste (paste d at (written (map kind (triples text tree))) (4 * (i + 1))) measures (written (map measure (triples text tree))) (4 * i)
     unfolding bytes_of
@@ -113,12 +113,12 @@ module _ {tree d : List ℕ} {at measures : ℕ} {l : List ℕ} {reads i : ℕ} 
         let a : length P ≡ length d = length-paste d at (written K) (4 * i) (omega (arith, v.room)) (omega (arith, length_written K)) in
         let b : length (paste P (at + 4 * i) k 4) ≡ length P = length-paste P (at + 4 * i) k 4 (omega (arith, v.room)) (omega arith) in
         let w : Writing d at K P i = record { inside = omega arith; long = a; copied = refl } in
-        let e : get_or tree (3 * i) 0 ≡ get_or K i 0 = sym (kind_word text (get_or tree (3 * i) 0) (get_or tree (3 * i + 1) 0) (get_or tree (3 * i + 2) 0)) ∙ sym (told kind text tree i h) in
+        let e : get_or tree (3 * i) 0 ≡ get_or K i 0 = sym (kind_word text (get_or tree (3 * i) 0) (get_or tree (3 * i + 1) 0) (get_or tree (3 * i + 2) 0)) ∙ sym (told kind text tree i (omega arith)) in
         ap (λ x. paste x (at + 4 * i) k 4) (v.swept text)
         ∙ (paste_swap P k M (at + 4 * i) 4 measures (4 * i) (omega (arith, v.behind)) (omega (arith, v.behind, v.room)) (omega arith)
         ∙ ap (λ x. paste x measures M (4 * i)) (writing_next w (omega arith) (omega (arith, v.room)) e b refl).copied)
 
-  pub sweeping_next : {l' : List ℕ} → 3 * i + 2 < length tree → length l' ≡ length l
+  pub sweeping_next : {l' : List ℕ} → i < length tree / 3 → length l' ≡ length l
       → l' ≡ paste (paste l (at + 4 * i) (bytes_of (get_or tree (3 * i) 0)) 4) (measures + 4 * i) (bytes_of (get_or tree (3 * i + 1) 0)) 4 → Sweeping tree d at measures l' (reads + 1) (i + 1)
   unfolding bytes_of
   sweeping_next {l'} h m q = record {
@@ -139,10 +139,10 @@ module _ {tree d : List ℕ} {at measures : ℕ} {l : List ℕ} {reads i : ℕ} 
           let a : length l₁ ≡ length l = length-paste l (at + 4 * i) (bytes_of (get_or tree (3 * i) 0)) 4 (omega (arith, v.long, v.room)) (omega arith) in
           let b : length Q ≡ length d = length-paste d at (written K) (4 * (i + 1)) (omega (arith, v.room)) (omega (arith, length_written K, many kind text tree)) in
           let w : Writing Q measures M l₁ i = record { inside = omega (arith, many measure text tree); long = omega (arith, v.long); copied = kind_more text h } in
-          let e : get_or tree (3 * i + 1) 0 ≡ get_or M i 0 = sym (measure_word text (get_or tree (3 * i) 0) (get_or tree (3 * i + 1) 0) (get_or tree (3 * i + 2) 0)) ∙ sym (told measure text tree i h) in
+          let e : get_or tree (3 * i + 1) 0 ≡ get_or M i 0 = sym (measure_word text (get_or tree (3 * i) 0) (get_or tree (3 * i + 1) 0) (get_or tree (3 * i + 2) 0)) ∙ sym (told measure text tree i (omega arith)) in
           (writing_next w (omega (arith, many measure text tree)) (omega (arith, many measure text tree, v.room, v.behind)) e (m ∙ sym a) q).copied
 
-  pub sweeping_done : length tree ≤ 3 * i + 2 → Swept tree at d l reads
+  pub sweeping_done : length tree / 3 ≤ i → Swept tree at d l reads
   unfolding elements_over
   sweeping_done h =
       let e : length tree / 3 ≡ i = omega (arith, v.inside) in
@@ -173,10 +173,10 @@ pub sizing_start : (tree text : List ℕ) → Sizing tree text 0 0
 sizing_start tree text = record { inside = omega arith; rest = omega arith }
 
 module _ {tree text : List ℕ} {sum i : ℕ} (v : Sizing tree text sum i) where
-  module _ {s : List ℕ} (h : 3 * i + 2 < length tree) (e : s ≡ own (row_in text tree i)) where
+  module _ {s : List ℕ} (h : i < length tree / 3) (e : s ≡ own (row_in text tree i)) where
     sizing_more : length (flat_map own (triples text tree)) ≡ sum + (length s + length (flat_map own (drop (suc i) (triples text tree))))
     unfolding flat_map
-    sizing_more = v.rest ∙ rw (triples_at text i tree h, ← e) (ap (λ (n : ℕ). sum + n) (length-append s (flat_map own (drop (suc i) (triples text tree)))))
+    sizing_more = v.rest ∙ rw (triples_at text i tree (omega arith), ← e) (ap (λ (n : ℕ). sum + n) (length-append s (flat_map own (drop (suc i) (triples text tree)))))
 
     pub sizing_small : bytes (triples [] tree) < 2 ^ 32 → sum + length s < 2 ^ 32
     sizing_small b = omega (arith, sizing_more, own_few (triples text tree), bytes_any text [] tree)
@@ -184,10 +184,10 @@ module _ {tree text : List ℕ} {sum i : ℕ} (v : Sizing tree text sum i) where
     pub sizing_next : Sizing tree text (sum + length s) (i + 1)
     sizing_next = record { inside = omega arith; rest = rw (add-one i) (sizing_more ∙ omega arith) }
 
-  pub sizing_done : length tree ≤ 3 * i + 2 → bytes (triples [] tree) < 2 ^ 32 → (sum ≡ length (flat_map own (triples text tree))) × (sum < 2 ^ 32)
+  pub sizing_done : length tree / 3 ≤ i → bytes (triples [] tree) < 2 ^ 32 → (sum ≡ length (flat_map own (triples text tree))) × (sum < 2 ^ 32)
   unfolding flat_map
   sizing_done h b =
-      let e : length (flat_map own (triples text tree)) ≡ sum = v.rest ∙ rw (triples_end text i tree h) (omega arith) in
+      let e : length (flat_map own (triples text tree)) ≡ sum = v.rest ∙ rw (triples_end text i tree (omega arith)) (omega arith) in
       (sym e, omega (arith, own_few (triples text tree), bytes_any text [] tree))
 
 -- l is d with the text of the first i rows written from `at` up to `to`
@@ -210,10 +210,10 @@ texting tree text d at = record {
 }
 
 module _ {tree text d : List ℕ} {at : ℕ} {l : List ℕ} {to i : ℕ} (v : Texting tree text d at l to i) where
-  module _ {s : List ℕ} (h : 3 * i + 2 < length tree) (k : at + length (flat_map own (triples text tree)) ≤ length d) (e : s ≡ own (row_in text tree i)) where
+  module _ {s : List ℕ} (h : i < length tree / 3) (k : at + length (flat_map own (triples text tree)) ≤ length d) (e : s ≡ own (row_in text tree i)) where
     next_left : drop (to - at) (flat_map own (triples text tree)) ≡ s ++ flat_map own (drop (suc i) (triples text tree))
     unfolding flat_map
-    next_left = v.left ∙ rw (triples_at text i tree h, e)
+    next_left = v.left ∙ rw (triples_at text i tree (omega arith), e)
 
     fits : (to - at) + length s ≤ length (flat_map own (triples text tree))
     fits =
@@ -241,10 +241,10 @@ module _ {tree text d : List ℕ} {at : ℕ} {l : List ℕ} {to i : ℕ} (v : Te
               (take-length s ∙ sym (ap (take (length s)) next_left ∙ take_at s rest (length s) refl)));
         }
 
-  pub texting_done : length tree ≤ 3 * i + 2 → l ≡ paste d at (flat_map own (triples text tree)) (length (flat_map own (triples text tree)))
+  pub texting_done : length tree / 3 ≤ i → l ≡ paste d at (flat_map own (triples text tree)) (length (flat_map own (triples text tree)))
   unfolding flat_map
   texting_done h =
-      let a : drop (to - at) (flat_map own (triples text tree)) ≡ [] = v.left ∙ rw (triples_end text i tree h) in
+      let a : drop (to - at) (flat_map own (triples text tree)) ≡ [] = v.left ∙ rw (triples_end text i tree (omega arith)) in
       let b : length (flat_map own (triples text tree)) - (to - at) ≡ 0 = sym (length-drop (to - at) (flat_map own (triples text tree))) ∙ ap length a in
       let n : length (flat_map own (triples text tree)) ≡ to - at = omega (arith, v.high) in
       rw n v.copied

@@ -17,12 +17,10 @@ pub fn fill_starts(tree: &[u32], out: &mut [u32])
     ensures { Starts tree.now out.old out.new }
 {
     let mut sum = 0;
-    let mut i = 0;
-    while ROW_WORDS * i + TEXT < tree.len() {
+    for i in 0..tree.len() / ROW_WORDS {
         let next = sum + rows_syntax_node::text_length(tree, i);
         out[i] = sum as u32;
         sum = next;
-        i += 1;
     }
 }
 
@@ -42,13 +40,12 @@ pub fn write_elements(b: &mut [u8], at: usize, tree: &[u32]) -> usize
     requires { (at + 8 * (length tree.now / 3) ≤ length b.old) × (length tree.now < 3 * 2 ^ 16) }
     ensures { Swept tree.now at b.old b.new result }
 {
-    let measures = at + 4 * (tree.len() / ROW_WORDS);
+    let rows = tree.len() / ROW_WORDS;
+    let measures = at + 4 * rows;
     let mut reads = 0;
-    let mut row = 0;
-    while ROW_WORDS * row + TEXT < tree.len() {
+    for row in 0..rows {
         write_element(b, at + 4 * row, measures + 4 * row, tree, row);
         reads += 1;
-        row += 1;
     }
     reads
 }
@@ -100,11 +97,9 @@ pub fn text_size(tree: &[u32], text: &[u8]) -> usize
     ensures { (result ≡ length (flat_map own (triples text.now tree.now))) × (result < 2 ^ 32) }
 {
     let mut sum = 0;
-    let mut i = 0;
-    while ROW_WORDS * i + TEXT < tree.len() {
+    for i in 0..tree.len() / ROW_WORDS {
         let part = own_text(tree, i, text);
         sum += part.len();
-        i += 1;
     }
     sum
 }
@@ -115,11 +110,9 @@ pub fn write_text(b: &mut [u8], at: usize, tree: &[u32], text: &[u8])
     ensures { b.new ≡ paste b.old at (flat_map own (triples text.now tree.now)) (length (flat_map own (triples text.now tree.now))) }
 {
     let mut to = at;
-    let mut i = 0;
-    while ROW_WORDS * i + TEXT < tree.len() {
+    for i in 0..tree.len() / ROW_WORDS {
         let part = own_text(tree, i, text);
         words::copy_bytes(b, to, part);
         to += part.len();
-        i += 1;
     }
 }

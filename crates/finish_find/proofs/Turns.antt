@@ -9,6 +9,7 @@ use native.Mathlib.Numerals.{add-one}
 use lib.Dec.{eqb}
 use lib.ListN.{length, get_or, take, drop}
 use borrow.Author.Tests.{le-leb, lt-leb, eq-eqb, ne_eqb}
+use Rattle.std.specs.Prelude.{Some, None}
 use Rattle.definition.specs.Elements.{is_node}
 use Rattle.rows_model.specs.Row.{Row, kind, owes, skip, row_in, first_rows}
 use Rattle.rows_model.specs.Place.{subtree}
@@ -18,8 +19,6 @@ use Rattle.rows_syntax_node.specs.Promises.{Counted, Measured}
 use Rattle.finish_model.specs.Finished.{first_tree}
 use Rattle.finish_model.specs.Alike.{alike_words, alike_from, find_row}
 use Rattle.finish_find.specs.Found.{found}
-use Rattle.finish_find.specs.declared.Found.{Found}
-use Rattle.finish_find.specs.declared.Found.TheVariants.{At, Nothing}
 
 -- ── The test ────────────────────────────────────────────────────────────────────────────────────────────────
 
@@ -57,16 +56,16 @@ unfolding find_row first_tree subtree
 finding_start h = rw h.3 (record { first = refl; low = omega arith; high = h.1; small = omega arith; few = omega arith; rest = λ text. refl })
 
 module _ {rows : List ℕ} {n root k start sum owed i : ℕ} (v : Finding rows n root k start sum owed i) (long : 3 * n ≤ length rows) where
-  module _ {w : ℕ} {b : Bool} (o : 0 < owed) (h : i < n) (e : (w ≡ get_or rows (3 * i) 0) × (w < 2 ^ 32)) (t : b ≡ alike_words k start w sum) where
+  module _ {w : ℕ} {b : Bool} (o : owed ≡ 0 → ⊥) (h : i < n) (e : (w ≡ get_or rows (3 * i) 0) × (w < 2 ^ 32)) (t : b ≡ alike_words k start w sum) where
     tested : (text : List ℕ) → alike_words k start (kind (row_in text rows i)) sum ≡ b
     tested text = ap (λ x. alike_words k start x sum) (kind_word text (get_or rows (3 * i) 0) (get_or rows (3 * i + 1) 0) (get_or rows (3 * i + 2) 0) ∙ sym e.0) ∙ sym t
 
     -- the row at hand, and those behind it
     parted : (text : List ℕ) → take (skip owed (drop i (first_rows text n rows))) (drop i (first_rows text n rows))
         ≡ row_in text rows i ∷ take (skip (owed - 1 + owes (row_in text rows i)) (drop (suc i) (first_rows text n rows))) (drop (suc i) (first_rows text n rows))
-    parted text = part_cons owed (drop i (first_rows text n rows)) (drop (suc i) (first_rows text n rows)) (row_in text rows i) (first_at text n rows long i h) o
+    parted text = part_cons owed (drop i (first_rows text n rows)) (drop (suc i) (first_rows text n rows)) (row_in text rows i) (first_at text n rows long i h) (omega arith)
 
-    pub found_here : b ≡ true → (text : List ℕ) → At (i - root) ≡ found (find_row (first_tree (first_rows text n rows)) k start)
+    pub found_here : b ≡ true → (text : List ℕ) → Some (i - root) ≡ found (find_row (first_tree (first_rows text n rows)) k start)
     unfolding found alike_from
     found_here y text = rw (v.rest text, parted text, tested text, y)
 
@@ -83,10 +82,10 @@ module _ {rows : List ℕ} {n root k start sum owed i : ℕ} (v : Finding rows n
           rest = λ text. v.rest text ∙ rw (parted text, tested text, y, z, add-one i, d.own text, c.count text);
         }
 
-  pub found_out : n ≤ i → (text : List ℕ) → Nothing ≡ found (find_row (first_tree (first_rows text n rows)) k start)
+  pub found_out : n ≤ i → (text : List ℕ) → None ≡ found (find_row (first_tree (first_rows text n rows)) k start)
   unfolding found alike_from
   found_out h text = rw (v.rest text, first_end text n rows long i h)
 
-  pub found_nowhere : owed ≤ 0 → (text : List ℕ) → Nothing ≡ found (find_row (first_tree (first_rows text n rows)) k start)
+  pub found_nowhere : owed ≡ 0 → (text : List ℕ) → None ≡ found (find_row (first_tree (first_rows text n rows)) k start)
   unfolding found alike_from
-  found_nowhere h text = let z : owed ≡ 0 = omega arith in rw (v.rest text, z, skip_none (drop i (first_rows text n rows)))
+  found_nowhere z text = rw (v.rest text, z, skip_none (drop i (first_rows text n rows)))

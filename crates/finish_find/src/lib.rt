@@ -55,12 +55,6 @@ pub fn old_start(table: &[u32], source: &[u32], n: usize, k: usize) -> usize
 
 // ── In the new tree ──
 
-#[derive(Clone, Copy)]
-pub enum Found {
-    At(usize),
-    Nothing,
-}
-
 // Whether a kind word is a node's, and it and a text start are those looked for.
 fn is_alike(kind: usize, start: usize, other: usize, sum: usize) -> bool
     ensures { result ≡ alike_words kind start other sum }
@@ -76,24 +70,22 @@ fn is_alike(kind: usize, start: usize, other: usize, sum: usize) -> bool
 
 // The number of the first node of tree 0 with this kind word and text start, from the rows of all trees and the row of its root. The tree ends where no
 // element is owed: each row is one owed less, and a node's row owes its children.
-pub fn find_in_tree(rows: &[u32], n: usize, root: usize, kind: usize, start: usize) -> Found
+pub fn find_in_tree(rows: &[u32], n: usize, root: usize, kind: usize, start: usize) -> Option<usize>
     requires { (3 * n ≤ length rows.now) × (1 ≤ n) × (n < 2 ^ 16) × (root ≡ 1) }
     ensures { (text : List ℕ) → result ≡ found (find_row (first_tree (first_rows text n rows.now)) kind start) }
 {
     let mut sum = 0;
     let mut owed = 1;
-    let mut i = root;
-    while 0 < owed {
-        if n <= i {
-            return Found::Nothing;
+    for i in root..n {
+        if owed == 0 {
+            return None;
         }
         let other = word(rows, ROW_WORDS * i);
         if is_alike(kind, start, other, sum) {
-            return Found::At(i - root);
+            return Some(i - root);
         }
         owed = owed - 1 + child_count(rows, i);
         sum += text_length(rows, i);
-        i += 1;
     }
-    Found::Nothing
+    None
 }

@@ -24,7 +24,8 @@ use Rattle.finish_arrays.specs.NewTree.{tree_long, tree_bytes}
 use Rattle.finish_sort.specs.Keys.{element_in}
 use Rattle.finish_sort.specs.Counted.{Counts}
 use Rattle.finish_sort.specs.Sorted.{ChangedSorted, NotesSorted}
-use Rattle.finish_result.specs.declared.Finished.{Finished}
+use Rattle.std.specs.Prelude.{Result}
+use Rattle.refusals.specs.declared.Refusal.{Refusal}
 use Rattle.finish_result.specs.InTree.{result_in, changed_by, notes_by, result_in_lem}
 use Rattle.finish_result.specs.Weighed.{Weighs, parts_weigh}
 use Rattle.finish_result.specs.Answered.{Answered}
@@ -40,7 +41,7 @@ notes_part k r w h b =
     rw f (notes_same (take (3 * k - 3 * r) (drop (3 * r) w)) (drop (3 * r) w) (k - r) (λ j a. get_or-take (3 * k - 3 * r) (drop (3 * r) w) j 0 (omega arith)))
 
 module _ (d tree starts text changed notes : List ℕ) (c k discarded climbs : ℕ) where
-  pub tree_answered : {changed' notes' : List ℕ} {from first : ℕ} {out : List ℕ} {a : Finished} → 3 * k ≤ length notes → ChangedSorted changed c (length tree / 3 + 1) starts changed' from → NotesSorted notes k (length tree / 3 + 1) starts notes' first
+  pub tree_answered : {changed' notes' : List ℕ} {from first : ℕ} {out : List ℕ} {a : Result ℕ Refusal} → 3 * k ≤ length notes → ChangedSorted changed c (length tree / 3 + 1) starts changed' from → NotesSorted notes k (length tree / 3 + 1) starts notes' first
       → Answered d (told_result discarded climbs tree text (take (c - from) (drop from changed')) (take (3 * k - 3 * first) (drop (3 * first) notes'))) out a
       → Answered d (result_in discarded climbs (triples text tree) (changed_by starts (length tree / 3) (changed_in c changed)) (notes_by starts (length tree / 3) (notes_of k notes))) out a
   unfolding changed_by notes_by changed_in
@@ -61,7 +62,7 @@ module _ {rows : List ℕ} {n : ℕ} {tree : List ℕ} (p : Part rows n 1 tree) 
       ap (take (length tree / 3)) e ∙ (ap (λ i. take i (paste d 0 S (length tree / 3))) (sym (zero-add (length tree / 3))) ∙ (take-paste d 0 S (length tree / 3) (omega arith) (omega arith) ∙ take_all (length tree / 3) S (omega arith)))
 
   module _ (d text starts₀ notes changed : List ℕ) (k c discarded climbs : ℕ) where
-    pub finish_answered : {starts' out : List ℕ} {a : Finished} → length tree ≤ 3 * length starts₀ → Starts tree starts₀ starts'
+    pub finish_answered : {starts' out : List ℕ} {a : Result ℕ Refusal} → length tree ≤ 3 * length starts₀ → Starts tree starts₀ starts'
         → Answered d (result_in discarded climbs (triples text tree) (changed_by (take (length tree / 3) starts') (length tree / 3) (changed_in c changed)) (notes_by (take (length tree / 3) starts') (length tree / 3) (notes_of k notes))) out a
         → (marks : List ℕ) → Answered d (result_of discarded climbs (stored text n rows marks (notes_of k notes) (changed_in c changed))) out a
     unfolding stored first_tree

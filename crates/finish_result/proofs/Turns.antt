@@ -16,7 +16,8 @@ use Rattle.rows_model.proofs.Words.{length_triples}
 use Rattle.run_model.specs.Store.{HeldChanged}
 use Rattle.run_annotations.specs.Changed.{changed_of}
 use Rattle.finish_arrays.specs.Sweep.{elements_over, Swept}
-use Rattle.finish_result.specs.declared.Finished.TheVariants.{Short, Bytes}
+use Rattle.std.specs.Prelude.{Ok, Err}
+use Rattle.refusals.specs.declared.Refusal.TheVariants.{ShortResult}
 use Rattle.finish_result.specs.Answered.{Answered, answered_short, answered_bytes}
 use Rattle.finish_result.specs.Arrays.{note_column, length_column, column_at, changed_column, element_column, rule_column, length_parts, part_at_lem, front_over, Front, arrays_over, rest_over, told_result, whole_length, whole_written}
 
@@ -40,9 +41,9 @@ module _ (f : HeldChanged → ℕ) where
   parts_start d at w = writing_start d at (changed_column f w)
 
   module _ (w : List ℕ) {d : List ℕ} {at : ℕ} {l : List ℕ} {i : ℕ} (v : Writing d at (changed_column f w) l i) where
-    pub parts_next : {l' : List ℕ} {x y : ℕ} → at + 4 * length w ≤ length d → i < length w → (y ≡ get_or w i 0) × (y < 2 ^ 32) → x ≡ f (changed_of y) → length l' ≡ length l → l' ≡ paste l (at + 4 * i) (bytes_of x) 4
+    pub parts_next : {l' : List ℕ} {x : ℕ} → at + 4 * length w ≤ length d → i < length w → x ≡ f (changed_of (get_or w i 0)) → length l' ≡ length l → l' ≡ paste l (at + 4 * i) (bytes_of x) 4
         → Writing d at (changed_column f w) l' (i + 1)
-    parts_next p h e g m q = writing_next v (omega (arith, length_parts f w)) (omega (arith, length_parts f w)) (g ∙ (ap (λ y. f (changed_of y)) e.0 ∙ sym (part_at_lem f w i h))) m q
+    parts_next p h g m q = writing_next v (omega (arith, length_parts f w)) (omega (arith, length_parts f w)) (g ∙ sym (part_at_lem f w i h)) m q
 
     pub parts_done : length w ≤ i → l ≡ paste d at (written (changed_column f w)) (4 * length w)
     parts_done h = writing_done v (omega (arith, length_parts f w)) ∙ ap (λ n. paste d at (written (changed_column f w)) (4 * n)) (length_parts f w)
@@ -85,13 +86,13 @@ rest_written at changed notes tree text d p q = q ∙ rw p
 -- ── The answer ──────────────────────────────────────────────────────────────────────────────────────────────
 
 module _ (d tree text changed notes : List ℕ) (discarded climbs : ℕ) {size : ℕ} (p : (size ≡ length (flat_map own (triples text tree))) × (size < 2 ^ 32)) where
-  pub result_short : {total : ℕ} → total ≡ 24 + 8 * (length tree / 3) + 8 * length changed + 8 * (length notes / 3) + size → length d < total → Answered d (told_result discarded climbs tree text changed notes) d Short
+  pub result_short : {total : ℕ} → total ≡ 24 + 8 * (length tree / 3) + 8 * length changed + 8 * (length notes / 3) + size → length d < total → Answered d (told_result discarded climbs tree text changed notes) d (Err ShortResult)
   result_short e h = answered_short (omega (arith, whole_length d tree text changed notes discarded climbs p))
 
   pub result_written : {total reads : ℕ} {a h : List ℕ} → total ≡ 24 + 8 * (length tree / 3) + 8 * length changed + 8 * (length notes / 3) + size → total ≤ length d
       → Front tree (size ∷ length changed ∷ length notes / 3 ∷ discarded ∷ climbs ∷ []) d a reads
       → h ≡ rest_over (24 + 8 * reads) changed notes (flat_map own (triples text tree)) a
-      → Answered d (told_result discarded climbs tree text changed notes) h (Bytes total)
+      → Answered d (told_result discarded climbs tree text changed notes) h (Ok total)
   result_written t h f r =
       let e = t ∙ whole_length d tree text changed notes discarded climbs p in
       let room : length (encoded (told_result discarded climbs tree text changed notes)) ≤ length d = omega arith in

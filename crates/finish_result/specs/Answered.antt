@@ -1,6 +1,6 @@
 -- The answer, 13 or the length of the bytes, and what the lent buffer holds then.
 -- Assumes nothing.
-use Rattle.std.specs.Prelude.{◌≡◌, refl, List, ℕ, ◌≤◌, ◌<◌, length}
+use Rattle.std.specs.Prelude.{◌≡◌, refl, List, ℕ, ◌≤◌, ◌<◌, length, Result as Returned, Ok, Err}
 use Rattle.std.proofs.Common.{sym, ap, ◌∙◌, lt-ltb, le-ltb}
 use Rattle.std.proofs.Math.Seq.{paste}
 use Rattle.orders.specs.Tree.{forest, elements_of}
@@ -17,13 +17,13 @@ use Rattle.run_tree_store.specs.Stored.{stored}
 use Rattle.finish_model.specs.Finished.{first_tree, result_of}
 use Rattle.finish_model.proofs.Result.{result_rows}
 use Rattle.finish_arrays.specs.Sweep.{Counts}
-use Rattle.finish_result.specs.declared.Finished.{Finished}
-use Rattle.finish_result.specs.declared.Finished.TheVariants.{Short, Bytes}
+use Rattle.refusals.specs.Numbers.{number, answered}
+use Rattle.refusals.specs.declared.Refusal.{Refusal}
+use Rattle.refusals.specs.declared.Refusal.TheVariants.{ShortResult}
 
 -- the paper's number for the refusal, and the length of the bytes
-unfoldable pub length_of : Finished → Answer ℕ
-length_of Short = refused 13
-length_of (Bytes n) = gives n
+abbrev pub length_of : Returned ℕ Refusal → Answer ℕ
+length_of a = answered a
 
 -- the result as bytes, in a buffer of `room` bytes, or 13
 unfoldable pub fitted : ℕ → Result → Answer (List ℕ)
@@ -35,7 +35,7 @@ over_front d (refused n) = d
 over_front d (gives b) = paste d 0 b (length b)
 
 -- the answer a, where the buffer held d and then holds `out`
-pub record Answered (d : List ℕ) (r : Result) (out : List ℕ) (a : Finished) : Type 0 where
+pub record Answered (d : List ℕ) (r : Result) (out : List ℕ) (a : Returned ℕ Refusal) : Type 0 where
   pub answer : length_of a ≡ (fitted (length d) r >>= λ b. gives (length b))
   pub result : out ≡ over_front d (fitted (length d) r)
 
@@ -47,12 +47,12 @@ pub short : (room : ℕ) (r : Result) → room < length (encoded r) → fitted r
 unfolding fitted fitting refuse ◌>>=◌
 short room r h = rw (lt-ltb room (length (encoded r)) h)
 
-pub answered_short : {d : List ℕ} {r : Result} → length d < length (encoded r) → Answered d r d Short
-unfolding length_of over_front ◌>>=◌
+pub answered_short : {d : List ℕ} {r : Result} → length d < length (encoded r) → Answered d r d (Err ShortResult)
+unfolding answered number over_front ◌>>=◌
 answered_short {d} {r} h = record { answer = rw (short (length d) r h); result = rw (short (length d) r h) }
 
-pub answered_bytes : {d : List ℕ} {r : Result} {n : ℕ} {out : List ℕ} → n ≡ length (encoded r) → length (encoded r) ≤ length d → out ≡ paste d 0 (encoded r) (length (encoded r)) → Answered d r out (Bytes n)
-unfolding length_of over_front ◌>>=◌
+pub answered_bytes : {d : List ℕ} {r : Result} {n : ℕ} {out : List ℕ} → n ≡ length (encoded r) → length (encoded r) ≤ length d → out ≡ paste d 0 (encoded r) (length (encoded r)) → Answered d r out (Ok n)
+unfolding answered number over_front ◌>>=◌
 answered_bytes {d} {r} {n} {out} e h w = record { answer = rw (fits (length d) r h, e); result = w ∙ rw (fits (length d) r h) }
 
 -- ── The definition's ────────────────────────────────────────────────────────────────────────────────────────
@@ -63,7 +63,7 @@ unfolding edited fitted
 edited_fitted h work bytes room = refl
 
 -- what is answered from what the run leaves is the answer of the definition's result
-pub answered_result : (ps : List Planned) (climbs : ℕ) (w : World) {s : Store} {d out : List ℕ} {a : Finished} → Holds w → store w ≡ s
+pub answered_result : (ps : List Planned) (climbs : ℕ) (w : World) {s : Store} {d out : List ℕ} {a : Returned ℕ Refusal} → Holds w → store w ≡ s
     → Answered d (result_of (length (keep (λ p. is_discarded p.fate) ps)) climbs s) out a → Answered d (result ps climbs w) out a
 answered_result ps climbs w h e v = rw (← result_rows ps climbs w h, e) v
 

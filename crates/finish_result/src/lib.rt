@@ -17,16 +17,10 @@ ghost use Rattle.finish_result.specs.Weighed.{Weighs};
 
 use finish_arrays::{fill_starts, text_size, write_elements, write_sizes, write_text};
 use finish_sort::{count_changed, count_notes, sort_changed, sort_notes};
+use refusals::Refusal;
 use rows_syntax_node::{ROW_WORDS, subtree};
 use run_annotations::{NOTE_WORDS, NUMBER, changed_row, changed_rule};
 use words::{word, write_word};
-
-// 13, or the length of the result's bytes.
-#[derive(Clone, Copy)]
-pub enum Finished {
-    Short,
-    Bytes(usize),
-}
 
 // ── The arrays ──
 
@@ -35,12 +29,9 @@ fn write_column(b: &mut [u8], at: usize, notes: &[u32], j: usize)
     requires { (at + 4 * (length notes.now / 3) ≤ length b.old) × (j < 3) }
     ensures { b.new ≡ paste b.old at (written (note_column j notes.now)) (4 * (length notes.now / 3)) }
 {
-    let m = notes.len() / NOTE_WORDS;
-    let mut i = 0;
-    while i < m {
+    for i in 0..notes.len() / NOTE_WORDS {
         let w = word(notes, NOTE_WORDS * i + j);
         write_word(b, at + 4 * i, w);
-        i += 1;
     }
 }
 
@@ -49,11 +40,8 @@ fn write_numbers(b: &mut [u8], at: usize, changed: &[u32])
     requires { at + 4 * length changed.now ≤ length b.old }
     ensures { b.new ≡ paste b.old at (written (element_column changed.now)) (4 * length changed.now) }
 {
-    let mut i = 0;
-    while i < changed.len() {
-        let w = word(changed, i);
-        write_word(b, at + 4 * i, changed_row(w));
-        i += 1;
+    for (i, w) in changed.iter().enumerate() {
+        write_word(b, at + 4 * i, changed_row(*w as usize));
     }
 }
 
@@ -62,11 +50,8 @@ fn write_rules(b: &mut [u8], at: usize, changed: &[u32])
     requires { at + 4 * length changed.now ≤ length b.old }
     ensures { b.new ≡ paste b.old at (written (rule_column changed.now)) (4 * length changed.now) }
 {
-    let mut i = 0;
-    while i < changed.len() {
-        let w = word(changed, i);
-        write_word(b, at + 4 * i, changed_rule(w));
-        i += 1;
+    for (i, w) in changed.iter().enumerate() {
+        write_word(b, at + 4 * i, changed_rule(*w as usize));
     }
 }
 
@@ -120,7 +105,7 @@ fn bytes_of(n: usize, size: usize, changed: usize, notes: usize) -> usize
     24 + 8 * n + 8 * changed + 8 * notes + size
 }
 
-// The result as bytes, from the rows of the new tree, its changed elements and its notes in order. Where the buffer is too short nothing is written.
+// The result as bytes, from the rows of the new tree, its changed elements and its notes in order; their length. Where the buffer is too short nothing is written.
 pub fn write_result(
     tree: &[u32],
     text: &[u8],
@@ -129,7 +114,7 @@ pub fn write_result(
     discarded: usize,
     climbs: usize,
     res: &mut [u8],
-) -> Finished
+) -> Result<usize, Refusal>
     requires { (length tree.now < 3 * 2 ^ 16) × (bytes (triples [] tree.now) < 2 ^ 32) × (length changed.now < 2 ^ 32) × (length notes.now < 2 ^ 32) × (discarded < 2 ^ 32) × (climbs < 2 ^ 32) }
     ensures { Answered res.old (told_result discarded climbs tree.now text.now changed.now notes.now) res.new result }
 {
@@ -138,11 +123,11 @@ pub fn write_result(
     let m = notes.len() / NOTE_WORDS;
     let total = bytes_of(n, size, changed.len(), m);
     if res.len() < total {
-        return Finished::Short;
+        return Err(Refusal::ShortResult);
     }
     let elements = write_front(res, tree, size, changed.len(), m, discarded, climbs);
     write_rest(res, 24 + 8 * elements, tree, text, changed, notes);
-    Finished::Bytes(total)
+    Ok(total)
 }
 
 // ── From what the run leaves ──
@@ -159,7 +144,7 @@ fn finish_tree(
     discarded: usize,
     climbs: usize,
     res: &mut [u8],
-) -> Finished
+) -> Result<usize, Refusal>
     requires { (length tree.now < 3 * 2 ^ 16) × (bytes (triples [] tree.now) < 2 ^ 32) × (3 * k ≤ length notes.old) × (k < 2 ^ 16) × (c ≤ length changed.old) × (c < 2 ^ 16) × (discarded < 2 ^ 32) × (climbs < 2 ^ 32) }
     ensures { Answered res.old (result_in discarded climbs (triples text.now tree.now) (changed_by starts.now (length tree.now / 3) (changed_in c changed.old)) (notes_by starts.now (length tree.now / 3) (notes_of k notes.old))) res.new result }
 {
@@ -178,7 +163,7 @@ fn finish_tree(
     )
 }
 
-// The result as bytes, from the rows of all trees, the row of tree 0's root, the notes and the changed elements by their rows, as the run leaves them; or 13.
+// The result as bytes, from the rows of all trees, the row of tree 0's root, the notes and the changed elements by their rows, as the run leaves them; their length, or 13.
 pub fn finish(
     rows: &[u32],
     n: usize,
@@ -192,7 +177,7 @@ pub fn finish(
     discarded: usize,
     climbs: usize,
     res: &mut [u8],
-) -> Finished
+) -> Result<usize, Refusal>
     requires n_in_bounds { (3 * n ≤ length rows.now) × (1 ≤ n) × (n < 2 ^ 16) × (n ≤ length starts.old + 1) × (bytes (first_rows text.now n rows.now) < 2 ^ 32) }
     requires k_in_bounds { (3 * k ≤ length notes.old) × (k < 2 ^ 16) × (c ≤ length changed.old) × (c < 2 ^ 16) × (discarded < 2 ^ 32) × (climbs < 2 ^ 32) }
     requires root_value { root ≡ 1 }

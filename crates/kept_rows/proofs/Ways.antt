@@ -1,9 +1,10 @@
 -- Each answer, from what the code knows there.
 -- Assumes nothing.
+use Rattle.std.specs.Prelude.{Result, Ok, Err}
 use mathlib.Core.Path.{◌≡◌, refl, sym, ap, ap₂, ◌∙◌}
 use mathlib.Core.List.{List, [], ◌∷◌, ◌++◌, map, flat_map, append-nil}
 use mathlib.Core.Option.{Option, none, some}
-use Prim.Native.Nat.{ℕ, zero, suc, ◌+◌, ◌-◌, ◌*◌, ◌/◌, ◌^◌, ◌≤◌, ◌<◌}
+use Prim.Native.Nat.{ℕ, suc, ◌+◌, ◌-◌, ◌*◌, ◌/◌, ◌^◌, ◌≤◌, ◌<◌}
 use native.Mathlib.Nat.{zero-add}
 use native.Mathlib.Numerals.{add-one}
 use native.Mathlib.Omega.{arith}
@@ -11,7 +12,7 @@ use lib.ListN.{length, get_or, take, drop, take-append-drop, length-append, leng
 use lib.Seq.{paste, paste-zero, length-paste, length-take-le, take-suc, take_all}
 use borrow.Author.Tests.{lt-ltb, le-ltb}
 use Rattle.orders.specs.ListLaws.{zone_before, zone_inside, zone_after, map_append}
-use Rattle.definition.specs.Basics.{◌>>=◌, refuse}
+use Rattle.definition.specs.Basics.{gives, ◌>>=◌, refuse}
 use Rattle.definition.specs.Words.{bytes, written}
 use Rattle.definition.specs.Account.{in_room}
 use Rattle.words.specs.Bytes.{length_written, written_append}
@@ -24,9 +25,12 @@ use Rattle.finish_model.specs.Finished.{first_tree}
 use Rattle.finish_model.proofs.Numbers.{tree_end, tree_few}
 use Rattle.promises.specs.Promises.{left_in}
 use Rattle.promises.specs.Keeping.{pair_bytes}
-use Rattle.promises.specs.Serving.{outcome, written as answered, Tells}
-use Rattle.promises.specs.declared.Outcome.{Outcome}
-use Rattle.promises.specs.declared.Outcome.TheVariants.{Refused, Bytes}
+use Rattle.promises.specs.Serving.{outcome, written as bytes_told, Tells}
+use Rattle.promises.specs.declared.Told.{Told}
+use Rattle.promises.specs.declared.Told.TheVariants.{Bytes}
+use Rattle.refusals.specs.Numbers.{number, answered}
+use Rattle.refusals.specs.declared.Refusal.{Refusal}
+use Rattle.refusals.specs.declared.Refusal.TheVariants.{ShortResult}
 use Rattle.kept_rows.specs.Pairs.{pair_at, pair_of, pairs_from, kept_rows, pairs_append}
 use Rattle.kept_rows.specs.Promises.{Counts, pairs_over, PairWritten, tell_pairs}
 
@@ -222,17 +226,17 @@ unfolding pair_bytes
 pairs_long ps = length_written (map (λ p. p.0) ps ++ map (λ p. p.1) ps) ∙ omega (arith, length-append (map (λ p. p.0) ps) (map (λ p. p.1) ps), length-map ps (λ p. p.0), length-map ps (λ p. p.1))
 
 module _ (ps : List (ℕ × ℕ)) (held : List ℕ) {count : ℕ} (e : count ≡ length ps) where
-  pub pairs_13 : length held < 8 * count → Tells (tell_pairs (length held) ps) held (Refused 13) held
-  unfolding in_room refuse outcome answered left_in ◌>>=◌
+  pub pairs_13 : length held < 8 * count → Tells (tell_pairs (length held) ps) held (Err ShortResult) held
+  unfolding in_room refuse outcome bytes_told left_in answered number ◌>>=◌
   pairs_13 h = rw (lt-ltb (length held) (length (pair_bytes ps)) (omega (arith, pairs_long ps))) (record { answer = refl; result = refl })
 
-  pub pairs_given : {out : List ℕ} → 8 * count ≤ length held → out ≡ paste held 0 (pair_bytes ps) (2 * (4 * count)) → Tells (tell_pairs (length held) ps) held (Bytes (8 * count)) out
-  unfolding in_room refuse outcome answered left_in ◌>>=◌
+  pub pairs_given : {out : List ℕ} → 8 * count ≤ length held → out ≡ paste held 0 (pair_bytes ps) (2 * (4 * count)) → Tells (tell_pairs (length held) ps) held (Ok (Bytes (8 * count))) out
+  unfolding in_room refuse outcome bytes_told left_in answered number ◌>>=◌
   pairs_given {out} h q =
       let n : 8 * count ≡ length (pair_bytes ps) = omega (arith, pairs_long ps) in
       let m : 2 * (4 * count) ≡ length (pair_bytes ps) = omega (arith, pairs_long ps) in
       rw (le-ltb (length held) (length (pair_bytes ps)) (omega (arith, pairs_long ps)))
-      (record { answer = ap Bytes n; result = q ∙ (ap (paste held 0 (pair_bytes ps)) m ∙ rw (take_all (length (pair_bytes ps)) (pair_bytes ps) (omega arith), zero-add (length (pair_bytes ps))) refl) })
+      (record { answer = ap (λ (m : ℕ). gives (Bytes m)) n; result = q ∙ (ap (paste held 0 (pair_bytes ps)) m ∙ rw (take_all (length (pair_bytes ps)) (pair_bytes ps) (omega arith), zero-add (length (pair_bytes ps))) refl) })
 
 -- ── Tree 0, before and after ────────────────────────────────────────────────────────────────────────────────
 
@@ -252,7 +256,7 @@ module _ {source : List ℕ} {e root : ℕ} {old : List ℕ} (p : Part source (e
   pub marks_few : e < 2 ^ 12 → length (take (length old / 3) marks) < 2 ^ 16
   marks_few l = omega (arith, marks_cut, tree_within p q h)
 
-  pub kept_told : {rows : List ℕ} {n : ℕ} {new held out : List ℕ} {r : Outcome} → Part rows n root new → Tells (tell_pairs (length held) (pairs_from (length new / 3 + 1) 0 (take (length old / 3) marks))) held r out → (before after : List ℕ)
+  pub kept_told : {rows : List ℕ} {n : ℕ} {new held out : List ℕ} {r : Result Told Refusal} → Part rows n root new → Tells (tell_pairs (length held) (pairs_from (length new / 3 + 1) 0 (take (length old / 3) marks))) held r out → (before after : List ℕ)
       → Tells (tell_pairs (length held) (kept_rows (first_rows before (e + 1) source) (first_rows after n rows) marks)) held r out
   unfolding kept_rows
   kept_told {rows} {n} {new} v t before after =

@@ -1,17 +1,17 @@
 -- The surviving pairs from what a run leaves: by the marks of the old tree's elements.
 -- Assumes nothing.
-use Rattle.std.specs.Prelude.{◌≡◌, refl, List, [], ◌∷◌, ◌++◌, map, ℕ, zero, suc, ◌+◌, ◌-◌, ◌≤◌, ◌<◌, length, get_or, take}
+use Rattle.std.specs.Prelude.{◌≡◌, refl, List, [], ◌∷◌, ◌++◌, map, ℕ, suc, ◌+◌, ◌-◌, ◌≤◌, ◌<◌, length, get_or, take}
 use Rattle.std.proofs.Common.{sym, ap, ◌∙◌, append_assoc, add-zero, zero-add, arith, length-take-le, get_or-take}
 use Rattle.std.proofs.Math.Option
 use Rattle.std.proofs.Math.Option.{Option, none, some, bind}
 use Rattle.std.proofs.lemmas.List.{length-map}
 use Rattle.orders.specs.Lists.{pick}
 use Rattle.orders.specs.ListLaws.{zone_before}
-use Rattle.orders.specs.Tree.{Tree, forest, list, children, elements_of, Path}
+use Rattle.orders.specs.Tree.{Tree, children, elements_of, Path}
 use Rattle.orders.proofs.TreeLaws.{list_forest}
 use Rattle.definition.specs.Basics.{gives, numbered}
 use Rattle.definition.specs.Choices.{Choices}
-use Rattle.definition.specs.Elements.{Table, table}
+use Rattle.definition.specs.Elements.{table}
 use Rattle.definition.specs.Refusals.{Accepted, accepted}
 use Rattle.definition.specs.Running.{World, present}
 use Rattle.definition.specs.Finishing.{new_table, number_at}
@@ -29,7 +29,7 @@ use Rattle.check_laws.specs.Claimed.{old_tree, own_pairs}
 use Rattle.check_laws.proofs.Own as own
 use Rattle.rows_model.specs.Row.{Row, rows_of, rows_all}
 use Rattle.rows_model.proofs.RowLaws.{size_all_elements, size_below}
-use Rattle.rows_model.specs.Place.{rows_after, in_run, mark, mark_of}
+use Rattle.rows_model.specs.Place.{rows_after, in_run, mark_of}
 use Rattle.finish_model.specs.Finished.{first_tree, number_of}
 use Rattle.finish_model.proofs.Numbers.{first_tree_lem, tree_few, number_row}
 

@@ -7,7 +7,7 @@ use Rattle.definition.specs.Words.{written}
 use Rattle.definition.specs.Account.{in_room}
 use Rattle.promises.specs.Keeping.{pair_bytes}
 use Rattle.promises.specs.Serving.{tell_bytes}
-use Rattle.promises.specs.declared.Outcome.{Outcome}
+use Rattle.promises.specs.declared.Told.{Told}
 use Rattle.kept_rows.specs.Pairs.{pair_of}
 
 -- how many pairs an element with this mark makes, whatever its number
@@ -25,5 +25,5 @@ pub record PairWritten (ps : List (ℕ × ℕ)) (olds news : ℕ) (b out : List 
   pub told : out ≡ pairs_over ps olds news b
 
 -- what is told of pairs, and their bytes, in so much room; or 13
-abbrev pub tell_pairs : ℕ → List (ℕ × ℕ) → Answer (Outcome × List ℕ)
+abbrev pub tell_pairs : ℕ → List (ℕ × ℕ) → Answer (Told × List ℕ)
 tell_pairs room ps = in_room room (pair_bytes ps) >>= tell_bytes

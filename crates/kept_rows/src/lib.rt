@@ -9,11 +9,12 @@ ghost use Rattle.promises.specs.Serving.{Tells};
 ghost use Rattle.kept_rows.specs.Pairs.{pair_of, pairs_from, kept_rows};
 ghost use Rattle.kept_rows.specs.Promises.{Counts, PairWritten, tell_pairs};
 
-use promises::Outcome;
+use promises::Told;
+use refusals::Refusal;
 use rows_syntax_node::{ROW_WORDS, subtree};
-use words::{word, write_word};
+use words::write_word;
 
-// How many pairs an element with this mark makes: 1 where it stands at one of the rows 1 up to `end`, else 0.
+// How many pairs an element with this mark makes: 1 where it stands at one of the rows 1 up to `end`, else 0. (Tests as in `write_pair`: their two facts prove both alike.)
 fn pairs_of(mark: usize, end: usize) -> usize
     ensures { Counts end mark result }
 {
@@ -32,10 +33,8 @@ fn count_kept(marks: &[u32], end: usize) -> usize
     ensures { (result ≡ length (pairs_from end 0 marks.now)) × (result < 2 ^ 16) }
 {
     let mut count = 0;
-    let mut i = 0;
-    while i < marks.len() {
-        count += pairs_of(word(marks, i), end);
-        i += 1;
+    for mark in marks {
+        count += pairs_of(*mark as usize, end);
     }
     count
 }
@@ -62,24 +61,22 @@ fn write_kept(b: &mut [u8], marks: &[u32], end: usize, half: usize)
     ensures { b.new ≡ paste b.old 0 (pair_bytes (pairs_from end 0 marks.now)) (2 * half) }
 {
     let mut to = 0;
-    let mut i = 0;
-    while i < marks.len() {
-        to += write_pair(b, to, half + to, i, word(marks, i), end);
-        i += 1;
+    for (i, mark) in marks.iter().enumerate() {
+        to += write_pair(b, to, half + to, i, *mark as usize, end);
     }
 }
 
 // The pairs of the elements with these marks, at the front of the result, or 13.
-fn hand_out(marks: &[u32], end: usize, res: &mut [u8]) -> Outcome
+fn hand_out(marks: &[u32], end: usize, res: &mut [u8]) -> Result<Told, Refusal>
     requires { length marks.now < 2 ^ 16 }
     ensures { Tells (tell_pairs (length res.old) (pairs_from end 0 marks.now)) res.old result res.new }
 {
     let count = count_kept(marks, end);
     if res.len() < 8 * count {
-        return Outcome::Refused(13);
+        return Err(Refusal::ShortResult);
     }
     write_kept(res, marks, end, 4 * count);
-    Outcome::Bytes(8 * count)
+    Ok(Told::Bytes(8 * count))
 }
 
 // THE SURVIVING PAIRS, from the rows of the batch's `e` elements behind that of the node above them all, the marks of the elements, the rows of all trees as the run leaves
@@ -92,7 +89,7 @@ pub fn kept(
     n: usize,
     root: usize,
     res: &mut [u8],
-) -> Outcome
+) -> Result<Told, Refusal>
     requires { (3 * (e + 1) ≤ length source.now) × (e < 2 ^ 12) × (e ≤ length marks.now) × (3 * n ≤ length rows.now) × (1 ≤ n) × (n < 2 ^ 16) × (root ≡ 1) }
     ensures { (before after : List ℕ) → Tells (tell_pairs (length res.old) (kept_rows (first_rows before (e + 1) source.now) (first_rows after n rows.now) marks.now)) res.old result res.new }
 {

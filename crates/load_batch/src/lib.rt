@@ -3,11 +3,11 @@
 
 ghost use Rattle.std.specs.Prelude.{◌∷◌, []};
 ghost use Rattle.promises.specs.Writing.{Writes};
-ghost use Rattle.write_batch.specs.Handing.{answer_of};
+ghost use Rattle.refusals.specs.Numbers.{answered};
 ghost use Rattle.load_batch.specs.Loads.{Loads};
 ghost use Rattle.load_batch.specs.Lists.{with_notes, with_calls};
 
-use write_batch::Written;
+use refusals::Refusal;
 
 // The mapping and the notes are made, and all lists are written.
 fn write_notes(
@@ -24,8 +24,8 @@ fn write_notes(
     draft: &mut [u8],
     table: &mut [u32],
     source: &mut [u32],
-) -> Written
-    ensures { Writes (with_notes start kinds.now measures.now text.now operations.now counts.now rules.now targets.now listed.now) destination.old (draft.old ∷ table.old ∷ source.old ∷ []) (answer_of result) destination.new (draft.new ∷ table.new ∷ source.new ∷ []) }
+) -> Result<usize, Refusal>
+    ensures { Writes (with_notes start kinds.now measures.now text.now operations.now counts.now rules.now targets.now listed.now) destination.old (draft.old ∷ table.old ∷ source.old ∷ []) (answered result) destination.new (draft.new ∷ table.new ∷ source.new ∷ []) }
 {
     let inputs = [load_draws::replaced_block(load_draws::drawn(start)); 1];
     let outputs = [load_draws::COPY; 1];
@@ -63,8 +63,8 @@ fn write_calls(
     draft: &mut [u8],
     table: &mut [u32],
     source: &mut [u32],
-) -> Written
-    ensures { Writes (with_calls start kinds.now measures.now text.now) destination.old (draft.old ∷ table.old ∷ source.old ∷ []) (answer_of result) destination.new (draft.new ∷ table.new ∷ source.new ∷ []) }
+) -> Result<usize, Refusal>
+    ensures { Writes (with_calls start kinds.now measures.now text.now) destination.old (draft.old ∷ table.old ∷ source.old ∷ []) (answered result) destination.new (draft.new ∷ table.new ∷ source.new ∷ []) }
 {
     let mut operations = [0u32; 96];
     let mut counts = [0u32; 96];
@@ -104,8 +104,8 @@ pub fn load(
     draft: &mut [u8],
     table: &mut [u32],
     source: &mut [u32],
-) -> Written
-    ensures { Loads start destination.old (draft.old ∷ table.old ∷ source.old ∷ []) (answer_of result) destination.new (draft.new ∷ table.new ∷ source.new ∷ []) }
+) -> Result<usize, Refusal>
+    ensures { Loads start destination.old (draft.old ∷ table.old ∷ source.old ∷ []) (answered result) destination.new (draft.new ∷ table.new ∷ source.new ∷ []) }
 {
     let mut kinds = [0u32; 792];
     let mut measures = [0u32; 792];

@@ -41,7 +41,7 @@ pub struct DrawnCall {
 pub fn next(present: u32) -> u32
     ensures { result ≡ next_of present }
 {
-    ((1664525 * (present as u64) + 1013904223) % 4294967296) as u32
+    present.wrapping_mul(1664525).wrapping_add(1013904223)
 }
 
 // The next draw: the upper 16 bits of what the generator holds after it.

@@ -94,10 +94,8 @@ fn byte_at(t: usize) -> u8
 fn fill_kinds(kinds: &mut [u32])
     ensures { kinds.new ≡ along kind_at 0 (length kinds.old) }
 {
-    let mut i = 0;
-    while i < kinds.len() {
-        kinds[i] = kind_at(i);
-        i += 1;
+    for (i, kind) in kinds.iter_mut().enumerate() {
+        *kind = kind_at(i);
     }
 }
 
@@ -105,10 +103,8 @@ fn fill_kinds(kinds: &mut [u32])
 fn fill_measures(measures: &mut [u32])
     ensures { measures.new ≡ along measure_at 0 (length measures.old) }
 {
-    let mut i = 0;
-    while i < measures.len() {
-        measures[i] = measure_at(i);
-        i += 1;
+    for (i, measure) in measures.iter_mut().enumerate() {
+        *measure = measure_at(i);
     }
 }
 
@@ -117,10 +113,8 @@ fn fill_text(text: &mut [u8])
     requires { length text.old ≤ 660 }
     ensures { text.new ≡ along byte_at 0 (length text.old) }
 {
-    let mut i = 0;
-    while i < text.len() {
-        text[i] = byte_at(i);
-        i += 1;
+    for (i, byte) in text.iter_mut().enumerate() {
+        *byte = byte_at(i);
     }
 }
 
@@ -172,8 +166,7 @@ pub fn fill_calls(
 {
     let mut present = start;
     let mut at = 0;
-    let mut i = 0;
-    while i < 96 {
+    for i in 0..96 {
         let call = numbered(i as u32, present);
         operations[i] = call.operation;
         counts[i] = call.count;
@@ -183,7 +176,6 @@ pub fn fill_calls(
         listed[at + 1] = call.second;
         at += call.count as usize;
         present = passed(i as u32, present);
-        i += 1;
     }
     at
 }
@@ -193,10 +185,8 @@ fn after_draws(n: usize, start: u32) -> u32
     ensures { result ≡ after n start }
 {
     let mut present = start;
-    let mut i = 0;
-    while i < n {
+    for _ in 0..n {
         present = next(present);
-        i += 1;
     }
     present
 }
@@ -207,11 +197,9 @@ pub fn fill_notes(start: u32, noted: &mut [u32], numbers: &mut [u32])
     ensures { NotesFilled start noted.new numbers.new }
 {
     let mut present = after_draws(187, start);
-    let mut i = 0;
-    while i < 8 {
+    for i in 0..8 {
         noted[i] = drawn(present) % 769;
         numbers[i] = i as u32 + 1;
         present = next(present);
-        i += 1;
     }
 }

@@ -15,8 +15,9 @@ use Rattle.definition.specs.Rewriting.{mapped_or, climb, trail}
 use Rattle.read_element_table.specs.View.{view}
 use Rattle.read_element_table.specs.Wellformed.{Lines}
 use Rattle.read_element_table.specs.Told.{element_of, length_view, parent_told, child_told}
-use Rattle.plan_mapping.specs.declared.Climb.{Climb}
-use Rattle.plan_mapping.specs.declared.Climb.TheVariants.{Trail, Refused}
+use Rattle.std.specs.Prelude.{Ok, Err}
+use Rattle.refusals.specs.declared.Refusal.TheVariants.{Unmapped, Endless}
+use Rattle.refusals.specs.Numbers.{number}
 use Rattle.plan_mapping.specs.Mapped.{mapped_by, Mapped}
 use Rattle.plan_mapping.specs.Backward.{backward, backward_none, backward_set}
 use Rattle.plan_mapping.specs.Answers.{climbed, steps_of, Climbed}
@@ -92,7 +93,7 @@ parent_before n w x zero L h q z = absurd (z refl)
 parent_before n w x (suc p) L h q z = omega (arith, L.before x h)
 
 module _ (n : ℕ) (w m : List ℕ) (x₀ r : ℕ) (a : List ℕ) where
-  pub climbing_same : x₀ ≡ r → length a ≡ 2049 → Climbed n w m x₀ r (Trail 0) a
+  pub climbing_same : x₀ ≡ r → length a ≡ 2049 → Climbed n w m x₀ r (Ok 0) a
   unfolding climbed steps_of
   climbing_same e l = record { trail = λ s. rw (backward_none a, trail_none (view n w s) (mapped_by m) x₀ r e); few = omega arith; room = omega arith; long = l }
 
@@ -109,18 +110,18 @@ module _ (n : ℕ) (w m : List ℕ) (x₀ r : ℕ) (a : List ℕ) where
             rw (trail_climbs (view n w s) (mapped_by m) x₀ r e, length_view n w s, ← q, child_told n w s L y h, f, b)
 
     module _ (x k p : ℕ) (C : Climbing n w m x₀ r a x k) (q : p ≡ get_or w (8 * x + 1) 0) where
-      pub climbing_9 : (o : Climb) → o ≡ Refused 9 → p ≡ 0 → Climbed n w m x₀ r o a
-      unfolding climbed steps_of
-      climbing_9 o e z =
+      pub climbing_9 : p ≡ 0 → Climbed n w m x₀ r (Err Unmapped) a
+      unfolding climbed steps_of number
+      climbing_9 z =
           record {
-            trail = λ s. rw e (sym (C.rest s ∙ no_parent (view n w s) (mapped_by m) (n + 1 - k) r x (backward k a) (parent_none n w s x p L C.here q z)));
-            few = rw e (omega arith);
-            room = rw e (omega arith);
+            trail = λ s. sym (C.rest s ∙ no_parent (view n w s) (mapped_by m) (n + 1 - k) r x (backward k a) (parent_none n w s x p L C.here q z));
+            few = omega arith;
+            room = omega arith;
             long = C.long;
           }
 
-      pub climbing_10 : (p ≡ 0 → ⊥) → n < k → Climbed n w m x₀ r (Refused 10) a
-      unfolding climbed steps_of
+      pub climbing_10 : (p ≡ 0 → ⊥) → n < k → Climbed n w m x₀ r (Err Endless) a
+      unfolding climbed steps_of number
       climbing_10 z l =
           let f : n + 1 - k ≡ 0 = omega arith in
           record {
@@ -130,7 +131,7 @@ module _ (n : ℕ) (w m : List ℕ) (x₀ r : ℕ) (a : List ℕ) where
             long = C.long;
           }
 
-      pub climbing_done : (p ≡ 0 → ⊥) → k ≤ n → p - 1 ≡ r → Climbed n w m x₀ r (Trail k) a
+      pub climbing_done : (p ≡ 0 → ⊥) → k ≤ n → p - 1 ≡ r → Climbed n w m x₀ r (Ok k) a
       unfolding climbed steps_of
       climbing_done z l e =
           let f : n + 1 - k ≡ suc (n - k) = omega arith in

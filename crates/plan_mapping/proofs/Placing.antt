@@ -11,7 +11,7 @@ use Rattle.definition.specs.Elements.{place_below}
 use Rattle.read_element_table.specs.View.{view}
 use Rattle.read_element_table.specs.Wellformed.{Lines}
 use Rattle.read_element_table.specs.Told.{parent_below, deep}
-use Rattle.plan_mapping.specs.declared.Below.TheVariants.{Numbers, Elsewhere}
+use Rattle.std.specs.Prelude.{Some, None}
 use Rattle.plan_mapping.specs.Backward.{backward, backward_none, backward_set}
 use Rattle.plan_mapping.specs.Paths.{place_here, place_root, place_up}
 use Rattle.plan_mapping.specs.Answers.{below, depth_of, Placed}
@@ -37,7 +37,7 @@ module _ (n : ℕ) (w : List ℕ) (x e : ℕ) (L : Lines n w) (he : e < n) (a : 
   placing_start l = record { here = he; deeper = omega arith; few = omega arith; long = l; rest = λ s. rw (backward_none a) (behind_none (place_below (view n w s) x e)) }
 
   module _ (at k : ℕ) (C : Placing n w x e a at k) (hx : x < n) where
-    pub placing_done : at ≡ x → Placed n w x e (Numbers k) a
+    pub placing_done : at ≡ x → Placed n w x e (Some k) a
     unfolding below depth_of
     placing_done q =
         record {
@@ -47,7 +47,7 @@ module _ (n : ℕ) (w : List ℕ) (x e : ℕ) (L : Lines n w) (he : e < n) (a : 
         }
 
     module _ (p : ℕ) (q : p ≡ get_or w (8 * at + 1) 0) (z : at ≡ x → ⊥) where
-      pub placing_none : p ≡ 0 → Placed n w x e Elsewhere a
+      pub placing_none : p ≡ 0 → Placed n w x e None a
       unfolding below depth_of
       placing_none y =
           record {

@@ -8,6 +8,8 @@ ghost use Rattle.read_element_table.specs.Wellformed.{Lines};
 ghost use Rattle.plan_mapping.specs.Mapped.{words_at, mapped_by, Mapped, Bounded, mapping_words};
 ghost use Rattle.plan_mapping.specs.Answers.{Placed, Climbed};
 
+use refusals::Refusal;
+
 // Rust: SyntaxMapping::add_mapping, SyntaxMapping::merge. The array of the `m` mappings of the batch `b` whose inputs and outputs stand at these places:
 // the later mapping of one input wins.
 pub fn fill_mapping(b: &[u8], inputs: usize, outputs: usize, m: usize, map: &mut [u32])
@@ -15,13 +17,11 @@ pub fn fill_mapping(b: &[u8], inputs: usize, outputs: usize, m: usize, map: &mut
     requires bounded { Bounded (length map.old) 2048 (zip (words_at b.now inputs m) (words_at b.now outputs m)) }
     ensures { map.new ≡ mapping_words (length map.old) (zip (words_at b.now inputs m) (words_at b.now outputs m)) }
 {
-    words::clear(map);
-    let mut i = 0;
-    while i < m {
+    map.fill(0);
+    for i in 0..m {
         let x = words::read_word(b, inputs + 4 * i);
         let y = words::read_word(b, outputs + 4 * i);
         map[x] = (y + 1) as u32;
-        i += 1;
     }
 }
 
@@ -38,15 +38,15 @@ pub fn upmap_node_single(map: &[u32], n: usize, e: usize) -> usize
     y - 1
 }
 
-// Where an element stands below another: how many child numbers lead there, or that it is neither that element nor below it.
-#[derive(Clone, Copy)]
-pub enum Below {
-    Numbers(usize),
-    Elsewhere,
-}
-
-// Rust: `to_first_upmap` in SyntaxMapping::upmap_child. The child numbers from `x` down to `e`. They are written to `place`, upward, and so read backward.
-pub fn place_below(table: &[u32], n: usize, x: usize, e: usize, place: &mut [u32; 64]) -> Below
+// Rust: `to_first_upmap` in SyntaxMapping::upmap_child. How many child numbers lead from `x` down to `e`; none if `e` is neither `x` nor below it. They are
+// written to `place`, upward, and so read backward.
+pub fn place_below(
+    table: &[u32],
+    n: usize,
+    x: usize,
+    e: usize,
+    place: &mut [u32; 64],
+) -> Option<usize>
     requires lines { Lines n table.now }
     requires x_lt_n { (x < n) × (e < n) × (length place.old ≡ 64) }
     ensures { Placed n table.now x e result place.new }
@@ -56,24 +56,17 @@ pub fn place_below(table: &[u32], n: usize, x: usize, e: usize, place: &mut [u32
     while at != x {
         let p = read_element_table::entry(table, at, read_element_table::PARENT);
         if p == 0 {
-            return Below::Elsewhere;
+            return None;
         }
         place[k] = table[read_element_table::WORDS * at + read_element_table::CHILD];
         k += 1;
         at = p - 1;
     }
-    Below::Numbers(k)
-}
-
-// A climb: how many child numbers its trail has, or a refusal.
-#[derive(Clone, Copy)]
-pub enum Climb {
-    Trail(usize),
-    Refused(usize),
+    Some(k)
 }
 
 // Rust: SyntaxMapping::upmap_to_ancestor. The climb from `input`, or its mapped node, to the first parent that is `output`. The child numbers met are
-// written to `trail`, upward. Where the Rust would climb for ever, more than `n` steps must repeat: 10.
+// written to `trail`, upward: how many. Where the Rust would climb for ever, more than `n` steps must repeat: 10.
 pub fn upmap_to_ancestor(
     table: &[u32],
     map: &[u32],
@@ -81,37 +74,33 @@ pub fn upmap_to_ancestor(
     input: usize,
     output: usize,
     trail: &mut [u32; 2049],
-) -> Climb
+) -> Result<usize, Refusal>
     requires lines { Lines n table.now }
     requires mapped { Mapped n map.now }
     requires input_lt_n { (input < n) × (length trail.old ≡ 2049) }
     ensures { Climbed n table.now map.now input output result trail.new }
 {
     if input == output {
-        return Climb::Trail(0);
+        return Ok(0);
     }
     let mut x = upmap_node_single(map, n, input);
     trail[0] = table[read_element_table::WORDS * x + read_element_table::CHILD];
     let mut k: usize = 1;
-    let mut outcome = Climb::Refused(9);
     loop {
         let p = read_element_table::entry(table, x, read_element_table::PARENT);
         if p == 0 {
-            break;
+            return Err(Refusal::Unmapped);
         }
         if n < k {
-            outcome = Climb::Refused(10);
-            break;
+            return Err(Refusal::Endless);
         }
         let parent = p - 1;
         let next = upmap_node_single(map, n, parent);
         if parent == output {
-            outcome = Climb::Trail(k);
-            break;
+            return Ok(k);
         }
         trail[k] = table[read_element_table::WORDS * next + read_element_table::CHILD];
         x = next;
         k += 1;
     }
-    outcome
 }

@@ -17,10 +17,10 @@ use Rattle.read_spelling.specs.Stack.{elements_from, elements_all, elements_none
 use Rattle.read_element_table.specs.View.{view}
 use Rattle.read_element_table.specs.Told.{length_view}
 use Rattle.plan_mapping.specs.Mapped.{mapped_by}
-use Rattle.plan_upmap.specs.declared.Settled.{Settled}
-use Rattle.plan_upmap.specs.declared.Settled.TheVariants.{At, Refused}
-use Rattle.plan_upmap.specs.Settling.{settled_by, settled_at_lem, SettledAt}
-use Rattle.plan_notes.specs.declared.Notes.TheVariants.{Settled as Done, Refused as Not}
+use Rattle.std.specs.Prelude.{Result, Ok, Err}
+use Rattle.refusals.specs.declared.Refusal.{Refusal}
+use Rattle.refusals.specs.Numbers.{number, answered}
+use Rattle.plan_upmap.specs.Settling.{settled_at_lem, SettledAt}
 use Rattle.plan_notes.specs.Notes.{settled_at, note_words, words_behind}
 use Rattle.plan_notes.specs.Answers.{notes_by, NotesSettled}
 
@@ -62,7 +62,7 @@ module _ (b : List ℕ) (noted numbers k n : ℕ) (w s m before : List ℕ) wher
       }
 
   module _ (i : ℕ) (after : List ℕ) (S : Settling i after) where
-    pub settling_done : k ≤ i → NotesSettled n w s m (zip (words k (drop noted b)) (words k (drop numbers b))) k before after Done
+    pub settling_done : k ≤ i → NotesSettled n w s m (zip (words k (drop noted b)) (words k (drop numbers b))) k before after (Ok tt)
     unfolding notes_by ◌>>=◌ settled_at elements_at
     settling_done h =
         let e : i ≡ k = omega (arith, S.inside) in
@@ -80,20 +80,20 @@ module _ (b : List ℕ) (noted numbers k n : ℕ) (w s m before : List ℕ) wher
       pub settling_element : x < n
       settling_element = left.0
 
-      module _ (o : Settled) (A : SettledAt n w s m x o) where
-        turn : settled_at (view n w s) (mapped_by m) i (elements_from b noted numbers k i) ≡ (settled_by o >>= λ e. settled_at (view n w s) (mapped_by m) (suc i) (elements_from b noted numbers k (i + 1)) >>= λ r. gives ((e, y, i) ∷ r))
+      module _ (o : Result ℕ Refusal) (A : SettledAt n w s m x o) where
+        turn : settled_at (view n w s) (mapped_by m) i (elements_from b noted numbers k i) ≡ (answered o >>= λ e. settled_at (view n w s) (mapped_by m) (suc i) (elements_from b noted numbers k (i + 1)) >>= λ r. gives ((e, y, i) ∷ r))
         unfolding settled_at
         turn = rw (next, A.place, settled_at, length_view n w s)
 
-        pub settling_refused : (number : ℕ) → o ≡ Refused number → NotesSettled n w s m (zip (words k (drop noted b)) (words k (drop numbers b))) k before after (Not number)
-        unfolding notes_by ◌>>=◌ settled_by elements_at
-        settling_refused number q =
-            let all : settled_at (view n w s) (mapped_by m) 0 (elements_at b noted numbers k) ≡ refused number = rw (← elements_all b noted numbers k) (S.rest ∙ rw (turn, q)) in
+        pub settling_refused : (r : Refusal) → o ≡ Err r → NotesSettled n w s m (zip (words k (drop noted b)) (words k (drop numbers b))) k before after (Err r)
+        unfolding notes_by ◌>>=◌ answered elements_at
+        settling_refused r q =
+            let all : settled_at (view n w s) (mapped_by m) 0 (elements_at b noted numbers k) ≡ refused (number r) = rw (← elements_all b noted numbers k) (S.rest ∙ rw (turn, q)) in
             record { words = rw all; within = rw all tt }
 
-        module _ (e : ℕ) (q : o ≡ At e) where
+        module _ (e : ℕ) (q : o ≡ Ok e) where
           pub settling_next : (after' : List ℕ) → 3 * k ≤ length before → length after' ≡ length after → after' ≡ paste after (3 * i) ((e + 1) ∷ y ∷ i ∷ []) 3 → Settling (i + 1) after'
-          unfolding ◌>>=◌ settled_by
+          unfolding ◌>>=◌ answered
           settling_next after' room l g =
               let p : List (ℕ × ℕ × ℕ) = S.sofar in
               let T = settled_at (view n w s) (mapped_by m) (i + 1) (elements_from b noted numbers k (i + 1)) in

@@ -9,14 +9,7 @@ ghost use Rattle.read_element_table.specs.Wellformed.{Wellformed};
 ghost use Rattle.plan_mapping.specs.Mapped.{Mapped};
 ghost use Rattle.plan_notes.specs.Answers.{NotesSettled};
 
-use plan_upmap::Settled;
-
-// Whether all notes are settled.
-#[derive(Clone, Copy)]
-pub enum Notes {
-    Settled,
-    Refused(usize),
-}
+use refusals::Refusal;
 
 // Rust: TreeStore::with_annotations. Each of the `k` notes settles, in order, and three words are written: the row of its element in the batch's rows, its
 // number, its queue place. The first that is refused ends it.
@@ -30,24 +23,18 @@ pub fn settle_notes(
     map: &[u32],
     n: usize,
     notes: &mut [u32],
-) -> Notes
+) -> Result<(), Refusal>
     requires wellformed { Wellformed n table.now source.now }
     requires mapped { Mapped n map.now }
     requires k_in_bounds { (noted + 4 * k ≤ length b.now) × (numbers + 4 * k ≤ length b.now) × (n ≤ 2048) × (k ≤ 1024) × (3 * k ≤ length notes.old) }
     requires all { All (λ m. m.0 < n) (zip (words_of k (drop noted b.now)) (words_of k (drop numbers b.now))) }
     ensures { NotesSettled n table.now source.now map.now (zip (words_of k (drop noted b.now)) (words_of k (drop numbers b.now))) k notes.old notes.new result }
 {
-    let mut i: usize = 0;
-    while i < k {
+    for i in 0..k {
         let element = words::read_word(b, noted + 4 * i);
         let number = words::read_word(b, numbers + 4 * i);
-        match plan_upmap::upmap_element(table, source, map, n, element) {
-            Settled::Refused(refusal) => return Notes::Refused(refusal),
-            Settled::At(e) => {
-                words::store3(notes, run_annotations::NOTE_WORDS * i, e + 1, number, i);
-                i += 1;
-            }
-        }
+        let e = plan_upmap::upmap_element(table, source, map, n, element)?;
+        words::store3(notes, run_annotations::NOTE_WORDS * i, e + 1, number, i);
     }
-    Notes::Settled
+    Ok(())
 }

@@ -1,6 +1,6 @@
 -- Refusal 8 on sorted rows, and that it is the definition's.
 -- Assumes nothing.
-use Rattle.std.specs.Prelude.{◌≡◌, false, ◌&&◌, drop, ltb, eqb}
+use Rattle.std.specs.Prelude.{◌≡◌, false, ◌&&◌, drop, ltb, eqb, Result, Ok, Err, Option as Maybe, Some, None}
 use Rattle.std.proofs.Math.Path.{refl, sym}
 use Rattle.std.proofs.Math.Bool.{Bool, cond, not}
 use mathlib.Core.List.{List, [], ◌∷◌, map}
@@ -15,8 +15,7 @@ use Rattle.record_changes.specs.ChangeRow.{ChangeRow, rows_of}
 use Rattle.plan_sort.specs.Lists.{map_numbered, map_keep, map_first}
 use Rattle.record_changes.specs.ChangeRowLaws.{row_at}
 use Rattle.plan_sort.specs.Rows.{Tells}
-use Rattle.plan_overlap.specs.declared.Replacements.{Replacements}
-use Rattle.plan_overlap.specs.declared.Replacements.TheVariants.{Disjoint, Overlap}
+use Rattle.plan_overlap.specs.declared.Overlap.{Overlap}
 
 -- ── On rows ─────────────────────────────────────────────────────────────────────────────────────────────────
 
@@ -105,6 +104,11 @@ unfoldable pub place_after : Option (ℕ × ChangeRow) → ℕ
 place_after none = 0
 place_after (some s) = suc s.0
 
+-- a place told so, as the code gives it
+unfoldable pub place_found : ℕ → Maybe ℕ
+place_found zero = None
+place_found (suc j) = Some j
+
 -- the place, told so, of the peer before the row at place k that exceeds it
 unfoldable pub exceeding : List ℕ → ℕ → ℕ
 exceeding w k =
@@ -116,6 +120,6 @@ unfoldable pub overlap_from : List ℕ → ℕ → ℕ → Option (ℕ × ℕ)
 overlap_from w n k = rows_overlapping (removers_before w k) (keep (λ r. removes r.1) (numbered k (rows_of (n - k) (drop (14 * k) w))))
 
 -- the answer that the code gives
-unfoldable pub replacements : Option (ℕ × ℕ) → Replacements
-replacements none = Disjoint
-replacements (some p) = Overlap p.0 p.1
+unfoldable pub replacements : Option (ℕ × ℕ) → Result (Unit {0}) Overlap
+replacements none = Ok tt
+replacements (some p) = Err (record { earlier = p.0; later = p.1 })

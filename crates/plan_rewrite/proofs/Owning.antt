@@ -11,13 +11,14 @@ use lib.Dec.{eqb}
 use borrow.Author.Tests.{eq-eqb, ne_eqb}
 use Rattle.orders.specs.Lists.{All}
 use Rattle.definition.specs.Words.{word}
-use Rattle.definition.specs.Planning.{target}
 use Rattle.definition.specs.Rewriting.{replacement}
 use Rattle.definition.specs.Running.{news}
 use Rattle.words.specs.Bytes.{length_words, get_d_words}
 use Rattle.record_changes.specs.ChangeRow.{ChangeRow, row_of}
 use Rattle.record_changes.specs.ChangeRowLaws.{row_at}
 use Rattle.record_rewritten.specs.Stated.{change_by, new_of, change_of, Stated, Dependent, target_by}
+use Rattle.std.specs.Prelude.{Result}
+use Rattle.refusals.specs.declared.Refusal.{Refusal}
 use Rattle.plan_rewrite.specs.declared.Ends.{Ends}
 use Rattle.plan_mapping.specs.Mapped.{words_at}
 use Rattle.plan_rewrite.specs.Answers.{MovedEnds, OwnedEnds}
@@ -55,7 +56,7 @@ unfolding change_of
 one_listed n listed r S h = omega (arith, S.within, S.counted ∙ one_new r.operation r.target r.end (get_or listed r.list 0) (new_of listed r) h)
 
 -- the ends of a dependent move by its owner's own target and replacement
-owned_from : (n : ℕ) (ws s m listed : List ℕ) (o r : ChangeRow) (a : Ends) → Dependent n listed o r → MovedEnds n ws s m o.target (get_or listed o.list 0) r.operation r.target r.end a → OwnedEnds n ws s m listed o r a
+owned_from : (n : ℕ) (ws s m listed : List ℕ) (o r : ChangeRow) (a : Result Ends Refusal) → Dependent n listed o r → MovedEnds n ws s m o.target (get_or listed o.list 0) r.operation r.target r.end a → OwnedEnds n ws s m listed o r a
 unfolding change_of
 owned_from n ws s m listed o r a D M =
     record {
@@ -83,7 +84,7 @@ module _ (n : ℕ) (b : List ℕ) (at l : ℕ) (w : List ℕ) (k i : ℕ) (D : D
       rw qe D.itself.end,
     )
 
-    pub owned_ends : (ws s m : List ℕ) (a : Ends) → MovedEnds n ws s m x r op t e a → OwnedEnds n ws s m (words_at b at l) (row_at w k) (row_at w i) a
+    pub owned_ends : (ws s m : List ℕ) (a : Result Ends Refusal) → MovedEnds n ws s m x r op t e a → OwnedEnds n ws s m (words_at b at l) (row_at w k) (row_at w i) a
     unfolding row_at row_of
     owned_ends ws s m a M =
         owned_from n ws s m (words_at b at l) (row_at w k) (row_at w i) a D

@@ -21,16 +21,16 @@ use Rattle.record_changes.specs.ChangeRowLaws.{row_at, rows_from, row_among}
 use Rattle.plan_sort.specs.Rows.{row_fate}
 use Rattle.plan_mapping.specs.Mapped.{mapped_by}
 use Rattle.record_rewritten.specs.Stated.{new_of, change_of, Dependent, NewEnds, Fated, Rewritable, fate_dependent}
+use Rattle.std.specs.Prelude.{Result, Ok, Err}
+use Rattle.refusals.specs.declared.Refusal.{Refusal}
+use Rattle.refusals.specs.Numbers.{number}
 use Rattle.plan_rewrite.specs.declared.Ends.{Ends}
-use Rattle.plan_rewrite.specs.declared.Ends.TheVariants.{To, Refused}
-use Rattle.plan_rewrite.specs.declared.Rewritten.{Rewritten}
-use Rattle.plan_rewrite.specs.declared.Rewritten.TheVariants.{Steps, Refused as NotRewritten}
 use Rattle.plan_rewrite.specs.Rewritten.{rewrite_into_by, rewrite_under, rewrite_fated, rewrite_at, no_change, rewrite_row, rewrite_rows}
 use Rattle.plan_rewrite.proofs.Writing.{row_there, rows_behind}
 use Rattle.plan_rewrite.specs.Answers.{ends_by, OwnedEnds, rewritten_by, steps_of, RowRewritten, judged_row, RowsRewritten}
 
 -- the steps of one row
-pub few_steps : {want : Answer (ChangeRow × ℕ)} {i : ℕ} {before after : List ℕ} {a : Rewritten} {k : ℕ} → RowRewritten want i before after a → a ≡ Steps k → k ≤ 4096
+pub few_steps : {want : Answer (ChangeRow × ℕ)} {i : ℕ} {before after : List ℕ} {a : Result ℕ Refusal} {k : ℕ} → RowRewritten want i before after a → a ≡ Ok k → k ≤ 4096
 unfolding steps_of
 few_steps R q = rw q at R.few
 
@@ -41,22 +41,22 @@ unfolding ◌>>=◌
 then_again (refused n) f g = refl
 then_again (gives a) f g = refl
 
-module _ (n : ℕ) (w s m listed : List ℕ) (o r : ChangeRow) (D : Dependent n listed o r) (a : Ends) (O : OwnedEnds n w s m listed o r a) where
+module _ (n : ℕ) (w s m listed : List ℕ) (o r : ChangeRow) (D : Dependent n listed o r) (a : Result Ends Refusal) (O : OwnedEnds n w s m listed o r a) where
   under_by : rewrite_under (view n w s) (mapped_by m) listed (change_of listed o) r ≡ ends_by a >>= judged_row (view n w s) listed r
   unfolding rewrite_under judged_row change_of
   under_by =
       rw (rewrite_into_by (view n w s) (mapped_by m) (target (change_of listed o)) (replacement (change_of listed o)) r.operation r.target r.end (get_or listed r.list 0) (new_of listed r) D.itself.known, O.ends)
       (then_again _ _ _)
 
-  pub dependent_refused : (i : ℕ) (before : List ℕ) (k : ℕ) → a ≡ Refused k → RowRewritten (rewrite_under (view n w s) (mapped_by m) listed (change_of listed o) r) i before before (NotRewritten k)
+  pub dependent_refused : (i : ℕ) (before : List ℕ) (k : Refusal) → a ≡ Err k → RowRewritten (rewrite_under (view n w s) (mapped_by m) listed (change_of listed o) r) i before before (Err k)
   unfolding ends_by rewritten_by steps_of ◌>>=◌
   dependent_refused i before k z = record { row = sym (under_by ∙ rw z); behind = refl; few = omega arith }
 
-  module _ (x y k : ℕ) (z : a ≡ To x y k) where
-    pub new_ends : (k ≤ 2 * n) × NewEnds n listed r x y
+  module _ (e : Ends) (z : a ≡ Ok e) where
+    pub new_ends : (e.steps ≤ 2 * n) × NewEnds n listed r e.target e.end
     new_ends = let h = rw z at O.within in (h.2, record { elements = D.elements; itself = D.itself; fated = D.fated; target = h.0; end = h.1 })
 
-    pub dependent_written : (i : ℕ) (before after : List ℕ) (q : Rewritten) → RowRewritten (judged_row (view n w s) listed r (x, y, k)) i before after q
+    pub dependent_written : (i : ℕ) (before after : List ℕ) (q : Result ℕ Refusal) → RowRewritten (judged_row (view n w s) listed r (e.target, e.end, e.steps)) i before after q
         → RowRewritten (rewrite_under (view n w s) (mapped_by m) listed (change_of listed o) r) i before after q
     unfolding ends_by ◌>>=◌
     dependent_written i before after q R = record { row = R.row ∙ sym (under_by ∙ rw z); behind = R.behind; few = R.few }
@@ -69,7 +69,7 @@ unfolding row_at row_of
 owner_named n listed v i f k F q h e = rw e (F.owned (sym q ∙ h))
 
 module _ (n : ℕ) (ws s m listed : List ℕ) (v : List ℕ) (i : ℕ) (f : ℕ) (q : f ≡ get_or (drop (14 * i) v) 11 0) where
-  pub at_dependent : (k : ℕ) → f ≡ 1 → k ≡ get_or (drop (14 * i) v) 12 0 → (before after : List ℕ) (r : Rewritten)
+  pub at_dependent : (k : ℕ) → f ≡ 1 → k ≡ get_or (drop (14 * i) v) 12 0 → (before after : List ℕ) (r : Result ℕ Refusal)
       → RowRewritten (rewrite_under (view n ws s) (mapped_by m) listed (change_of listed (row_at v k)) (row_at v i)) i before after r
       → RowRewritten (rewrite_at (view n ws s) (mapped_by m) listed v i) i before after r
   unfolding rewrite_at row_at row_of
@@ -80,7 +80,7 @@ module _ (n : ℕ) (ws s m listed : List ℕ) (v : List ℕ) (i : ℕ) (f : ℕ)
   other_is h = rw (ne_eqb (get_or (drop (14 * i) v) 11 0) 1 (λ z. h (q ∙ z)))
 
   pub at_other : (f ≡ 1 → ⊥) → (before after : List ℕ) → after ≡ paste before (14 * i) (drop (14 * i) v) 14 → 14 * i + 14 ≤ length before → Fated n listed v i
-      → RowRewritten (rewrite_at (view n ws s) (mapped_by m) listed v i) i before after (Steps 0)
+      → RowRewritten (rewrite_at (view n ws s) (mapped_by m) listed v i) i before after (Ok 0)
   unfolding rewritten_by steps_of row_at
   at_other h before after e g F =
       let l : 14 ≤ length (drop (14 * i) v) = omega (arith, F.long, length-drop (14 * i) v) in
@@ -130,7 +130,7 @@ module _ (n : ℕ) (w s m listed v : List ℕ) (c : ℕ) where
   unfolding rewrite_rows rows_of
   rewriting_start out h = let e : c - c ≡ 0 = omega arith in record { inside = omega arith; long = h; few = omega arith; rest = rw e }
 
-  pub rewriting_done : (out : List ℕ) (i steps : ℕ) → Rewriting n w s m listed v c out i steps → i ≤ 0 → RowsRewritten n w s m listed v c out (Steps steps)
+  pub rewriting_done : (out : List ℕ) (i steps : ℕ) → Rewriting n w s m listed v c out i steps → i ≤ 0 → RowsRewritten n w s m listed v c out (Ok steps)
   unfolding rewritten_by steps_of
   rewriting_done out zero steps Q h =
       let e : c - 0 ≡ c = omega arith in
@@ -151,16 +151,16 @@ module _ (n : ℕ) (w s m listed v : List ℕ) (c : ℕ) where
   refused_before x (suc j) h q = refused_before x j (omega arith) (one_before j h ∙ rw q)
 
   module _ (R : Rewritable n listed v c) (out : List ℕ) (steps : ℕ) where
-    step_is : (j : ℕ) → Rewriting n w s m listed v c out (suc j) steps → (after : List ℕ) (a : Rewritten) → RowRewritten (rewrite_at (view n w s) (mapped_by m) listed v j) j out after a
+    step_is : (j : ℕ) → Rewriting n w s m listed v c out (suc j) steps → (after : List ℕ) (a : Result ℕ Refusal) → RowRewritten (rewrite_at (view n w s) (mapped_by m) listed v j) j out after a
         → rewrite_from j ≡ ◌>>=◌ {B = List ChangeRow × ℕ} (rewritten_by a (row_at after j)) (λ q. gives (q.0 ∷ rows_of (c - suc j) (drop (14 * suc j) after), q.1 + steps))
     unfolding ◌>>=◌
     step_is j Q after a G = one_before j Q.inside ∙ rw (Q.rest, at_row n (view n w s) (mapped_by m) listed v c R j Q.inside, ← G.row, ← G.behind)
 
-    module _ (i : ℕ) (Q : Rewriting n w s m listed v c out i steps) (h : 0 < i) (after : List ℕ) (a : Rewritten) (G : RowRewritten (rewrite_at (view n w s) (mapped_by m) listed v (i - 1)) (i - 1) out after a) where
+    module _ (i : ℕ) (Q : Rewriting n w s m listed v c out i steps) (h : 0 < i) (after : List ℕ) (a : Result ℕ Refusal) (G : RowRewritten (rewrite_at (view n w s) (mapped_by m) listed v (i - 1)) (i - 1) out after a) where
       here : Rewriting n w s m listed v c out (suc (i - 1)) steps
       here = let e : i ≡ suc (i - 1) = omega arith in subst (λ (p : ℕ). Rewriting n w s m listed v c out p steps) e Q
 
-      pub rewriting_next : (k : ℕ) → a ≡ Steps k → length after ≡ length out → Rewriting n w s m listed v c after (i - 1) (steps + k)
+      pub rewriting_next : (k : ℕ) → a ≡ Ok k → length after ≡ length out → Rewriting n w s m listed v c after (i - 1) (steps + k)
       unfolding rewritten_by steps_of ◌>>=◌
       rewriting_next k z l =
           let j : ℕ = i - 1 in
@@ -174,6 +174,6 @@ module _ (n : ℕ) (w s m listed v : List ℕ) (c : ℕ) where
             rest = step_is j here after a G ∙ rw (z, e, rows_from after j (c - suc j), p);
           }
 
-      pub rewriting_refused : (x : ℕ) → a ≡ NotRewritten x → RowsRewritten n w s m listed v c after (NotRewritten x)
+      pub rewriting_refused : (x : Refusal) → a ≡ Err x → RowsRewritten n w s m listed v c after (Err x)
       unfolding rewritten_by steps_of ◌>>=◌
-      rewriting_refused x z = record { rows = sym (refused_before x (i - 1) (omega (arith, Q.inside)) (step_is (i - 1) here after a G ∙ rw z)); few = omega arith }
+      rewriting_refused x z = record { rows = sym (refused_before (number x) (i - 1) (omega (arith, Q.inside)) (step_is (i - 1) here after a G ∙ rw z)); few = omega arith }

@@ -20,7 +20,9 @@ use Rattle.read_calls.specs.Fits.{call_fits}
 use Rattle.record_changes.specs.ChangeRow.{ChangeRow, row_words, row_of}
 use Rattle.record_changes.specs.ChangeRowLaws.{row_at, row_ext}
 use Rattle.record_rewritten.specs.Stated.{new_of, change_by, NewEnds, row_anew, row_anew_lem}
-use Rattle.plan_rewrite.specs.declared.Rewritten.TheVariants.{Steps, Refused}
+use Rattle.std.specs.Prelude.{Ok, Err}
+use Rattle.refusals.specs.declared.Refusal.TheVariants.{Unmapped}
+use Rattle.refusals.specs.Numbers.{number}
 use Rattle.plan_rewrite.specs.Judged.{wrong_by}
 use Rattle.plan_mapping.specs.Mapped.{words_at}
 use Rattle.plan_rewrite.specs.Answers.{rewritten_by, steps_of, RowRewritten, judged_row}
@@ -113,7 +115,7 @@ module _ (n : ℕ) (b : List ℕ) (at l : ℕ) (v : List ℕ) (i x y : ℕ) (E :
       fits_is = q ∙ rw (judge_is, qo)
 
       pub row_written : t ≡ true → (after : List ℕ) → after ≡ paste before (14 * i) (row_words (row_anew (view n w s) (row_at v i) x y z)) 14 → 14 * i + 14 ≤ length before → k ≤ 2 * n → Wellformed n w s
-          → RowRewritten (judged_row (view n w s) (words_at b at l) (row_at v i) (x, y, k)) i before after (Steps k)
+          → RowRewritten (judged_row (view n w s) (words_at b at l) (row_at v i) (x, y, k)) i before after (Ok k)
       unfolding rewritten_by steps_of row_words row_of
       row_written h after e g f W =
           let a : List ℕ = row_words (row_anew (view n w s) (row_at v i) x y z) in
@@ -125,6 +127,6 @@ module _ (n : ℕ) (b : List ℕ) (at l : ℕ) (v : List ℕ) (i x y : ℕ) (E :
             few = omega (arith, W.lines.few);
           }
 
-      pub row_refused : t ≡ false → RowRewritten (judged_row (view n w s) (words_at b at l) (row_at v i) (x, y, k)) i before before (Refused 9)
-      unfolding rewritten_by steps_of
+      pub row_refused : t ≡ false → RowRewritten (judged_row (view n w s) (words_at b at l) (row_at v i) (x, y, k)) i before before (Err Unmapped)
+      unfolding rewritten_by steps_of number
       row_refused h = record { row = sym (row_of_wrong n w s (words_at b at l) (row_at v i) x y k E (sym fits_is ∙ h)); behind = refl; few = omega arith }

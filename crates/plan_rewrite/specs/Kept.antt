@@ -18,7 +18,7 @@ use Rattle.definition.specs.Rewriting.{replacement, moved, rewrite_into}
 use Rattle.definition.specs.Running.{news}
 use Rattle.definition_laws.specs.Answers.{gives_inj}
 use Rattle.definition_laws.specs.Right.{judged, below_E}
-use Rattle.record_changes.specs.ChangeRow.{ChangeRow, operation, end_of, change_row}
+use Rattle.record_changes.specs.ChangeRow.{ChangeRow, end_of, change_row}
 use Rattle.plan_sort.specs.Rows.{row_fate, with_fate, fate_stated}
 use Rattle.record_rewritten.specs.Stated.{change_by, new_of, change_of, Stated, operation_by, news_by}
 use Rattle.record_rewritten.specs.Exact.{Exact, exact_stated}

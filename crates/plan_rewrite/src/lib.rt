@@ -10,13 +10,14 @@ ghost use Rattle.record_rewritten.specs.Stated.{change_of, Dependent, NewEnds, F
 ghost use Rattle.plan_rewrite.specs.Rewritten.{rewrite_under, rewrite_at};
 ghost use Rattle.plan_rewrite.specs.Answers.{MovedEnds, OwnedEnds, RowRewritten, judged_row, RowsRewritten};
 
-use plan_upmap::Moved;
+use refusals::Refusal;
 
-// Where the ends of a change go and how many climb steps were taken, or a refusal.
+// Where the ends of a change go, and how many climb steps were taken.
 #[derive(Clone, Copy)]
-pub enum Ends {
-    To(usize, usize, usize),
-    Refused(usize),
+pub struct Ends {
+    pub target: usize,
+    pub end: usize,
+    pub steps: usize,
 }
 
 // Where the target and, of a run, the end go when `input` is replaced by `output`; the start of a run before its end.
@@ -30,31 +31,26 @@ fn upmap_ends(
     operation: usize,
     target: usize,
     end: usize,
-) -> Ends
+) -> Result<Ends, Refusal>
     requires wellformed { Wellformed n table.now source.now }
     requires mapped { Mapped n map.now }
     requires input_lt_n { (input < n) × (output < n) × (target < n) × (end < n) }
     ensures { MovedEnds n table.now source.now map.now input output operation target end result }
 {
-    match plan_upmap::upmap_child(table, source, map, n, target, input, output) {
-        Moved::Refused(number) => Ends::Refused(number),
-        Moved::To(x, steps) => {
-            if operation != 5 {
-                return Ends::To(x, x, steps);
-            }
-            match plan_upmap::upmap_child(table, source, map, n, end, input, output) {
-                Moved::Refused(number) => Ends::Refused(number),
-                Moved::To(y, more) => Ends::To(x, y, steps + more),
-            }
-        }
+    let start = plan_upmap::upmap_child(table, source, map, n, target, input, output)?;
+    if operation != 5 {
+        return Ok(Ends {
+            target: start.element,
+            end: start.element,
+            steps: start.steps,
+        });
     }
-}
-
-// Whether and with how many climb steps a row was rewritten.
-#[derive(Clone, Copy)]
-pub enum Rewritten {
-    Steps(usize),
-    Refused(usize),
+    let last = plan_upmap::upmap_child(table, source, map, n, end, input, output)?;
+    Ok(Ends {
+        target: start.element,
+        end: last.element,
+        steps: start.steps + last.steps,
+    })
 }
 
 // Listed element `i` of the `l` that stand at `listed` in the batch `b`.
@@ -88,7 +84,7 @@ fn upmap_dependent(
     rows: &[u32],
     i: usize,
     k: usize,
-) -> Ends
+) -> Result<Ends, Refusal>
     requires wellformed { Wellformed n table.now source.now }
     requires mapped { Mapped n map.now }
     requires l_in_bounds { (listed + 4 * l ≤ length b.now) × (i < 256) × (k < 256) }
@@ -108,7 +104,7 @@ fn upmap_dependent(
     upmap_ends(table, source, map, n, input, output, operation, target, end)
 }
 
-// The row at place `i` is written with the target `x` and the end `y` if line 6 takes the rewritten call. The Rust does not ask: it
+// The row at place `i` is written with the target `x` and the end `y`, after so many climb steps, if line 6 takes the rewritten call. The Rust does not ask: it
 // panics where it needs such a target's parent or range, or goes on (docs/DIFFERENCES.md, 2).
 fn write_judged(
     table: &[u32],
@@ -123,7 +119,7 @@ fn write_judged(
     y: usize,
     steps: usize,
     out: &mut [u32],
-) -> Rewritten
+) -> Result<usize, Refusal>
     requires wellformed { Wellformed n table.now source.now }
     requires l_in_bounds { (listed + 4 * l ≤ length b.now) × (i < 256) × (14 * i + 14 ≤ length out.old) × (steps ≤ 2 * n) }
     requires new_ends { NewEnds n (words_at b.now listed l) (row_at rows.now i) x y }
@@ -134,13 +130,13 @@ fn write_judged(
     let z = judged_by(b, listed, l, operation, list, y);
     if read_calls::call_fits(table, source, n, operation, x, z) {
         record_rewritten::write_row(table, source, n, rows, i, x, y, z, out);
-        return Rewritten::Steps(steps);
+        return Ok(steps);
     }
-    Rewritten::Refused(9)
+    Err(Refusal::Unmapped)
 }
 
 // Rust: EditPlan::rewrite_dependent_target. The change at place `i`, which depends on the one at place `k`, is written with the ends that it has in the
-// replacement.
+// replacement: after how many climb steps.
 fn rewrite_dependent_target(
     table: &[u32],
     source: &[u32],
@@ -153,22 +149,20 @@ fn rewrite_dependent_target(
     i: usize,
     k: usize,
     out: &mut [u32],
-) -> Rewritten
+) -> Result<usize, Refusal>
     requires wellformed { Wellformed n table.now source.now }
     requires mapped { Mapped n map.now }
     requires l_in_bounds { (listed + 4 * l ≤ length b.now) × (i < 256) × (k < 256) × (14 * i + 14 ≤ length out.old) }
     requires dependent { Dependent n (words_at b.now listed l) (row_at rows.now k) (row_at rows.now i) }
     ensures { RowRewritten (rewrite_under (view n table.now source.now) (mapped_by map.now) (words_at b.now listed l) (change_of (words_at b.now listed l) (row_at rows.now k)) (row_at rows.now i)) i out.old out.new result }
 {
-    match upmap_dependent(table, source, map, n, b, listed, l, rows, i, k) {
-        Ends::Refused(number) => Rewritten::Refused(number),
-        Ends::To(x, y, steps) => {
-            write_judged(table, source, n, b, listed, l, rows, i, x, y, steps, out)
-        }
-    }
+    let e = upmap_dependent(table, source, map, n, b, listed, l, rows, i, k)?;
+    write_judged(
+        table, source, n, b, listed, l, rows, i, e.target, e.end, e.steps, out,
+    )
 }
 
-// The row at place `i` is written anew if it is a dependent, and as it is if not.
+// The row at place `i` is written anew if it is a dependent, and as it is if not: after how many climb steps.
 fn rewrite_row(
     table: &[u32],
     source: &[u32],
@@ -180,7 +174,7 @@ fn rewrite_row(
     rows: &[u32],
     i: usize,
     out: &mut [u32],
-) -> Rewritten
+) -> Result<usize, Refusal>
     requires wellformed { Wellformed n table.now source.now }
     requires mapped { Mapped n map.now }
     requires l_in_bounds { (listed + 4 * l ≤ length b.now) × (14 * i + 14 ≤ length out.old) }
@@ -192,7 +186,7 @@ fn rewrite_row(
         return rewrite_dependent_target(table, source, map, n, b, listed, l, rows, i, k, out);
     }
     record_rewritten::copy_row(rows, i, out);
-    Rewritten::Steps(0)
+    Ok(0)
 }
 
 // Rust: EditPlan::build, the loop over dependents. The `c` sorted rows with their fates are written to `out`, dependents with their targets in the replacement:
@@ -209,7 +203,7 @@ pub fn rewrite_dependents(
     rows: &[u32],
     c: usize,
     out: &mut [u32],
-) -> Rewritten
+) -> Result<usize, Refusal>
     requires wellformed { Wellformed n table.now source.now }
     requires mapped { Mapped n map.now }
     requires l_in_bounds { (listed + 4 * l ≤ length b.now) × (14 * c ≤ length out.old) }
@@ -217,15 +211,8 @@ pub fn rewrite_dependents(
     ensures { RowsRewritten n table.now source.now map.now (words_at b.now listed l) rows.now c out.new result }
 {
     let mut steps: usize = 0;
-    let mut i = c;
-    while 0 < i {
-        i -= 1;
-        match rewrite_row(table, source, map, n, b, listed, l, rows, i, out) {
-            Rewritten::Refused(number) => return Rewritten::Refused(number),
-            Rewritten::Steps(k) => {
-                steps += k;
-            }
-        }
+    for i in (0..c).rev() {
+        steps += rewrite_row(table, source, map, n, b, listed, l, rows, i, out)?;
     }
-    Rewritten::Steps(steps)
+    Ok(steps)
 }

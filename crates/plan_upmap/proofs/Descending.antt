@@ -17,8 +17,7 @@ use Rattle.definition.specs.Rewriting.{land}
 use Rattle.read_element_table.specs.View.{view, field, siblings}
 use Rattle.read_element_table.specs.Wellformed.{Wellformed}
 use Rattle.read_element_table.specs.Told.{row_view, node_told, child_count, children_told, length_siblings}
-use Rattle.plan_upmap.specs.declared.Found.{Found}
-use Rattle.plan_upmap.specs.declared.Found.TheVariants.{At, Missing}
+use Rattle.std.specs.Prelude.{Option, Some, None}
 use Rattle.plan_mapping.specs.Backward.{backward, backward_none, backward_read}
 use Rattle.plan_upmap.specs.Answers.{found, within_at, FoundChild, Descended, Landed}
 
@@ -61,7 +60,7 @@ module _ (n : ℕ) (w s : List ℕ) (e i m : ℕ) (W : Wellformed n w s) (h : e 
   children_are : (row (view n w s) e).children ≡ siblings w s m (suc e)
   children_are = rw g (children_told n w s e h)
 
-  pub no_child_beyond : m ≤ i → FoundChild n w s e i Missing
+  pub no_child_beyond : m ≤ i → FoundChild n w s e i None
   unfolding found
   no_child_beyond l = record { child = sym (rw children_are (get_none (siblings w s m (suc e)) i (rw (length_siblings w s m (suc e)) l))); within = tt }
 
@@ -94,7 +93,7 @@ module _ (n : ℕ) (w s : List ℕ) (e i c j : ℕ) (S : Siblings n w s e i c j)
         rest = S.rest ∙ get_next n w s (m - j) (m - (j + 1)) c (i - j) (i - (j + 1)) f (omega arith);
       })
 
-  pub siblings_done : i ≤ j → FoundChild n w s e i (At c)
+  pub siblings_done : i ≤ j → FoundChild n w s e i (Some c)
   unfolding found
   siblings_done l =
       let r = S.room in
@@ -113,43 +112,43 @@ pub descending_start : (n : ℕ) (w s : List ℕ) (r : ℕ) (a : List ℕ) (k : 
 descending_start n w s r a k h l = record { here = h; short = l; rest = refl }
 
 module _ (n : ℕ) (w s : List ℕ) (r : ℕ) (a : List ℕ) (k at left : ℕ) (D : Descending n w s r a k at left) where
-  pub descending_done : left ≤ 0 → Descended n w s r (backward k a) (At at)
+  pub descending_done : left ≤ 0 → Descended n w s r (backward k a) (Some at)
   unfolding found descend
   descending_done l = let z : left ≡ 0 = omega arith in record { element = sym (D.rest ∙ rw (z, backward_none a)); within = D.here }
 
-  module _ (i : ℕ) (o : Found) (l : 0 < left) (q : i ≡ get_or a (left - 1) 0) (F : FoundChild n w s at i o) where
+  module _ (i : ℕ) (o : Option ℕ) (l : 0 < left) (q : i ≡ get_or a (left - 1) 0) (F : FoundChild n w s at i o) where
     one_down : descend (view n w s) at (backward left a) ≡ bind (found o) (λ c. descend (view n w s) c (backward (left - 1) a))
     unfolding descend
     one_down = rw (backward_read a left l D.short, ← q, ← F.child)
 
-    pub descending_none : o ≡ Missing → Descended n w s r (backward k a) Missing
+    pub descending_none : o ≡ None → Descended n w s r (backward k a) None
     unfolding found bind
     descending_none z = record { element = sym (D.rest ∙ (one_down ∙ rw z)); within = tt }
 
-    pub descending_next : (c : ℕ) → o ≡ At c → Descending n w s r a k c (left - 1)
+    pub descending_next : (c : ℕ) → o ≡ Some c → Descending n w s r a k c (left - 1)
     unfolding found bind
     descending_next c z = record { here = within_at n o c F.within z; short = omega (arith, D.short); rest = D.rest ∙ (one_down ∙ rw z) }
 
 -- ── The landing ─────────────────────────────────────────────────────────────────────────────────────────────
 
-module _ (n : ℕ) (w s : List ℕ) (e r : ℕ) (p : Path) (o : Found) (D : Descended n w s r p o) where
-  pub landing_none : o ≡ Missing → Landed n w s e r p Missing
+module _ (n : ℕ) (w s : List ℕ) (e r : ℕ) (p : Path) (o : Option ℕ) (D : Descended n w s r p o) where
+  pub landing_none : o ≡ None → Landed n w s e r p None
   unfolding found land or_refuse ◌>>=◌
   landing_none z = record { landing = λ mapped. rw (← D.element, z); within = tt }
 
-  module _ (to : ℕ) (z : o ≡ At to) (t : Bool) (q : t ≡ is_node (get_or s (3 * suc to) 0)) (he : e < n) where
+  module _ (to : ℕ) (z : o ≡ Some to) (t : Bool) (q : t ≡ is_node (get_or s (3 * suc to) 0)) (he : e < n) where
     below_n : to < n
     below_n = within_at n o to D.within z
 
-    pub landing_on_node : t ≡ true → Landed n w s e r p (At to)
+    pub landing_on_node : t ≡ true → Landed n w s e r p (Some to)
     unfolding found land or_refuse ◌>>=◌ refuse
     landing_on_node y = record { landing = λ mapped. rw (← D.element, z, node_told n w s to below_n, ← q, y, and-false); within = below_n }
 
     module _ (u : Bool) (g : u ≡ is_node (get_or s (3 * suc e) 0)) (y : t ≡ false) where
-      pub landing_refused : u ≡ true → Landed n w s e r p Missing
+      pub landing_refused : u ≡ true → Landed n w s e r p None
       unfolding found land or_refuse ◌>>=◌ refuse
       landing_refused x = record { landing = λ mapped. rw (← D.element, z, node_told n w s to below_n, ← q, y, node_told n w s e he, ← g, x); within = tt }
 
-      pub landing_of_token : u ≡ false → Landed n w s e r p (At to)
+      pub landing_of_token : u ≡ false → Landed n w s e r p (Some to)
       unfolding found land or_refuse ◌>>=◌ refuse
       landing_of_token x = record { landing = λ mapped. rw (← D.element, z, node_told n w s e he, ← g, x); within = below_n }

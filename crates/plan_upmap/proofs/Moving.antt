@@ -4,24 +4,28 @@ use mathlib.Core.List.{List, [], ◌∷◌, ◌++◌}
 use mathlib.Core.Option.{Option, none, some, bind}
 use mathlib.Core.Path.{◌≡◌, refl, sym, ◌∙◌}
 use Prim.Native.Nat.{ℕ}
+use native.Mathlib.Omega.{arith}
 use lib.ListN.{get_elem?}
 use Rattle.orders.specs.Tree.{Path}
 use Rattle.definition.specs.Basics.{refused, gives, ◌>>=◌, or_refuse}
 use Rattle.definition.specs.Elements.{Table, row, descend}
 use Rattle.definition.specs.Rewriting.{trail, land, moved}
 use Rattle.read_element_table.specs.View.{view}
-use Rattle.plan_mapping.specs.declared.Below.{Below}
-use Rattle.plan_mapping.specs.declared.Below.TheVariants.{Numbers, Elsewhere}
-use Rattle.plan_mapping.specs.declared.Climb.{Climb}
-use Rattle.plan_mapping.specs.declared.Climb.TheVariants.{Trail, Refused}
-use Rattle.plan_upmap.specs.declared.Found.{Found}
-use Rattle.plan_upmap.specs.declared.Found.TheVariants.{At, Missing}
+use Rattle.std.specs.Prelude.{Option as Opt, Some, None, Result, Ok, Err}
+use Rattle.std.specs.Option.{ok_or}
+use Rattle.refusals.specs.declared.Refusal.{Refusal}
+use Rattle.refusals.specs.declared.Refusal.TheVariants.{Unmapped}
+use Rattle.refusals.specs.Numbers.{number}
 use Rattle.plan_upmap.specs.declared.Moved.{Moved}
-use Rattle.plan_upmap.specs.declared.Moved.TheVariants.{To, Refused as RefusedMove}
 use Rattle.plan_mapping.specs.Mapped.{mapped_by}
 use Rattle.plan_mapping.specs.Backward.{backward, length_backward}
 use Rattle.plan_mapping.specs.Answers.{below, Placed, climbed, Climbed, trail_room}
 use Rattle.plan_upmap.specs.Answers.{found, within_at, Descended, Landed, moved_by, moved_from, MovedFrom, MovedTo}
+
+-- nothing is refused as it is told
+pub nothing : {A E : Type 0} {e v : E} (o : Opt A) → ok_or o e ≡ Err v → (o ≡ None) × (v ≡ e)
+nothing None q = (refl, grind arith)
+nothing (Some x) q = absurd (grind arith)
 
 -- down one path, and then down another
 descend_append : (T : Table) (r : ℕ) (q p : Path) → descend T r (q ++ p) ≡ bind (descend T r q) (λ x. descend T x p)
@@ -41,32 +45,33 @@ land_on : (T : Table) (mapped : ℕ → Option ℕ) (e r x : ℕ) (q p : Path) �
 unfolding land bind
 land_on T mapped e r x q p h = rw (descend_append T r q p, h)
 
-module _ (n : ℕ) (w s m : List ℕ) (x r e : ℕ) (p : Path) (a : List ℕ) (o : Climb) (C : Climbed n w m x r o a) where
-  pub moving_refused : (y : ℕ) → o ≡ Refused y → MovedFrom n w s m x r e p (RefusedMove y)
+module _ (n : ℕ) (w s m : List ℕ) (x r e : ℕ) (p : Path) (a : List ℕ) (o : Result ℕ Refusal) (C : Climbed n w m x r o a) where
+  pub moving_refused : (y : Refusal) → o ≡ Err y → MovedFrom n w s m x r e p (Err y)
   unfolding climbed moved_by moved_from ◌>>=◌
   moving_refused y z = record { move = rw (← (C.trail s), z); within = tt }
 
-  module _ (k : ℕ) (z : o ≡ Trail k) where
+  module _ (k : ℕ) (z : o ≡ Ok k) where
     trail_is : trail (view n w s) (mapped_by m) x r ≡ gives (backward k a)
     unfolding climbed
     trail_is = sym (C.trail s) ∙ rw z
 
-    module _ (f : Found) (D : Descended n w s r (backward k a) f) where
-      pub moving_missing : f ≡ Missing → MovedFrom n w s m x r e p (RefusedMove 9)
-      unfolding moved_by moved_from ◌>>=◌ found
-      moving_missing y =
-          record { move = rw (trail_is, land_missing (view n w s) (mapped_by m) e r (backward k a) p (sym D.element ∙ rw y)); within = tt }
+    module _ (f : Opt ℕ) (D : Descended n w s r (backward k a) f) where
+      pub moving_missing : {q : Result ℕ Refusal} (v : Refusal) → q ≡ ok_or f Unmapped → q ≡ Err v → MovedFrom n w s m x r e p (Err v)
+      unfolding number moved_by moved_from ◌>>=◌ found
+      moving_missing v y g =
+          let (h, u) = nothing f (sym y ∙ g) in
+          record { move = rw (trail_is, land_missing (view n w s) (mapped_by m) e r (backward k a) p (sym D.element ∙ rw h), u); within = tt }
 
-      module _ (y : ℕ) (g : f ≡ At y) (f' : Found) (G : Landed n w s e y p f') where
+      module _ (y : ℕ) (g : f ≡ Some y) (f' : Opt ℕ) (G : Landed n w s e y p f') where
         landed : land (view n w s) (mapped_by m) e r (backward k a ++ p) ≡ or_refuse 9 (found f')
         unfolding found
         landed = land_on (view n w s) (mapped_by m) e r y (backward k a) p (sym D.element ∙ rw g) ∙ sym (G.landing (mapped_by m))
 
-        pub moving_nowhere : f' ≡ Missing → MovedFrom n w s m x r e p (RefusedMove 9)
-        unfolding moved_by moved_from ◌>>=◌ found or_refuse
-        moving_nowhere h = record { move = rw (trail_is, landed, h); within = tt }
+        pub moving_nowhere : {q : Result ℕ Refusal} (v : Refusal) → q ≡ ok_or f' Unmapped → q ≡ Err v → MovedFrom n w s m x r e p (Err v)
+        unfolding number moved_by moved_from ◌>>=◌ found or_refuse
+        moving_nowhere v y g = let (h, u) = nothing f' (sym y ∙ g) in record { move = rw (trail_is, landed, h, u); within = tt }
 
-        pub moving_to : (to : ℕ) → f' ≡ At to → MovedFrom n w s m x r e p (To to k)
+        pub moving_to : (to : ℕ) → f' ≡ Some to → MovedFrom n w s m x r e p (Ok (record { element = to; steps = k }))
         unfolding moved_by moved_from ◌>>=◌ found or_refuse
         moving_to to h =
             let l = trail_room C z in
@@ -75,12 +80,12 @@ module _ (n : ℕ) (w s m : List ℕ) (x r e : ℕ) (p : Path) (a : List ℕ) (o
               within = (within_at n f' to G.within h, l.0);
             }
 
-module _ (n : ℕ) (w s m : List ℕ) (x r e : ℕ) (a : List ℕ) (o : Below) (P : Placed n w x e o a) where
-  pub moving_elsewhere : o ≡ Elsewhere → MovedTo n w s m x r e (RefusedMove 9)
-  unfolding below moved_by moved or_refuse ◌>>=◌
-  moving_elsewhere z = record { move = rw (← (P.place s), z); within = tt }
+module _ (n : ℕ) (w s m : List ℕ) (x r e : ℕ) (a : List ℕ) (o : Opt ℕ) (P : Placed n w x e o a) where
+  pub moving_elsewhere : {q : Result ℕ Refusal} (v : Refusal) → q ≡ ok_or o Unmapped → q ≡ Err v → MovedTo n w s m x r e (Err v)
+  unfolding number below moved_by moved or_refuse ◌>>=◌
+  moving_elsewhere v y g = let (z, u) = nothing o (sym y ∙ g) in record { move = rw (← (P.place s), z, u); within = tt }
 
-  module _ (k : ℕ) (z : o ≡ Numbers k) where
-    pub moving_from : (t : Moved) → MovedFrom n w s m x r e (backward k a) t → MovedTo n w s m x r e t
+  module _ (k : ℕ) (z : o ≡ Some k) where
+    pub moving_from : (t : Result Moved Refusal) → MovedFrom n w s m x r e (backward k a) t → MovedTo n w s m x r e t
     unfolding below moved moved_from or_refuse ◌>>=◌
     moving_from t M = record { move = M.move ∙ rw (← (P.place s), z); within = M.within }

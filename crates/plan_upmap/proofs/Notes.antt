@@ -17,17 +17,17 @@ use Rattle.definition.specs.Rewriting.{mapped_or, nearest, is_parent, note_from,
 use Rattle.read_element_table.specs.View.{view, field, line_from, row_at}
 use Rattle.read_element_table.specs.Wellformed.{Lines}
 use Rattle.read_element_table.specs.Told.{element_of, row_view, parent_below, parent_told}
-use Rattle.plan_mapping.specs.declared.Below.{Below}
-use Rattle.plan_mapping.specs.declared.Below.TheVariants.{Numbers, Elsewhere}
-use Rattle.plan_upmap.specs.declared.Found.{Found}
-use Rattle.plan_upmap.specs.declared.Found.TheVariants.{At, Missing}
-use Rattle.plan_upmap.specs.declared.Settled.{Settled}
-use Rattle.plan_upmap.specs.declared.Settled.TheVariants.{At as Rests, Refused}
+use Rattle.std.specs.Prelude.{Option as Opt, Some, None, Result, Ok, Err}
+use Rattle.std.specs.Option.{ok_or}
+use Rattle.refusals.specs.declared.Refusal.{Refusal}
+use Rattle.refusals.specs.declared.Refusal.TheVariants.{Unmapped, Endless}
+use Rattle.refusals.specs.Numbers.{number, answered}
 use Rattle.plan_mapping.specs.Mapped.{mapped_by}
 use Rattle.plan_mapping.specs.Backward.{backward}
 use Rattle.plan_mapping.specs.Answers.{below, Placed}
-use Rattle.plan_upmap.specs.Answers.{found, within_at, Landed}
-use Rattle.plan_upmap.specs.Settling.{Nearest, settled_by, settled_at_lem, OneMove, SettledAt}
+use Rattle.plan_upmap.specs.Answers.{found, Within, Landed}
+use Rattle.plan_upmap.proofs.Moving.{nothing}
+use Rattle.plan_upmap.specs.Settling.{Nearest, SettledWithin, settled_at_lem, OneMove, SettledAt}
 
 -- ── The nearest mapped ancestor ─────────────────────────────────────────────────────────────────────────────
 
@@ -71,12 +71,12 @@ pub rising_start : (n : ℕ) (w m : List ℕ) (e : ℕ) → e < n → Rising n w
 rising_start n w m e h = record { here = h; rest = λ s. refl }
 
 module _ (n : ℕ) (w m : List ℕ) (e at v : ℕ) (L : Lines n w) (R : Rising n w m e at) (q : v ≡ get_or m at 0) where
-  pub rising_found : (v ≡ 0 → ⊥) → Nearest n w m e (At at)
+  pub rising_found : (v ≡ 0 → ⊥) → Nearest n w m e (Some at)
   unfolding found nearest first
   rising_found z = record { ancestor = λ s. sym (R.rest s ∙ rw ((line_starts n w s L at R.here).1, is_mapped m at v q z)); within = R.here }
 
   module _ (z : v ≡ 0) (p : ℕ) (g : p ≡ get_or w (8 * at + 1) 0) where
-    pub rising_none : p ≡ 0 → Nearest n w m e Missing
+    pub rising_none : p ≡ 0 → Nearest n w m e None
     unfolding found nearest first
     rising_none y = record { ancestor = λ s. sym (R.rest s ∙ rw (line_root n w s L at R.here (sym g ∙ y), not_mapped m at v q z)); within = tt }
 
@@ -103,27 +103,31 @@ module _ (n : ℕ) (w s m : List ℕ) (a e y : ℕ) (L : Lines n w) (hy : y < n)
   held : is_parent (view n w s) (mapped_by m) a y ≡ eqb k (a + 1)
   held = rw (add-one a) (parent_word (view n w s) (mapped_by m) a y k (parent_told n w s L y hy ∙ rw (← g)))
 
-  pub move_stays : k ≡ a + 1 → OneMove n w s m a e (Refused 10)
-  unfolding settled_by note_from mapped_or refuse ◌>>=◌
+  pub move_stays : k ≡ a + 1 → OneMove n w s m a e (Err Endless)
+  unfolding number answered note_from mapped_or refuse ◌>>=◌
   move_stays z = record { move = rw (← q, held, eq-eqb k (a + 1) z); within = tt }
 
-  module _ (z : k ≡ a + 1 → ⊥) (b : List ℕ) (o : Below) (P : Placed n w a e o b) where
-    pub move_elsewhere : o ≡ Elsewhere → OneMove n w s m a e (Refused 9)
-    unfolding settled_by note_from mapped_or refuse or_refuse ◌>>=◌ below
-    move_elsewhere x = record { move = rw (← q, held, ne_eqb k (a + 1) z, ← (P.place s), x); within = tt }
+  module _ (z : k ≡ a + 1 → ⊥) (b : List ℕ) (o : Opt ℕ) (P : Placed n w a e o b) where
+    pub move_elsewhere : {p : Result ℕ Refusal} (v : Refusal) → p ≡ ok_or o Unmapped → p ≡ Err v → OneMove n w s m a e (Err v)
+    unfolding number answered note_from mapped_or refuse or_refuse ◌>>=◌ below
+    move_elsewhere v g' h = let (x, u) = nothing o (sym g' ∙ h) in record { move = rw (← q, held, ne_eqb k (a + 1) z, ← (P.place s), x, u); within = tt }
 
-    module _ (d : ℕ) (x : o ≡ Numbers d) (f : Found) (G : Landed n w s e y (backward d b) f) where
+    module _ (d : ℕ) (x : o ≡ Some d) (f : Opt ℕ) (G : Landed n w s e y (backward d b) f) where
       moves : note_from (view n w s) (mapped_by m) a e ≡ or_refuse 9 (found f)
       unfolding note_from mapped_or refuse or_refuse ◌>>=◌ below
       moves = rw (← q, held, ne_eqb k (a + 1) z, ← (P.place s), x) (sym (G.landing (mapped_by m)))
 
-      pub move_nowhere : f ≡ Missing → OneMove n w s m a e (Refused 9)
-      unfolding settled_by found or_refuse
-      move_nowhere v = record { move = sym (moves ∙ rw v); within = tt }
+      pub move_lands : OneMove n w s m a e (ok_or f Unmapped)
+      unfolding number answered found or_refuse
+      move_lands = record { move = landed f ∙ sym moves; within = lands f G.within }
+        where
+          landed : (f : Opt ℕ) → answered (ok_or f Unmapped) ≡ or_refuse 9 (found f)
+          landed (Some to) = refl
+          landed None = refl
 
-      pub move_to : (to : ℕ) → f ≡ At to → OneMove n w s m a e (Rests to)
-      unfolding settled_by found or_refuse
-      move_to to v = record { move = sym (moves ∙ rw v); within = within_at n f to G.within v }
+          lands : (f : Opt ℕ) → Within n f → SettledWithin n (ok_or f Unmapped)
+          lands (Some to) h = h
+          lands None h = tt
 
 -- ── Moves until none is mapped ──────────────────────────────────────────────────────────────────────────────
 
@@ -149,18 +153,18 @@ pub record Settling (n : ℕ) (w s m : List ℕ) (e at left : ℕ) : Type 0 wher
 pub settling_start : (n : ℕ) (w s m : List ℕ) (e : ℕ) → e < n → Settling n w s m e e n
 settling_start n w s m e h = record { here = h; rest = refl }
 
-module _ (n : ℕ) (w s m : List ℕ) (e at left : ℕ) (S : Settling n w s m e at left) (f : Found) (N : Nearest n w m at f) where
-  pub settling_done : f ≡ Missing → SettledAt n w s m e (Rests at)
-  unfolding settled_by found
+module _ (n : ℕ) (w s m : List ℕ) (e at left : ℕ) (S : Settling n w s m e at left) (f : Opt ℕ) (N : Nearest n w m at f) where
+  pub settling_done : f ≡ None → SettledAt n w s m e (Ok at)
+  unfolding answered found
   settling_done z = record { place = sym (S.rest ∙ settle_none (view n w s) (mapped_by m) left at (sym (N.ancestor s) ∙ rw z)); within = S.here }
 
-  module _ (a : ℕ) (z : f ≡ At a) where
-    pub settling_10 : left ≡ 0 → SettledAt n w s m e (Refused 10)
-    unfolding settled_by found
+  module _ (a : ℕ) (z : f ≡ Some a) where
+    pub settling_10 : left ≡ 0 → SettledAt n w s m e (Err Endless)
+    unfolding number answered found
     settling_10 l = record { place = sym (S.rest ∙ rw l (settle_ten (view n w s) (mapped_by m) at a (sym (N.ancestor s) ∙ rw z))); within = tt }
 
-    module _ (l : left ≡ 0 → ⊥) (o : Settled) (M : OneMove n w s m a at o) where
-      onward : settle (view n w s) (mapped_by m) left at ≡ (settled_by o >>= λ to. settle (view n w s) (mapped_by m) (left - 1) to)
+    module _ (l : left ≡ 0 → ⊥) (o : Result ℕ Refusal) (M : OneMove n w s m a at o) where
+      onward : settle (view n w s) (mapped_by m) left at ≡ (answered o >>= λ to. settle (view n w s) (mapped_by m) (left - 1) to)
       unfolding found
       onward =
           rw M.move (settle_on (view n w s) (mapped_by m) left (left - 1) at a (go left l) (sym (N.ancestor s) ∙ rw z))
@@ -169,10 +173,10 @@ module _ (n : ℕ) (w s m : List ℕ) (e at left : ℕ) (S : Settling n w s m e 
           go zero x = absurd (x refl)
           go (suc k) x = omega arith
 
-      pub settling_refused : (x : ℕ) → o ≡ Refused x → SettledAt n w s m e (Refused x)
-      unfolding settled_by ◌>>=◌
+      pub settling_refused : (x : Refusal) → o ≡ Err x → SettledAt n w s m e (Err x)
+      unfolding answered ◌>>=◌
       settling_refused x y = record { place = sym (S.rest ∙ (onward ∙ rw y)); within = tt }
 
-      pub settling_next : (to : ℕ) → o ≡ Rests to → Settling n w s m e to (left - 1)
-      unfolding settled_by ◌>>=◌
+      pub settling_next : (to : ℕ) → o ≡ Ok to → Settling n w s m e to (left - 1)
+      unfolding answered ◌>>=◌
       settling_next to y = record { here = settled_at_lem M.within y; rest = S.rest ∙ (onward ∙ rw y) }

@@ -8,34 +8,25 @@ ghost use Rattle.plan_mapping.specs.Backward.{backward};
 ghost use Rattle.plan_upmap.specs.Answers.{FoundChild, Descended, Landed, MovedFrom, MovedTo};
 ghost use Rattle.plan_upmap.specs.Settling.{Nearest, OneMove, SettledAt};
 
-use plan_mapping::{Below, Climb};
+use refusals::Refusal;
 
-// An element, or that there is none.
-#[derive(Clone, Copy)]
-pub enum Found {
-    At(usize),
-    Missing,
-}
-
-// Child number `i` of element `e`.
-pub fn nth_child(table: &[u32], source: &[u32], n: usize, e: usize, i: usize) -> Found
+// Child number `i` of element `e`, if there is one.
+pub fn nth_child(table: &[u32], source: &[u32], n: usize, e: usize, i: usize) -> Option<usize>
     requires wellformed { Wellformed n table.now source.now }
     requires e_lt_n { e < n }
     ensures { FoundChild n table.now source.now e i result }
 {
     if read_element_table::child_count(source, e) <= i {
-        return Found::Missing;
+        return None;
     }
     let mut c = e + 1;
-    let mut j: usize = 0;
-    while j < i {
+    for _ in 0..i {
         c = read_element_table::entry(table, c, read_element_table::AFTER);
-        j += 1;
     }
-    Found::At(c)
+    Some(c)
 }
 
-// The element to which the first `k` child numbers lead from `r`, read backward.
+// The element to which the first `k` child numbers lead from `r`, read backward, if they lead to one.
 pub fn descend(
     table: &[u32],
     source: &[u32],
@@ -43,21 +34,16 @@ pub fn descend(
     r: usize,
     numbers: &[u32],
     k: usize,
-) -> Found
+) -> Option<usize>
     requires wellformed { Wellformed n table.now source.now }
     requires r_lt_n { (r < n) × (k ≤ length numbers.now) }
     ensures { Descended n table.now source.now r (backward k numbers.now) result }
 {
     let mut at = r;
-    let mut left = k;
-    while 0 < left {
-        left -= 1;
-        let Found::At(c) = nth_child(table, source, n, at, words::word(numbers, left)) else {
-            return Found::Missing;
-        };
-        at = c;
+    for left in (0..k).rev() {
+        at = nth_child(table, source, n, at, words::word(numbers, left))?;
     }
-    Found::At(at)
+    Some(at)
 }
 
 // Where `e` lands, down `k` child numbers from `r`: a node lands on no token.
@@ -69,28 +55,26 @@ pub fn land(
     r: usize,
     numbers: &[u32],
     k: usize,
-) -> Found
+) -> Option<usize>
     requires wellformed { Wellformed n table.now source.now }
     requires e_lt_n { (e < n) × (r < n) × (k ≤ length numbers.now) }
     ensures { Landed n table.now source.now e r (backward k numbers.now) result }
 {
-    let Found::At(to) = descend(table, source, n, r, numbers, k) else {
-        return Found::Missing;
-    };
+    let to = descend(table, source, n, r, numbers, k)?;
     if read_element_table::is_node(source, to) {
-        return Found::At(to);
+        return Some(to);
     }
     if read_element_table::is_node(source, e) {
-        return Found::Missing;
+        return None;
     }
-    Found::At(to)
+    Some(to)
 }
 
-// Where an element goes and how many climb steps were taken, or a refusal.
+// Where an element goes, and how many climb steps were taken.
 #[derive(Clone, Copy)]
-pub enum Moved {
-    To(usize, usize),
-    Refused(usize),
+pub struct Moved {
+    pub element: usize,
+    pub steps: usize,
 }
 
 // Where `child` goes that stands below `input` by the first `depth` numbers of `place`: from `output` down the trail of `input`, then down
@@ -105,26 +89,17 @@ fn upmap_below(
     output: usize,
     place: &[u32],
     depth: usize,
-) -> Moved
+) -> Result<Moved, Refusal>
     requires wellformed { Wellformed n table.now source.now }
     requires mapped { Mapped n map.now }
     requires child_lt_n { (child < n) × (input < n) × (output < n) × (depth ≤ length place.now) }
     ensures { MovedFrom n table.now source.now map.now input output child (backward depth place.now) result }
 {
     let mut trail = [0u32; 2049];
-    let climb = plan_mapping::upmap_to_ancestor(table, map, n, input, output, &mut trail);
-    match climb {
-        Climb::Refused(number) => Moved::Refused(number),
-        Climb::Trail(k) => {
-            let Found::At(x) = descend(table, source, n, output, &trail, k) else {
-                return Moved::Refused(9);
-            };
-            let Found::At(to) = land(table, source, n, child, x, place, depth) else {
-                return Moved::Refused(9);
-            };
-            Moved::To(to, k)
-        }
-    }
+    let steps = plan_mapping::upmap_to_ancestor(table, map, n, input, output, &mut trail)?;
+    let x = descend(table, source, n, output, &trail, steps).ok_or(Refusal::Unmapped)?;
+    let element = land(table, source, n, child, x, place, depth).ok_or(Refusal::Unmapped)?;
+    Ok(Moved { element, steps })
 }
 
 // Rust: SyntaxMapping::upmap_child, SyntaxMapping::upmap_child_element. Where `child` goes when `input` is replaced by `output`. Where the Rust panics: 9.
@@ -136,21 +111,21 @@ pub fn upmap_child(
     child: usize,
     input: usize,
     output: usize,
-) -> Moved
+) -> Result<Moved, Refusal>
     requires wellformed { Wellformed n table.now source.now }
     requires mapped { Mapped n map.now }
     requires child_lt_n { (child < n) × (input < n) × (output < n) }
     ensures { MovedTo n table.now source.now map.now input output child result }
 {
     let mut place = [0u32; 64];
-    let Below::Numbers(depth) = plan_mapping::place_below(table, n, input, child, &mut place) else {
-        return Moved::Refused(9);
-    };
+    let depth = plan_mapping::place_below(table, n, input, child, &mut place).ok_or(
+        Refusal::Unmapped,
+    )?;
     upmap_below(table, source, map, n, child, input, output, &place, depth)
 }
 
 // The nearest ancestor of `e`, or `e` itself, that is mapped.
-fn nearest_mapped(table: &[u32], map: &[u32], n: usize, e: usize) -> Found
+fn nearest_mapped(table: &[u32], map: &[u32], n: usize, e: usize) -> Option<usize>
     requires lines { Lines n table.now }
     requires mapped { Mapped n map.now }
     requires e_lt_n { e < n }
@@ -160,23 +135,23 @@ fn nearest_mapped(table: &[u32], map: &[u32], n: usize, e: usize) -> Found
     while words::word(map, at) == 0 {
         let p = read_element_table::entry(table, at, read_element_table::PARENT);
         if p == 0 {
-            return Found::Missing;
+            return None;
         }
         at = p - 1;
     }
-    Found::At(at)
-}
-
-// Where a note's element settles, or a refusal.
-#[derive(Clone, Copy)]
-pub enum Settled {
-    At(usize),
-    Refused(usize),
+    Some(at)
 }
 
 // One move of `e`, which stands at or below `a`, to the same place under the output of `a`. The Rust maps to the parent of the output; where that is `a`
 // itself, nothing moves and it loops: 10.
-fn upmap_from(table: &[u32], source: &[u32], map: &[u32], n: usize, a: usize, e: usize) -> Settled
+fn upmap_from(
+    table: &[u32],
+    source: &[u32],
+    map: &[u32],
+    n: usize,
+    a: usize,
+    e: usize,
+) -> Result<usize, Refusal>
     requires wellformed { Wellformed n table.now source.now }
     requires mapped { Mapped n map.now }
     requires a_lt_n { (a < n) × (e < n) }
@@ -184,21 +159,22 @@ fn upmap_from(table: &[u32], source: &[u32], map: &[u32], n: usize, a: usize, e:
 {
     let output = plan_mapping::upmap_node_single(map, n, a);
     if read_element_table::entry(table, output, read_element_table::PARENT) == a + 1 {
-        return Settled::Refused(10);
+        return Err(Refusal::Endless);
     }
     let mut place = [0u32; 64];
-    let Below::Numbers(depth) = plan_mapping::place_below(table, n, a, e, &mut place) else {
-        return Settled::Refused(9);
-    };
-    let Found::At(to) = land(table, source, n, e, output, &place, depth) else {
-        return Settled::Refused(9);
-    };
-    Settled::At(to)
+    let depth = plan_mapping::place_below(table, n, a, e, &mut place).ok_or(Refusal::Unmapped)?;
+    land(table, source, n, e, output, &place, depth).ok_or(Refusal::Unmapped)
 }
 
 // Rust: SyntaxMapping::upmap_element. Where a note on `e` settles: it moves until neither its element nor an ancestor is mapped; more than `n` moves must
 // repeat.
-pub fn upmap_element(table: &[u32], source: &[u32], map: &[u32], n: usize, e: usize) -> Settled
+pub fn upmap_element(
+    table: &[u32],
+    source: &[u32],
+    map: &[u32],
+    n: usize,
+    e: usize,
+) -> Result<usize, Refusal>
     requires wellformed { Wellformed n table.now source.now }
     requires mapped { Mapped n map.now }
     requires e_lt_n { e < n }
@@ -207,18 +183,13 @@ pub fn upmap_element(table: &[u32], source: &[u32], map: &[u32], n: usize, e: us
     let mut at = e;
     let mut left = n;
     loop {
-        let Found::At(a) = nearest_mapped(table, map, n, at) else {
-            return Settled::At(at);
+        let Some(a) = nearest_mapped(table, map, n, at) else {
+            return Ok(at);
         };
         if left == 0 {
-            return Settled::Refused(10);
+            return Err(Refusal::Endless);
         }
-        match upmap_from(table, source, map, n, a, at) {
-            Settled::Refused(number) => return Settled::Refused(number),
-            Settled::At(to) => {
-                at = to;
-                left -= 1;
-            }
-        }
+        at = upmap_from(table, source, map, n, a, at)?;
+        left -= 1;
     }
 }

@@ -16,10 +16,9 @@ pub enum Job {
     Kept,
 }
 
-// A refusal's number; how many bytes the result, the account or the pairs have; no element; an element's number; or a share's quotient and remainder.
+// What a call that is not refused tells: how many bytes the result, the account or the pairs have; no element; an element's number; or a share's quotient and remainder.
 #[derive(Clone, Copy)]
-pub enum Outcome {
-    Refused(usize),
+pub enum Told {
     Bytes(usize),
     Nothing,
     At(usize),
@@ -73,9 +72,9 @@ pub fn too_short(
 fn clear_three(a: &mut [u32], b: &mut [u32], c: &mut [u32])
     ensures { (a.new ≡ zeros a.old) × (b.new ≡ zeros b.old) × (c.new ≡ zeros c.old) }
 {
-    words::clear(a);
-    words::clear(b);
-    words::clear(c);
+    a.fill(0);
+    b.fill(0);
+    c.fill(0);
 }
 
 // Every work slice becomes zeros.

@@ -1,6 +1,6 @@
 -- What an accepted batch leaves: the element table, the rows, and where each array stands.
 -- Assumes nothing.
-use Rattle.std.specs.Prelude.{◌≡◌, true, List, ℕ, ◌+◌, ◌*◌, ◌≤◌, length, drop}
+use Rattle.std.specs.Prelude.{◌≡◌, true, List, ℕ, ◌+◌, ◌*◌, ◌≤◌, length, drop, Result, Ok, Err}
 use Rattle.std.proofs.Math.Path.{refl, sym, ap}
 use Rattle.std.proofs.Common.{◌∙◌, arith}
 use Rattle.std.proofs.Math.Bool.{false}
@@ -11,19 +11,18 @@ use Rattle.orders.specs.Tree.{Tree}
 use Rattle.definition.specs.Basics.{refused, gives, is_some}
 use Rattle.definition.specs.Elements.{Table, spelled, table}
 use Rattle.definition.specs.Refusals.{Accepted, accepted}
-use Rattle.definition.specs.Words.{words}
 use Rattle.words.specs.Bytes.{length_words}
 use Rattle.definition_laws.specs.Answers.{gives_inj}
+use Rattle.refusals.specs.Numbers.{number, answered}
+use Rattle.refusals.specs.declared.Refusal.{Refusal}
 use Rattle.read_element_table.specs.View.{view}
 use Rattle.read_spelling.specs.Spelling.{elements_at, accepts}
 use Rattle.read_spelling.specs.SpellingLaws.{accepts_spelled}
 use Rattle.read_element_table.specs.Filling.{Filled}
 use Rattle.read_element_table.specs.Filled.{elements_in, accepted as spells-trees, filled_view, filled_wellformed}
 use Rattle.read_element_table.specs.Wellformed.{Wellformed}
-use Rattle.read_layout.specs.Layout.{Within, within, laid, laid_of, arrays_at}
+use Rattle.read_layout.specs.Layout.{Within, within, laid, arrays_at}
 use Rattle.read_layout.specs.declared.Layout.{Layout}
-use Rattle.read_layout.specs.declared.Laid.{Laid}
-use Rattle.read_layout.specs.declared.Laid.TheVariants.{Refused, At}
 use Rattle.read_batch.specs.Accepting.{judged, judged_unspelled, judged_spelled, judged_given, accepted_parts, named}
 
 -- the elements of a batch with this layout, each with kind word and measure
@@ -42,9 +41,9 @@ pub record Leaves (b : List ℕ) (l : Layout) (t₀ s₀ t s : List ℕ) : Type 
   pub told : view l.sizes.elements t s ≡ what.table
 
 -- THE PROMISE of lines 2 to 7
-pub record Judged (b t₀ s₀ t s : List ℕ) (r : Laid) : Type 0 where
-  pub answer : laid_of r ≡ judged b
-  pub left : (l : Layout) → r ≡ At l → Leaves b l t₀ s₀ t s
+pub record Judged (b t₀ s₀ t s : List ℕ) (r : Result Layout Refusal) : Type 0 where
+  pub answer : answered r ≡ judged b
+  pub left : (l : Layout) → r ≡ Ok l → Leaves b l t₀ s₀ t s
 
 -- ── Line 5 ──────────────────────────────────────────────────────────────────────────────────────────────────
 
@@ -94,14 +93,14 @@ module _ (b : List ℕ) (l : Layout) (q : laid b ≡ gives l) where
           (rw long_kinds at (filled_wellformed (arrays_at l b) ts trees_there.1 long_both t₀ s₀ (omega (arith, long_kinds, (within b l q).limits.elements)) (omega (arith, long_kinds)) (omega (arith, long_kinds))))
 
       -- lines 6 and 7 answer for all
-      pub judged_left : (r : Laid) → laid_of r ≡ named (arrays_at l b) (view l.sizes.elements t s) l → Wellformed l.sizes.elements t s → Judged b t₀ s₀ t s r
-      unfolding ts laid_of
+      pub judged_left : (r : Result Layout Refusal) → answered r ≡ named (arrays_at l b) (view l.sizes.elements t s) l → Wellformed l.sizes.elements t s → Judged b t₀ s₀ t s r
+      unfolding ts answered
       judged_left r g w =
-          let same : laid_of r ≡ judged b = g ∙ (ap (λ (T : Table). named (arrays_at l b) T l) told ∙ sym (judged_spelled b l q ts trees_there.1)) in
+          let same : answered r ≡ judged b = g ∙ (ap (λ (T : Table). named (arrays_at l b) T l) told ∙ sym (judged_spelled b l q ts trees_there.1)) in
           record {
             answer = same;
             left = λ k e.
-                let (is, a, accepts) = judged_given b k (sym same ∙ ap laid_of e) in
+                let (is, a, accepts) = judged_given b k (sym same ∙ ap answered e) in
                 let parts = accepted_parts b l a q accepts in
                 let one : ts ≡ a.trees = some_inj (sym trees_there.1 ∙ parts.trees) in
                 rw (gives_inj (sym is ∙ q))
@@ -109,6 +108,6 @@ module _ (b : List ℕ) (l : Layout) (q : laid b ≡ gives l) where
           }
 
 -- a refusal leaves nothing to say of the slices
-pub judged_refused : (b t₀ s₀ t s : List ℕ) (n : ℕ) → judged b ≡ refused n → Judged b t₀ s₀ t s (Refused n)
-unfolding laid_of
-judged_refused b t₀ s₀ t s n g = record { answer = sym g; left = λ l e. let z : ◌≡◌ {A = ℕ} 0 1 = cc in absurd (omega arith) }
+pub judged_refused : (b t₀ s₀ t s : List ℕ) (e : Refusal) → judged b ≡ refused (number e) → Judged b t₀ s₀ t s (Err e)
+unfolding answered
+judged_refused b t₀ s₀ t s e g = record { answer = sym g; left = λ l q. cc }

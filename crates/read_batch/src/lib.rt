@@ -7,13 +7,15 @@ ghost use Rattle.definition.specs.Basics.{gives, any};
 ghost use Rattle.definition.specs.Refusals.{wrong_mapping};
 ghost use Rattle.read_element_table.specs.View.{view};
 ghost use Rattle.read_element_table.specs.Wellformed.{Wellformed};
-ghost use Rattle.read_layout.specs.Layout.{Within, arrays_at, laid, laid_of};
+ghost use Rattle.refusals.specs.Numbers.{answered};
+ghost use Rattle.read_layout.specs.Layout.{Within, arrays_at, laid};
 ghost use Rattle.read_names.specs.Called.{calls_fit, word_too_many};
 ghost use Rattle.read_names.specs.Noted.{note_wrong};
 ghost use Rattle.read_batch.specs.Accepting.{named};
 ghost use Rattle.read_batch.specs.Leaving.{Judged};
 
-use read_layout::{Laid, Layout};
+use read_layout::Layout;
+use refusals::Refusal;
 
 // Line 6, of a batch with this layout.
 fn calls_stand(b: &[u8], l: Layout, table: &[u32], source: &[u32]) -> bool
@@ -58,28 +60,28 @@ fn notes_stand(b: &[u8], l: Layout) -> bool
 }
 
 // Lines 6, 16 and 7.
-fn judge_names(b: &[u8], l: Layout, table: &[u32], source: &[u32]) -> Laid
+fn judge_names(b: &[u8], l: Layout, table: &[u32], source: &[u32]) -> Result<Layout, Refusal>
     requires within { Within b.now l }
     requires wellformed { Wellformed l.sizes.elements table.now source.now }
-    ensures { laid_of result ≡ named (arrays_at l b.now) (view l.sizes.elements table.now source.now) l }
+    ensures { answered result ≡ named (arrays_at l b.now) (view l.sizes.elements table.now source.now) l }
 {
     if !calls_stand(b, l, table, source) {
-        return Laid::Refused(6);
+        return Err(Refusal::Call);
     }
     if !lists_stand(b, l) {
-        return Laid::Refused(16);
+        return Err(Refusal::Listed);
     }
     if !mappings_stand(b, l, table, source) {
-        return Laid::Refused(7);
+        return Err(Refusal::Name);
     }
-    if notes_stand(b, l) {
-        return Laid::At(l);
+    if !notes_stand(b, l) {
+        return Err(Refusal::Name);
     }
-    Laid::Refused(7)
+    Ok(l)
 }
 
 // Lines 5 to 7, of a batch with this layout: where line 5 accepts, the element table and the rows are filled.
-fn judge(b: &[u8], l: Layout, table: &mut [u32], source: &mut [u32]) -> Laid
+fn judge(b: &[u8], l: Layout, table: &mut [u32], source: &mut [u32]) -> Result<Layout, Refusal>
     requires b_value { laid b.now ≡ gives l }
     requires within { Within b.now l }
     requires in_bounds { (16384 ≤ length table.old) × (6147 ≤ length source.old) }
@@ -89,20 +91,17 @@ fn judge(b: &[u8], l: Layout, table: &mut [u32], source: &mut [u32]) -> Laid
     let kinds = l.kinds;
     let measures = l.measures;
     if !read_spelling::spells(b, kinds, measures, s.elements, s.trees, s.text) {
-        return Laid::Refused(5);
+        return Err(Refusal::Spelling);
     }
     read_element_table::fill(b, kinds, measures, s.elements, s.trees, table, source);
     judge_names(b, l, table, source)
 }
 
 // Lines 2 to 7: the first refusal in checking order, or the layout.
-pub fn accept(b: &[u8], table: &mut [u32], source: &mut [u32]) -> Laid
+pub fn accept(b: &[u8], table: &mut [u32], source: &mut [u32]) -> Result<Layout, Refusal>
     requires { (16384 ≤ length table.old) × (6147 ≤ length source.old) }
     ensures { Judged b.now table.old source.old table.new source.new result }
 {
-    let laid = read_layout::lay_out(b);
-    match laid {
-        Laid::Refused(n) => Laid::Refused(n),
-        Laid::At(l) => judge(b, l, table, source),
-    }
+    let l = read_layout::lay_out(b)?;
+    judge(b, l, table, source)
 }

@@ -4,7 +4,7 @@ use Rattle.std.specs.Prelude.{Bool, true, false, not, List, ◌≡◌, refl, ℕ
 use Rattle.std.proofs.Math.Path.{sym}
 use Rattle.std.proofs.Common.{ap, arith, drop-drop}
 use borrow.Author.Tests.{ltb-false, eqb-true, not-false}
-use Rattle.definition.specs.Basics.{Answer, refused, gives, ◌>>=◌, refuse}
+use Rattle.definition.specs.Basics.{Answer, gives, ◌>>=◌, refuse}
 use Rattle.definition.specs.Batch as def
 use Rattle.definition.specs.Batch.{Batch, sizes, beyond, whole, arrays, batch}
 use Rattle.definition.specs.Words.{words}
@@ -12,8 +12,6 @@ use Rattle.definition_laws.specs.Answers.{gives_inj, both_given, not_wrong}
 use Rattle.definition_laws.specs.Right.{neither}
 use Rattle.read_layout.specs.declared.Sizes.{Sizes}
 use Rattle.read_layout.specs.declared.Layout.{Layout}
-use Rattle.read_layout.specs.declared.Laid.{Laid}
-use Rattle.read_layout.specs.declared.Laid.TheVariants.{Refused, At}
 
 -- the sizes, as the definition has them
 abbrev pub sizes_of : Sizes → def.Sizes
@@ -77,11 +75,6 @@ arrays_at l b =
       numbers = words s.notes (drop l.numbers b);
       text = drop l.text b;
     }
-
--- the paper's number of a refusal, or the layout
-unfoldable pub laid_of : Laid → Answer Layout
-laid_of (Refused n) = refused n
-laid_of (At l) = gives l
 
 -- line 4, of a batch of n bytes
 unfoldable pub ends_at : ℕ → def.Sizes → Answer Layout

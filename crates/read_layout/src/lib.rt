@@ -3,7 +3,10 @@
 
 ghost use Rattle.std.specs.Prelude.{◌≡◌, not, ◌+◌, ◌*◌, ◌≤◌, ◌<◌, length};
 ghost use Rattle.definition.specs.Batch.{sizes, beyond};
-ghost use Rattle.read_layout.specs.Layout.{sizes_of, layout_of, Limits, laid_of, ends_at, laid};
+ghost use Rattle.refusals.specs.Numbers.{answered};
+ghost use Rattle.read_layout.specs.Layout.{sizes_of, layout_of, Limits, ends_at, laid};
+
+use refusals::Refusal;
 
 // At which byte the arrays start: the seven sizes stand before them.
 pub const ARRAYS: usize = 28;
@@ -44,13 +47,6 @@ pub struct Layout {
     pub text: usize,
 }
 
-// A refusal, by its number, or the layout.
-#[derive(Clone, Copy)]
-pub enum Laid {
-    Refused(usize),
-    At(Layout),
-}
-
 // The seven sizes at the front of a batch.
 fn read_sizes(b: &[u8]) -> Sizes
     requires { 28 ≤ length b.now }
@@ -68,34 +64,17 @@ fn read_sizes(b: &[u8]) -> Sizes
 }
 
 // Whether each size is within its limits.
+#[tactic(auto, unfolding(definition::specs::Batch::beyond))]
 pub fn within_limits(s: Sizes) -> bool
     ensures { result ≡ not (beyond (sizes_of s)) }
 {
-    if s.trees < 1 {
-        return false;
-    }
-    if 16 < s.trees {
-        return false;
-    }
-    if 2048 < s.elements {
-        return false;
-    }
-    if 16384 < s.text {
-        return false;
-    }
-    if 256 < s.calls {
-        return false;
-    }
-    if 1024 < s.listed {
-        return false;
-    }
-    if 1024 < s.mappings {
-        return false;
-    }
-    if 256 < s.notes {
-        return false;
-    }
-    true
+    (1..=16).contains(&s.trees)
+        && s.elements <= 2048
+        && s.text <= 16384
+        && s.calls <= 256
+        && s.listed <= 1024
+        && s.mappings <= 1024
+        && s.notes <= 256
 }
 
 // The arrays stand one after another.
@@ -129,27 +108,27 @@ fn placed(s: Sizes) -> Layout
 }
 
 // Line 4, of sizes within their limits.
-fn judge_length(b: &[u8], s: Sizes) -> Laid
+fn judge_length(b: &[u8], s: Sizes) -> Result<Layout, Refusal>
     requires { Limits s }
-    ensures { laid_of result ≡ ends_at (length b.now) (sizes_of s) }
+    ensures { answered result ≡ ends_at (length b.now) (sizes_of s) }
 {
     let l = placed(s);
-    if b.len() == l.text + s.text {
-        return Laid::At(l);
+    if b.len() != l.text + s.text {
+        return Err(Refusal::Length);
     }
-    Laid::Refused(4)
+    Ok(l)
 }
 
 // Lines 2, 3 and 4.
-pub fn lay_out(b: &[u8]) -> Laid
-    ensures { laid_of result ≡ laid b.now }
+pub fn lay_out(b: &[u8]) -> Result<Layout, Refusal>
+    ensures { answered result ≡ laid b.now }
 {
     if b.len() < ARRAYS {
-        return Laid::Refused(2);
+        return Err(Refusal::ShortBatch);
     }
     let s = read_sizes(b);
-    if within_limits(s) {
-        return judge_length(b, s);
+    if !within_limits(s) {
+        return Err(Refusal::Size);
     }
-    Laid::Refused(3)
+    judge_length(b, s)
 }

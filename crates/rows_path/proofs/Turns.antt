@@ -4,9 +4,9 @@ use mathlib.Core.Path.{◌≡◌, refl, sym, ap, ◌∙◌}
 use mathlib.Core.Bool.{cond}
 use mathlib.Core.List.{List, [], ◌∷◌}
 use mathlib.Core.Option.{Option, none, some, bind}
-use Prim.Native.Nat.{ℕ, suc, ◌+◌, ◌-◌, ◌*◌, ◌/◌, ◌^◌, ◌≤◌, ◌<◌}
+use Prim.Native.Nat.{ℕ, suc, ◌+◌, ◌*◌, ◌/◌, ◌^◌, ◌≤◌, ◌<◌}
+use Rattle.std.specs.Prelude.{Option as Answer, None}
 use native.Mathlib.Omega.{arith}
-use native.Mathlib.Nat.{sub-zero}
 use native.Mathlib.Numerals.{add-one}
 use lib.Dec.{ltb}
 use lib.ListN.{length, get_elem?, get_or, take, drop, drop_of_length-le}
@@ -17,10 +17,9 @@ use Rattle.rows_model.specs.Row.{first_rows, triples, bytes}
 use Rattle.rows_model.specs.Place.{child_row, follow}
 use Rattle.rows_model.proofs.Words.{first_get, length_first, length_triples, triples_take}
 use Rattle.rows_syntax_node.specs.Promises.{Counted, ChildAt, Bytes}
-use Rattle.rows_path.specs.Promises.{resolved, Resolves}
+use Rattle.rows_path.specs.Promises.{resolved, at_row, Resolves}
 use Rattle.rows_path.proofs.Promises.{resolves}
 use Rattle.rows_path.specs.declared.Resolved.{Resolved}
-use Rattle.rows_path.specs.declared.Resolved.TheVariants.{At, Nothing}
 
 -- the first j steps of the path lead to row `at` of n, which are all
 pub record Following (tree : List ℕ) (n : ℕ) (path : List ℕ) (at j : ℕ) : Type 0 where
@@ -41,11 +40,11 @@ module _ {tree : List ℕ} {n : ℕ} {path : List ℕ} {at j : ℕ} (v : Followi
   long = omega (arith, v.all)
 
   -- what the path leads to, told of all rows
-  answer : {r : Resolved} (o : List ℕ → Option ℕ) → ((text : List ℕ) → follow (first_rows text n tree) at (drop j path) ≡ o text) → ((text : List ℕ) → r ≡ resolved (triples text tree) (o text)) → Resolves tree path r
+  answer : {r : Answer Resolved} (o : List ℕ → Option ℕ) → ((text : List ℕ) → follow (first_rows text n tree) at (drop j path) ≡ o text) → ((text : List ℕ) → r ≡ resolved (triples text tree) (o text)) → Resolves tree path r
   answer o f e = resolves (λ text. e text ∙ ap (resolved (triples text tree)) (sym (ap (λ rs. follow rs 0 path) (sym (whole text tree n v.all)) ∙ (v.rest text ∙ f text))))
 
   -- beyond the rows
-  pub following_out : n ≤ at → Resolves tree path Nothing
+  pub following_out : n ≤ at → Resolves tree path None
   unfolding resolved follow bind
   following_out k = answer (λ text. none) (λ text. go text (drop j path)) (λ text. refl)
     where
@@ -62,7 +61,7 @@ module _ {tree : List ℕ} {n : ℕ} {path : List ℕ} {at j : ℕ} (v : Followi
     unfolding follow bind
     step text = rw (drop-cons path j 0 l, ← e.0, first_get text n tree long at k, ← c.count text)
 
-    pub following_none : m ≤ i → Resolves tree path Nothing
+    pub following_none : m ≤ i → Resolves tree path None
     unfolding resolved
     following_none g = answer (λ text. none) (λ text. step text ∙ rw (le-ltb i m g)) (λ text. refl)
 
@@ -70,6 +69,6 @@ module _ {tree : List ℕ} {n : ℕ} {path : List ℕ} {at j : ℕ} (v : Followi
     following_next g d = record { all = v.all; inside = omega arith; bound = d.high; rest = λ text. rw (add-one j) (v.rest text ∙ (step text ∙ rw (lt-ltb i m g, ← d.row text))) }
 
   -- all steps are done: the text before the row is the start
-  pub following_done : length path ≤ j → at < n → (part : List ℕ) (start : ℕ) → part ≡ take (3 * at - 0) (drop 0 tree) → Bytes part start → Resolves tree path (At at start)
+  pub following_done : length path ≤ j → at < n → (start : ℕ) → Bytes (take (3 * at) tree) start → Resolves tree path (at_row at start)
   unfolding resolved follow
-  following_done k l part start q s = answer (λ text. some at) (λ text. rw (drop_of_length-le path {i = j} k, first_get text n tree long at l)) (λ text. ap (At at) (s.sum text ∙ ap bytes (ap (triples text) (q ∙ ap (λ x. take x tree) (sub-zero (3 * at))) ∙ triples_take text at tree)))
+  following_done k l start s = answer (λ text. some at) (λ text. rw (drop_of_length-le path {i = j} k, first_get text n tree long at l)) (λ text. ap (at_row at) (s.sum text ∙ ap bytes (triples_take text at tree)))

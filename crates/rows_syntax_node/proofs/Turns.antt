@@ -8,9 +8,8 @@ use native.Mathlib.Nat.{zero-add}
 use native.Mathlib.Numerals.{add-one}
 use lib.ListN.{length, get_or, set, take, drop, length-set, length-map, length-drop, drop_of_length-le}
 use lib.Seq.{get_or-set_same, get_or-set_other, paste, paste-suc, take-paste, drop-paste, take_all, length-take-le, get_or-take, take-set-lt, drop-set-lt, drop_at}
-use Rattle.orders.specs.Lists.{All}
 use Rattle.orders.specs.Tree.{modify}
-use Rattle.orders.specs.ListLaws.{All-at, take_modify, drop_modify_before, modify_left}
+use Rattle.orders.specs.ListLaws.{take_modify, drop_modify_before, modify_left}
 use Rattle.orders.proofs.TreeLaws.{shift_before, shift_inside, shift_after}
 use Rattle.definition_laws.specs.Basics.{up_from, up_at, up_long, get_d_map}
 use Rattle.words.specs.Parts.{spliced, get_d_above, length_spliced, take_spliced}
@@ -49,12 +48,12 @@ pub owing_start : (rows : List ℕ) (n at owed : ℕ) → at ≤ n → owed < 2 
 unfolding rows_after
 owing_start rows n at owed h k = record { low = omega arith; high = h; small = omega arith; rest = λ text. refl }
 
-skip_cons : (o : ℕ) (l l' : List Row) (r : Row) → l ≡ r ∷ l' → 0 < o → skip o l ≡ suc (skip (o - 1 + owes r) l')
-skip_cons zero l l' r e h = absurd (omega arith)
+skip_cons : (o : ℕ) (l l' : List Row) (r : Row) → l ≡ r ∷ l' → (o ≡ 0 → ⊥) → skip o l ≡ suc (skip (o - 1 + owes r) l')
+skip_cons zero l l' r e h = absurd (h refl)
 skip_cons (suc o) l l' r e h = let q : suc o - 1 ≡ o = omega arith in rw (e, q)
 
 module _ {rows : List ℕ} {n at owed i o : ℕ} (v : Owing rows n at owed i o) (long : 3 * n ≤ length rows) where
-  pub owing_next : {m : ℕ} → i < n → 0 < o → Counted rows i m → Owing rows n at owed (i + 1) (o - 1 + m)
+  pub owing_next : {m : ℕ} → i < n → (o ≡ 0 → ⊥) → Counted rows i m → Owing rows n at owed (i + 1) (o - 1 + m)
   owing_next {m} h k c =
       record {
         low = omega (arith, v.low);
@@ -64,12 +63,11 @@ module _ {rows : List ℕ} {n at owed i o : ℕ} (v : Owing rows n at owed i o) 
       }
 
   -- where no row is left, or nothing is owed
-  pub owing_out : n ≤ i → After rows n at owed i
-  owing_out h = record { row = λ text. sym (v.rest text ∙ rw (first_end text n rows long i h) (omega arith)); low = v.low; high = v.high }
+  pub owing_out : n ≤ i → After rows n at owed n
+  owing_out h = record { row = λ text. sym (v.rest text ∙ rw (first_end text n rows long i h) (omega (arith, v.high))); low = omega (arith, v.low, v.high); high = omega arith }
 
-  pub owing_done : o ≤ 0 → After rows n at owed i
-  owing_done h =
-      let z : o ≡ 0 = omega arith in
+  pub owing_done : o ≡ 0 → After rows n at owed i
+  owing_done z =
       record { row = λ text. sym (v.rest text ∙ rw z (ap (λ k. i + k) (skip_none (drop i (first_rows text n rows))) ∙ omega arith)); low = v.low; high = v.high }
 
 pub child_found : {rows : List ℕ} {n parent i r : ℕ} → After rows n (parent + 1) i r → ChildAt rows n parent i r
@@ -83,9 +81,6 @@ pub record Numbering (marks : List ℕ) (first : ℕ) (l : List ℕ) (i : ℕ) :
   pub inside : i ≤ length marks
   pub long : length l ≡ length marks
   pub copied : l ≡ paste marks 0 (up_from first (length marks)) i
-
-pub numbering_start : (marks : List ℕ) (first : ℕ) → Numbering marks first marks 0
-numbering_start marks first = record { inside = omega arith; long = refl; copied = refl }
 
 module _ {marks : List ℕ} {first : ℕ} {l : List ℕ} {i : ℕ} (v : Numbering marks first l i) where
   abbrev s : List ℕ
@@ -123,16 +118,10 @@ pub record Shifting (marks : List ℕ) (p q m : ℕ) (l : List ℕ) (i : ℕ) : 
   pub long : length l ≡ length marks
   pub copied : l ≡ paste marks 0 (map (moved_mark p q m) marks) i
 
-pub shifting_start : (marks : List ℕ) (p q m : ℕ) → Shifting marks p q m marks 0
-shifting_start marks p q m = record { inside = omega arith; long = refl; copied = refl }
-
 module _ {marks : List ℕ} {p q m : ℕ} {l : List ℕ} {i : ℕ} (v : Shifting marks p q m l i) where
   -- a mark that the loop has not come to yet
   unmoved : i < length marks → get_or l i 0 ≡ get_or marks i 0
   unmoved h = rw v.copied (get_d_above marks 0 (map (moved_mark p q m) marks) i (omega arith) (omega (arith, length-map marks (moved_mark p q m))) 0 i (omega arith))
-
-  pub shifting_small : i < length l → All (λ x. x < 2 ^ 16) marks → get_or l i 0 < 2 ^ 16
-  shifting_small h a = rw (unmoved (omega (arith, v.long))) (All-at (λ x. x < 2 ^ 16) 0 marks i (omega (arith, v.long)) a)
 
   pub shifting_next : {y : ℕ} → i < length l → Moved p q m (get_or l i 0) y → Shifting marks p q m (set l i y) (i + 1)
   shifting_next {y} h f =
@@ -170,10 +159,14 @@ module _ {run : List ℕ} {sum i : ℕ} (v : Summing run sum i) where
         rest = λ text. rw (add-one i) (v.rest text ∙ rw (triples_at text i run h) (omega (arith, c.own text)));
       }
 
-  pub summing_done : length run < 3 * 2 ^ 16 → length run ≤ 3 * i + 2 → Bytes run sum
+  -- the same, where the turns are counted in rows
+  pub summing_row : {r : ℕ} → i < length run / 3 → Measured run i r → Summing run (sum + r) (i + 1)
+  summing_row h = summing_next (omega arith)
+
+  pub summing_done : length run < 3 * 2 ^ 16 → length run / 3 ≤ i → Bytes run sum
   summing_done k h =
       record {
-        sum = λ text. sym (v.rest text ∙ rw (triples_end text i run h) (omega arith));
+        sum = λ text. sym (v.rest text ∙ rw (triples_end text i run (omega arith)) (omega arith));
         small = omega (arith, v.small, v.inside);
       }
 
@@ -184,36 +177,35 @@ pub record Grouping (run : List ℕ) (trees o i : ℕ) : Type 0 where
   pub small : o ≤ 2 ^ 32 * i
   pub rest : (text : List ℕ) → trees_in (triples text run) ≡ trees + trees_from o (drop i (triples text run))
 
-pub grouping_start : (run : List ℕ) → Grouping run 0 0 0
-grouping_start run = record { inside = omega arith; few = omega arith; small = omega arith; rest = λ text. omega arith }
-
 trees_cons : (o : ℕ) (l l' : List Row) (r : Row) → l ≡ r ∷ l' → (o ≡ 0 → ⊥) → trees_from o l ≡ trees_from (o - 1 + owes r) l'
 trees_cons zero l l' r e h = absurd (h refl)
 trees_cons (suc o) l l' r e h = let q : suc o - 1 ≡ o = omega arith in rw (e, q)
 
 module _ {run : List ℕ} {trees o i : ℕ} (v : Grouping run trees o i) where
-  pub grouping_first : {m : ℕ} → 3 * i + 2 < length run → Counted run i m → o ≡ 0 → Grouping run (trees + 1) m (i + 1)
-  grouping_first h c z =
+  -- a tree begins where nothing is owed
+  pub grouping_first : {m t k : ℕ} → i < length run / 3 → Counted run i m → o ≡ 0 → t ≡ trees + 1 → k ≡ o - 1 → Grouping run t (k + m) (i + 1)
+  grouping_first {m} {k = k} h c z e f =
+      let p : k + m ≡ m = omega arith in
       record {
         inside = omega arith;
         few = omega (arith, v.few);
         small = omega (arith, c.small);
-        rest = λ text. rw (add-one i) (v.rest text ∙ rw (z, triples_at text i run h, ← c.count text) (omega arith));
+        rest = λ text. rw (add-one i, p) (v.rest text ∙ rw (z, triples_at text i run (omega arith), ← c.count text) (omega arith));
       }
 
-  pub grouping_next : {m : ℕ} → 3 * i + 2 < length run → Counted run i m → (o ≡ 0 → ⊥) → Grouping run trees (o - 1 + m) (i + 1)
-  grouping_next h c z =
+  pub grouping_next : {m t k : ℕ} → i < length run / 3 → Counted run i m → (o ≡ 0 → ⊥) → t ≡ trees → k ≡ o - 1 → Grouping run t (k + m) (i + 1)
+  grouping_next h c z e f =
       record {
         inside = omega arith;
         few = omega (arith, v.few);
         small = omega (arith, v.small, c.small);
-        rest = λ text. rw (add-one i) (v.rest text ∙ rw (trees_cons o _ _ (row_in text run i) (triples_at text i run h) z, ← c.count text));
+        rest = λ text. rw (add-one i, e, f) (v.rest text ∙ rw (trees_cons o _ _ (row_in text run i) (triples_at text i run (omega arith)) z, ← c.count text));
       }
 
-  pub grouping_done : length run ≤ 3 * i + 2 → TreesIn run trees
+  pub grouping_done : length run / 3 ≤ i → TreesIn run trees
   grouping_done h =
       record {
-        count = λ text. sym (v.rest text ∙ rw (triples_end text i run h) (omega arith));
+        count = λ text. sym (v.rest text ∙ rw (triples_end text i run (omega arith)) (omega arith));
         few = omega (arith, v.few, v.inside);
       }
 
@@ -349,19 +341,13 @@ pub record Stacking (run left : List ℕ) (d most i : ℕ) : Type 0 where
   pub within : most ≤ 64
   pub rest : (text : List ℕ) → height (triples text run) ≡ max most (height_in (stack left d) (drop i (triples text run)))
 
-pub stacking_start : (run left : List ℕ) → length left ≡ 65 → get_or left 0 0 ≡ length run → Stacking run left 0 0 0
-stacking_start run left h k = record { long = h; few = omega arith; inside = omega arith; base = omega arith; within = omega arith; rest = λ text. omega arith }
-
 module _ {run left : List ℕ} {d most i : ℕ} (v : Stacking run left d most i) (h : 3 * i + 2 < length run) where
-  pub stacking_open : get_or left d 0 ≡ 0 → 0 < d
+  stacking_open : get_or left d 0 ≡ 0 → 0 < d
   stacking_open z = go d refl
     where
       go : (c : ℕ) → c ≡ d → 0 < c
       go zero w = absurd (omega (arith, v.base, ap (λ (y : ℕ). get_or left y 0) w))
       go (suc c) w = omega arith
-
-  pub stacking_less : get_or left d 0 ≡ 0 → (length run - i) + (length run - i) + (d - 1) < (length run - i) + (length run - i) + d
-  stacking_less z = omega (arith, stacking_open z)
 
   -- a node that owes nothing is closed
   pub stacking_pop : get_or left d 0 ≡ 0 → Stacking run left (d - 1) most i

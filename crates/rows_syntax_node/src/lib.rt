@@ -1,7 +1,7 @@
 // Rows of three words in preorder: the kind word, the measure, and where a token's text starts in the text of all.
 #![tactic(auto)]
 
-ghost use Rattle.std.specs.Prelude.{◌≡◌, ◌+◌, ◌-◌, ◌*◌, ◌%◌, ◌^◌, ◌≤◌, ◌<◌, max, length, get_or};
+ghost use Rattle.std.specs.Prelude.{◌≡◌, ◌+◌, ◌-◌, ◌*◌, ◌%◌, ◌^◌, ◌≤◌, ◌<◌, length, get_or};
 ghost use Rattle.orders.specs.Lists.{All};
 ghost use Rattle.definition_laws.specs.Basics.{up_from};
 ghost use Rattle.rows_syntax_node.specs.Promises.{Counted, Measured, After, ChildAt, TreesIn, TreesBetween, Bytes, Height, Part, Appended, Spliced, Moved, Shifted};
@@ -50,17 +50,14 @@ pub fn rows_after(rows: &[u32], n: usize, at: usize, owed: usize) -> usize
     requires { (3 * n ≤ length rows.now) × (n < 2 ^ 16) × (at ≤ n) × (owed < 2 ^ 32) }
     ensures { After rows.now n at owed result }
 {
-    let mut i = at;
     let mut o = owed;
-    while 0 < o {
-        if n <= i {
+    for i in at..n {
+        if o == 0 {
             return i;
         }
-        let m = child_count(rows, i);
-        o = o - 1 + m;
-        i += 1;
+        o = o - 1 + child_count(rows, i);
     }
-    i
+    n
 }
 
 // The row of child `i` of the node at row `parent`.
@@ -90,18 +87,12 @@ pub fn trees_in(run: &[u32]) -> usize
     ensures { TreesIn run.now result }
 {
     let mut trees = 0;
-    let mut o = 0;
-    let mut i = 0;
-    while ROW_WORDS * i + TEXT < run.len() {
-        let m = child_count(run, i);
+    let mut o: usize = 0;
+    for i in 0..run.len() / ROW_WORDS {
         if o == 0 {
             trees += 1;
-            o = m;
-            i += 1;
-        } else {
-            o = o - 1 + m;
-            i += 1;
         }
+        o = o.saturating_sub(1) + child_count(run, i);
     }
     trees
 }
@@ -122,21 +113,10 @@ pub fn text_bytes(run: &[u32]) -> usize
     ensures { Bytes run.now result }
 {
     let mut sum = 0;
-    let mut i = 0;
-    while ROW_WORDS * i + TEXT < run.len() {
+    for i in 0..run.len() / ROW_WORDS {
         sum += text_length(run, i);
-        i += 1;
     }
     sum
-}
-
-fn larger(a: usize, b: usize) -> usize
-    ensures { result ≡ max a b }
-{
-    if a <= b {
-        return b;
-    }
-    a
 }
 
 // The greatest depth in a run, or 65 where it is more than 64.
@@ -148,7 +128,7 @@ pub fn height(run: &[u32]) -> usize
     let mut left = [0usize; 65];
     left[0] = run.len();
     let mut depth = 0;
-    let mut most = 0;
+    let mut most: usize = 0;
     let mut i = 0;
     while ROW_WORDS * i + TEXT < run.len() {
         let x = left[depth];
@@ -161,7 +141,7 @@ pub fn height(run: &[u32]) -> usize
             left[depth] = x - 1;
             depth += 1;
             left[depth] = child_count(run, i);
-            most = larger(most, depth);
+            most = most.max(depth);
             i += 1;
         }
     }
@@ -208,10 +188,8 @@ pub fn number_from(marks: &mut [u32], first: usize)
     requires { (length marks.old < 2 ^ 16) × (first < 2 ^ 16) }
     ensures { marks.new ≡ up_from first (length marks.old) }
 {
-    let mut i = 0;
-    while i < marks.len() {
-        marks[i] = (first + i) as u32;
-        i += 1;
+    for (i, mark) in marks.iter_mut().enumerate() {
+        *mark = (first + i) as u32;
     }
 }
 
@@ -237,9 +215,7 @@ pub fn shift_marks(marks: &mut [u32], p: usize, q: usize, m: usize)
     let from = p as u32;
     let to = q as u32;
     let count = m as u32;
-    let mut i = 0;
-    while i < marks.len() {
-        marks[i] = moved_word(marks[i], from, to, count);
-        i += 1;
+    for mark in marks.iter_mut() {
+        *mark = moved_word(*mark, from, to, count);
     }
 }

@@ -1,16 +1,16 @@
 -- The loops over the numbers of bookmarks: the numbers passed are others, and none of them stands again.
 -- Assumes nothing.
 use mathlib.Core.Path.{◌≡◌, refl, sym, ap, ◌∙◌}
-use mathlib.Core.Bool.{Bool, true, false, not, ◌&&◌, ◌||◌}
+use mathlib.Core.Bool.{Bool, true, false, not, ◌&&◌}
 use mathlib.Core.List.{List, [], ◌∷◌, map}
 use Prim.Native.Nat.{ℕ, ◌+◌, ◌^◌, ◌≤◌, ◌<◌}
 use native.Mathlib.Omega.{arith}
 use lib.Dec.{eqb}
-use lib.ListN.{length, get_or}
+use lib.ListN.{get_or}
 use borrow.Author.Tests.{eq-eqb, ne_eqb}
 use Rattle.definition.specs.Basics.{any, among}
 use Rattle.check_laws.specs.Check.{no_repeat}
-use Rattle.series_check.specs.Slots.{slot_at, slots_from, numbers_from, slots_none, slots_more}
+use Rattle.series_check.specs.Slots.{slot_at, numbers_from, slots_none, slots_more}
 
 module _ (b : List ℕ) (k : ℕ) where
   numbers_more : (i : ℕ) → i < k → numbers_from b k i ≡ get_or (slot_at b i) 0 0 ∷ numbers_from b k (i + 1)

@@ -1,24 +1,27 @@
 -- The refusals of a lent memory in order, one after another.
 -- Assumes nothing.
-use Rattle.std.specs.Prelude.{◌≡◌, Bool, ◌||◌, take, drop, ltb, eqb}
+use Rattle.std.specs.Prelude.{◌≡◌, Bool, ◌||◌, take, drop, Result, Ok, Err}
 use Rattle.std.proofs.Math.Path.{refl, sym, ap}
 use Rattle.std.proofs.Common.{◌∙◌, arith, drop-drop, take_at, take_all}
 use Rattle.std.proofs.Math.Bool.{true, false, cond, not}
 use mathlib.Core.List.{List, [], ◌∷◌, ◌++◌, map, map-map, zip, append-nil}
 use Rattle.std.proofs.Math.Option.{Option, none, some, bind}
-use Prim.Native.Nat.{ℕ, zero, suc, ◌+◌, ◌-◌, ◌*◌, ◌^◌, ◌≤◌, ◌<◌}
+use Prim.Native.Nat.{ℕ, zero, suc, ◌+◌, ◌*◌, ◌^◌, ◌≤◌, ◌<◌}
 use Rattle.std.proofs.Math.ListN.{length, get_or, length-drop}
 use Rattle.std.proofs.lemmas.List.{length-map}
 use Rattle.std.proofs.Math.Seq.{paste, length-take-le}
 use borrow.Author.Tests.{lt-ltb, le-ltb, eq-eqb}
 use Rattle.orders.specs.Lists.{any}
 use Rattle.orders.specs.ListLaws.{bool_absurd}
-use Rattle.orders.specs.Tree.{Tree, node, nil, cons, forest, list, resolve}
+use Rattle.orders.specs.Tree.{Tree, forest, list, resolve}
 use Rattle.definition.specs.Basics.{Answer, refused, gives, ◌>>=◌, refuse, or_refuse, is_some}
 use Rattle.definition.specs.Words.{word, words}
 use Rattle.definition.specs.Batch.{Batch}
 use Rattle.definition.specs.Elements.{spelled}
 use Rattle.definition.specs.Writing.{differ}
+use Rattle.refusals.specs.Numbers.{number, answered}
+use Rattle.refusals.specs.declared.Refusal.{Refusal}
+use Rattle.refusals.specs.declared.Refusal.TheVariants.{Size, Length, Spelling, Bookmarks, Astray}
 use Rattle.words.specs.Bytes.{length_words}
 use Rattle.rows_model.specs.Row.{rows_of, rows_in, triples}
 use Rattle.read_spelling.specs.Spelling.{elements_at, accepts}
@@ -27,10 +30,10 @@ use Rattle.read_spelling.specs.Preorder.{flats}
 use Rattle.read_element_table.specs.Filling.{rows_from}
 use Rattle.read_element_table.specs.Filled.{elements_in, spelled_trees, spelled_spelt}
 use Rattle.read_element_table.specs.SourceRows.{rows_told_lem}
-use Rattle.check_laws.specs.Check.{Flat, alone, no_repeat}
+use Rattle.check_laws.specs.Check.{alone, no_repeat}
 use Rattle.series_laws.specs.Memory.{Bookmark, Memory, most_bookmarks, too_big, wrong_numbers, astray, held}
-use Rattle.series_laws.specs.Lent.{Lent, slot_words, tree_in, slots, bookmark_in, beyond_slot, slots_in, memory_in, tree_bytes, cut_off, lent}
-use Rattle.series_check.specs.Slots.{slots_from, numbers_from, slots_all}
+use Rattle.series_laws.specs.Lent.{slot_words, tree_in, slots, bookmark_in, beyond_slot, slots_in, memory_in, tree_bytes, cut_off, lent}
+use Rattle.series_check.specs.Slots.{numbers_from, slots_all}
 use Rattle.series_check.specs.Leading.{lost, AllLead}
 use Rattle.series_check.specs.Rows.{rows_length}
 
@@ -38,6 +41,11 @@ use Rattle.series_check.specs.Rows.{rows_length}
 unfoldable pub number_of : {A : Type 0} → Answer A → ℕ
 number_of (refused k) = k
 number_of (gives a) = 0
+
+-- a refusal, or that there is none: nothing of what is given
+unfoldable pub judged : {A : Type 0} → Answer A → Answer (Unit {0})
+judged (refused k) = refused k
+judged (gives a) = gives tt
 
 -- 5, 20 and 21, of a tree of n elements with b bytes of text, and of k bookmarks
 unfoldable pub remaining : List ℕ → ℕ → ℕ → List ℕ → ℕ → Answer (Unit {0})
@@ -47,8 +55,8 @@ remaining t n b marks k = do
   _ ← refuse 21 (any (astray ts) (map bookmark_in (slots k (drop 1 marks))))
   refuse 21 (any beyond_slot (slots k (drop 1 marks)))
 
-abbrev pub Remains : List ℕ → ℕ → ℕ → List ℕ → ℕ → ℕ → Type 0
-Remains t n b marks k r = r ≡ number_of (remaining t n b marks k)
+abbrev pub Remains : List ℕ → ℕ → ℕ → List ℕ → ℕ → Result (Unit {0}) Refusal → Type 0
+Remains t n b marks k r = answered r ≡ remaining t n b marks k
 
 -- ── 5 ───────────────────────────────────────────────────────────────────────────────────────────────────────
 
@@ -80,11 +88,11 @@ module _ (t : List ℕ) (n b : ℕ) (room : 8 + 8 * n + b ≤ length t) where
   line_5 = ap (accepts 1 b) (sym elements_are) ∙ (ap (λ (k : ℕ). accepts 1 k (elements_in (alone (tree_in n b t)))) (sym text_long) ∙ accepts_spelled (alone (tree_in n b t)) step)
 
   module _ (marks : List ℕ) (k : ℕ) where
-    pub remains_unspelled : false ≡ accepts 1 b (elements_at t 8 (8 + 4 * n) n) → Remains t n b marks k 5
-    unfolding remaining number_of or_refuse ◌>>=◌ is_some
+    pub remains_unspelled : false ≡ accepts 1 b (elements_at t 8 (8 + 4 * n) n) → Remains t n b marks k (Err Spelling)
+    unfolding remaining answered number or_refuse ◌>>=◌ is_some
     remains_unspelled e = sym (go (spelled (alone (tree_in n b t))) refl (sym line_5 ∙ sym e))
       where
-        go : (o : Option (List (Tree ℕ))) → spelled (alone (tree_in n b t)) ≡ o → is_some o ≡ false → number_of (remaining t n b marks k) ≡ 5
+        go : (o : Option (List (Tree ℕ))) → spelled (alone (tree_in n b t)) ≡ o → is_some o ≡ false → remaining t n b marks k ≡ refused 5
         go none z f = rw z
         go (some ts) z f = bool_absurd refl f
 
@@ -104,11 +112,11 @@ module _ (t : List ℕ) (n b : ℕ) (room : 8 + 8 * n + b ≤ length t) where
 
       -- ── 20 ──
 
-      wrong_20 : wrong_numbers (map bookmark_in (slots k (drop 1 marks))) ≡ true → Remains t n b marks k 20
-      unfolding remaining number_of or_refuse refuse ◌>>=◌
+      wrong_20 : wrong_numbers (map bookmark_in (slots k (drop 1 marks))) ≡ true → Remains t n b marks k (Err Bookmarks)
+      unfolding remaining answered number or_refuse refuse ◌>>=◌
       wrong_20 e = sym (rw (spelt.1, e))
 
-      pub remains_many : most_bookmarks < k → Remains t n b marks k 20
+      pub remains_many : most_bookmarks < k → Remains t n b marks k (Err Bookmarks)
       unfolding wrong_numbers
       remains_many e = wrong_20 (rw (length-map (slots k (drop 1 marks)) bookmark_in, slots_many k (drop 1 marks), lt-ltb most_bookmarks k e))
 
@@ -121,7 +129,7 @@ module _ (t : List ℕ) (n b : ℕ) (room : 8 + 8 * n + b ≤ length t) where
         unfolding wrong_numbers
         wrong_is = rw (length-map (slots k (drop 1 marks)) bookmark_in, slots_many k (drop 1 marks), le-ltb most_bookmarks k few, numbers_are)
 
-        pub remains_repeated : true ≡ not (no_repeat (numbers_from marks k 0)) → Remains t n b marks k 20
+        pub remains_repeated : true ≡ not (no_repeat (numbers_from marks k 0)) → Remains t n b marks k (Err Bookmarks)
         remains_repeated e = wrong_20 (wrong_is ∙ sym e)
 
         -- ── 21 ──
@@ -176,14 +184,18 @@ module _ (t : List ℕ) (n b : ℕ) (room : 8 + 8 * n + b ≤ length t) where
               ap (triples (alone (tree_in n b t)).text) (part_is ∙ ap (rows_from 0) (sym (S.elements ∙ elements_are)))
               ∙ (ap (λ (x : List ℕ). triples x (rows_from 0 (flats (forest spelt.0)))) (sym S.text) ∙ (rows_told_lem (forest spelt.0) S.worded ∙ (ap (λ (ts : List (Tree ℕ)). rows_in (forest ts)) e ∙ append-nil (rows_of r))))
 
-          pub remains_all : (x : Bool) → AllLead part marks k x → number_of (remaining t n b marks k) ≡ cond x 0 21
-          unfolding remaining number_of or_refuse refuse ◌>>=◌
+          -- nothing given, or 21
+          abbrev led : Bool → Answer (Unit {0})
+          led x = cond x (gives tt) (refused 21)
+
+          pub remains_all : (x : Bool) → AllLead part marks k x → remaining t n b marks k ≡ led x
+          unfolding remaining or_refuse refuse ◌>>=◌
           remains_all x l =
               let (r, e) = single in
               let q : x ≡ not (any (astray (r ∷ [])) (map bookmark_in (slots k (drop 1 marks))) || any beyond_slot (slots k (drop 1 marks))) = l (alone (tree_in n b t)).text r (told r e) ∙ ap not (ap (any (lost r)) (slots_all marks k) ∙ lost_is r (slots k (drop 1 marks))) in
               rw (spelt.1, e, wrong_is, ← fine) (go (any (astray (r ∷ [])) (map bookmark_in (slots k (drop 1 marks)))) (any beyond_slot (slots k (drop 1 marks))) x q)
             where
-              go : (a c x : Bool) → x ≡ not (a || c) → number_of (refuse 21 a >>= (λ _. refuse 21 c)) ≡ cond x 0 21
+              go : (a c x : Bool) → x ≡ not (a || c) → (refuse 21 a >>= (λ _. refuse 21 c)) ≡ led x
               go true c true e = bool_absurd refl (e ∙ refl)
               go true c false e = refl
               go false true true e = bool_absurd refl e
@@ -191,48 +203,50 @@ module _ (t : List ℕ) (n b : ℕ) (room : 8 + 8 * n + b ≤ length t) where
               go false false true e = refl
               go false false false e = bool_absurd e refl
 
-          pub remains_lead : {x : Bool} → AllLead part marks k x → x ≡ true → Remains t n b marks k 0
-          remains_lead {x} l e = sym (remains_all x l ∙ ap (λ (b : Bool). cond b 0 21) e)
+          pub remains_lead : {x : Bool} → AllLead part marks k x → x ≡ true → Remains t n b marks k (Ok tt)
+          unfolding answered
+          remains_lead {x} l e = sym (remains_all x l ∙ ap led e)
 
-          pub remains_astray : {x : Bool} → AllLead part marks k x → x ≡ false → Remains t n b marks k 21
-          remains_astray {x} l e = sym (remains_all x l ∙ ap (λ (b : Bool). cond b 0 21) e)
+          pub remains_astray : {x : Bool} → AllLead part marks k x → x ≡ false → Remains t n b marks k (Err Astray)
+          unfolding answered number
+          remains_astray {x} l e = sym (remains_all x l ∙ ap led e)
 
 -- ── 3 and 4 ─────────────────────────────────────────────────────────────────────────────────────────────────
 
 module _ (most : ℕ) (t marks : List ℕ) where
-  pub judged_cut : length t < 8 → 4 ≡ number_of (lent most (record { tree = t; bookmarks = marks }))
-  unfolding lent refuse ◌>>=◌ number_of
+  pub judged_cut : length t < 8 → answered (Err Length) ≡ judged (lent most (record { tree = t; bookmarks = marks }))
+  unfolding lent refuse ◌>>=◌ judged answered number
   judged_cut h = rw (lt-ltb (length t) 8 h)
 
   module _ (sized : 8 ≤ length t) {n b : ℕ} (en : (n ≡ word (drop 0 t)) × (n < 2 ^ 32)) (eb : (b ≡ word (drop 4 t)) × (b < 2 ^ 32)) where
-    pub judged_many : most < n → 3 ≡ number_of (lent most (record { tree = t; bookmarks = marks }))
-    unfolding lent refuse ◌>>=◌ number_of
+    pub judged_many : most < n → answered (Err Size) ≡ judged (lent most (record { tree = t; bookmarks = marks }))
+    unfolding lent refuse ◌>>=◌ judged answered number
     judged_many h = rw (le-ltb (length t) 8 sized, ← en.0, lt-ltb most n h)
 
     module _ (few : n ≤ most) where
-      pub judged_long : 16384 < b → 3 ≡ number_of (lent most (record { tree = t; bookmarks = marks }))
-      unfolding lent refuse ◌>>=◌ number_of
+      pub judged_long : 16384 < b → answered (Err Size) ≡ judged (lent most (record { tree = t; bookmarks = marks }))
+      unfolding lent refuse ◌>>=◌ judged answered number
       judged_long h = rw (le-ltb (length t) 8 sized, ← en.0, ← eb.0, le-ltb most n few, lt-ltb 16384 b h)
 
       module _ (short : b ≤ 16384) where
-        pub judged_whole : length t < 8 + 8 * n + b → 4 ≡ number_of (lent most (record { tree = t; bookmarks = marks }))
-        unfolding lent refuse ◌>>=◌ number_of cut_off tree_bytes
+        pub judged_whole : length t < 8 + 8 * n + b → answered (Err Length) ≡ judged (lent most (record { tree = t; bookmarks = marks }))
+        unfolding lent refuse ◌>>=◌ judged answered number cut_off tree_bytes
         judged_whole h = rw (le-ltb (length t) 8 sized, ← en.0, ← eb.0, le-ltb most n few, le-ltb 16384 b short, lt-ltb (length t) (8 + 8 * n + b) h)
 
         module _ (room : 8 + 8 * n + b ≤ length t) where
-          slots_short : {k : ℕ} → k ≡ get_or marks 0 0 → length marks < 1 + slot_words * k → 4 ≡ number_of (lent most (record { tree = t; bookmarks = marks }))
-          unfolding lent refuse ◌>>=◌ number_of cut_off tree_bytes
+          slots_short : {k : ℕ} → k ≡ get_or marks 0 0 → length marks < 1 + slot_words * k → answered (Err Length) ≡ judged (lent most (record { tree = t; bookmarks = marks }))
+          unfolding lent refuse ◌>>=◌ judged answered number cut_off tree_bytes
           slots_short {k} e h = rw (le-ltb (length t) 8 sized, ← en.0, ← eb.0, le-ltb most n few, le-ltb 16384 b short, le-ltb (length t) (8 + 8 * n + b) room, ← e, lt-ltb (length marks) (1 + slot_words * k) h)
 
-          pub judged_empty : length marks ≡ 0 → 4 ≡ number_of (lent most (record { tree = t; bookmarks = marks }))
+          pub judged_empty : length marks ≡ 0 → answered (Err Length) ≡ judged (lent most (record { tree = t; bookmarks = marks }))
           judged_empty h = slots_short {k = get_or marks 0 0} refl (omega arith)
 
           module _ {k at : ℕ} (ek : (k ≡ get_or marks 0 0) × (k < 2 ^ 32)) (ea : at ≡ 1 + 65 * k) where
-            pub judged_cut_slots : length marks < at → 4 ≡ number_of (lent most (record { tree = t; bookmarks = marks }))
+            pub judged_cut_slots : length marks < at → answered (Err Length) ≡ judged (lent most (record { tree = t; bookmarks = marks }))
             judged_cut_slots h = slots_short {k = k} ek.0 (omega arith)
 
-            pub judged_rest : (r : ℕ) → at ≤ length marks → Remains t n b marks k r → r ≡ number_of (lent most (record { tree = t; bookmarks = marks }))
-            unfolding lent held refuse ◌>>=◌ number_of cut_off tree_bytes memory_in slots_in too_big differ remaining tree_in
+            pub judged_rest : (r : Result (Unit {0}) Refusal) → at ≤ length marks → Remains t n b marks k r → answered r ≡ judged (lent most (record { tree = t; bookmarks = marks }))
+            unfolding lent held refuse ◌>>=◌ judged cut_off tree_bytes memory_in slots_in too_big differ remaining tree_in
             judged_rest r h q =
                 let lk = length_words n (drop 8 t) in
                 let lm = length_words n (drop (4 * n) (drop 8 t)) in
@@ -241,13 +255,13 @@ module _ (most : ℕ) (t marks : List ℕ) where
                 (go (or_refuse 5 (spelled (alone (tree_in n b t)))) (wrong_numbers (map bookmark_in (slots k (drop 1 marks)))) (λ ts. any (astray ts) (map bookmark_in (slots k (drop 1 marks)))) (any beyond_slot (slots k (drop 1 marks))) _))
               where
                 go : (o : Answer (List (Tree ℕ))) (a : Bool) (f : List (Tree ℕ) → Bool) (c : Bool) (m : Memory)
-                    → number_of ((o >>= (λ ts. refuse 20 a >>= (λ _. refuse 21 (f ts) >>= (λ _. gives ts)))) >>= (λ _. refuse 21 c >>= (λ _. gives m)))
-                    ≡ number_of (o >>= (λ ts. refuse 20 a >>= (λ _. refuse 21 (f ts) >>= (λ _. refuse 21 c))))
+                    → judged ((o >>= (λ ts. refuse 20 a >>= (λ _. refuse 21 (f ts) >>= (λ _. gives ts)))) >>= (λ _. refuse 21 c >>= (λ _. gives m)))
+                    ≡ (o >>= (λ ts. refuse 20 a >>= (λ _. refuse 21 (f ts) >>= (λ _. refuse 21 c))))
                 go (refused j) a f c m = refl
                 go (gives ts) true f c m = refl
                 go (gives ts) false f c m = last (f ts) c
                   where
-                    last : (x c : Bool) → number_of ((refuse 21 x >>= (λ _. gives ts)) >>= (λ _. refuse 21 c >>= (λ _. gives m))) ≡ number_of (refuse 21 x >>= (λ _. refuse 21 c))
+                    last : (x c : Bool) → judged ((refuse 21 x >>= (λ _. gives ts)) >>= (λ _. refuse 21 c >>= (λ _. gives m))) ≡ (refuse 21 x >>= (λ _. refuse 21 c))
                     last true c = refl
                     last false true = refl
                     last false false = refl

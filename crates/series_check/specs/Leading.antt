@@ -2,7 +2,7 @@
 -- Assumes nothing.
 use Rattle.std.proofs.Math.Path.{◌≡◌, refl, sym, ap}
 use Rattle.std.proofs.Common.{◌∙◌}
-use Rattle.std.specs.Prelude.{Bool, ◌||◌, List, [], ◌∷◌, ℕ, ◌+◌, ◌-◌, ◌*◌, ◌^◌, ◌≤◌, ◌<◌, length, get_or, drop}
+use Rattle.std.specs.Prelude.{Bool, ◌||◌, List, ℕ, ◌+◌, ◌-◌, ◌*◌, ◌^◌, ◌≤◌, ◌<◌, get_or, drop}
 use Rattle.std.proofs.Math.Bool.{true, false, not}
 use Rattle.std.proofs.Math.Option.{Option, none, some}
 use native.Mathlib.Omega.{arith}
@@ -15,7 +15,7 @@ use Rattle.rows_model.specs.Row.{rows_of, triples}
 use Rattle.rows_path.specs.Promises.{Resolves, standing}
 use Rattle.rows_path.specs.declared.Resolved.{Resolved}
 use Rattle.rows_path.specs.declared.Resolved.TheVariants.{At, Nothing}
-use Rattle.series_laws.specs.Lent.{slot_words, longest_path, bookmark_in, beyond_slot}
+use Rattle.series_laws.specs.Lent.{longest_path, bookmark_in, beyond_slot}
 use Rattle.series_check.specs.Slots.{slot_at, slots_from, slots_none, slots_more, slot_word, slot_path}
 
 -- the bookmark of a slot finds no element of a tree

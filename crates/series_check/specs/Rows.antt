@@ -1,7 +1,7 @@
 -- The rows of a tree, from its bytes; how much text the elements have.
 -- Assumes nothing.
-use Rattle.std.specs.Prelude.{◌≡◌, refl, Bool, true, false, ◌&&◌, ℕ, zero, suc, ◌+◌, ◌*◌, ◌^◌, ◌≤◌, ◌<◌, eqb, take}
-use Rattle.std.proofs.Common.{sym, ◌∙◌, zero-add, drop-drop, eqb-true}
+use Rattle.std.specs.Prelude.{◌≡◌, refl, true, ℕ, zero, suc, ◌+◌, ◌*◌, ◌^◌, ◌≤◌, ◌<◌, eqb, take}
+use Rattle.std.proofs.Common.{sym, ◌∙◌, drop-drop, eqb-true}
 use Rattle.std.proofs.Math.Path.{ap}
 use mathlib.Core.List.{List, [], ◌∷◌}
 use native.Mathlib.Omega.{arith}

@@ -1,14 +1,13 @@
 -- The slots of lent bookmarks from a number on, and what is read of each.
 -- Assumes nothing.
-use Rattle.std.specs.Prelude.{◌≡◌, refl, List, [], ◌∷◌, map, length, take}
+use Rattle.std.specs.Prelude.{◌≡◌, refl, List, [], ◌∷◌, map, take}
 use Rattle.std.proofs.Common.{sym, ◌∙◌, get_or-drop}
 use Rattle.std.proofs.Math.Path.{ap}
 use Prim.Native.Nat.{ℕ, zero, suc, ◌+◌, ◌-◌, ◌*◌, ◌^◌, ◌≤◌, ◌<◌}
 use native.Mathlib.Omega.{arith}
 use Rattle.std.proofs.Math.ListN.{get_or, drop}
 use Rattle.std.proofs.Math.Seq.{drop-drop}
-use Rattle.series_laws.specs.Memory.{Bookmark}
-use Rattle.series_laws.specs.Lent.{slot_words, longest_path, slots, bookmark_in}
+use Rattle.series_laws.specs.Lent.{slot_words, longest_path, slots}
 
 -- slot i
 unfoldable pub slot_at : List ℕ → ℕ → List ℕ

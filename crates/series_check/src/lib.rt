@@ -11,8 +11,10 @@ ghost use Rattle.series_laws.specs.Lent.{lent};
 ghost use Rattle.series_check.specs.Slots.{slot_at, numbers_from};
 ghost use Rattle.series_check.specs.Leading.{Leads, AllLead};
 ghost use Rattle.series_check.specs.Rows.{text_sum};
-ghost use Rattle.series_check.specs.Judged.{number_of, Remains};
+ghost use Rattle.refusals.specs.Numbers.{answered};
+ghost use Rattle.series_check.specs.Judged.{judged, Remains};
 
+use refusals::Refusal;
 use rows_path::{Resolved, resolve};
 use rows_syntax_node::ROW_WORDS;
 use words::{read_word, word};
@@ -133,7 +135,7 @@ fn fill_rows(tree: &[u8], n: usize, rows: &mut [u32])
     }
 }
 
-// Lines 5, 20 and 21 of a tree of `n` elements with `b` bytes of text, and of `k` bookmarks; else 0. The rows are for the tree.
+// Lines 5, 20 and 21 of a tree of `n` elements with `b` bytes of text, and of `k` bookmarks. The rows are for the tree.
 fn judge_memory(
     tree: &[u8],
     n: usize,
@@ -141,52 +143,52 @@ fn judge_memory(
     bookmarks: &[u32],
     k: usize,
     rows: &mut [u32],
-) -> usize
+) -> Result<(), Refusal>
     requires { (8 + 8 * n + b ≤ length tree.now) × (n ≤ 4096) × (b ≤ 16384) × (1 + 65 * k ≤ length bookmarks.now) × (k < 2 ^ 32) × (12288 ≤ length rows.old) }
     ensures { Remains tree.now n b bookmarks.now k result }
 {
     if !read_spelling::spells(tree, SIZES, SIZES + 4 * n, n, 1, b) {
-        return 5;
+        return Err(Refusal::Spelling);
     }
     if MOST_BOOKMARKS < k {
-        return 20;
+        return Err(Refusal::Bookmarks);
     }
     if repeats(bookmarks, k) {
-        return 20;
+        return Err(Refusal::Bookmarks);
     }
     fill_rows(tree, n, rows);
     let end = ROW_WORDS * n;
     if all_lead(&rows[..end], bookmarks, k) {
-        return 0;
+        return Ok(());
     }
-    21
+    Err(Refusal::Astray)
 }
 
-// The first refusal of a memory whose tree may have `most` elements, out of 3, 4, 5, 20 and 21; else 0.
-pub fn judge(most: usize, tree: &[u8], bookmarks: &[u32], rows: &mut [u32]) -> usize
+// The first refusal of a memory whose tree may have `most` elements, out of 3, 4, 5, 20 and 21.
+pub fn judge(most: usize, tree: &[u8], bookmarks: &[u32], rows: &mut [u32]) -> Result<(), Refusal>
     requires { (most ≤ 4096) × (12288 ≤ length rows.old) }
-    ensures { result ≡ number_of (lent most (record { tree = tree.entry.now; bookmarks = bookmarks.now })) }
+    ensures { answered result ≡ judged (lent most (record { tree = tree.entry.now; bookmarks = bookmarks.now })) }
 {
     if tree.len() < SIZES {
-        return 4;
+        return Err(Refusal::Length);
     }
     let n = read_word(tree, 0);
     let b = read_word(tree, 4);
     if most < n {
-        return 3;
+        return Err(Refusal::Size);
     }
     if 16384 < b {
-        return 3;
+        return Err(Refusal::Size);
     }
     if tree.len() < SIZES + 8 * n + b {
-        return 4;
+        return Err(Refusal::Length);
     }
-    if bookmarks.len() == 0 {
-        return 4;
+    if bookmarks.is_empty() {
+        return Err(Refusal::Length);
     }
     let k = word(bookmarks, 0);
     if bookmarks.len() < slot_at(k) {
-        return 4;
+        return Err(Refusal::Length);
     }
     judge_memory(tree, n, b, bookmarks, k, rows)
 }

@@ -99,11 +99,11 @@ unfolding total changed_in
 summing_start rows n end changed = record { inside = omega arith; told = λ text. refl; small = omega arith }
 
 module _ {rows : List ℕ} {n end : ℕ} {changed : List ℕ} {sum i : ℕ} (v : Summing rows n end changed sum i) where
-  pub summing_next : {w r : ℕ} → i < length changed → w ≡ get_or changed i 0 → ChangedText rows n end w r → Summing rows n end changed (sum + r) (i + 1)
-  summing_next {w} {r} h e c = record {
+  pub summing_next : {r : ℕ} → i < length changed → ChangedText rows n end (get_or changed i 0) r → Summing rows n end changed (sum + r) (i + 1)
+  summing_next {r} h c = record {
     inside = omega arith;
     told = λ text.
-        rw (add-one i, changed_to changed i h, ← e, total_append (before end) (text_at (first_rows text n rows)) (changed_in i changed) (changed_of w ∷ [])) (omega (arith, v.told text, c.told text));
+        rw (add-one i, changed_to changed i h, total_append (before end) (text_at (first_rows text n rows)) (changed_in i changed) (changed_of (get_or changed i 0) ∷ [])) (omega (arith, v.told text, c.told text));
     small = omega (arith, v.small, c.small);
   }
 

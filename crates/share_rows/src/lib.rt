@@ -7,7 +7,6 @@ ghost use Rattle.share_rows.specs.Promises.{ElementBytes, ChangedText, ChangedTe
 
 use rows_syntax_node::{ROW_WORDS, subtree, text_bytes};
 use run_annotations::changed_row;
-use words::word;
 
 // Thousandths: whole quotient and exact remainder.
 #[derive(Clone, Copy)]
@@ -45,10 +44,8 @@ fn changed_texts(rows: &[u32], n: usize, end: usize, changed: &[u32]) -> usize
     ensures { ChangedTexts rows.now n end changed.now result }
 {
     let mut sum = 0;
-    let mut i = 0;
-    while i < changed.len() {
-        sum += changed_text(rows, n, end, word(changed, i));
-        i += 1;
+    for w in changed {
+        sum += changed_text(rows, n, end, *w as usize);
     }
     sum
 }

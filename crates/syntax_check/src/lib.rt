@@ -8,19 +8,17 @@ ghost use Rattle.check_claim.specs.Promise.{claims_in};
 ghost use Rattle.syntax_check.specs.Returned.{verdict_number, check_numbers, ReturnsVerdict};
 
 use check_claim::Verdict;
+use refusals::Refusal;
 
 // The number of a verdict.
-fn verdict_number(verdict: Verdict) -> i64
+fn verdict_number(verdict: Result<Verdict, Refusal>) -> i64
     requires { By check_numbers (answer_of verdict) }
     ensures { result ≡ verdict_number (answer_of verdict) }
 {
     match verdict {
-        Verdict::Refused(n) => {
-            let m = n as i64;
-            -m
-        }
-        Verdict::Accepted => 1,
-        Verdict::Rejected => 0,
+        Err(refusal) => -(refusal.number() as i64),
+        Ok(Verdict::Accepted) => 1,
+        Ok(Verdict::Rejected) => 0,
     }
 }
 

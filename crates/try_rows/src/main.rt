@@ -60,10 +60,10 @@ fn print_words(rt: &impl Print, words: &[u32]) -> io::Result<()> {
 }
 
 // An element's row, and where its text starts.
-fn print_resolved(rt: &impl Print, r: Resolved) -> io::Result<()> {
+fn print_resolved(rt: &impl Print, r: Option<Resolved>) -> io::Result<()> {
     match r {
-        Resolved::At(row, start) => print!(rt; "{row} {start} "),
-        Resolved::Nothing => print!(rt; "none "),
+        Some(Resolved { row, start }) => print!(rt; "{row} {start} "),
+        None => print!(rt; "none "),
     }
 }
 

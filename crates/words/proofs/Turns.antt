@@ -1,17 +1,15 @@
 -- The loops: for each its invariant, that it holds at the start, after a turn, and what it says at the end.
 -- Assumes nothing.
 use mathlib.Core.Path.{◌≡◌, refl, sym, ap, ◌∙◌}
-use mathlib.Core.List.{List, [], ◌∷◌, ◌++◌, append-nil}
-use Prim.Native.Nat.{ℕ, suc, ◌+◌, ◌-◌, ◌*◌, ◌≤◌, ◌<◌}
-use native.Mathlib.Nat.{sub_self}
+use mathlib.Core.List.{List, ◌++◌}
+use Prim.Native.Nat.{ℕ, suc, ◌+◌, ◌*◌, ◌≤◌, ◌<◌}
 use native.Mathlib.Numerals.{add-one}
 use native.Mathlib.Omega.{arith}
-use borrow.Author.Fill.{fill_none, fill_more}
-use lib.ListN.{length, get_or, set, drop, replicate, length-set, length-drop, drop_of_length-le}
-use lib.Seq.{paste, paste-zero, paste-suc, length-paste, drop-cons, drop-drop, get_or-drop}
+use lib.ListN.{length, get_or, set, drop, length-set}
+use lib.Seq.{paste, paste-zero, paste-suc, drop-cons, drop-drop}
 use Rattle.definition.specs.Words.{word, words, bytes, written}
 use Rattle.words.specs.Bytes.{get_d_words, length_words, length_written, drop_written, written_cons}
-use Rattle.words.specs.Parts.{paste_on, paste_before, set_paste, get_d_below, get_d_above}
+use Rattle.words.specs.Parts.{paste_on}
 
 -- ── A copy, from the first to the last ──────────────────────────────────────────────────────────────────────
 
@@ -42,52 +40,6 @@ pub reading_next : (b : List ℕ) (at : ℕ) {n : ℕ} {d : List ℕ} {to : ℕ}
 reading_next b at {n} {i = i} v h j e =
     copying_next v h j (omega (arith, length_words n (drop at b))) (e ∙ sym (get_d_words n (drop at b) i h ∙ ap word (drop-drop (4 * i) at b)))
 
--- a move to a lower place: what is still to be read is as it was
-pub lowering_next : {d : List ℕ} (from : ℕ) {to n : ℕ} {l : List ℕ} {i : ℕ} → Copying d to (drop from d) n l i → i < n → to ≤ from → from + n ≤ length d
-    → Copying d to (drop from d) n (set l (to + i) (get_or l (from + i) 0)) (i + 1)
-lowering_next {d} from {to} {n} {l} {i} v h j k =
-    let m = length-drop from d in
-    let e : get_or l (from + i) 0 ≡ get_or d (from + i) 0 = rw v.copied (get_d_above d to (drop from d) i (omega arith) (omega arith) 0 (from + i) (omega arith)) in
-    copying_next v h (omega arith) (omega arith) (e ∙ sym (get_or-drop from d i 0))
-
--- ── A move to a higher place, from the last to the first ────────────────────────────────────────────────────
-
--- l is d with all but the first i of the n elements at `from` written at `to`
-pub record Raising (d : List ℕ) (from to n : ℕ) (l : List ℕ) (i : ℕ) : Type 0 where
-  pub inside : i ≤ n
-  pub long : length l ≡ length d
-  pub copied : l ≡ paste d (to + i) (drop (from + i) d) (n - i)
-
-pub raising_start : (d : List ℕ) (from to n : ℕ) → Raising d from to n d n
-raising_start d from to n = record { inside = omega arith; long = refl; copied = rw sub_self (paste-zero d (to + n) (drop (from + n) d)) }
-
--- one element more at the front of a copy, read below it
-paste_first : (d : List ℕ) (f f' t t' n n' : ℕ) → f' ≡ suc f → t' ≡ t + 1 → n' ≡ 1 + n → f ≤ t → t' + n ≤ length d
-    → set (paste d t' (drop f' d) n) t (get_or (paste d t' (drop f' d) n) f 0) ≡ paste d t (drop f d) n'
-paste_first d f f' t t' n n' ef et en h k =
-    let m = length-drop f' d in
-    let x : ℕ = get_or d f 0 in
-    let l = length-paste d t' (drop f' d) n k (omega arith) in
-    rw (get_d_below d t' (drop f' d) n k (omega arith) 0 f (omega arith), set_paste (paste d t' (drop f' d) n) t x (omega arith))
-    (paste_before d t (x ∷ []) 1 (drop f' d) n t' n' et en (omega arith) (omega arith) ∙ rw (drop-cons d f 0 (omega arith), ef))
-
-module _ {d : List ℕ} {from to n : ℕ} {l : List ℕ} {i : ℕ} (v : Raising d from to n l i) where
-  pub raising_next : 0 < i → from ≤ to → to + n ≤ length d → Raising d from to n (set l (to + (i - 1)) (get_or l (from + (i - 1)) 0)) (i - 1)
-  raising_next h j k =
-      record {
-        inside = omega arith;
-        long = simp length-set v.long;
-        copied =
-            rw v.copied (paste_first d (from + (i - 1)) (from + i) (to + (i - 1)) (to + i) (n - i) (n - (i - 1)) (omega arith) (omega arith) (omega arith) (omega arith) (omega arith));
-      }
-
-  pub raising_done : i ≤ 0 → l ≡ paste d to (drop from d) n
-  raising_done h =
-      let a : to + i ≡ to = omega arith in
-      let b : from + i ≡ from = omega arith in
-      let c : n - i ≡ n = omega arith in
-      v.copied ∙ rw (a, b, c)
-
 -- ── Words written as bytes ──────────────────────────────────────────────────────────────────────────────────
 
 -- l is d with the bytes of the first i words written at `at`
@@ -117,23 +69,3 @@ module _ {d : List ℕ} {at : ℕ} {ws l : List ℕ} {i : ℕ} (v : Writing d at
 
   pub writing_done : length ws ≤ i → l ≡ paste d at (written ws) (4 * length ws)
   writing_done h = let e : length ws ≡ i = omega arith in rw e v.copied
-
--- ── Words cleared ───────────────────────────────────────────────────────────────────────────────────────────
-
--- l is d with its first i words 0
-pub record Clearing (d l : List ℕ) (i : ℕ) : Type 0 where
-  pub inside : i ≤ length d
-  pub long : length l ≡ length d
-  pub cleared : l ≡ replicate i 0 ++ drop i d
-
-pub clearing_start : (d : List ℕ) → Clearing d d 0
-clearing_start d = record { inside = omega arith; long = refl; cleared = fill_none d 0 }
-
-module _ {d l : List ℕ} {i : ℕ} (v : Clearing d l i) where
-  pub clearing_next : i < length l → Clearing d (set l i 0) (i + 1)
-  clearing_next h = record { inside = omega arith; long = simp length-set v.long; cleared = rw v.cleared (fill_more i 0 d (omega arith)) }
-
-  pub clearing_done : length l ≤ i → l ≡ replicate (length d) 0
-  clearing_done h =
-      let e : i ≡ length d = omega arith in
-      v.cleared ∙ rw (drop_of_length-le d {i = i} (omega arith), append-nil, e)

@@ -6,34 +6,20 @@ ghost use Rattle.std.proofs.Math.Seq.{paste};
 ghost use Rattle.definition.specs.Words.{word as word_of, words, bytes, written};
 ghost use Rattle.words.specs.Parts.{spliced};
 
-// A byte as a number.
-fn wide8(x: u8) -> usize
-    ensures { (result ≡ x) × (result < 2 ^ 8) }
-{
-    x as usize
-}
-
-// A word as a number.
-fn wide32(x: u32) -> usize
-    ensures { (result ≡ x) × (result < 2 ^ 32) }
-{
-    x as usize
-}
-
 // The byte at `i`.
 pub fn byte(b: &[u8], i: usize) -> usize
     requires { i < length b.now }
     ensures { (result ≡ get_or b.now i 0) × (result < 2 ^ 8) }
 {
-    wide8(b[i])
+    usize::from(b[i])
 }
 
-// The word at `i`.
+// The word at `i`. Beside `byte`, since a trait of both widths would be longer than the two.
 pub fn word(s: &[u32], i: usize) -> usize
     requires { i < length s.now }
     ensures { (result ≡ get_or s.now i 0) × (result < 2 ^ 32) }
 {
-    wide32(s[i])
+    s[i] as usize
 }
 
 // The word that stands at `at` in some bytes.
@@ -41,7 +27,7 @@ pub fn read_word(b: &[u8], at: usize) -> usize
     requires { at + 4 ≤ length b.now }
     ensures { (result ≡ word_of (drop at b.now)) × (result < 2 ^ 32) }
 {
-    byte(b, at) + 256 * byte(b, at + 1) + 65536 * byte(b, at + 2) + 16777216 * byte(b, at + 3)
+    u32::from_le_bytes([b[at], b[at + 1], b[at + 2], b[at + 3]]) as usize
 }
 
 // The word `w` is written at `at`.
@@ -49,13 +35,7 @@ pub fn write_word(b: &mut [u8], at: usize, w: usize)
     requires { at + 4 ≤ length b.old }
     ensures { b.new ≡ paste b.old at (bytes w) 4 }
 {
-    let four = [
-        (w % 256) as u8,
-        (w / 256 % 256) as u8,
-        (w / 65536 % 256) as u8,
-        (w / 16777216 % 256) as u8,
-    ];
-    copy_bytes(b, at, &four);
+    copy_in(b, at, &w.to_le_bytes()[..4]);
 }
 
 // The `n` words that stand in `b` from `at` on are written at `to`.
@@ -63,10 +43,8 @@ pub fn read_words(b: &[u8], at: usize, n: usize, s: &mut [u32], to: usize)
     requires { (at + 4 * n ≤ length b.now) × (to + n ≤ length s.old) }
     ensures { s.new ≡ paste s.old to (words n (drop at b.now)) n }
 {
-    let mut i = 0;
-    while i < n {
+    for i in 0..n {
         s[to + i] = read_word(b, at + 4 * i) as u32;
-        i += 1;
     }
 }
 
@@ -75,10 +53,8 @@ pub fn write_words(b: &mut [u8], at: usize, s: &[u32])
     requires { at + 4 * length s.now ≤ length b.old }
     ensures { b.new ≡ paste b.old at (written s.now) (4 * length s.now) }
 {
-    let mut i = 0;
-    while i < s.len() {
-        write_word(b, at + 4 * i, word(s, i));
-        i += 1;
+    for (i, w) in s.iter().enumerate() {
+        write_word(b, at + 4 * i, *w as usize);
     }
 }
 
@@ -87,81 +63,37 @@ pub fn copy_bytes(b: &mut [u8], at: usize, src: &[u8])
     requires { at + length src.now ≤ length b.old }
     ensures { b.new ≡ paste b.old at src.now (length src.now) }
 {
-    let mut i = 0;
-    while i < src.len() {
-        b[at + i] = src[i];
-        i += 1;
-    }
+    copy_in(b, at, src);
 }
 
 // Every word becomes 0.
 pub fn clear(s: &mut [u32])
     ensures { s.new ≡ replicate (length s.old) 0 }
 {
-    let mut cleared = 0;
-    while cleared < s.len() {
-        s[cleared] = 0;
-        cleared += 1;
-    }
+    s.fill(0);
 }
 
 // Every byte becomes 0.
 pub fn clear_bytes(b: &mut [u8])
     ensures { b.new ≡ replicate (length b.old) 0 }
 {
-    let mut cleared = 0;
-    while cleared < b.len() {
-        b[cleared] = 0;
-        cleared += 1;
-    }
+    b.fill(0);
 }
 
-// The words `src` are written at `at`.
-pub fn copy_in(s: &mut [u32], at: usize, src: &[u32])
+// The elements of `src` are written at `at`.
+pub fn copy_in<T: Copy>(s: &mut [T], at: usize, src: &[T])
     requires { at + length src.now ≤ length s.old }
     ensures { s.new ≡ paste s.old at src.now (length src.now) }
 {
-    let mut i = 0;
-    while i < src.len() {
-        s[at + i] = src[i];
-        i += 1;
-    }
+    s[at..at + src.len()].copy_from_slice(src);
 }
 
-// The `len` words at `from` are written at `to`, which is no higher: from the first to the last, since the two may overlap.
-fn move_down(s: &mut [u32], from: usize, to: usize, len: usize)
-    requires { (to ≤ from) × (from + len ≤ length s.old) }
-    ensures { s.new ≡ paste s.old to (drop from s.old) len }
-{
-    let mut i = 0;
-    while i < len {
-        s[to + i] = s[from + i];
-        i += 1;
-    }
-}
-
-// The same to a place that is no lower: from the last to the first.
-fn move_up(s: &mut [u32], from: usize, to: usize, len: usize)
-    requires { (from ≤ to) × (to + len ≤ length s.old) }
-    ensures { s.new ≡ paste s.old to (drop from s.old) len }
-{
-    let mut i = len;
-    while 0 < i {
-        i -= 1;
-        s[to + i] = s[from + i];
-    }
-}
-
-// The `len` words at `from` are written at `to`; where that is the same place nothing is done.
+// The `len` words at `from` are written at `to`; the two places may overlap.
 pub fn move_words(s: &mut [u32], from: usize, to: usize, len: usize)
     requires { (from + len ≤ length s.old) × (to + len ≤ length s.old) }
     ensures { s.new ≡ paste s.old to (drop from s.old) len }
 {
-    if to < from {
-        move_down(s, from, to, len)
-    } else if from < to {
-        move_up(s, from, to, len)
-    }
+    s.copy_within(from..from + len, to);
 }
 
 // Of the first `n` words those from `p` up to `q` give way to `ins`; what stands beyond the new end is as it was.

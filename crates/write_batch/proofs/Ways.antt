@@ -2,13 +2,12 @@
 -- Assumes nothing.
 use mathlib.Core.Path.{◌≡◌, refl, sym, ap, ◌∙◌}
 use mathlib.Core.Bool.{Bool, true, false, not, ◌||◌}
-use mathlib.Core.List.{List, [], ◌∷◌, zip, zip_with}
+use mathlib.Core.List.{List, [], ◌∷◌, ◌++◌, zip, zip_with}
 use Prim.Native.Nat.{ℕ, ◌≤◌, ◌<◌}
 use native.Mathlib.Nat.{zero-add}
 use native.Mathlib.Omega.{arith}
 use lib.Dec.{ltb}
 use lib.ListN.{length, take, drop, replicate, length-append, take-append-drop}
-use lib.Seq.{paste, take-length}
 use borrow.Author.Tests.{lt-ltb, le-ltb, ltb-false, not-true, not-false}
 use Rattle.orders.specs.ListLaws.{either_false}
 use Rattle.definition.specs.Basics.{Answer, ◌>>=◌, refuse, is_refused, any}
@@ -17,16 +16,16 @@ use Rattle.definition.specs.Writing.{Lists, laid_out, unlayable, wrong_lists, wr
 use Rattle.promises.specs.Slices.{lengths, zeros, zeroed}
 use Rattle.promises.specs.Promises.{left_in}
 use Rattle.promises.specs.Writing.{writer_needs, wrote, Writes}
-use Rattle.read_layout.specs.declared.Laid.{Laid}
-use Rattle.read_layout.specs.declared.Laid.TheVariants.{Refused as Wrong, At}
+use Rattle.std.specs.Prelude.{Result, Ok, Err, is_err}
+use Rattle.refusals.specs.Numbers.{number, answered}
+use Rattle.refusals.specs.declared.Refusal.{Refusal}
+use Rattle.refusals.specs.declared.Refusal.TheVariants.{ShortWork, Lists as NoLists, ShortDestination}
 use Rattle.read_layout.specs.declared.Layout.{Layout}
-use Rattle.read_layout.specs.Layout.{laid_of}
 use Rattle.read_batch.specs.Accepting.{judged_refuses}
 use Rattle.read_batch.specs.Leaving.{Judged}
 use Rattle.write_laws.specs.RoundTrip.{InStep, layable}
 use Rattle.write_layout.specs.Appending.{Appended}
-use Rattle.write_batch.specs.Handing.{answer_of, Told, fitted, handed}
-use Rattle.write_batch.specs.declared.Written.TheVariants.{Refused, Bytes}
+use Rattle.write_batch.specs.Handing.{Told, fitted, handed}
 
 -- ── The work slices ─────────────────────────────────────────────────────────────────────────────────────────
 
@@ -34,21 +33,15 @@ module _ (d t s : List ℕ) where
   abbrev Short : Bool → Type 0
   Short r = r ≡ too_short (lengths writer_needs (d ∷ t ∷ s ∷ []))
 
-  pub short_draft : length d < 49180 → Short true
+  pub one_short : (r : Bool) → r ≡ (ltb (length d) 49180 || (ltb (length t) 16384 || ltb (length s) 6147)) → Short r
   unfolding too_short lengths writer_needs any zip zip_with
-  short_draft h = rw (lt-ltb (length d) 49180 h) refl
-
-  pub short_table : 49180 ≤ length d → length t < 16384 → Short true
-  unfolding too_short lengths writer_needs any zip zip_with
-  short_table h k = rw (le-ltb (length d) 49180 h, lt-ltb (length t) 16384 k) refl
-
-  pub short_source : 49180 ≤ length d → 16384 ≤ length t → Short (ltb (length s) 6147)
-  unfolding too_short lengths writer_needs any zip zip_with
-  short_source h k = rw (le-ltb (length d) 49180 h, le-ltb (length t) 16384 k) (go (ltb (length s) 6147))
+  one_short r e = e ∙ go (ltb (length d) 49180) (ltb (length t) 16384) (ltb (length s) 6147)
     where
-      go : (b : Bool) → b ≡ (b || false)
-      go true = refl
-      go false = refl
+      go : (a b c : Bool) → (a || (b || c)) ≡ (a || (b || (c || false)))
+      go true b c = refl
+      go false true c = refl
+      go false false true = refl
+      go false false false = refl
 
   pub long_enough : (r : Bool) → Short r → r ≡ false → (49180 ≤ length d) × (16384 ≤ length t) × (6147 ≤ length s)
   unfolding too_short lengths writer_needs any zip zip_with
@@ -65,26 +58,30 @@ module _ (d t s : List ℕ) where
 -- ── A batch that is laid out ────────────────────────────────────────────────────────────────────────────────
 
 module _ (b held : List ℕ) where
-  pub no_room : length held < length b → Told (fitted b (length held)) held (answer_of (Refused 15)) held
-  unfolding fitted answer_of left_in ◌>>=◌ refuse
+  pub no_room : length held < length b → Told (fitted b (length held)) held (answered (Err ShortDestination)) held
+  unfolding fitted answered number left_in ◌>>=◌ refuse
   no_room h = rw (lt-ltb (length held) (length b) h) (record { answer = refl; destination = refl })
 
-  pub copied : (holds : List ℕ) → length b ≤ length held → holds ≡ paste held 0 b (length b) → Told (fitted b (length held)) held (answer_of (Bytes (length b))) holds
-  unfolding fitted answer_of left_in ◌>>=◌ refuse
-  copied holds h e =
-      rw (le-ltb (length held) (length b) h) (record {
-        answer = refl;
-        destination = e ∙ rw (take-length b, zero-add (length b)) refl;
-      })
+  pub copied : (new : List ℕ) → length b ≤ length held → new ≡ b → Told (fitted b (length held)) held (answered (Ok (length b))) (new ++ drop (length b) held)
+  unfolding fitted answered left_in ◌>>=◌ refuse
+  copied new h e = rw (le-ltb (length held) (length b) h) (record { answer = refl; destination = ap (λ (l : List ℕ). l ++ drop (length b) held) e })
 
-  module _ {t₀ s₀ t s : List ℕ} {o : Laid} (j : Judged b t₀ s₀ t s o) where
-    pub laid_wrong : (n : ℕ) → o ≡ Wrong n → Told (handed b (length held)) held (answer_of (Refused 14)) held
-    unfolding handed answer_of left_in is_refused laid_of ◌>>=◌ refuse
-    laid_wrong n e = rw (judged_refuses b n (sym j.answer ∙ ap laid_of e)) (record { answer = refl; destination = refl })
+  module _ {t₀ s₀ t s : List ℕ} {o : Result Layout Refusal} (j : Judged b t₀ s₀ t s o) where
+    pub laid_wrong : (x : Bool) → x ≡ is_err o → x ≡ true → Told (handed b (length held)) held (answered (Err NoLists)) held
+    unfolding handed answered number left_in is_refused ◌>>=◌ refuse
+    laid_wrong x p q = go o refl (sym p ∙ q)
+      where
+        go : (r : Result Layout Refusal) → o ≡ r → is_err r ≡ true → Told (handed b (length held)) held (answered (Err NoLists)) held
+        go (Err e) u z = rw (judged_refuses b (number e) (sym j.answer ∙ ap answered u)) (record { answer = refl; destination = refl })
+        go (Ok l) u z = cc
 
-    pub laid_right : (l : Layout) {r : Answer ℕ} {holds : List ℕ} → o ≡ At l → Told (fitted b (length held)) held r holds → Told (handed b (length held)) held r holds
+    pub laid_right : (x : Bool) {r : Answer ℕ} {holds : List ℕ} → x ≡ is_err o → x ≡ false → Told (fitted b (length held)) held r holds → Told (handed b (length held)) held r holds
     unfolding handed is_refused ◌>>=◌ refuse
-    laid_right l e p = rw (j.left l e).accepted p
+    laid_right x {r} {holds} p q told = go o refl (sym p ∙ q)
+      where
+        go : (k : Result Layout Refusal) → o ≡ k → is_err k ≡ false → Told (handed b (length held)) held r holds
+        go (Err e) u z = cc
+        go (Ok l) u z = rw (j.left l u).accepted told
 
 -- ── The lists ───────────────────────────────────────────────────────────────────────────────────────────────
 
@@ -92,13 +89,13 @@ module _ (l : Lists) (held d t s : List ℕ) (q : Bool) (e : q ≡ too_short (le
   abbrev Tells : Answer ℕ → List ℕ → Type 0
   Tells r holds = Told (wrote (d ∷ t ∷ s ∷ []) l (length held)) held r holds
 
-  pub refused_1 : q ≡ true → Tells (answer_of (Refused 1)) held
-  unfolding wrote with_work answer_of left_in ◌>>=◌ refuse
+  pub refused_1 : q ≡ true → Tells (answered (Err ShortWork)) held
+  unfolding wrote with_work answered number left_in ◌>>=◌ refuse
   refused_1 h = rw (sym e ∙ h) (record { answer = refl; destination = refl })
 
   module _ (h : q ≡ false) (u : Bool) (f : u ≡ not (unlayable l)) where
-    pub refused_14 : u ≡ false → Tells (answer_of (Refused 14)) held
-    unfolding wrote with_work write wrong_lists answer_of left_in ◌>>=◌ refuse
+    pub refused_14 : u ≡ false → Tells (answered (Err NoLists)) held
+    unfolding wrote with_work write wrong_lists answered number left_in ◌>>=◌ refuse
     refused_14 k = rw (sym e ∙ h, not-false (unlayable l) (sym f ∙ k)) (record { answer = refl; destination = refl })
 
     pub handed_over : u ≡ true → (b : List ℕ) {r : Answer ℕ} {holds : List ℕ} → b ≡ laid_out l → Told (handed b (length held)) held r holds → Tells r holds

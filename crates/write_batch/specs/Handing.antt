@@ -1,16 +1,9 @@
 -- A batch that is laid out in the draft, on its way to the destination: 14, then 15.
 -- Assumes nothing.
 use Rattle.std.specs.Prelude.{◌≡◌, List, ℕ, length, ltb}
-use Rattle.definition.specs.Basics.{Answer, gives, refused, ◌>>=◌, refuse, is_refused}
+use Rattle.definition.specs.Basics.{Answer, gives, ◌>>=◌, refuse, is_refused}
 use Rattle.definition.specs.Refusals.{accepted}
 use Rattle.promises.specs.Promises.{left_in}
-use Rattle.write_batch.specs.declared.Written.{Written}
-use Rattle.write_batch.specs.declared.Written.TheVariants.{Refused, Bytes}
-
--- the refusal's number, or how many bytes are written
-unfoldable pub answer_of : Written → Answer ℕ
-answer_of (Refused n) = refused n
-answer_of (Bytes n) = gives n
 
 -- the answer and the destination, which held `held` and holds `holds`, where this is to be written
 pub record Told (want : Answer (List ℕ)) (held : List ℕ) (r : Answer ℕ) (holds : List ℕ) : Type 0 where

@@ -1,16 +1,14 @@
 -- `hand_out` meets its contract.
-use Rattle.account_lines.proofs.Turns.{draft_long, draft_13, draft_given, draft_room}
+use mathlib.Core.Path.{ap}
+use mathlib.Core.List.{List, ◌++◌}
+use Prim.Native.Nat.{ℕ}
+use lib.ListN.{drop}
+use Rattle.account_lines.proofs.Turns.{draft_13, draft_given}
 use borrow.Author.Rules.{rules}
 use Rattle.account_lines.proofs.hand_out.Goals as goal
 
 pub returns-then-res-n : goal.returns-then-res-n
 returns-then-res-n c = search (draft_13, rules)
 
-pub slice_bounds-copy_bytes-end : goal.slice_bounds-copy_bytes-end
-slice_bounds-copy_bytes-end c = search (draft_long, rules)
-
-pub copy_bytes-requires : goal.copy_bytes-requires
-copy_bytes-requires c = search (draft_room, rules)
-
 pub returns : goal.returns
-returns c = search (draft_given, rules)
+returns c = draft_given _ _ _ c.requires c.if-res-n.false (ap (λ (l : List ℕ). l ++ drop c.args.n c.args.res.now) c.copy_from_slice.ensures.after)

@@ -1,24 +1,22 @@
 -- `put_account` meets its contract.
 use borrow.Author.Rules.{rules}
-use Prim.Native.Nat.{◌-◌}
 use Rattle.account_lines.proofs.Turns.{account_start, line_room, account_stays, account_leaves, account_done}
 use Rattle.account_lines.proofs.put_account.Goals as goal
 
 pub loop-i-init : goal.loop-i-init
 loop-i-init c = search (account_start, rules)
 
-pub put_fate-to-requires : goal.put_fate-to-requires
-put_fate-to-requires c = search (line_room, rules)
-
-pub loop-i-preserved-then-under-eq0 : goal.loop-i-preserved-then-under-eq0
-loop-i-preserved-then-under-eq0 c =
-    account_stays c.loop-i.invariant c.loop-i-test.true c.word-under.ensures.0 c.if-under-eq0.true c.field-fate.ensures.0 c.field-owner.ensures.0 c.number_of-number.ensures (search rules) c.put_fate-to.ensures
-
 pub put_withdrawn-to-requires : goal.put_withdrawn-to-requires
 put_withdrawn-to-requires c = search (line_room, rules)
 
+pub loop-i-preserved-then-under-ne0 : goal.loop-i-preserved-then-under-ne0
+loop-i-preserved-then-under-ne0 c = search (account_leaves, rules)
+
+pub put_fate-to-requires : goal.put_fate-to-requires
+put_fate-to-requires c = search (line_room, rules)
+
 pub loop-i-preserved : goal.loop-i-preserved
-loop-i-preserved c = search (account_leaves, rules)
+loop-i-preserved c = search (account_stays, rules)
 
 pub returns : goal.returns
 returns c = search (account_done, rules)

@@ -1,10 +1,11 @@
 -- `judge_claims` meets its contract.
 use Rattle.check_claim.proofs.Ways.{refused_19, claims_fit, paired_twice, ready, judged_told, judged_yes, judged_no}
 use Rattle.check_claim.specs.Judging.{answer_of}
+use Rattle.refusals.specs.Numbers.{number}
 use Rattle.check_claim.proofs.judge_claims.Goals as goal
 
 pub returns-then-names_none : goal.returns-then-names_none
-unfolding answer_of
+unfolding answer_of number
 returns-then-names_none c = refused_19 _ _ _ _ _ _ _ _ _ _ _ c.names_none.ensures c.if-names_none.true
 
 pub write_claims-requires : goal.write_claims-requires

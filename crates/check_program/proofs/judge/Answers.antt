@@ -2,17 +2,18 @@
 -- Assumes nothing.
 use Rattle.check_program.proofs.Ways.{short_claim, other_length, right_length, front_words, texts_left}
 use Rattle.check_claim.specs.Judging.{answer_of}
+use Rattle.refusals.specs.Numbers.{number}
 use native.Mathlib.Omega.{arith}
 use lib.ListN.{length, replicate}
 use Prim.Native.Nat.{ℕ, ◌+◌, ◌-◌, ◌*◌}
 use Rattle.check_program.proofs.judge.Goals as goal
 
 pub returns-then-claim-lt32 : goal.returns-then-claim-lt32
-unfolding answer_of
+unfolding answer_of number
 returns-then-claim-lt32 c = short_claim _ (omega arith)
 
 pub returns-then-claim-n : goal.returns-then-claim-n
-unfolding answer_of
+unfolding answer_of number
 returns-then-claim-n c = other_length _ (omega arith) c.read_word-a.ensures.0 c.read_word-b.ensures.0 c.read_word-c.ensures.0 c.read_word-d.ensures.0 c.read_word-e.ensures.0 c.read_word-f.ensures.0 c.read_word-g.ensures.0 c.read_word-h.ensures.0 c.if-claim-n.true
 
 pub returns : goal.returns

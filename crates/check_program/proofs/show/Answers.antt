@@ -4,11 +4,11 @@ use Rattle.check_program.proofs.Ways.{refused_shown, accepted_shown, rejected_sh
 use borrow.Author.Rules.{rules}
 use Rattle.check_program.proofs.show.Goals as goal
 
-pub returns-in-Refused : goal.returns-in-Refused
-returns-in-Refused c = search (refused_shown, rules)
+pub returns-in-Err : goal.returns-in-Err
+returns-in-Err c = search (refused_shown, rules)
 
-pub returns-in-Accepted : goal.returns-in-Accepted
-returns-in-Accepted c = search (accepted_shown, rules)
+pub returns-in-Ok-Accepted : goal.returns-in-Ok-Accepted
+returns-in-Ok-Accepted c = accepted_shown c.in-Ok-Accepted.is (rw c.in-Ok-Accepted.is at c.in-Ok-Accepted.field-0-is) c.put_line-in-Ok-Accepted.ensures
 
-pub returns-in-Rejected : goal.returns-in-Rejected
-returns-in-Rejected c = search (rejected_shown, rules)
+pub returns-in-Ok-Rejected : goal.returns-in-Ok-Rejected
+returns-in-Ok-Rejected c = rejected_shown c.in-Ok-Rejected.is (rw c.in-Ok-Rejected.is at c.in-Ok-Rejected.field-0-is) c.put_line-in-Ok-Rejected.ensures

@@ -1,31 +1,41 @@
 -- `number_of` meets its contract: case by case.
 use borrow.Author.Rules.{rules}
-use Rattle.edit_numbers.proofs.Cases.{small_refused, small_bytes, small_at, tells_refused, tells_bytes, tells_nothing, tells_at, small_quotient, small_remainder, tells_of}
+use Rattle.refusals.specs.Numbers.{answered}
+use Rattle.edit_numbers.specs.Told.{Small, number_of}
 use Rattle.edit_numbers.proofs.number_of.Goals as goal
 
 pub negative-requires : goal.negative-requires
-negative-requires c = search (small_refused, rules)
+unfolding Small answered
+negative-requires c = search rules
 
 pub positive-requires : goal.positive-requires
-positive-requires c = search (small_bytes, rules)
+unfolding Small answered
+positive-requires c = search rules
 
-pub positive-requires-in-At : goal.positive-requires-in-At
-positive-requires-in-At c = search (small_at, rules)
+pub positive-requires-in-Ok-At : goal.positive-requires-in-Ok-At
+unfolding Small answered
+positive-requires-in-Ok-At c = search rules
 
 pub share_number-requires : goal.share_number-requires
-share_number-requires c = search (small_quotient, small_remainder, rules)
+unfolding Small answered
+share_number-requires c = search rules
 
-pub returns-in-Refused : goal.returns-in-Refused
-returns-in-Refused c = search (tells_refused, rules)
+pub returns-in-Err : goal.returns-in-Err
+unfolding number_of answered
+returns-in-Err c = search rules
 
-pub returns-in-Bytes : goal.returns-in-Bytes
-returns-in-Bytes c = search (tells_bytes, rules)
+pub returns-in-Ok-Bytes : goal.returns-in-Ok-Bytes
+unfolding number_of answered
+returns-in-Ok-Bytes c = search rules
 
-pub returns-in-Nothing : goal.returns-in-Nothing
-returns-in-Nothing c = search (tells_nothing, rules)
+pub returns-in-Ok-Nothing : goal.returns-in-Ok-Nothing
+unfolding number_of answered
+returns-in-Ok-Nothing c = search rules
 
-pub returns-in-At : goal.returns-in-At
-returns-in-At c = search (tells_at, rules)
+pub returns-in-Ok-At : goal.returns-in-Ok-At
+unfolding number_of answered
+returns-in-Ok-At c = search rules
 
-pub returns-in-Of : goal.returns-in-Of
-returns-in-Of c = search (tells_of, rules)
+pub returns-in-Ok-Of : goal.returns-in-Ok-Of
+unfolding number_of answered
+returns-in-Ok-Of c = search rules

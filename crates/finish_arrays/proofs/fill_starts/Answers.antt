@@ -1,5 +1,4 @@
 -- `fill_starts` meets its contract. The invariant: the starts of the rows passed stand at the front.
-use Prim.Native.Nat.{◌-◌}
 use borrow.Author.Rules.{rules}
 use Rattle.finish_arrays.proofs.Turns.{starting, starting_next, starting_done}
 use Rattle.finish_arrays.proofs.fill_starts.Goals as goal

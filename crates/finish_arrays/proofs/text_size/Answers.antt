@@ -1,5 +1,4 @@
 -- `text_size` meets its contract. The text of the rows passed is summed.
-use Prim.Native.Nat.{◌-◌}
 use native.Mathlib.Omega.{arith}
 use Rattle.finish_arrays.proofs.Turns.{sizing_start, sizing_small, sizing_next, sizing_done}
 use borrow.Author.Rules.{rules}

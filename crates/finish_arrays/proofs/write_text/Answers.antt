@@ -1,5 +1,4 @@
 -- `write_text` meets its contract. The text of the rows passed is written.
-use Prim.Native.Nat.{◌-◌}
 use borrow.Author.Rules.{rules}
 use Rattle.finish_arrays.proofs.Turns.{texting, texting_room, texting_next, texting_done}
 use Rattle.finish_arrays.proofs.write_text.Goals as goal

@@ -1,5 +1,4 @@
 -- `write_column` meets its contract. The words of the notes passed are written.
-use Prim.Native.Nat.{◌-◌}
 use Rattle.finish_result.proofs.Turns.{column_start, column_next, column_done}
 use borrow.Author.Rules.{rules}
 use Rattle.finish_result.proofs.write_column.Goals as goal

@@ -5,6 +5,3 @@ use Rattle.finish_result.proofs.write_column.Given as goal
 
 abbrev pub invariant-loop-i : goal.invariant-loop-i
 invariant-loop-i l = Writing l.initial.b l.at (note_column l.j l.notes) l.b l.i
-
-abbrev pub decreases-loop-i : goal.decreases-loop-i
-decreases-loop-i l = l.m - l.i

@@ -1,5 +1,4 @@
 -- `write_numbers` meets its contract. What is told of the changed elements passed is written.
-use Prim.Native.Nat.{◌-◌}
 use Rattle.finish_result.proofs.Turns.{parts_start, parts_next, parts_done}
 use borrow.Author.Rules.{rules}
 use Rattle.finish_result.proofs.write_numbers.Goals as goal

@@ -1,5 +1,4 @@
 -- `write_kept` meets its contract: one pair after another.
-use Prim.Native.Nat.{◌-◌}
 use borrow.Author.Rules.{rules}
 use Rattle.kept_rows.proofs.Ways.{pairing, old_room, new_room, pairing_next, pairing_sum, pairing_half, pairing_done}
 use Rattle.kept_rows.proofs.write_kept.Goals as goal

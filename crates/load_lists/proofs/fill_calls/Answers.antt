@@ -3,7 +3,6 @@ use Rattle.load_lists.specs.Turns.{calls_first, calls_turn, calls_last}
 use borrow.Author.Rules.{rules}
 use native.Mathlib.Omega.{arith}
 use lib.ListN.{length-set}
-use Prim.Native.Nat.{◌-◌}
 use Rattle.load_lists.proofs.fill_calls.Goals as goal
 
 pub loop-i-init : goal.loop-i-init

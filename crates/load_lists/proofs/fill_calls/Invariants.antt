@@ -1,10 +1,5 @@
 use Rattle.load_lists.specs.Turns.{CallsTo}
-use borrow.Author.Rules.{rules}
-use Prim.Native.Nat.{◌-◌}
 use Rattle.load_lists.proofs.fill_calls.Given as goal
 
 abbrev pub invariant-loop-i : goal.invariant-loop-i
 invariant-loop-i l = CallsTo l.start l.operations l.counts l.rules l.targets l.listed l.present l.at l.i
-
-abbrev pub decreases-loop-i : goal.decreases-loop-i
-decreases-loop-i l = 96 - l.i

@@ -1,11 +1,6 @@
 use Rattle.load_lists.specs.Turns.{AlongTo}
 use Rattle.load_laws.specs.Load.{kind_at}
-use lib.ListN.{length}
-use Prim.Native.Nat.{◌-◌}
 use Rattle.load_lists.proofs.fill_kinds.Given as goal
 
 abbrev pub invariant-loop-i : goal.invariant-loop-i
 invariant-loop-i l = AlongTo kind_at l.initial.kinds l.kinds l.i
-
-abbrev pub decreases-loop-i : goal.decreases-loop-i
-decreases-loop-i l = length l.initial.kinds - l.i

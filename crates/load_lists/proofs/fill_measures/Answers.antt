@@ -1,7 +1,6 @@
 -- `fill_measures` meets its contract: the first i places are filled.
 use Rattle.load_lists.specs.Turns.{along_first, along_turn, along_last}
 use borrow.Author.Rules.{rules}
-use Prim.Native.Nat.{◌-◌}
 use Rattle.load_lists.proofs.fill_measures.Goals as goal
 
 pub loop-i-init : goal.loop-i-init

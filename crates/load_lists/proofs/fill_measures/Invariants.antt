@@ -1,11 +1,6 @@
 use Rattle.load_lists.specs.Turns.{AlongTo}
 use Rattle.load_laws.specs.Load.{measure_at}
-use lib.ListN.{length}
-use Prim.Native.Nat.{◌-◌}
 use Rattle.load_lists.proofs.fill_measures.Given as goal
 
 abbrev pub invariant-loop-i : goal.invariant-loop-i
 invariant-loop-i l = AlongTo measure_at l.initial.measures l.measures l.i
-
-abbrev pub decreases-loop-i : goal.decreases-loop-i
-decreases-loop-i l = length l.initial.measures - l.i

@@ -1,7 +1,6 @@
 -- `fill_notes` meets its contract: the first i notes are in the lists.
 use Rattle.load_lists.specs.Turns.{notes_first, notes_turn, notes_last}
 use borrow.Author.Rules.{rules}
-use Prim.Native.Nat.{◌-◌}
 use Rattle.load_lists.proofs.fill_notes.Goals as goal
 
 pub loop-i-init : goal.loop-i-init

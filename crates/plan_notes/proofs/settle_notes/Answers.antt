@@ -1,7 +1,7 @@
 -- `settle_notes` meets its contract. At the loop's head the notes so far are settled and written.
 use borrow.Author.Rules.{rules}
 use native.Mathlib.Omega.{arith}
-use Prim.Native.Nat.{◌-◌}
+use Rattle.std.proofs.lemmas.Result.{err_from_is_err_and}
 use Rattle.plan_upmap.specs.Settling.{settled_at_lem}
 use Rattle.plan_notes.proofs.Settling.{settling_start, settling_done, settling_element, settling_refused, settling_next}
 use Rattle.plan_notes.proofs.settle_notes.Goals as goal
@@ -12,17 +12,19 @@ loop-i-init c = search (settling_start, rules)
 pub upmap_element-requires : goal.upmap_element-requires
 upmap_element-requires c = record { wellformed = search rules; mapped = search rules; e_lt_n = search (settling_element, rules) }
 
-pub returns-in-Refused : goal.returns-in-Refused
-returns-in-Refused c = search (settling_refused, rules)
+pub returns-in_err-e : goal.returns-in_err-e
+returns-in_err-e c =
+    let p = err_from_is_err_and c.from_residual.result c.from_residual.ensures.1 in
+    rw (p.1, p.2) (settling_refused _ _ _ _ _ _ _ _ _ _ _ c.loop-i.invariant (search rules) _ _ c.read_word-element.ensures.0 c.read_word-number.ensures.0 _ c.upmap_element.ensures _ c.in_err-e.was)
 
 pub overflow_add-e : goal.overflow_add-e
-overflow_add-e c = omega (arith, settled_at_lem c.upmap_element.ensures.within c.in-At.is)
+overflow_add-e c = omega (arith, settled_at_lem c.upmap_element.ensures.within c.in_ok-e.was)
 
 pub store3-requires : goal.store3-requires
-store3-requires c = (omega (arith), omega (arith, settled_at_lem c.upmap_element.ensures.within c.in-At.is), search rules, omega arith)
+store3-requires c = (omega arith, omega (arith, settled_at_lem c.upmap_element.ensures.within c.in_ok-e.was), search rules, omega arith)
 
 pub loop-i-preserved : goal.loop-i-preserved
-loop-i-preserved c = search (settling_next, rules)
+loop-i-preserved c = settling_next _ _ _ _ _ _ _ _ _ _ _ c.loop-i.invariant (search rules) _ _ c.read_word-element.ensures.0 c.read_word-number.ensures.0 _ c.upmap_element.ensures _ c.in_ok-e.was _ (omega arith) c.store3.auto.s c.store3.ensures
 
 pub returns : goal.returns
 returns c = search (settling_done, rules)

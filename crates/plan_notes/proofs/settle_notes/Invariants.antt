@@ -1,9 +1,5 @@
-use Prim.Native.Nat.{◌-◌}
 use Rattle.plan_notes.proofs.Settling.{Settling}
 use Rattle.plan_notes.proofs.settle_notes.Given as goal
 
 abbrev pub invariant-loop-i : goal.invariant-loop-i
 invariant-loop-i l = Settling l.b l.noted l.numbers l.k l.n l.table l.source l.map l.initial.notes l.i l.notes
-
-abbrev pub decreases-loop-i : goal.decreases-loop-i
-decreases-loop-i l = l.k - l.i

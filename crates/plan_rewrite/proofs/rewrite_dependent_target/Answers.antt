@@ -1,5 +1,6 @@
 -- `rewrite_dependent_target` meets its contract. One law for each answer.
 use borrow.Author.Rules.{rules}
+use Rattle.std.proofs.lemmas.Result.{err_from_is_err_and}
 use Rattle.plan_rewrite.proofs.Rows.{dependent_refused, new_ends, dependent_written}
 use Rattle.plan_rewrite.proofs.rewrite_dependent_target.Goals as goal
 
@@ -7,10 +8,12 @@ pub upmap_dependent-requires : goal.upmap_dependent-requires
 upmap_dependent-requires c = record { wellformed = c.requires.wellformed; mapped = c.requires.mapped; l_in_bounds = (c.requires.l_in_bounds.0, c.requires.l_in_bounds.1, c.requires.l_in_bounds.2); dependent = c.requires.dependent }
 
 pub write_judged-requires : goal.write_judged-requires
-write_judged-requires c = let e = new_ends _ _ _ _ _ _ _ c.requires.dependent _ c.upmap_dependent.ensures _ _ _ c.in-To.is in record { wellformed = search rules; l_in_bounds = (c.requires.l_in_bounds.0, c.requires.l_in_bounds.1, c.requires.l_in_bounds.3, e.0); new_ends = e.1 }
+write_judged-requires c = let e = new_ends _ _ _ _ _ _ _ c.requires.dependent _ c.upmap_dependent.ensures _ c.in_ok-e.was in record { wellformed = search rules; l_in_bounds = (c.requires.l_in_bounds.0, c.requires.l_in_bounds.1, c.requires.l_in_bounds.3, e.0); new_ends = e.1 }
 
-pub returns-in-Refused : goal.returns-in-Refused
-returns-in-Refused c = dependent_refused _ _ _ _ _ _ _ c.requires.dependent _ c.upmap_dependent.ensures _ _ _ c.in-Refused.is
+pub returns-in_err-e : goal.returns-in_err-e
+returns-in_err-e c =
+    let p = err_from_is_err_and c.from_residual.result c.from_residual.ensures.1 in
+    rw (p.1, p.2) (dependent_refused _ _ _ _ _ _ _ c.requires.dependent _ c.upmap_dependent.ensures _ _ _ c.in_err-e.was)
 
-pub returns-in-To : goal.returns-in-To
-returns-in-To c = dependent_written _ _ _ _ _ _ _ c.requires.dependent _ c.upmap_dependent.ensures _ _ _ c.in-To.is _ _ _ _ c.write_judged.ensures
+pub returns : goal.returns
+returns c = dependent_written _ _ _ _ _ _ _ c.requires.dependent _ c.upmap_dependent.ensures _ c.in_ok-e.was _ _ _ _ c.write_judged.ensures

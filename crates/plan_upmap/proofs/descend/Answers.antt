@@ -6,8 +6,8 @@ use Rattle.plan_upmap.proofs.descend.Goals as goal
 pub loop-left-init : goal.loop-left-init
 loop-left-init c = search (descending_start, rules)
 
-pub returns-in_default : goal.returns-in_default
-returns-in_default c = search (descending_none, rules)
+pub returns-in_err-at : goal.returns-in_err-at
+returns-in_err-at c = rw c.from_residual.ensures (descending_none _ _ _ _ _ _ _ _ c.loop-left.invariant _ _ c.loop-left-test.true c.word.ensures.0 c.nth_child.ensures c.in_err-at.was)
 
 pub loop-left-preserved : goal.loop-left-preserved
 loop-left-preserved c = search (descending_next, rules)

@@ -3,6 +3,3 @@ use Rattle.plan_upmap.proofs.descend.Given as goal
 
 abbrev pub invariant-loop-left : goal.invariant-loop-left
 invariant-loop-left l = Descending l.n l.table l.source l.r l.numbers l.k l.at l.left
-
-abbrev pub decreases-loop-left : goal.decreases-loop-left
-decreases-loop-left l = l.left

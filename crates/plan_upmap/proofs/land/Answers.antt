@@ -1,24 +1,23 @@
 -- `land` meets its contract. One law for each answer.
 use native.Mathlib.Omega.{arith}
-use borrow.Author.Rules.{rules}
 use Rattle.plan_upmap.proofs.Descending.{landing_none, landing_on_node, landing_refused, landing_of_token}
 use Rattle.plan_upmap.specs.Answers.{within_at}
 use Rattle.plan_upmap.proofs.land.Goals as goal
 
-pub returns-in_default : goal.returns-in_default
-returns-in_default c = search (landing_none, rules)
+pub returns-in_err-to : goal.returns-in_err-to
+returns-in_err-to c = rw c.from_residual.ensures (landing_none _ _ _ _ _ _ _ c.descend.ensures c.in_err-to.was)
 
 pub is_node-requires : goal.is_node-requires
-is_node-requires c = omega (arith, within_at _ _ _ c.descend.ensures.within c.in-At.is)
+is_node-requires c = omega (arith, within_at _ _ _ c.descend.ensures.within c.in_ok-to.was, c.requires.wellformed.long)
 
 pub returns-then-is_node : goal.returns-then-is_node
-returns-then-is_node c = search (landing_on_node, rules)
+returns-then-is_node c = landing_on_node _ _ _ _ _ _ _ c.descend.ensures _ c.in_ok-to.was _ c.is_node.ensures c.requires.e_lt_n.0 c.if-is_node.true
 
 pub is_node-requires-2 : goal.is_node-requires-2
-is_node-requires-2 c = omega (arith, within_at _ _ _ c.descend.ensures.within c.in-At.is)
+is_node-requires-2 c = omega (arith, c.requires.e_lt_n.0, c.requires.wellformed.long)
 
 pub returns-then-is_node-2 : goal.returns-then-is_node-2
-returns-then-is_node-2 c = search (landing_refused, rules)
+returns-then-is_node-2 c = landing_refused _ _ _ _ _ _ _ c.descend.ensures _ c.in_ok-to.was _ c.is_node.ensures c.requires.e_lt_n.0 _ c.is_node-2.ensures c.if-is_node.false c.if-is_node-2.true
 
 pub returns : goal.returns
-returns c = search (landing_of_token, rules)
+returns c = landing_of_token _ _ _ _ _ _ _ c.descend.ensures _ c.in_ok-to.was _ c.is_node.ensures c.requires.e_lt_n.0 _ c.is_node-2.ensures c.if-is_node.false c.if-is_node-2.false

@@ -1,20 +1,21 @@
 -- `upmap_from` meets its contract. One law for each answer.
 use borrow.Author.Rules.{rules}
-use Rattle.plan_upmap.proofs.Notes.{move_stays, move_elsewhere, move_nowhere, move_to}
+use native.Mathlib.Omega.{arith}
+use Rattle.std.proofs.lemmas.Result.{err_from_is_err_and}
+use Rattle.plan_upmap.proofs.Notes.{move_stays, move_elsewhere, move_lands}
 use Rattle.plan_mapping.specs.Answers.{place_room}
 use Rattle.plan_upmap.proofs.upmap_from.Goals as goal
 
 pub returns-then-entry-a : goal.returns-then-entry-a
 returns-then-entry-a c = search (move_stays, rules)
 
-pub returns-in_default : goal.returns-in_default
-returns-in_default c = search (move_elsewhere, rules)
+pub returns-in_err-depth : goal.returns-in_err-depth
+returns-in_err-depth c =
+    let p = err_from_is_err_and c.from_residual.result c.from_residual.ensures.1 in
+    rw (p.1, p.2) (move_elsewhere _ _ _ _ _ _ _ c.requires.wellformed.lines c.upmap_node_single-output.ensures.1 c.upmap_node_single-output.ensures.0 _ c.entry.ensures.0 c.if-entry-a.false _ _ c.place_below.ensures _ c.ok_or.ensures.value c.in_err-depth.was)
 
 pub land-requires : goal.land-requires
-land-requires c = record { wellformed = search rules; e_lt_n = (search rules, search rules, place_room c.place_below.ensures c.in-Numbers.is) }
-
-pub returns-in_default-land : goal.returns-in_default-land
-returns-in_default-land c = search (move_nowhere, rules)
+land-requires c = record { wellformed = search rules; e_lt_n = (search rules, search rules, place_room c.place_below.ensures (grind arith)) }
 
 pub returns : goal.returns
-returns c = search (move_to, rules)
+returns c = rw c.ok_or-2.ensures.value (move_lands _ _ _ _ _ _ _ c.requires.wellformed.lines c.upmap_node_single-output.ensures.1 c.upmap_node_single-output.ensures.0 _ c.entry.ensures.0 c.if-entry-a.false _ _ c.place_below.ensures _ (grind arith) _ c.land.ensures)

@@ -12,8 +12,8 @@ returns-then-not-lists_stand c = search (long_lists, rules)
 pub returns-then-not-mappings_stand : goal.returns-then-not-mappings_stand
 returns-then-not-mappings_stand c = search (wrong_mappings, rules)
 
-pub returns-then-notes_stand : goal.returns-then-notes_stand
-returns-then-notes_stand c = search (none_wrong, rules)
+pub returns-then-not-notes_stand : goal.returns-then-not-notes_stand
+returns-then-not-notes_stand c = search (wrong_notes, rules)
 
 pub returns : goal.returns
-returns c = search (wrong_notes, rules)
+returns c = search (none_wrong, rules)

@@ -7,7 +7,7 @@ pub overflow_add-l : goal.overflow_add-l
 overflow_add-l c = search (text_fits, rules)
 
 pub returns-then-b-l : goal.returns-then-b-l
-returns-then-b-l c = search (ends, rules)
+returns-then-b-l c = search (ends_elsewhere, rules)
 
 pub returns : goal.returns
-returns c = search (ends_elsewhere, rules)
+returns c = search (ends, rules)

@@ -1,11 +1,10 @@
 -- `resolve` meets its contract. The steps passed lead to the row at hand.
-use Prim.Native.Nat.{◌-◌}
 use borrow.Author.Rules.{rules}
 use Rattle.rows_path.proofs.Turns.{following_start, following_out, following_none, following_next, following_done}
 use Rattle.rows_path.proofs.resolve.Goals as goal
 
-pub loop-j-init : goal.loop-j-init
-loop-j-init c = search (following_start, rules)
+pub loop-step-init : goal.loop-step-init
+loop-step-init c = search (following_start, rules)
 
 pub returns-then-n-at : goal.returns-then-n-at
 returns-then-n-at c = search (following_out, rules)
@@ -13,8 +12,8 @@ returns-then-n-at c = search (following_out, rules)
 pub returns-then-child_count-i : goal.returns-then-child_count-i
 returns-then-child_count-i c = search (following_none, rules)
 
-pub loop-j-preserved : goal.loop-j-preserved
-loop-j-preserved c = search (following_next, rules)
+pub loop-step-preserved : goal.loop-step-preserved
+loop-step-preserved c = search (following_next, rules)
 
 pub returns-then-n-at-2 : goal.returns-then-n-at-2
 returns-then-n-at-2 c = search (following_out, rules)

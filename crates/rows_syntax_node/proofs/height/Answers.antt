@@ -1,17 +1,7 @@
 -- `height` meets its contract. The words of the array tell what the open nodes owe.
-use Prim.Native.Nat.{◌-◌}
-use Rattle.rows_syntax_node.proofs.Turns.{stacking_start, stacking_open, stacking_less, stacking_pop, stacking_deep, stacking_push, stacking_done}
+use Rattle.rows_syntax_node.proofs.Turns.{stacking_pop, stacking_deep, stacking_push, stacking_done}
 use borrow.Author.Rules.{rules}
 use Rattle.rows_syntax_node.proofs.height.Goals as goal
-
-pub loop-i-init : goal.loop-i-init
-loop-i-init c = search (stacking_start, rules)
-
-pub overflow_sub-depth : goal.overflow_sub-depth
-overflow_sub-depth c = search (stacking_open, rules)
-
-pub loop-i-smaller-then-x-eq0 : goal.loop-i-smaller-then-x-eq0
-loop-i-smaller-then-x-eq0 c = search (stacking_less, rules)
 
 pub loop-i-preserved-then-x-eq0 : goal.loop-i-preserved-then-x-eq0
 loop-i-preserved-then-x-eq0 c = search (stacking_pop, rules)

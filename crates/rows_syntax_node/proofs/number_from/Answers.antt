@@ -1,11 +1,7 @@
 -- `number_from` meets its contract. The marks passed are numbered.
 use borrow.Author.Rules.{rules}
-use Prim.Native.Nat.{◌-◌}
-use Rattle.rows_syntax_node.proofs.Turns.{numbering_done, numbering_next, numbering_start}
+use Rattle.rows_syntax_node.proofs.Turns.{numbering_done, numbering_next}
 use Rattle.rows_syntax_node.proofs.number_from.Goals as goal
-
-pub loop-i-init : goal.loop-i-init
-loop-i-init c = search (numbering_start, rules)
 
 pub loop-i-preserved : goal.loop-i-preserved
 loop-i-preserved c = search (numbering_next, rules)

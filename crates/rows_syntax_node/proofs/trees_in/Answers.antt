@@ -1,17 +1,11 @@
 -- `trees_in` meets its contract. The trees begun are counted.
-use Prim.Native.Nat.{◌-◌}
-use Rattle.rows_syntax_node.proofs.Turns.{grouping_start, grouping_first, grouping_next, grouping_done}
+use Rattle.rows_syntax_node.proofs.Turns.{grouping_first, grouping_next, grouping_done}
 use borrow.Author.Rules.{rules}
 use Rattle.rows_syntax_node.proofs.trees_in.Goals as goal
-
-pub loop-i-init : goal.loop-i-init
-loop-i-init c = search (grouping_start, rules)
-
-pub loop-i-preserved-then-o-eq0 : goal.loop-i-preserved-then-o-eq0
-loop-i-preserved-then-o-eq0 c = search (grouping_first, rules)
+use Rattle.rows_syntax_node.proofs.trees_in.Goals.{then-o-eq0, else-o-eq0}
 
 pub loop-i-preserved : goal.loop-i-preserved
-loop-i-preserved c = search (grouping_next, rules)
+loop-i-preserved c = elim c.if-o-eq0.branch [ then-o-eq0 w ↦ search (grouping_first, rules) | else-o-eq0 w ↦ search (grouping_next, rules) ]
 
 pub returns : goal.returns
 returns c = search (grouping_done, rules)

@@ -2,7 +2,6 @@
 use borrow.Author.Rules.{rules}
 use mathlib.Core.Path.{ap}
 use mathlib.Core.Bool.{not}
-use Prim.Native.Nat.{◌-◌}
 use Rattle.series_check.specs.Leading.{leading_start, leading_lost, leading_next, leading_done}
 use Rattle.series_check.proofs.all_lead.Goals as goal
 

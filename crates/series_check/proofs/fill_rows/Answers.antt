@@ -1,6 +1,5 @@
 -- `fill_rows` meets its contract. The rows of the elements passed are written.
 use borrow.Author.Rules.{rules}
-use Prim.Native.Nat.{◌-◌}
 use Rattle.series_check.specs.Rows.{filling_start, filling_room, filling_small, filling_next, filling_done}
 use Rattle.series_check.proofs.fill_rows.Goals as goal
 

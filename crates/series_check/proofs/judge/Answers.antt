@@ -1,4 +1,5 @@
 -- `judge` meets its contract.
+use Rattle.std.proofs.Common.{sym, ◌∙◌, eqb-true}
 use Rattle.series_check.specs.Judged.{judged_cut, judged_many, judged_long, judged_whole, judged_empty, judged_cut_slots, judged_rest}
 use Rattle.series_check.proofs.judge.Goals as goal
 
@@ -14,8 +15,8 @@ returns-then-b-gt16384 c = judged_long _ _ _ c.if-tree-lt-SIZES.false c.read_wor
 pub returns-then-tree-n : goal.returns-then-tree-n
 returns-then-tree-n c = judged_whole _ _ _ c.if-tree-lt-SIZES.false c.read_word-n.ensures c.read_word-b.ensures c.if-most-n.false c.if-b-gt16384.false c.if-tree-n.true
 
-pub returns-then-bookmarks-eq0 : goal.returns-then-bookmarks-eq0
-returns-then-bookmarks-eq0 c = judged_empty _ _ _ c.if-tree-lt-SIZES.false c.read_word-n.ensures c.read_word-b.ensures c.if-most-n.false c.if-b-gt16384.false c.if-tree-n.false c.if-bookmarks-eq0.true
+pub returns-then-is_empty : goal.returns-then-is_empty
+returns-then-is_empty c = judged_empty _ _ _ c.if-tree-lt-SIZES.false c.read_word-n.ensures c.read_word-b.ensures c.if-most-n.false c.if-b-gt16384.false c.if-tree-n.false (eqb-true _ _ (sym c.is_empty.ensures ∙ c.if-is_empty.true))
 
 pub returns-then-bookmarks-slot_at : goal.returns-then-bookmarks-slot_at
 returns-then-bookmarks-slot_at c = judged_cut_slots _ _ _ c.if-tree-lt-SIZES.false c.read_word-n.ensures c.read_word-b.ensures c.if-most-n.false c.if-b-gt16384.false c.if-tree-n.false c.word-k.ensures c.slot_at.ensures c.if-bookmarks-slot_at.true

@@ -1,6 +1,5 @@
 -- `repeats` meets its contract. None of the numbers passed stands again.
 use borrow.Author.Rules.{rules}
-use Prim.Native.Nat.{◌-◌}
 use Rattle.series_check.proofs.Numbers.{differing_start, differing_met, differing_next, differing_done}
 use Rattle.series_check.proofs.repeats.Goals as goal
 

@@ -1,6 +1,5 @@
 -- `stands_again` meets its contract. The bookmarks passed have other numbers.
 use borrow.Author.Rules.{rules}
-use Prim.Native.Nat.{◌-◌}
 use Rattle.series_check.proofs.Numbers.{passing_start, passing_met, passing_next, passing_done}
 use Rattle.series_check.proofs.stands_again.Goals as goal
 

@@ -4,17 +4,17 @@ use borrow.Author.Rules.{rules}
 use Rattle.syntax_check.proofs.Cases.{refused_fits, refused_minus, tells_refused, tells_accepted, tells_rejected}
 use Rattle.syntax_check.proofs.verdict_number.Goals as goal
 
-pub overflow_cast-m : goal.overflow_cast-m
-overflow_cast-m c = search (refused_fits, rules)
+pub overflow_cast-result : goal.overflow_cast-result
+overflow_cast-result c = search (refused_fits, rules)
 
 pub overflow_sub-result : goal.overflow_sub-result
 overflow_sub-result c = search (refused_minus, rules)
 
-pub returns-in-Refused : goal.returns-in-Refused
-returns-in-Refused c = search (tells_refused, rules)
+pub returns-in-Err : goal.returns-in-Err
+returns-in-Err c = search (tells_refused, rules)
 
-pub returns-in-Accepted : goal.returns-in-Accepted
-returns-in-Accepted c = search (tells_accepted, rules)
+pub returns-in-Ok-Accepted : goal.returns-in-Ok-Accepted
+returns-in-Ok-Accepted c = search (tells_accepted, rules)
 
-pub returns-in-Rejected : goal.returns-in-Rejected
-returns-in-Rejected c = search (tells_rejected, rules)
+pub returns-in-Ok-Rejected : goal.returns-in-Ok-Rejected
+returns-in-Ok-Rejected c = search (tells_rejected, rules)

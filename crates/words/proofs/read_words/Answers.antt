@@ -1,14 +1,7 @@
 -- `read_words` meets its contract. The words passed are read.
-use Prim.Native.Nat.{◌-◌}
 use borrow.Author.Rules.{rules}
-use Rattle.words.proofs.Turns.{copying_start, reading_next, copying_done}
+use Rattle.words.proofs.Turns.{reading_next}
 use Rattle.words.proofs.read_words.Goals as goal
-
-pub loop-i-init : goal.loop-i-init
-loop-i-init c = search (copying_start, rules)
 
 pub loop-i-preserved : goal.loop-i-preserved
 loop-i-preserved c = search (reading_next, rules)
-
-pub returns : goal.returns
-returns c = search (copying_done, rules)

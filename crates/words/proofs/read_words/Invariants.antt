@@ -1,4 +1,3 @@
-use Prim.Native.Nat.{◌-◌}
 use lib.ListN.{drop}
 use Rattle.definition.specs.Words.{words}
 use Rattle.words.proofs.Turns.{Copying}
@@ -6,6 +5,3 @@ use Rattle.words.proofs.read_words.Given as goal
 
 abbrev pub invariant-loop-i : goal.invariant-loop-i
 invariant-loop-i l = Copying l.initial.s l.to (words l.n (drop l.at l.b)) l.n l.s l.i
-
-abbrev pub decreases-loop-i : goal.decreases-loop-i
-decreases-loop-i l = l.n - l.i

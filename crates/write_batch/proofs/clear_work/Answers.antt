@@ -1,6 +1,6 @@
 -- `clear_work` meets its contract: slice by slice.
-use Rattle.write_batch.proofs.Ways.{cleared}
 use borrow.Author.Rules.{rules}
+use Rattle.write_batch.proofs.Ways.{cleared}
 use Rattle.write_batch.proofs.clear_work.Goals as goal
 
 pub returns : goal.returns

@@ -1,6 +1,6 @@
 -- `copy_out` meets its contract: there is no room, or the batch is copied.
-use Rattle.write_batch.proofs.Ways.{no_room, copied}
 use borrow.Author.Rules.{rules}
+use Rattle.write_batch.proofs.Ways.{no_room, copied}
 use Rattle.write_batch.proofs.copy_out.Goals as goal
 
 pub returns-then-destination-batch : goal.returns-then-destination-batch

@@ -1,13 +1,11 @@
 -- `too_short` meets its contract: slice by slice.
-use borrow.Author.Rules.{rules}
-use Rattle.write_batch.proofs.Ways.{short_draft, short_table, short_source}
+use Rattle.std.proofs.lemmas.Grind.{common_steps}
+use native.Mathlib.Omega.{arith}
+use Rattle.write_batch.proofs.Ways.{one_short}
 use Rattle.write_batch.proofs.too_short.Goals as goal
 
-pub returns-then-draft-lt49180 : goal.returns-then-draft-lt49180
-returns-then-draft-lt49180 c = search (short_draft, rules)
-
 pub returns-then-table-lt16384 : goal.returns-then-table-lt16384
-returns-then-table-lt16384 c = search (short_table, rules)
+returns-then-table-lt16384 c = one_short _ _ _ _ (grind (arith, common_steps))
 
-pub returns : goal.returns
-returns c = search (short_source, rules)
+pub returns-else-table-lt16384 : goal.returns-else-table-lt16384
+returns-else-table-lt16384 c = one_short _ _ _ _ (grind (arith, common_steps))
