@@ -54,6 +54,7 @@ pub fn run_fits(table: &[u32], x: usize, y: usize) -> bool
         && entry(table, x, CHILD) <= entry(table, y, CHILD)
 }
 
+// An operation stays a number here and below, since a call word may hold any, and callers pass what they read.
 // Whether a call word names a known operation, which may list `count` elements and carry the rule number `rule`.
 pub fn word_fits(operation: usize, count: usize, rule: usize) -> bool
     ensures { result ≡ word_fits operation count rule }
