@@ -4,7 +4,7 @@ use Rattle.std.specs.Prelude.{◌≡◌, Bool, true, false, cond, not, ◌&&◌,
 use Rattle.std.proofs.Math.Path.{refl}
 use Rattle.std.proofs.Common.{ap}
 use mathlib.Core.List.{List, [], ◌∷◌, map, zip_with}
-use Rattle.definition.specs.Elements.{Table, tree, node?}
+use Rattle.definition.specs.Elements.{Table, node?}
 use Rattle.definition.specs.Recording.{Change, insert, replace, delete, replace_with_many, replace_all}
 use Rattle.definition.specs.Planning.{Fate, dependent, discarded, is_discarded, Region, around, fate, from, to, adds_region, node_by_node, inner, pushed, fates_from, fates}
 use Rattle.record_changes.specs.ChangeRow.{ChangeRow, region_of}

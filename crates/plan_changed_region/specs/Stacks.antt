@@ -3,7 +3,7 @@
 -- Assumes nothing.
 use Rattle.std.specs.Prelude.{◌≡◌, Bool, ◌&&◌, length, get_or, drop, leb, eqb}
 use Rattle.std.proofs.Math.Path.{refl, ap}
-use Rattle.std.proofs.Common.{sym, ◌∙◌, ⊎_elim, length-set, length-drop, lit<, eq-eqb, ne_eqb, get_or-set_same}
+use Rattle.std.proofs.Common.{sym, ◌∙◌, ⊎_elim, length-set, length-drop, eq-eqb, ne_eqb, get_or-set_same}
 use Rattle.std.proofs.Math.Bool.{true, false, cond}
 use mathlib.Core.List.{List, [], ◌∷◌}
 use Prim.Native.Nat.{ℕ, zero, suc, ◌+◌, ◌*◌, ◌≤◌, ◌<◌}
@@ -11,7 +11,7 @@ use native.Mathlib.Omega.{arith}
 use Rattle.orders.specs.ListLaws.{lt_or_le}
 use Rattle.std.proofs.Math.ListN.{set}
 use Rattle.std.proofs.Math.Seq.{get_or-drop, drop-set-lt, drop-set-add, get_or-set_other}
-use Rattle.definition.specs.Planning.{Fate, Region, around, fate}
+use Rattle.definition.specs.Planning.{Fate, Region, around}
 use Rattle.record_changes.specs.ChangeRow.{ChangeRow, row_of, fate_of, owner_of}
 use Rattle.record_changes.specs.ChangeRowLaws.{row_at, row_ext}
 use Rattle.plan_sort.specs.Rows.{row_fate, with_fate}

@@ -11,7 +11,7 @@ ghost use Rattle.plan_changed_region.specs.Fates.{planned_rows};
 ghost use Rattle.plan_changed_region.specs.Stacks.{outer, contains, stack_to, enclosing, Outward, stated};
 ghost use Rattle.plan_changed_region.specs.Steps.{region_around, next_rows, next_tops};
 
-use record_changes::field;
+use record_changes::{field, word_or_zero};
 
 // Whether the range of the change at place `j` contains the one from `from` to `to`, ends included.
 fn contains_range(rows: &[u32], j: usize, from: usize, to: usize) -> bool
@@ -78,18 +78,7 @@ fn state_fate(rows: &mut [u32], k: usize, p: usize)
 {
     let f = fate_in(rows, p);
     rows[record_changes::WORDS * k + record_changes::FATE] = f as u32;
-    rows[record_changes::WORDS * k + record_changes::OWNER] = record_changes::less_one(p) as u32;
-}
-
-// The last region of a tree.
-fn top_of(tops: &[u32], tree: usize) -> usize
-    ensures { (result ≡ get_or tops.now tree 0) × (result < 2 ^ 32) }
-{
-    if tree < tops.len() {
-        words::word(tops, tree)
-    } else {
-        0
-    }
+    rows[record_changes::WORDS * k + record_changes::OWNER] = p.saturating_sub(1) as u32;
 }
 
 // The last region of a tree becomes `top`.
@@ -120,7 +109,7 @@ fn region_around(rows: &[u32], k: usize, tops: &[u32]) -> usize
     requires { (k < 256) × All (λ q. q ≤ k) tops.now × Outward rows.now k }
     ensures { (result ≡ region_around rows.now tops.now k) × (result ≤ k) }
 {
-    let top = top_of(tops, field(rows, k, record_changes::TREE));
+    let top = word_or_zero(tops, field(rows, k, record_changes::TREE));
     enclosing_region(
         rows,
         top,
@@ -150,9 +139,7 @@ pub fn plan_fates(rows: &mut [u32], n: usize)
     ensures { rows.new ≡ rows_words (planned_rows (rows_of n rows.old)) ++ drop (14 * n) rows.old }
 {
     let mut tops = [0u32; 16];
-    let mut k = 0;
-    while k < n {
+    for k in 0..n {
         plan_change(rows, k, &mut tops);
-        k += 1;
     }
 }

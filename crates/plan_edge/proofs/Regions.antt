@@ -10,7 +10,7 @@ use native.Mathlib.Omega.{arith}
 use lib.ListN.{length, get_or, set, drop, length-set, length-map}
 use lib.Seq.{drop-cons, set_at}
 use lib.Dec.{ltb, eqb}
-use borrow.Author.Tests.{eq-eqb, ne_eqb, lt-ltb, le-ltb, not-true, not-false}
+use borrow.Author.Tests.{eq-eqb, ne_eqb, lt-ltb, le-ltb}
 use Rattle.definition_laws.specs.Basics.{up_from, up_long}
 use Rattle.record_changes.specs.ChangeRow.{ChangeRow, row_of}
 use Rattle.record_changes.specs.ChangeRowLaws.{row_at}

@@ -25,7 +25,7 @@ use Rattle.read_element_table.specs.Wellformed.{Wellformed}
 use Rattle.record_changes.specs.ChangeRow.{ChangeRow, rows_of}
 use Rattle.record_changes.specs.ChangeRowLaws.{row_at, rows_words, rows_from, rows_read, length_rows_of}
 use Rattle.plan_sort.specs.Rows.{with_fate}
-use Rattle.plan_edge.specs.Rule.{takes, region_depth, innermost, region_from, regions_of, is_discarded, fate_within, fate_at, fated_at, fated_rows, edge_rows}
+use Rattle.plan_edge.specs.Rule.{region_depth, innermost, region_from, regions_of, is_discarded, fate_within, fate_at, fated_at, fated_rows, edge_rows}
 use Rattle.plan_edge.specs.Taking.{Placed, takes_placed, depth_placed, owns_placed}
 
 module _ (t : ℕ) (w src v : List ℕ) (W : Wellformed t w src) (n : ℕ) where

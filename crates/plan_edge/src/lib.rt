@@ -8,23 +8,16 @@ ghost use Rattle.plan_changed_region.specs.Stacks.{stated};
 ghost use Rattle.plan_edge.specs.Rule.{parent_or_root, target_parent, of_root, in_run, removes, only_in, is_run_of, inside, takes, region_depth, innermost, region_from, regions_of, is_discarded, fate_at, fated_rows, edge_rows};
 
 use read_element_table::PARENT;
-use record_changes::field;
+use record_changes::{field, word_or_zero};
 
 // ── Where elements stand ──
-
-// Word `i` of a slice, 0 past the end.
-fn word_at(s: &[u32], i: usize) -> usize
-    ensures { (result ≡ get_or s.now i 0) × (result < 2 ^ 32) }
-{
-    if i < s.len() { words::word(s, i) } else { 0 }
-}
 
 // Word `k` of element `e`, 0 past the end.
 fn entry(table: &[u32], e: usize, k: usize) -> usize
     requires { (e < 2 ^ 32) × (k < 8) }
     ensures { (result ≡ get_or table.now (8 * e + k) 0) × (result < 2 ^ 32) }
 {
-    word_at(table, read_element_table::WORDS * e + k)
+    word_or_zero(table, read_element_table::WORDS * e + k)
 }
 
 // The parent of `x`; of a root, the root.
@@ -204,10 +197,8 @@ fn region_of(rows: &[u32], n: usize, table: &[u32], k: usize) -> usize
     }
     let p = target_parent(rows, table, k);
     let mut b = 0;
-    let mut j = n;
-    while 0 < j {
-        b = innermost_of(rows, table, k, p, j - 1, b);
-        j -= 1;
+    for j in (0..n).rev() {
+        b = innermost_of(rows, table, k, p, j, b);
     }
     b
 }
@@ -217,10 +208,8 @@ fn find_regions(rows: &[u32], n: usize, table: &[u32], regions: &mut [u32])
     requires { (n ≤ 256) × (n ≤ length regions.old) }
     ensures { regions.new ≡ regions_of table.now rows.now n ++ drop n regions.old }
 {
-    let mut k = 0;
-    while k < n {
+    for k in 0..n {
         regions[k] = region_of(rows, n, table, k) as u32;
-        k += 1;
     }
 }
 
@@ -232,9 +221,8 @@ fn is_discarded(rows: &[u32], regions: &[u32], most: usize, k: usize) -> bool
     ensures { result ≡ is_discarded rows.now regions.now most k }
 {
     let mut at = k;
-    let mut left = most;
-    while 0 < left {
-        let p = word_at(regions, at);
+    for _left in (0..most).rev() {
+        let p = word_or_zero(regions, at);
         if p == 0 {
             return false;
         }
@@ -242,7 +230,6 @@ fn is_discarded(rows: &[u32], regions: &[u32], most: usize, k: usize) -> bool
             return true;
         }
         at = p - 1;
-        left -= 1;
     }
     false
 }
@@ -252,7 +239,7 @@ fn fate_of(rows: &[u32], table: &[u32], regions: &[u32], k: usize) -> usize
     requires { k < 2 ^ 32 }
     ensures { (result ≡ fate_of (fate_at table.now rows.now regions.now k)) × (result < 3) }
 {
-    if word_at(regions, k) == 0 {
+    if word_or_zero(regions, k) == 0 {
         return 0;
     }
     if is_discarded(rows, regions, region_depth(rows, table, k) + 1, k) {
@@ -268,9 +255,9 @@ fn state_fate(rows: &mut [u32], table: &[u32], regions: &[u32], k: usize)
 {
     let f = fate_of(rows, table, regions, k);
     rows[record_changes::WORDS * k + record_changes::FATE] = f as u32;
-    rows[record_changes::WORDS * k + record_changes::OWNER] = record_changes::less_one(word_at(
+    rows[record_changes::WORDS * k + record_changes::OWNER] = word_or_zero(
         regions, k,
-    )) as u32;
+    ).saturating_sub(1) as u32;
 }
 
 // The fates of `n` changes, by the region of each.
@@ -278,10 +265,8 @@ fn state_fates(rows: &mut [u32], n: usize, table: &[u32], regions: &[u32])
     requires { (14 * n ≤ length rows.old) × (n ≤ 256) }
     ensures { rows.new ≡ rows_words (fated_rows table.now rows.old regions.now n) ++ drop (14 * n) rows.old }
 {
-    let mut k = 0;
-    while k < n {
+    for k in 0..n {
         state_fate(rows, table, regions, k);
-        k += 1;
     }
 }
 

@@ -2,7 +2,7 @@
 -- Assumes nothing.
 use Rattle.std.specs.Prelude.{◌≡◌, Bool, true, false, cond, not, ◌&&◌, ◌||◌, ℕ, length, take, drop, leb, eqb}
 use Rattle.std.proofs.Math.Path.{refl, sym}
-use Rattle.std.proofs.Common.{ap, ◌∙◌, arith, length-take-le, leb-true}
+use Rattle.std.proofs.Common.{ap, arith, length-take-le, leb-true}
 use mathlib.Core.List.{List, [], ◌∷◌, zip}
 use Rattle.std.proofs.Math.Option.{Option, none, some, map}
 use Rattle.std.proofs.Math.Dec.{eqb-suc-zero}

@@ -19,12 +19,10 @@ fn all_below(b: &[u8], from: usize, count: usize, n: usize) -> bool
     requires { from + 4 * count ≤ length b.now }
     ensures { result ≡ not (any (leb n) (words_of count (drop from b.now))) }
 {
-    let mut i = 0;
-    while i < count {
+    for i in 0..count {
         if n <= words::read_word(b, from + 4 * i) {
             return false;
         }
-        i += 1;
     }
     true
 }
@@ -75,9 +73,8 @@ pub fn calls_fit(
     requires calls_in_bounds { (words + 4 * calls ≤ length b.now) × (targets + 4 * calls ≤ length b.now) × (list + 4 * listed ≤ length b.now) }
     ensures { result ≡ calls_fit (view n table.now source.now) (zip (words_of calls (drop words b.now)) (words_of calls (drop targets b.now))) (words_of listed (drop list b.now)) }
 {
-    let mut taken: usize = 0;
-    let mut i: usize = 0;
-    while i < calls {
+    let mut taken = 0;
+    for i in 0..calls {
         let word = words::read_word(b, words + 4 * i);
         let target = words::read_word(b, targets + 4 * i);
         let count = read_calls::count_of(word);
@@ -88,7 +85,6 @@ pub fn calls_fit(
             return false;
         }
         taken += count;
-        i += 1;
     }
     taken == listed
 }
@@ -110,13 +106,11 @@ pub fn lists_fit(b: &[u8], words: usize, calls: usize) -> bool
     requires { words + 4 * calls ≤ length b.now }
     ensures { result ≡ not (any word_too_many (words_of calls (drop words b.now))) }
 {
-    let mut i: usize = 0;
-    while i < calls {
+    for i in 0..calls {
         let word = words::read_word(b, words + 4 * i);
         if !lists_few(word) {
             return false;
         }
-        i += 1;
     }
     true
 }
@@ -126,19 +120,11 @@ fn mapping_fits(table: &[u32], source: &[u32], n: usize, input: usize, output: u
     requires { Wellformed n table.now source.now }
     ensures { result ≡ not (wrong_mapping (view n table.now source.now) (input, output)) }
 {
-    if n <= input {
-        return false;
-    }
-    if n <= output {
-        return false;
-    }
-    if !read_element_table::is_node(source, input) {
-        return false;
-    }
-    if !read_element_table::is_node(source, output) {
-        return false;
-    }
-    !read_element_table::is_root(table, output)
+    input < n
+        && output < n
+        && read_element_table::is_node(source, input)
+        && read_element_table::is_node(source, output)
+        && !read_element_table::is_root(table, output)
 }
 
 // Line 7, of the mappings.
@@ -155,26 +141,22 @@ pub fn mappings_fit(
     requires mappings_in_bounds { (inputs + 4 * mappings ≤ length b.now) × (outputs + 4 * mappings ≤ length b.now) }
     ensures { result ≡ not (any (wrong_mapping (view n table.now source.now)) (zip (words_of mappings (drop inputs b.now)) (words_of mappings (drop outputs b.now)))) }
 {
-    let mut i: usize = 0;
-    while i < mappings {
+    for i in 0..mappings {
         let input = words::read_word(b, inputs + 4 * i);
         let output = words::read_word(b, outputs + 4 * i);
         if !mapping_fits(table, source, n, input, output) {
             return false;
         }
-        i += 1;
     }
     true
 }
 
 // Whether a note names one of `n` elements and is not numbered 0.
+#[tactic(auto, unfolding(crate::specs::Noted::note_wrong))]
 fn note_fits(n: usize, element: usize, number: usize) -> bool
     ensures { result ≡ not (note_wrong n (element, number)) }
 {
-    if n <= element {
-        return false;
-    }
-    number != 0
+    element < n && number != 0
 }
 
 // Line 7, of the notes.
@@ -182,14 +164,12 @@ pub fn notes_fit(b: &[u8], noted: usize, numbers: usize, notes: usize, n: usize)
     requires { (noted + 4 * notes ≤ length b.now) × (numbers + 4 * notes ≤ length b.now) }
     ensures { result ≡ not (any (note_wrong n) (zip (words_of notes (drop noted b.now)) (words_of notes (drop numbers b.now)))) }
 {
-    let mut i: usize = 0;
-    while i < notes {
+    for i in 0..notes {
         let element = words::read_word(b, noted + 4 * i);
         let number = words::read_word(b, numbers + 4 * i);
         if !note_fits(n, element, number) {
             return false;
         }
-        i += 1;
     }
     true
 }

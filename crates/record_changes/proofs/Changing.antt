@@ -3,7 +3,7 @@
 use mathlib.Core.Bool.{Bool, true, false}
 use mathlib.Core.List.{List, [], ◌∷◌, ◌++◌, head_d}
 use mathlib.Core.Path.{◌≡◌, refl, ap, ◌∙◌}
-use Prim.Native.Nat.{ℕ, suc, ◌+◌, ◌-◌, ◌*◌, ◌≤◌, ◌<◌}
+use Prim.Native.Nat.{ℕ, zero, suc, ◌+◌, ◌-◌, ◌*◌, ◌≤◌, ◌<◌}
 use native.Mathlib.Omega.{arith}
 use lib.ListN.{length, get_or}
 use lib.Seq.{paste}
@@ -15,7 +15,7 @@ use Rattle.record_changes.specs.ChangeRow.{row_words}
 use Rattle.read_element_table.specs.View.{view}
 use Rattle.read_element_table.specs.Wellformed.{Wellformed}
 use Rattle.read_element_table.specs.Told.{deep}
-use Rattle.record_changes.specs.Numbers.{place_number, numbers_of, as_change, run_asked, change_asked, row_with, change_by}
+use Rattle.record_changes.specs.Numbers.{numbers_of, as_change, run_asked, change_asked, row_with, change_by}
 use Rattle.record_changes.specs.Spots.{spot_of, Named, spot_in, insertion_in, run_in, above_word, region_by, spot_insert, spot_replace, spot_delete, spot_many, spot_run}
 use Rattle.record_changes.specs.declared.Place.{Place}
 use Rattle.record_changes.specs.declared.Place.TheVariants.{FirstChild, After}
@@ -24,16 +24,6 @@ use Rattle.record_changes.specs.declared.Change.{Change}
 use Rattle.record_changes.specs.declared.Change.TheVariants.{Insert, Replace, Delete, ReplaceWithMany, ReplaceAll}
 use Rattle.record_changes.specs.declared.Numbers.{Numbers}
 use Rattle.record_changes.specs.declared.Spot.{Spot}
-
--- ── Numbers ─────────────────────────────────────────────────────────────────────────────────────────────────
-
--- the numbers of a change whose case is known
-pub numbers_known : {r m : Numbers} {c d : Change} → r ≡ m → c ≡ d → m ≡ numbers_of d → r ≡ numbers_of c
-numbers_known e f g = rw f (e ∙ g)
-
--- an insertion's
-pub numbers_insert : {r : Numbers} {c : Change} {p : Place} {x k : ℕ} {l : Listed} → r ≡ record { operation = k; target = x; end = x; list = l.at; count = l.count; rank = 0 } → k ≡ place_number p → c ≡ Insert p x l → r ≡ numbers_of c
-numbers_insert e f g = rw (g, ← f) e
 
 -- ── The change that a call asks for ─────────────────────────────────────────────────────────────────────────
 
@@ -45,30 +35,28 @@ pub run_apart : (x y : ℕ) (l : Listed) → (x ≡ y → ⊥) → ReplaceAll x 
 unfolding run_asked
 run_apart x y l e = rw (ne_eqb x y e)
 
-module _ (op x at k y : ℕ) where
-  pub asked_first_child : op ≡ 0 → Insert FirstChild x (record { at = at; count = k }) ≡ change_asked op x at k y
-  unfolding change_asked
-  asked_first_child e = rw e
+-- of the operations below 5 a call asks for the change with its numbers
+by_number : (op x at k y : ℕ) → op < 5 → change_by op x x (record { at = at; count = k }) ≡ change_asked op x at k y
+unfolding change_by change_asked
+by_number zero x at k y h = refl
+by_number (suc zero) x at k y h = refl
+by_number (suc (suc zero)) x at k y h = refl
+by_number (suc (suc (suc zero))) x at k y h = refl
+by_number (suc (suc (suc (suc zero)))) x at k y h = refl
+by_number (suc (suc (suc (suc (suc op))))) x at k y h = absurd (omega arith)
 
-  pub asked_after : op ≡ 1 → Insert After x (record { at = at; count = k }) ≡ change_asked op x at k y
-  unfolding change_asked
-  asked_after e = rw e
+pub asked_by : (op x at k y : ℕ) {r : Change} → op < 5 → r ≡ change_by op x x (record { at = at; count = k }) → r ≡ change_asked op x at k y
+asked_by op x at k y h e = e ∙ by_number op x at k y h
 
-  pub asked_replace : op ≡ 2 → Replace x at ≡ change_asked op x at k y
-  unfolding change_asked
-  asked_replace e = rw e
-
-  pub asked_delete : op ≡ 3 → Delete x at ≡ change_asked op x at k y
-  unfolding change_asked
-  asked_delete e = rw e
-
-  pub asked_many : op ≡ 4 → ReplaceWithMany x (record { at = at; count = k }) ≡ change_asked op x at k y
-  unfolding change_asked
-  asked_many e = rw e
-
-  pub asked_run : (r : Change) (j : ℕ) → (op ≡ 0 → ⊥) → (op ≡ 1 → ⊥) → (op ≡ 2 → ⊥) → (op ≡ 3 → ⊥) → (op ≡ 4 → ⊥) → j ≡ k - 1 → r ≡ run_asked x y (record { at = at + 1; count = j }) → r ≡ change_asked op x at k y
-  unfolding change_asked
-  asked_run r j a b c d e f g = rw (ne_eqb op 0 a, ne_eqb op 1 b, ne_eqb op 2 c, ne_eqb op 3 d, ne_eqb op 4 e, ← f) g
+pub asked_run : (op x at k y j : ℕ) {r : Change} → 5 ≤ op → j ≡ k - 1 → r ≡ run_asked x y (record { at = at + 1; count = j }) → r ≡ change_asked op x at k y
+unfolding change_asked
+asked_run op x at k y j h f g =
+    let a : op ≡ 0 → ⊥ = omega arith in
+    let b : op ≡ 1 → ⊥ = omega arith in
+    let c : op ≡ 2 → ⊥ = omega arith in
+    let d : op ≡ 3 → ⊥ = omega arith in
+    let e : op ≡ 4 → ⊥ = omega arith in
+    rw (ne_eqb op 0 a, ne_eqb op 1 b, ne_eqb op 2 c, ne_eqb op 3 d, ne_eqb op 4 e, ← f) g
 
 -- ── What planning needs ─────────────────────────────────────────────────────────────────────────────────────
 
@@ -163,30 +151,3 @@ row_stored w w₁ w₂ k at m s n e h e₁ e₂ =
     let six : List ℕ = s.depth ∷ m.rank ∷ s.region ∷ 0 ∷ 0 ∷ n ∷ [] in
     let eight : List ℕ = m.operation ∷ m.target ∷ m.end ∷ m.list ∷ m.count ∷ s.tree ∷ s.from ∷ s.to ∷ [] in
     e₂ ∙ (ap (λ (v : List ℕ). paste v (at + 8) six 6) e₁ ∙ (paste_paste w at eight 8 six 6 (at + 8) 14 refl refl (omega arith) (omega arith) refl ∙ ap (λ (i : ℕ). paste w i (eight ++ six) 14) e))
-
--- ── A change read ───────────────────────────────────────────────────────────────────────────────────────────
-
-module _ (op x y : ℕ) (l : Listed) where
-  pub by_first_child : op ≡ 0 → Insert FirstChild x l ≡ change_by op x y l
-  unfolding change_by
-  by_first_child e = rw e
-
-  pub by_after : op ≡ 1 → Insert After x l ≡ change_by op x y l
-  unfolding change_by
-  by_after e = rw e
-
-  pub by_replace : op ≡ 2 → Replace x l.at ≡ change_by op x y l
-  unfolding change_by
-  by_replace e = rw e
-
-  pub by_delete : op ≡ 3 → Delete x l.at ≡ change_by op x y l
-  unfolding change_by
-  by_delete e = rw e
-
-  pub by_many : op ≡ 4 → ReplaceWithMany x l ≡ change_by op x y l
-  unfolding change_by
-  by_many e = rw e
-
-  pub by_run : (op ≡ 0 → ⊥) → (op ≡ 1 → ⊥) → (op ≡ 2 → ⊥) → (op ≡ 3 → ⊥) → (op ≡ 4 → ⊥) → ReplaceAll x y l ≡ change_by op x y l
-  unfolding change_by
-  by_run a b c d e = rw (ne_eqb op 0 a, ne_eqb op 1 b, ne_eqb op 2 c, ne_eqb op 3 d, ne_eqb op 4 e)

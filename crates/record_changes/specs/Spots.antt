@@ -5,7 +5,7 @@ use Rattle.std.proofs.Math.Bool.{true, false, cond}
 use Rattle.std.proofs.Math.Path.{refl}
 use Rattle.std.proofs.Common.{ap}
 use Prim.Native.Nat.{ℕ, suc, ◌+◌, ◌-◌, ◌*◌, ◌^◌, ◌<◌}
-use Rattle.definition.specs.Elements.{Table, row, depth, tree, is_node}
+use Rattle.definition.specs.Elements.{Table, row, tree, is_node}
 use Rattle.definition.specs.Recording.{Change, insert, replace, delete, replace_with_many, replace_all}
 use Rattle.definition.specs.Planning.{target, from, to, above, parent_depth, adds_region, node_by_node}
 use Rattle.read_element_table.specs.View.{view, row_at, field}

@@ -1,8 +1,9 @@
 -- A change recorded among rows: each answer, from the tests that led there.
 -- Assumes nothing.
-use mathlib.Core.Bool.{Bool, true, false, cond, not, ◌&&◌, ◌||◌, and-true, and-false}
+use mathlib.Core.Bool.{Bool, true, false, cond, ◌&&◌, and-true, and-false}
 use mathlib.Core.List.{List, [], ◌∷◌, ◌++◌, head_d, zip}
 use mathlib.Core.Option.{Option, map}
+use Rattle.std.specs.Prelude.{Option as Maybe, None, Some, unwrap_or}
 use mathlib.Core.Path.{◌≡◌, refl, sym, ap, ◌∙◌}
 use Prim.Native.Nat.{ℕ, suc, ◌+◌, ◌-◌, ◌*◌, ◌^◌, ◌≤◌, ◌<◌}
 use native.Mathlib.Numerals.{add-one}
@@ -10,7 +11,7 @@ use native.Mathlib.Omega.{arith}
 use lib.ListN.{length, get_or, take, drop, length-drop, drop_of_length-le, take-append-drop, get_or-eq_default}
 use lib.Seq.{paste, get_or-drop, split_at, drop-drop, drop-paste}
 use lib.Dec.{eqb}
-use borrow.Author.Tests.{eq-eqb, ne_eqb, not-true, not-false}
+use borrow.Author.Tests.{eq-eqb, ne_eqb}
 use Rattle.record_changes.specs.ChangeRow.{ChangeRow, row_words, row_of, rows_of, change_row}
 use Rattle.record_changes.specs.ChangeRowLaws.{row_at, length_row, length_rows_of, rows_written, row_among, row_set, row_added}
 use Rattle.record_queue.specs.Queueing.{place, place_none, place_passed, place_found, put, put_found, put_new, through, through_editor, through_put, through_end}
@@ -104,7 +105,7 @@ pub seeking_start : (w : List ℕ) (start count x : ℕ) → start ≤ count →
 seeking_start w start count x h = record { inside = h; same = refl }
 
 module _ {w : List ℕ} {start count x k : ℕ} (v : Seeking w start count x k) where
-  pub seeking_none : count ≤ k → count ≡ start + place (meets_single x) (drop start (rows_of count w))
+  pub seeking_none : count ≤ k → unwrap_or None count ≡ start + place (meets_single x) (drop start (rows_of count w))
   unfolding place
   seeking_none h =
       let e : k ≡ count = omega (arith, v.inside) in
@@ -114,7 +115,7 @@ module _ {w : List ℕ} {start count x k : ℕ} (v : Seeking w start count x k) 
     known : meets_single x (get_or (rows_of count w) k (row_at w k)) ≡ t
     known = rw (row_among w count k (row_at w k) h) (sym e)
 
-    pub seeking_found : t ≡ true → k ≡ start + place (meets_single x) (drop start (rows_of count w))
+    pub seeking_found : t ≡ true → unwrap_or (Some k) count ≡ start + place (meets_single x) (drop start (rows_of count w))
     seeking_found q = sym (v.same ∙ place_found (meets_single x) (rows_of count w) k (row_at w k) (omega (arith, length_rows_of count w)) (known ∙ q))
 
     pub seeking_next : t ≡ false → Seeking w start count x (k + 1)
@@ -134,10 +135,10 @@ module _ (w : List ℕ) (start count op x : ℕ) (t : Bool) (e : t ≡ is_single
       go true = refl
       go false = place_none l
 
-  pub place_neither : start ≤ count → t ≡ false → count ≡ start + place (meets_by op x) (drop start (rows_of count w))
+  pub place_neither : start ≤ count → t ≡ false → unwrap_or None count ≡ start + place (meets_by op x) (drop start (rows_of count w))
   place_neither h q = rw (place_by (drop start (rows_of count w)), q, length-drop, length_rows_of) (omega arith)
 
-  pub place_single : (k : ℕ) → t ≡ true → k ≡ start + place (meets_single x) (drop start (rows_of count w)) → k ≡ start + place (meets_by op x) (drop start (rows_of count w))
+  pub place_single : (k : Maybe ℕ) → t ≡ true → unwrap_or k count ≡ start + place (meets_single x) (drop start (rows_of count w)) → unwrap_or k count ≡ start + place (meets_by op x) (drop start (rows_of count w))
   place_single k q f = rw (place_by (drop start (rows_of count w)), q) f
 
 -- ── One change more ─────────────────────────────────────────────────────────────────────────────────────────
@@ -161,10 +162,9 @@ module _ (L : List ℕ) (r : ChangeRow) (start count : ℕ) (w : List ℕ) (h : 
         beyond = rw p (behind (count + 1) (omega arith) (omega arith));
       }
 
-  module _ (b : k ≤ count) (n : k ≡ count → ⊥) (l : 14 * count + 14 ≤ length w) (t : Bool) (f : t ≡ idle_by L r.operation r.list (row_at w k)) where
+  module _ (m : k < count) (l : 14 * count + 14 ≤ length w) (t : Bool) (f : t ≡ idle_by L r.operation r.list (row_at w k)) where
     found : take start (rows_of count w) ++ put meets_row (merged_row L) r (drop start (rows_of count w)) ≡ take k (rows_of count w) ++ (merged_row L r (row_at w k) ∷ drop (suc k) (rows_of count w))
     found =
-        let m : k < count = omega (arith, n) in
         put_found meets_row (merged_row L) (rows_of count w) start (omega (arith, length_rows_of count w)) r k (row_at w k) e (omega (arith, length_rows_of count w))
         ∙ rw (row_among w count k (row_at w k) m)
 
@@ -172,7 +172,6 @@ module _ (L : List ℕ) (r : ChangeRow) (start count : ℕ) (w : List ℕ) (h : 
     pub put_stays : t ≡ true → Put L r start count w count w
     unfolding merged_row
     put_stays q =
-        let m : k < count = omega (arith, n) in
         let g : idle_by L r.operation r.list (row_at w k) ≡ true = sym f ∙ q in
         record {
           low = omega arith;
@@ -185,7 +184,6 @@ module _ (L : List ℕ) (r : ChangeRow) (start count : ℕ) (w : List ℕ) (h : 
     pub put_over : (w' : List ℕ) → t ≡ false → w' ≡ paste w (14 * k) (row_words r) 14 → Put L r start count w count w'
     unfolding merged_row
     put_over w' q p =
-        let m : k < count = omega (arith, n) in
         let g : idle_by L r.operation r.list (row_at w k) ≡ false = sym f ∙ q in
         let over : take k (rows_of count w) ++ (r ∷ drop (suc k) (rows_of count w)) ≡ take start (rows_of count w) ++ put meets_row (merged_row L) r (drop start (rows_of count w)) =
         sym (found ∙ rw g) in
@@ -197,19 +195,20 @@ module _ (L : List ℕ) (r : ChangeRow) (start count : ℕ) (w : List ℕ) (h : 
         }
 
 -- the row of a change by its numbers
-module _ (L : List ℕ) (m : Numbers) (s : Spot) (n start count : ℕ) (w : List ℕ) (h : start ≤ count) (l : 14 * count + 14 ≤ length w) (k : ℕ) (e : k ≡ start + place (meets_by m.operation m.target) (drop start (rows_of count w))) where
-  pub record_added : (w' : List ℕ) → k ≡ count → w' ≡ paste w (14 * k) (row_words (row_with m s n)) 14 → Put L (row_with m s n) start count w (count + 1) w'
+module _ (L : List ℕ) (m : Numbers) (s : Spot) (n start count : ℕ) (w : List ℕ) (h : start ≤ count) (l : 14 * count + 14 ≤ length w) where
+  pub record_added : (w' : List ℕ) → unwrap_or None count ≡ start + place (meets_by m.operation m.target) (drop start (rows_of count w)) → w' ≡ paste w (14 * count) (row_words (row_with m s n)) 14
+      → Put L (row_with m s n) start count w (count + 1) w'
   unfolding row_with
-  record_added w' q p = put_added L (row_with m s n) start count w h k e w' q l p
+  record_added w' e p = put_added L (row_with m s n) start count w h count e w' refl l p
 
-  module _ (b : k ≤ count) (z : k ≡ count → ⊥) (t : Bool) (f : t ≡ idle_by L m.operation m.list (row_at w k)) where
+  module _ (k : ℕ) (e : unwrap_or (Some k) count ≡ start + place (meets_by m.operation m.target) (drop start (rows_of count w))) (b : k < count) (t : Bool) (f : t ≡ idle_by L m.operation m.list (row_at w k)) where
     pub record_stays : t ≡ true → Put L (row_with m s n) start count w count w
     unfolding row_with
-    record_stays q = put_stays L (row_with m s n) start count w h k e b z l t f q
+    record_stays q = put_stays L (row_with m s n) start count w h k e b l t f q
 
     pub record_over : (w' : List ℕ) → t ≡ false → w' ≡ paste w (14 * k) (row_words (row_with m s n)) 14 → Put L (row_with m s n) start count w count w'
     unfolding row_with
-    record_over w' q p = put_over L (row_with m s n) start count w h k e b z l t f w' q p
+    record_over w' q p = put_over L (row_with m s n) start count w h k e b l t f w' q p
 
 -- ── One call ────────────────────────────────────────────────────────────────────────────────────────────────
 

@@ -15,7 +15,7 @@ use Rattle.orders.specs.ListLaws.{bool_absurd}
 use Rattle.definition.specs.Basics.{any, among}
 use Rattle.definition.specs.Elements.{Table}
 use Rattle.definition.specs.Refusals.{operation_of, count_of, rule_of, Call, calls, wrong_count, wrong_call}
-use Rattle.definition.specs.Recording.{Change, change, run, replace_with_many, replace_all}
+use Rattle.definition.specs.Recording.{change, run, replace_with_many, replace_all}
 use Rattle.definition.specs.Running.{news}
 use Rattle.definition_laws.specs.Stages.{asks}
 use Rattle.record_queue.specs.Queueing.{Asks, through_all}

@@ -1,7 +1,7 @@
 // Recording: from the calls of an accepted batch to change rows, editor after editor.
 #![tactic(auto)]
 
-ghost use Rattle.std.specs.Prelude.{◌≡◌, ◌+◌, ◌*◌, ◌^◌, ◌≤◌, ◌<◌, length, get_or, drop};
+ghost use Rattle.std.specs.Prelude.{◌≡◌, ◌+◌, ◌*◌, ◌^◌, ◌≤◌, ◌<◌, length, get_or, drop, unwrap_or, IfSome};
 ghost use mathlib.Core.List.{zip};
 ghost use Rattle.definition.specs.Words.{words as words_of};
 ghost use Rattle.definition.specs.Refusals.{count_of, call_of};
@@ -46,28 +46,32 @@ fn meets(rows: &[u32], k: usize, target: usize) -> bool
     is_single(words::word(rows, WORDS * k))
 }
 
-// The place of the first row that a change of this target, whose operation merges, meets, from `start` on; `count` if there is none.
-fn single_place(rows: &[u32], start: usize, count: usize, target: usize) -> usize
+// The place of the first row that a change of this target, whose operation merges, meets, from `start` on.
+fn single_place(rows: &[u32], start: usize, count: usize, target: usize) -> Option<usize>
     requires { (start ≤ count) × (count ≤ 256) × (14 * count ≤ length rows.now) }
-    ensures { (result ≡ start + place (meets_single target) (drop start (rows_of count rows.now))) × (result ≤ count) }
+    ensures { (unwrap_or result count ≡ start + place (meets_single target) (drop start (rows_of count rows.now))) × IfSome result (λ k. k < count) }
 {
-    let mut k = start;
-    while k < count {
+    for k in start..count {
         if meets(rows, k, target) {
-            return k;
+            return Some(k);
         }
-        k += 1;
     }
-    count
+    None
 }
 
-// The place of the first row that a change of this operation and target meets, from `start` on; `count` if there is none.
-fn place_of(rows: &[u32], start: usize, count: usize, operation: usize, target: usize) -> usize
+// The place of the first row that a change of this operation and target meets, from `start` on.
+fn place_of(
+    rows: &[u32],
+    start: usize,
+    count: usize,
+    operation: usize,
+    target: usize,
+) -> Option<usize>
     requires { (start ≤ count) × (count ≤ 256) × (14 * count ≤ length rows.now) }
-    ensures { (result ≡ start + place (meets_by operation target) (drop start (rows_of count rows.now))) × (result ≤ count) }
+    ensures { (unwrap_or result count ≡ start + place (meets_by operation target) (drop start (rows_of count rows.now))) × IfSome result (λ k. k < count) }
 {
     if !is_single(operation) {
-        return count;
+        return None;
     }
     single_place(rows, start, count, target)
 }
@@ -128,11 +132,10 @@ fn record_change(
     requires start_le_count { (start ≤ count) × (count < 256) × (14 * count + 14 ≤ length rows.old) × NumbersFit m × SpotFits s × (rule < 2 ^ 32) }
     ensures { Put (words_of listed (drop list b.now)) (row_with m s rule) start count rows.old result rows.new }
 {
-    let k = place_of(rows, start, count, m.operation, m.target);
-    if k == count {
-        record_changes::write_row(rows, k, m, s, rule);
+    let Some(k) = place_of(rows, start, count, m.operation, m.target) else {
+        record_changes::write_row(rows, count, m, s, rule);
         return count + 1;
-    }
+    };
     if is_idle(b, list, listed, rows, k, m.operation, m.list) {
         return count;
     }
@@ -202,15 +205,13 @@ pub fn record_calls(
 {
     let mut q = Queue { start: 0, count: 0 };
     let mut taken: usize = 0;
-    let mut i: usize = 0;
-    while i < calls {
+    for i in 0..calls {
         let word = words::read_word(b, words + 4 * i);
         let target = words::read_word(b, targets + 4 * i);
         q = record_call(
             b, list, listed, taken, word, target, n, table, source, q, rows,
         );
         taken += read_calls::count_of(word);
-        i += 1;
     }
     q.count
 }

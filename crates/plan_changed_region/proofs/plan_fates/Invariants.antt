@@ -1,9 +1,5 @@
 use Rattle.plan_changed_region.proofs.Regions.{Planning}
-use Prim.Native.Nat.{◌-◌}
 use Rattle.plan_changed_region.proofs.plan_fates.Given as goal
 
 abbrev pub invariant-loop-k : goal.invariant-loop-k
 invariant-loop-k l = Planning l.initial.rows l.n l.rows l.tops l.k
-
-abbrev pub decreases-loop-k : goal.decreases-loop-k
-decreases-loop-k l = l.n - l.k

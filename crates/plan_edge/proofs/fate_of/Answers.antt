@@ -3,8 +3,8 @@ use Rattle.plan_edge.proofs.Stating.{own_fate, discarded_fate, dependent_fate}
 use borrow.Author.Rules.{rules}
 use Rattle.plan_edge.proofs.fate_of.Goals as goal
 
-pub returns-then-word_at-eq0 : goal.returns-then-word_at-eq0
-returns-then-word_at-eq0 c = (search (own_fate, rules), search rules)
+pub returns-then-word_or_zero-eq0 : goal.returns-then-word_or_zero-eq0
+returns-then-word_or_zero-eq0 c = (search (own_fate, rules), search rules)
 
 pub returns-then-is_discarded : goal.returns-then-is_discarded
 returns-then-is_discarded c = (search (discarded_fate, rules), search rules)

@@ -1,6 +1,5 @@
 -- `find_regions` meets its contract. The invariant: the regions of the changes before place k are found.
 use Rattle.plan_edge.proofs.Regions.{finding_start, finding_next, finding_done}
-use Prim.Native.Nat.{◌-◌}
 use borrow.Author.Rules.{rules}
 use Rattle.plan_edge.proofs.find_regions.Goals as goal
 

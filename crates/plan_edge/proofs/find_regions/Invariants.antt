@@ -1,9 +1,5 @@
 use Rattle.plan_edge.proofs.Regions.{Finding}
-use Prim.Native.Nat.{◌-◌}
 use Rattle.plan_edge.proofs.find_regions.Given as goal
 
 abbrev pub invariant-loop-k : goal.invariant-loop-k
 invariant-loop-k l = Finding l.table l.rows l.initial.regions l.n l.regions l.k
-
-abbrev pub decreases-loop-k : goal.decreases-loop-k
-decreases-loop-k l = l.n - l.k

@@ -2,7 +2,4 @@ use Rattle.plan_edge.proofs.Stating.{Following}
 use Rattle.plan_edge.proofs.is_discarded.Given as goal
 
 abbrev pub invariant-loop-left : goal.invariant-loop-left
-invariant-loop-left l = Following l.rows l.regions l.most l.k l.at l.left
-
-abbrev pub decreases-loop-left : goal.decreases-loop-left
-decreases-loop-left l = l.left
+invariant-loop-left l = Following l.rows l.regions l.most l.k l.at l._left

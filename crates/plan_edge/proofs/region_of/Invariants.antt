@@ -3,6 +3,3 @@ use Rattle.plan_edge.proofs.region_of.Given as goal
 
 abbrev pub invariant-loop-j : goal.invariant-loop-j
 invariant-loop-j l = Seeking l.table l.rows l.k l.n l.p l.j l.b
-
-abbrev pub decreases-loop-j : goal.decreases-loop-j
-decreases-loop-j l = l.j

@@ -1,6 +1,5 @@
 -- `state_fates` meets its contract. The invariant: the rows before place k have their fates.
 use Rattle.plan_edge.proofs.Stating.{stating_start, stating_next, stating_done}
-use Prim.Native.Nat.{◌-◌}
 use borrow.Author.Rules.{rules}
 use Rattle.plan_edge.proofs.state_fates.Goals as goal
 

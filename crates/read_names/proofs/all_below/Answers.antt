@@ -1,6 +1,5 @@
 -- `all_below` meets its contract. The words passed are below the number.
 use borrow.Author.Rules.{rules}
-use Prim.Native.Nat.{◌-◌}
 use Rattle.read_names.proofs.Passing.{wording_start, below_met, below_next, wording_all}
 use Rattle.read_names.proofs.all_below.Goals as goal
 

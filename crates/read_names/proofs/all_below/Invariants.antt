@@ -1,10 +1,6 @@
-use Prim.Native.Nat.{◌-◌}
 use lib.Dec.{leb}
 use Rattle.read_names.proofs.Passing.{Wording}
 use Rattle.read_names.proofs.all_below.Given as goal
 
 abbrev pub invariant-loop-i : goal.invariant-loop-i
 invariant-loop-i l = Wording (leb l.n) l.b l.from l.count l.i
-
-abbrev pub decreases-loop-i : goal.decreases-loop-i
-decreases-loop-i l = l.count - l.i

@@ -1,7 +1,6 @@
 -- `calls_fit` meets its contract. The calls passed have taken their elements, and stand as they should.
 use borrow.Author.Rules.{rules}
 use native.Mathlib.Omega.{arith}
-use Prim.Native.Nat.{◌-◌}
 use Rattle.read_names.proofs.Calling.{calling_start, calling_short, calling_wrong, calling_next, calling_end}
 use Rattle.read_names.proofs.calls_fit.Goals as goal
 

@@ -1,10 +1,6 @@
-use Prim.Native.Nat.{◌-◌}
 use Rattle.read_element_table.specs.View.{view}
 use Rattle.read_names.proofs.Calling.{Calling}
 use Rattle.read_names.proofs.calls_fit.Given as goal
 
 abbrev pub invariant-loop-i : goal.invariant-loop-i
 invariant-loop-i l = Calling (view l.n l.table l.source) l.b l.words l.targets l.calls l.list l.listed l.taken l.i
-
-abbrev pub decreases-loop-i : goal.decreases-loop-i
-decreases-loop-i l = l.calls - l.i

@@ -1,6 +1,5 @@
 -- `lists_fit` meets its contract. The call words passed list no more than they may.
 use borrow.Author.Rules.{rules}
-use Prim.Native.Nat.{◌-◌}
 use Rattle.read_names.proofs.Passing.{wording_start, few_met, few_next, wording_all}
 use Rattle.read_names.proofs.lists_fit.Goals as goal
 

@@ -1,10 +1,6 @@
-use Prim.Native.Nat.{◌-◌}
 use Rattle.read_names.specs.Called.{word_too_many}
 use Rattle.read_names.proofs.Passing.{Wording}
 use Rattle.read_names.proofs.lists_fit.Given as goal
 
 abbrev pub invariant-loop-i : goal.invariant-loop-i
 invariant-loop-i l = Wording word_too_many l.b l.words l.calls l.i
-
-abbrev pub decreases-loop-i : goal.decreases-loop-i
-decreases-loop-i l = l.calls - l.i

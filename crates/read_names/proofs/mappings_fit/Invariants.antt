@@ -1,4 +1,3 @@
-use Prim.Native.Nat.{◌-◌}
 use Rattle.definition.specs.Refusals.{wrong_mapping}
 use Rattle.read_element_table.specs.View.{view}
 use Rattle.read_names.proofs.Passing.{Pairing}
@@ -6,6 +5,3 @@ use Rattle.read_names.proofs.mappings_fit.Given as goal
 
 abbrev pub invariant-loop-i : goal.invariant-loop-i
 invariant-loop-i l = Pairing (wrong_mapping (view l.n l.table l.source)) l.b l.inputs l.outputs l.mappings l.i
-
-abbrev pub decreases-loop-i : goal.decreases-loop-i
-decreases-loop-i l = l.mappings - l.i

@@ -1,6 +1,5 @@
 -- `notes_fit` meets its contract. The notes passed are as they should be.
 use borrow.Author.Rules.{rules}
-use Prim.Native.Nat.{◌-◌}
 use Rattle.read_names.proofs.Passing.{pairing_start, pairing_met, pairing_next, pairing_all}
 use Rattle.read_names.proofs.notes_fit.Goals as goal
 

@@ -1,10 +1,6 @@
-use Prim.Native.Nat.{◌-◌}
 use Rattle.read_names.specs.Noted.{note_wrong}
 use Rattle.read_names.proofs.Passing.{Pairing}
 use Rattle.read_names.proofs.notes_fit.Given as goal
 
 abbrev pub invariant-loop-i : goal.invariant-loop-i
 invariant-loop-i l = Pairing (note_wrong l.n) l.b l.noted l.numbers l.notes l.i
-
-abbrev pub decreases-loop-i : goal.decreases-loop-i
-decreases-loop-i l = l.notes - l.i

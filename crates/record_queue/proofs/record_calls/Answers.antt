@@ -1,5 +1,4 @@
 -- `record_calls` meets its contract. The calls passed are recorded, and have taken their elements.
-use Prim.Native.Nat.{◌-◌}
 use Rattle.record_queue.proofs.Recordings.{recording_start, recording_front, recording_fits, recording_next, recording_done}
 use borrow.Author.Rules.{rules}
 use native.Mathlib.Omega.{arith}

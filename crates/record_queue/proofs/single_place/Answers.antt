@@ -1,5 +1,4 @@
 -- `single_place` meets its contract. The invariant: what is sought stands from place k on.
-use Prim.Native.Nat.{◌-◌}
 use Rattle.record_queue.proofs.Recordings.{seeking_start, seeking_next, seeking_found, seeking_none}
 use borrow.Author.Rules.{rules}
 use Rattle.record_queue.proofs.single_place.Goals as goal
