@@ -12,8 +12,8 @@ returns-then-operation-eq6 c = search (fits_editor, rules)
 pub returns-then-operation-eq2 : goal.returns-then-operation-eq2
 returns-then-operation-eq2 c = search (fits_root_by, rules)
 
-pub returns-then-is_root : goal.returns-then-is_root
-returns-then-is_root c = search (fits_root, rules)
+pub returns-else-operation-eq2 : goal.returns-else-operation-eq2
+returns-else-operation-eq2 c = search (fits_root, rules)
 
 pub returns-then-operation-eq5 : goal.returns-then-operation-eq5
 returns-then-operation-eq5 c = search (fits_run, rules)
