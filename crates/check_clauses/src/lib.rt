@@ -15,14 +15,7 @@ use check_table::{END, KIND, PARENT, START};
 pub fn beyond(list: &[u32], n: usize) -> bool
     ensures { result ≡ any (leb n) list.now }
 {
-    let mut i = 0;
-    while i < list.len() {
-        if n <= words::word(list, i) {
-            return true;
-        }
-        i += 1;
-    }
-    false
+    list.iter().any(|x| n <= *x as usize)
 }
 
 // Each pair's old element + 1 is written as the partner of its new one; false where that has one already.
@@ -30,15 +23,12 @@ pub fn pair_up(olds: &[u32], news: &[u32], partners: &mut [u32]) -> bool
     requires { (length news.now ≡ length olds.now) × Below 4096 olds.now × Below (length partners.old) news.now }
     ensures { PairsUp (zip olds.now news.now) partners.old result partners.new }
 {
-    let mut i = 0;
-    while i < olds.len() {
-        let x = words::word(olds, i);
-        let y = words::word(news, i);
+    for (i, x) in olds.iter().enumerate() {
+        let y = news[i] as usize;
         if partners[y] != 0 {
             return false;
         }
-        partners[y] = (x + 1) as u32;
-        i += 1;
+        partners[y] = *x + 1;
     }
     true
 }
@@ -48,11 +38,8 @@ pub fn mark_all(changed: &[u32], marks: &mut [u32])
     requires { Below (length marks.old) changed.now }
     ensures { marks.new ≡ marked marks.old changed.now }
 {
-    let mut i = 0;
-    while i < changed.len() {
-        let y = words::word(changed, i);
-        marks[y] = 1;
-        i += 1;
+    for y in changed {
+        marks[*y as usize] = 1;
     }
 }
 
@@ -60,17 +47,7 @@ pub fn mark_all(changed: &[u32], marks: &mut [u32])
 pub fn same_bytes(a: &[u8], b: &[u8]) -> bool
     ensures { result ≡ same_bytes a.now b.now }
 {
-    if a.len() != b.len() {
-        return false;
-    }
-    let mut i = 0;
-    while i < a.len() {
-        if a[i] != b[i] {
-            return false;
-        }
-        i += 1;
-    }
-    true
+    a == b
 }
 
 // 3, of one pair: equal kind words and, for tokens, equal text.
@@ -104,14 +81,12 @@ fn all_alike(
     requires { (length news.now ≡ length olds.now) × Reached old.now (length old_text.now) olds.now × Reached new.now (length new_text.now) news.now }
     ensures { result ≡ every (alike_in old.now new.now old_text.now new_text.now) (zip olds.now news.now) }
 {
-    let mut i = 0;
-    while i < olds.len() {
-        let x = words::word(olds, i);
-        let y = words::word(news, i);
+    for (i, x) in olds.iter().enumerate() {
+        let x = *x as usize;
+        let y = news[i] as usize;
         if !alike(old, new, old_text, new_text, x, y) {
             return false;
         }
-        i += 1;
     }
     true
 }
@@ -137,14 +112,12 @@ fn all_parents_meet(olds: &[u32], news: &[u32], old: &[u32], new: &[u32], partne
     requires { (length news.now ≡ length olds.now) × Climbed old.now olds.now × Climbed new.now news.now × Below (length partners.now) news.now }
     ensures { result ≡ every (parents_meet old.now new.now partners.now) (zip olds.now news.now) }
 {
-    let mut i = 0;
-    while i < olds.len() {
-        let x = words::word(olds, i);
-        let y = words::word(news, i);
+    for (i, x) in olds.iter().enumerate() {
+        let x = *x as usize;
+        let y = news[i] as usize;
         if !parents_meet(old, new, partners, x, y) {
             return false;
         }
-        i += 1;
     }
     true
 }
@@ -155,17 +128,12 @@ fn rising(partners: &[u32], n: usize) -> bool
     ensures { result ≡ rises 0 (take n partners.now) }
 {
     let mut last = 0;
-    let mut i = 0;
-    while i < n {
-        let w = words::word(partners, i);
-        if w == 0 {
-            i += 1;
-        } else {
-            if w <= last {
+    for w in &partners[..n] {
+        if *w != 0 {
+            if *w <= last {
                 return false;
             }
-            last = w;
-            i += 1;
+            last = *w;
         }
     }
     true
@@ -195,12 +163,10 @@ fn all_accounted(new: &[u32], partners: &[u32], marks: &[u32], n: usize) -> bool
     requires { (n ≤ length partners.now) × (n ≤ length marks.now) × Linked new.now n }
     ensures { result ≡ each (accounted_in new.now partners.now marks.now) 0 n }
 {
-    let mut y = 0;
-    while y < n {
+    for y in 0..n {
         if !accounted(new, partners, marks, y) {
             return false;
         }
-        y += 1;
     }
     true
 }

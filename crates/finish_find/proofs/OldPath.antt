@@ -11,9 +11,9 @@ use Rattle.definition.specs.Elements.{row, tree}
 use Rattle.read_element_table.specs.View.{field, path_to, row_at, view}
 use Rattle.read_element_table.specs.Wellformed.{Lines}
 use Rattle.read_element_table.specs.Told.{row_view, parent_below, deep}
-use Rattle.rows_path.specs.Promises.{Resolves}
+use Rattle.std.specs.Prelude.{Option, Some, is_some, IsSome}
+use Rattle.rows_path.specs.Promises.{Resolves, at_row}
 use Rattle.rows_path.specs.declared.Resolved.{Resolved}
-use Rattle.rows_path.specs.declared.Resolved.TheVariants.{At, Nothing}
 use Rattle.finish_find.specs.OldStart.{TreesTold, PathFrom, old_resolved}
 
 -- ── The path of an element ──────────────────────────────────────────────────────────────────────────────────
@@ -117,12 +117,12 @@ module _ {n : ℕ} {t s : List ℕ} (v : TreesTold n t s) {k : ℕ} (h : (k < n)
   first_short {a} e = omega (arith, length-take-le (3 * (a + 1) - 3) (drop 3 s) (omega (arith, length-drop 3 s, first_ends e)), v.formed.ends 0 (omega (arith, h.0)), v.formed.lines.few)
 
 module _ {n : ℕ} {t s : List ℕ} (v : TreesTold n t s) {k : ℕ} (h : (k < n) × (tree (view n t s) k ≡ 0)) {path : List ℕ} {r : ℕ} (f : PathFrom n t k path r)
-    {a : ℕ} (z : (a ≡ get_or t (8 * 0 + 6) 0) × (a < 2 ^ 32)) {x : Resolved} (q : Resolves (take (3 * (a + 1) - 3) (drop 3 s)) (take (64 - r) (drop r path)) x) where
-  told : (i : ℕ) × (x ≡ At i (row (view n t s) k).start)
+    {a : ℕ} (z : (a ≡ get_or t (8 * 0 + 6) 0) × (a < 2 ^ 32)) {x : Option Resolved} (q : Resolves (take (3 * (a + 1) - 3) (drop 3 s)) (take (64 - r) (drop r path)) x) where
+  told : (i : ℕ) × (x ≡ at_row i (row (view n t s) k).start)
   told = old_resolved v h.0 h.1 f (rw (z.0, take_all (64 - r) (drop r path) (omega (arith, f.long, length-drop r path))) at q)
 
-  pub start_there : (i start : ℕ) → x ≡ At i start → start ≡ (row (view n t s) k).start
-  start_there i start y = let (j, g) = told in cc
+  pub start_somewhere : IsSome x
+  start_somewhere = ap is_some told.1
 
-  pub start_nowhere : x ≡ Nothing → 0 ≡ (row (view n t s) k).start
-  start_nowhere y = let (j, g) = told in absurd (let z : ◌≡◌ {A = ℕ} 0 1 = cc in omega arith)
+  pub start_there : {f : Resolved} → x ≡ Some f → f.start ≡ (row (view n t s) k).start
+  start_there {f} y = let e : f ≡ record { row = told.0; start = (row (view n t s) k).start } = let g = told.1 in cc in ap (λ (r : Resolved). r.start) e

@@ -1,6 +1,6 @@
 -- Where the text of an old node starts: what resolving its path gives, in the rows of the batch's own trees.
 -- Assumes nothing.
-use Rattle.std.specs.Prelude.{◌≡◌, refl, List, [], ◌∷◌, ◌⊎◌, ℕ, ◌+◌, ◌-◌, ◌*◌, ◌≤◌, ◌<◌, ltb, length, get_or, take, drop}
+use Rattle.std.specs.Prelude.{◌≡◌, refl, Option, List, [], ◌∷◌, ◌⊎◌, ℕ, ◌+◌, ◌-◌, ◌*◌, ◌≤◌, ◌<◌, ltb, length, get_or, take, drop}
 use Rattle.std.proofs.Common.{sym, ap, ◌∙◌, inl, inr, arith, take_at, le-leb, lt-ltb, le-ltb}
 use Rattle.std.proofs.Math.Option.{some, bind}
 use Rattle.std.proofs.Math.ListN.{get_elem?}
@@ -19,10 +19,9 @@ use Rattle.rows_model.specs.Place.{place, between}
 use Rattle.rows_model.proofs.RowLaws.{rows_node, size_elements}
 use Rattle.rows_model.proofs.Words.{words_between}
 use Rattle.rows_path.proofs.Offset.{table_start}
-use Rattle.rows_path.specs.Promises.{Resolves}
+use Rattle.rows_path.specs.Promises.{Resolves, at_row}
 use Rattle.rows_path.proofs.Promises.{resolves_there}
 use Rattle.rows_path.specs.declared.Resolved.{Resolved}
-use Rattle.rows_path.specs.declared.Resolved.TheVariants.{At}
 
 -- the words t and s tell of the n elements of some trees: the definition's table, and the rows, under the node above them all
 pub record TreesTold (n : ℕ) (t s : List ℕ) : Type 0 where
@@ -88,12 +87,12 @@ module _ {n : ℕ} {t s : List ℕ} (v : TreesTold n t s) where
         ∙ (ap (λ (m : ℕ). between 1 (m + 1) (first_rows v.text (n + 1) s)) first_end ∙ (ap (between 1 (elements c + 1)) v.rows ∙ rows_first 2147483648 v.trees c g))
 
   -- THE LAW: resolving the path of an element of tree 0 gives the start that the definition's table has
-  pub old_resolved : {k : ℕ} {path : List ℕ} {r : ℕ} {x : Resolved} → k < n → tree (view n t s) k ≡ 0 → PathFrom n t k path r → Resolves (tree_words t s) (drop r path) x
-      → (i : ℕ) × (x ≡ At i (row (view n t s) k).start)
+  pub old_resolved : {k : ℕ} {path : List ℕ} {r : ℕ} {x : Option Resolved} → k < n → tree (view n t s) k ≡ 0 → PathFrom n t k path r → Resolves (tree_words t s) (drop r path) x
+      → (i : ℕ) × (x ≡ at_row i (row (view n t s) k).start)
   old_resolved {k} {path} {r} h z f q =
       let T : Table = table 0 0 v.trees in
       let a : k < length T = omega (arith, ap length v.table, length_view n t s) in
       let e : (row T k).path ≡ 0 ∷ drop r path = rw (← v.table) (f.numbers s ∙ rw z) in
       let w = table_start v.trees k 0 (drop r path) a e in
       let b = resolves_there q v.text w.root w.found (first_part w.root w.there (omega arith)) w.leads in
-      (place (drop r path) w.root, b ∙ ap (At (place (drop r path) w.root)) (sym w.start ∙ ap (λ (F : Table). (row F k).start) (sym v.table)))
+      (place (drop r path) w.root, b ∙ ap (at_row (place (drop r path) w.root)) (sym w.start ∙ ap (λ (F : Table). (row F k).start) (sym v.table)))

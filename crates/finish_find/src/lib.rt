@@ -12,7 +12,7 @@ ghost use Rattle.finish_find.specs.Found.{found};
 ghost use Rattle.finish_find.specs.OldStart.{TreesTold, PathFrom};
 
 use read_element_table::{AFTER, CHILD, PARENT, WORDS, entry};
-use rows_path::{Resolved, resolve};
+use rows_path::resolve;
 use rows_syntax_node::{ROW_WORDS, child_count, text_length};
 use words::word;
 
@@ -46,11 +46,9 @@ pub fn old_start(table: &[u32], source: &[u32], n: usize, k: usize) -> usize
     let from = path_in_tree(table, n, k, &mut path);
     let end = entry(table, 0, AFTER);
     let to = ROW_WORDS * (end + 1);
-    match resolve(&source[ROW_WORDS..to], &path[from..]) {
-        Resolved::At(_, start) => start,
-        // Its own path leads to it.
-        Resolved::Nothing => 0,
-    }
+    // Its own path leads to it.
+    let found = resolve(&source[ROW_WORDS..to], &path[from..]).unwrap();
+    found.start
 }
 
 // ── In the new tree ──

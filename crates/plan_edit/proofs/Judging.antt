@@ -27,8 +27,7 @@ use Rattle.read_element_table.specs.Told.{length_view}
 use Rattle.record_changes.specs.ChangeRow.{ChangeRow, rows_of}
 use Rattle.record_changes.specs.ChangeRowLaws.{row_at, rows_words, rows_read, rows_front, row_among, length_rows_of}
 use Rattle.plan_overlap.specs.Overlap.{rows_overlap, replacements}
-use Rattle.plan_overlap.specs.declared.Replacements.{Replacements}
-use Rattle.plan_overlap.specs.declared.Replacements.TheVariants.{Disjoint, Overlap as Disagree}
+use Rattle.plan_overlap.specs.declared.Overlap.{Overlap}
 use Rattle.plan_changed_region.specs.Fates.{row_pushed, rows_fates, planned_rows}
 use Rattle.plan_edge.specs.Rule.{edge_rows}
 use Rattle.plan_edge.specs.Told.{edge_read}
@@ -43,23 +42,23 @@ use Rattle.plan_model.specs.Ready.{listed_in, calls_in, table_in, Ready, ready_f
 use Rattle.plan_model.proofs.Outcome.{gone_is, judged_overlap, judged_fated, out_overlap}
 use Rattle.plan_edit.specs.Stages.{Sorted, rule_words, LeftBy, rule_rows, judged_by, judgement_of, RowsJudged, Withdrew, ChangesFated, ChangesJudged}
 use Rattle.plan_edit.specs.Answers.{planned_by, PlanMade, recorded_as, Planning}
-use Rattle.plan_edit.specs.declared.Judgement.{Judgement}
-use Rattle.plan_edit.specs.declared.Judgement.TheVariants.{Overlap, Fated}
+use Rattle.plan_edit.specs.declared.Fated.{Fated}
 use Rattle.plan_edit.specs.declared.Counts.{Counts}
-use Rattle.plan_edit.specs.declared.Planned.{Planned}
-use Rattle.plan_edit.specs.declared.Planned.TheVariants.{Refused as RefusedBy, Overlap as OverlapOf, Made}
+use Rattle.plan_edit.specs.declared.Unplanned.{Unplanned}
+use Rattle.plan_edit.specs.declared.Unplanned.TheVariants.{Overlap as OverlapOf}
+use Rattle.std.specs.Prelude.{Result, Ok, Err}
 
 -- ── What the answer of line 8 tells ─────────────────────────────────────────────────────────────────────────
 
-overlaps : (o : Option (ℕ × ℕ)) (i j : ℕ) → replacements o ≡ Disagree i j → o ≡ some (i, j)
+overlaps : (o : Option (ℕ × ℕ)) (q : Overlap) → replacements o ≡ Err q → o ≡ some (q.earlier, q.later)
 unfolding replacements
-overlaps none i j e = absurd (let z : ◌≡◌ {A = ℕ} 0 1 = cc in omega arith)
-overlaps (some p) i j e = let x : p.0 ≡ i = cc in let y : p.1 ≡ j = cc in λ k. some (x k, y k)
+overlaps none q e = absurd (grind arith)
+overlaps (some p) q e = let z : record { earlier = p.0; later = p.1 } ≡ q = grind arith in λ k. some ((z k).earlier, (z k).later)
 
-disjoints : (o : Option (ℕ × ℕ)) → replacements o ≡ Disjoint → o ≡ none
+disjoints : (o : Option (ℕ × ℕ)) → replacements o ≡ Ok tt → o ≡ none
 unfolding replacements
 disjoints none e = refl
-disjoints (some p) e = absurd (let z : ◌≡◌ {A = ℕ} 0 1 = cc in omega arith)
+disjoints (some p) e = absurd (grind arith)
 
 -- as many fates as rows
 length_fates : (k : ℕ) (stacks : List (List Region)) (rs : List ChangeRow) → length (rows_fates k stacks rs) ≡ length rs
@@ -188,7 +187,7 @@ module _ (h : Choices) {b : List ℕ} {l : Layout} {t s : List ℕ} (r : Ready b
             sym (ruled_1 h t c v' z) ∙ rule_1 m t s r.formed (listed_in l b) h (calls_in l b) (ready_facts r).recorded z c v' rows_left
 
     -- THE FIRST STAGE
-    pub changes_judged : {w : List ℕ} {q : Judgement} → RowsJudged h t n c v' w p q → ChangesJudged h b l t s w p q
+    pub changes_judged : {w : List ℕ} {q : Result Fated Overlap} → RowsJudged h t n c v' w p q → ChangesJudged h b l t s w p q
     unfolding judged_by judgement_of
     changes_judged {w} {q} J = subst (ChangesJudged h b l t s w p) (sym J.answer) (go (rows_overlap (rows_of c v')) refl)
       where
@@ -208,45 +207,37 @@ module _ (h : Choices) {b : List ℕ} {l : Layout} {t s : List ℕ} (r : Ready b
 
 -- ── The answer on rows ──────────────────────────────────────────────────────────────────────────────────────
 
-module _ {h : Choices} {t : List ℕ} {n c : ℕ} {v p : List ℕ} {q : Replacements} (e : q ≡ replacements (rows_overlap (rows_of c v))) where
-  pub rows_overlap_lem : (i j x y : ℕ) → q ≡ Disagree i j → x ≡ number_at 0 (take n p) i → y ≡ number_at 0 (take n p) j → RowsJudged h t n c v v p (Overlap x y)
+module _ {h : Choices} {t : List ℕ} {n c : ℕ} {v p : List ℕ} {q : Result (Unit {0}) Overlap} (e : q ≡ replacements (rows_overlap (rows_of c v))) where
+  pub rows_overlap_lem : (d : Overlap) (x y : ℕ) → q ≡ Err d → x ≡ number_at 0 (take n p) d.earlier → y ≡ number_at 0 (take n p) d.later → RowsJudged h t n c v v p (Err (record { earlier = x; later = y }))
   unfolding judgement_of
-  rows_overlap_lem i j x y z f g =
-      let o = overlaps (rows_overlap (rows_of c v)) i j (sym e ∙ z) in
+  rows_overlap_lem d x y z f g =
+      let o = overlaps (rows_overlap (rows_of c v)) d (sym e ∙ z) in
       record { answer = rw (o, f, g) refl; fates = λ k. none_some (sym k ∙ o) }
 
-  pub rows_fated : q ≡ Disjoint → {v' : List ℕ} → v' ≡ rows_words (rule_rows h t c v) ++ drop (14 * c) v → RowsJudged h t n c v v' p (Fated n c)
+  pub rows_fated : q ≡ Ok tt → {v' : List ℕ} → v' ≡ rows_words (rule_rows h t c v) ++ drop (14 * c) v → RowsJudged h t n c v v' p (Ok (record { recorded = n; staying = c }))
   unfolding judgement_of
   rows_fated z f = record { answer = rw (disjoints (rows_overlap (rows_of c v)) (sym e ∙ z)) refl; fates = λ k. f }
 
 -- ── The second stage ────────────────────────────────────────────────────────────────────────────────────────
 
 -- 8: two changes overlap
-pub overlap_refused : {h : Choices} {b : List ℕ} {l : Layout} {t s w p : List ℕ} → Ready b l t s → (q : Judgement) (i j : ℕ) → ChangesJudged h b l t s w p q → q ≡ Overlap i j
-    → (changes running first : List ℕ) → Planning h b l t s changes running first (OverlapOf i j)
+pub overlap_refused : {h : Choices} {b : List ℕ} {l : Layout} {t s w p : List ℕ} → Ready b l t s → (q : Result Fated Overlap) (o : Overlap) → ChangesJudged h b l t s w p q → q ≡ Err o
+    → (changes running first : List ℕ) → Planning h b l t s changes running first (Err (OverlapOf o))
 unfolding planned_by judged_by
-overlap_refused {h} {b} {l} {w = w} r q i j J z changes running first =
-    let found = sym J.answer ∙ ap (λ (p : Judgement). gives (judged_by (listed_in l b) w p)) z in
-    record { made = record { answer = sym (out_overlap h (ready_facts r) i j found); within = tt; found = found }; withdrew = tt }
+overlap_refused {h} {b} {l} {w = w} r q o J z changes running first =
+    let found = sym J.answer ∙ ap (λ (p : Result Fated Overlap). gives (judged_by (listed_in l b) w p)) z in
+    record { made = record { answer = sym (out_overlap h (ready_facts r) o.earlier o.later found); within = tt; found = found }; withdrew = tt }
 
 -- none do: the second stage may go on
-pub judged_fates : {h : Choices} {b : List ℕ} {l : Layout} {t s w p : List ℕ} (q : Judgement) (n c : ℕ) → ChangesJudged h b l t s w p q → q ≡ Fated n c → ChangesFated h b l t s w c × Withdrew h b n p
-judged_fates {h} {b} {l} {t} {s} {w} {p} q n c J z = (subst (ChangesJudged h b l t s w p) z J).within
+pub judged_fates : {h : Choices} {b : List ℕ} {l : Layout} {t s w p : List ℕ} (q : Result Fated Overlap) (f : Fated) → ChangesJudged h b l t s w p q → q ≡ Ok f → ChangesFated h b l t s w f.staying × Withdrew h b f.recorded p
+judged_fates {h} {b} {l} {t} {s} {w} {p} q f J z = (subst (ChangesJudged h b l t s w p) z J).within
 
 -- ── Those withdrawn kept behind the rows ────────────────────────────────────────────────────────────────────
 
-module _ {q : Planned} (n : ℕ) where
-  pub kept_refused : {k : ℕ} → q ≡ RefusedBy k → RefusedBy k ≡ recorded_as n q
-  unfolding recorded_as
-  kept_refused e = rw e refl
-
-  pub kept_overlap : {i j : ℕ} → q ≡ OverlapOf i j → OverlapOf i j ≡ recorded_as n q
-  unfolding recorded_as
-  kept_overlap e = rw e refl
-
-  pub kept_made : (c : Counts) → q ≡ Made c → Made (record { recorded = n; changes = c.changes; runs = c.runs; discarded = c.discarded; climbs = c.climbs }) ≡ recorded_as n q
-  unfolding recorded_as
-  kept_made c e = rw e refl
+-- what is refused is refused whole
+pub kept_refused : {h : Choices} {b : List ℕ} {l : Layout} {t s changes running first : List ℕ} (u : Unplanned) {q : Result Counts Unplanned} → q ≡ Err u → PlanMade h b l t s changes running first q
+    → Planning h b l t s changes running first (Err u)
+kept_refused {h} {b} {l} {t} {s} {changes} {running} {first} u e M = record { made = subst (PlanMade h b l t s changes running first) e M; withdrew = tt }
 
 module _ (changes p changes' : List ℕ) (long : 3840 ≤ length changes) (few : length p ≡ 256) (e : changes' ≡ paste changes 3584 p (length p)) where
   behind : changes' ≡ take 3584 changes ++ (p ++ drop 3840 changes)
@@ -279,17 +270,16 @@ module _ (changes p changes' : List ℕ) (long : 3840 ≤ length changes) (few :
 
   module _ {h : Choices} {b : List ℕ} {l : Layout} {t s running first : List ℕ} {n : ℕ} (W : Withdrew h b n p) where
     -- THE PLAN, whole
-    pub plan_kept : (q : Planned) → PlanMade h b l t s changes running first q → {q' : Planned} → q' ≡ recorded_as n q → Planning h b l t s changes' running first q'
-    unfolding recorded_as planned_by
-    plan_kept (RefusedBy k) M z = rw z (record { made = record { answer = M.answer; within = tt; found = M.found }; withdrew = tt })
-    plan_kept (OverlapOf i j) M z = rw z (record { made = record { answer = M.answer; within = tt; found = M.found }; withdrew = tt })
-    plan_kept (Made c) M z =
+    pub plan_kept : (c : Counts) {q : Result Counts Unplanned} → q ≡ Ok c → PlanMade h b l t s changes running first q → Planning h b l t s changes' running first (Ok (recorded_as n c))
+    unfolding planned_by
+    plan_kept c z made =
+        let M = subst (PlanMade h b l t s changes running first) z made in
         let w = M.within in
-        rw z (record {
+        record {
           made = record {
             answer = rw (rows_stand c.changes w.few, places_stand (plan_of (listed_in l b)) c.changes w.few (take c.runs running) w.low) M.answer;
             within = record { few = w.few; most = w.most; fewer = w.fewer; climbs = w.climbs; kept = rw (rows_stand c.changes w.few) w.kept; low = w.low };
             found = M.found;
           };
           withdrew = (omega (arith, long_still), withdrew_behind W);
-        })
+        }

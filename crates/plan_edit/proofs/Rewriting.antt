@@ -14,8 +14,9 @@ use Rattle.record_changes.specs.ChangeRow.{rows_of}
 use Rattle.plan_mapping.specs.Mapped.{words_at, mapped_by, Mapped, mapping_words, Bounded, mapped_words, mapped_elements, bounded_more}
 use Rattle.record_rewritten.specs.Stated.{plan_of, Rewritable}
 use Rattle.plan_rewrite.specs.Answers.{rewritten_by, steps_of, RowsRewritten}
-use Rattle.plan_rewrite.specs.declared.Rewritten.{Rewritten}
-use Rattle.plan_rewrite.specs.declared.Rewritten.TheVariants.{Steps, Refused as NotRewritten}
+use Rattle.std.specs.Prelude.{Result, Ok, Err}
+use Rattle.refusals.specs.declared.Refusal.{Refusal}
+use Rattle.refusals.specs.Numbers.{number}
 use Rattle.read_layout.specs.declared.Layout.{Layout}
 use Rattle.plan_model.specs.Fated.{RowsFated}
 use Rattle.plan_model.proofs.Fated.{rewritable}
@@ -24,7 +25,7 @@ use Rattle.plan_model.specs.Outcome.{judging}
 use Rattle.plan_model.proofs.Outcome.{out_dependents}
 use Rattle.plan_edit.specs.Stages.{ChangesFated, Rewriting, Rewrote}
 use Rattle.plan_edit.specs.Answers.{planned_by, PlanMade}
-use Rattle.plan_edit.specs.declared.Planned.TheVariants.{Refused}
+use Rattle.plan_edit.specs.declared.Unplanned.TheVariants.{Refused}
 
 module _ {b : List ℕ} {l : Layout} {t s : List ℕ} (r : Ready b l t s) where
   abbrev n : ℕ
@@ -63,25 +64,25 @@ module _ {b : List ℕ} {l : Layout} {t s : List ℕ} (r : Ready b l t s) where
       unfolding words_at
       rows_rewritable long = rewritable n T (listed_in l b) c w F (omega (arith, F.few)) facts.elements
 
-      pub rows_rewriting : {out : List ℕ} {q : Rewritten} → RowsRewritten n t s m (words_at b l.list l.sizes.listed) w c out q → Rewriting b l t s m (rows_of c w) c out q
+      pub rows_rewriting : {out : List ℕ} {q : Result ℕ Refusal} → RowsRewritten n t s m (words_at b l.list l.sizes.listed) w c out q → Rewriting b l t s m (rows_of c w) c out q
       unfolding words_at
       rows_rewriting R = record { mapped = map_mapped; mappings = map_told; rows = R.rows ∙ rw map_told; climbs = omega (arith, R.few, F.few) }
 
-module _ {h : Choices} {b : List ℕ} {l : Layout} {t s : List ℕ} {c : ℕ} {w : List ℕ} (F : ChangesFated h b l t s w c) {m out : List ℕ} {q : Rewritten} (R : Rewriting b l t s m (rows_of c w) c out q) where
+module _ {h : Choices} {b : List ℕ} {l : Layout} {t s : List ℕ} {c : ℕ} {w : List ℕ} (F : ChangesFated h b l t s w c) {m out : List ℕ} {q : Result ℕ Refusal} (R : Rewriting b l t s m (rows_of c w) c out q) where
   were : judging h b ≡ gives (fated (map (plan_of (listed_in l b)) (rows_of c w)))
   were = sym F.answer
 
   -- 9 or 10 of a dependent
-  pub dependents_refused : Ready b l t s → (k : ℕ) → q ≡ NotRewritten k → (changes running first : List ℕ) → PlanMade h b l t s changes running first (Refused k)
+  pub dependents_refused : Ready b l t s → (k : Refusal) → q ≡ Err k → (changes running first : List ℕ) → PlanMade h b l t s changes running first (Err (Refused k))
   unfolding planned_by rewritten_by
   dependents_refused r k z changes running first =
       record {
-        answer = sym (out_dependents h (ready_facts r) (rows_of c w) were F.within.kept k (sym R.rows ∙ ap (λ (p : Rewritten). rewritten_by p (rows_of c out)) z));
+        answer = sym (out_dependents h (ready_facts r) (rows_of c w) were F.within.kept (number k) (sym R.rows ∙ ap (λ (p : Result ℕ Refusal). rewritten_by p (rows_of c out)) z));
         within = tt;
         found = record { changes = _; judged = were };
       }
 
-  pub dependents_rewritten : (k : ℕ) → q ≡ Steps k → Rewrote h b l t s m c k out
+  pub dependents_rewritten : (k : ℕ) → q ≡ Ok k → Rewrote h b l t s m c k out
   unfolding rewritten_by steps_of
   dependents_rewritten k z =
       record {
@@ -91,6 +92,6 @@ module _ {h : Choices} {b : List ℕ} {l : Layout} {t s : List ℕ} {c : ℕ} {w
         kept = F.within.kept;
         mapped = R.mapped;
         mappings = R.mappings;
-        rewrote = sym R.rows ∙ ap (λ (p : Rewritten). rewritten_by p (rows_of c out)) z;
+        rewrote = sym R.rows ∙ ap (λ (p : Result ℕ Refusal). rewritten_by p (rows_of c out)) z;
         climbs = rw z at R.climbs;
       }

@@ -22,8 +22,9 @@ use Rattle.record_changes.specs.ChangeRowLaws.{row_at, length_rows_of}
 use Rattle.plan_mapping.specs.Mapped.{mapped_by}
 use Rattle.plan_notes.specs.Notes.{settled_at, note_words}
 use Rattle.plan_notes.specs.Answers.{notes_by, NotesWithin, NotesSettled}
-use Rattle.plan_notes.specs.declared.Notes.{Notes}
-use Rattle.plan_notes.specs.declared.Notes.TheVariants.{Settled, Refused as NotSettled}
+use Rattle.std.specs.Prelude.{Result, Ok, Err}
+use Rattle.refusals.specs.declared.Refusal.{Refusal}
+use Rattle.refusals.specs.Numbers.{number}
 use Rattle.plan_postorder.specs.Order.{running_places}
 use Rattle.plan_postorder.specs.Counting.{running_most}
 use Rattle.record_rewritten.specs.Stated.{plan_of}
@@ -40,7 +41,7 @@ use Rattle.plan_edit.specs.Counted.{discarded_of, discarded_told}
 use Rattle.plan_edit.specs.Stages.{Rewrote}
 use Rattle.plan_edit.specs.Answers.{planned_by, outcome_in, PlanMade}
 use Rattle.plan_edit.specs.declared.Counts.{Counts}
-use Rattle.plan_edit.specs.declared.Planned.TheVariants.{Refused, Made}
+use Rattle.plan_edit.specs.declared.Unplanned.TheVariants.{Refused}
 
 -- ── What was settled ────────────────────────────────────────────────────────────────────────────────────────
 
@@ -71,19 +72,19 @@ module _ {h : Choices} {b : List ℕ} {l : Layout} {t s : List ℕ} (r : Ready b
   same_settles : settled_at T (mapped_by m) 0 (notes_in l b) ≡ settles
   same_settles = ap (λ (f : ℕ → Option ℕ). settled_at T f 0 (notes_in l b)) R.mappings
 
-  module _ {before after : List ℕ} {q : Notes} (N : NotesSettled n t s m (notes_in l b) l.sizes.notes before after q) where
+  module _ {before after : List ℕ} {q : Result (Unit {0}) Refusal} (N : NotesSettled n t s m (notes_in l b) l.sizes.notes before after q) where
     -- 9 or 10 of a note
-    pub notes_refused : (k : ℕ) → q ≡ NotSettled k → (running first : List ℕ) → PlanMade h b l t s w running first (Refused k)
+    pub notes_refused : (k : Refusal) → q ≡ Err k → (running first : List ℕ) → PlanMade h b l t s w running first (Err (Refused k))
     unfolding planned_by notes_by
     notes_refused k e running first =
-        let a : settles ≡ refused k =
-        is_refused settles (λ ns. gives (paste before 0 (note_words ns) (3 * l.sizes.notes))) k (λ ns. (_, refl)) (sym (ap (λ (p : Notes). notes_by p after) e) ∙ (N.words ∙ rw same_settles)) in
-        record { answer = sym (out_notes h facts R.before R.judged R.kept (rows_of c w) steps R.rewrote k a); within = tt; found = record { changes = _; judged = R.judged } }
+        let a : settles ≡ refused (number k) =
+        is_refused settles (λ ns. gives (paste before 0 (note_words ns) (3 * l.sizes.notes))) (number k) (λ ns. (_, refl)) (sym (ap (λ (p : Result (Unit {0}) Refusal). notes_by p after) e) ∙ (N.words ∙ rw same_settles)) in
+        record { answer = sym (out_notes h facts R.before R.judged R.kept (rows_of c w) steps R.rewrote (number k) a); within = tt; found = record { changes = _; judged = R.judged } }
 
     rows_kept : All (Kept n T listed) (rows_of c w)
     rows_kept = rewritten_kept n T (mapping (mappings_in l b)) listed (length_view n t s) R.before R.before (rows_of c w, steps) R.kept R.rewrote
 
-    module _ (e : q ≡ Settled) {runs discarded : ℕ} {running : List ℕ} (rest : List ℕ) (er : runs ≡ length (running_places w c)) (ew : running ≡ running_places w c ++ rest)
+    module _ (e : q ≡ Ok tt) {runs discarded : ℕ} {running : List ℕ} (rest : List ℕ) (er : runs ≡ length (running_places w c)) (ew : running ≡ running_places w c ++ rest)
         (ed : (discarded ≡ discarded_of (rows_of c w)) × (discarded ≤ c)) where
       abbrev counts : Counts
       counts = record { recorded = c; changes = c; runs = runs; discarded = discarded; climbs = steps }
@@ -91,7 +92,7 @@ module _ {h : Choices} {b : List ℕ} {l : Layout} {t s : List ℕ} (r : Ready b
       settled_notes : (ns : List (ℕ × ℕ × ℕ)) × (settles ≡ gives ns) × (after ≡ paste before 0 (note_words ns) (3 * l.sizes.notes))
       unfolding notes_by
       settled_notes =
-          let g : (settles >>= λ ns. gives (paste before 0 (note_words ns) (3 * l.sizes.notes))) ≡ gives after = sym (sym (ap (λ (p : Notes). notes_by p after) e) ∙ (N.words ∙ rw same_settles)) in
+          let g : (settles >>= λ ns. gives (paste before 0 (note_words ns) (3 * l.sizes.notes))) ≡ gives after = sym (sym (ap (λ (p : Result (Unit {0}) Refusal). notes_by p after) e) ∙ (N.words ∙ rw same_settles)) in
           let (ns, a, x) = both_given settles _ g in
           (ns, a, sym (gives_inj x))
 
@@ -102,7 +103,7 @@ module _ {h : Choices} {b : List ℕ} {l : Layout} {t s : List ℕ} (r : Ready b
       rows_long = length-map (rows_of c w) (plan_of listed) ∙ length_rows_of c w
 
       -- nothing is refused
-      pub plan_made : PlanMade h b l t s w running after (Made counts)
+      pub plan_made : PlanMade h b l t s w running after (Ok counts)
       unfolding planned_by
       plan_made =
           let (ns, a, x) = settled_notes in

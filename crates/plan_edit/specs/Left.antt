@@ -1,6 +1,6 @@
 -- What the promise of planning says of the definition's plan.
 -- Assumes nothing.
-use Rattle.std.specs.Prelude.{List, map, ◌≡◌, ℕ, length, take, get_or}
+use Rattle.std.specs.Prelude.{List, map, ◌≡◌, ℕ, length, take, get_or, Ok, Err}
 use Rattle.std.proofs.Common.{sym, ap, ◌∙◌}
 use Rattle.definition.specs.Basics.{Answer, refused, gives, ◌>>=◌, keep}
 use Rattle.definition.specs.Choices.{Choices}
@@ -21,9 +21,11 @@ use Rattle.read_layout.specs.declared.Layout.{Layout}
 use Rattle.plan_model.specs.Ready.{listed_in}
 use Rattle.plan_model.specs.Outcome.{Outcome, outcome, by_numbers, judging, planning}
 use Rattle.plan_model.proofs.Outcome.{fated_by, overlaps_by}
-use Rattle.plan_edit.specs.Answers.{planned_by, outcome_in, AllFated, PlanMade}
+use Rattle.plan_edit.specs.Answers.{planned_by, outcome_in, PlanMade}
 use Rattle.plan_edit.specs.declared.Counts.{Counts}
-use Rattle.plan_edit.specs.declared.Planned.TheVariants.{Refused, Made}
+use Rattle.plan_edit.specs.declared.Unplanned.TheVariants.{Refused}
+use Rattle.refusals.specs.declared.Refusal.{Refusal}
+use Rattle.refusals.specs.Numbers.{number}
 
 -- the words rows, places and notes tell the plan p of the accepted batch a
 pub record TellsPlan (h : Choices) (b : List ℕ) (l : Layout) (rows places words : List ℕ) (c : Counts) (a : Accepted) (p : Plan) : Type 0 where
@@ -39,16 +41,16 @@ unfolding planning ◌>>=◌
 planning_accepted h b a e = rw e
 
 -- what is refused, the definition refuses
-pub plan_refused : {h : Choices} {b : List ℕ} {l : Layout} {t s changes running first : List ℕ} {k : ℕ} (a : Accepted) → accepted b ≡ gives a → PlanMade h b l t s changes running first (Refused k) → plan h a ≡ refused k
+pub plan_refused : {h : Choices} {b : List ℕ} {l : Layout} {t s changes running first : List ℕ} {r : Refusal} (a : Accepted) → accepted b ≡ gives a → PlanMade h b l t s changes running first (Err (Refused r)) → plan h a ≡ refused (number r)
 unfolding planned_by ◌>>=◌
-plan_refused {h} {b} {k = k} a e m = go (plan h a) (m.answer ∙ planning_accepted h b a e)
+plan_refused {h} {b} {r = r} a e m = go (plan h a) (m.answer ∙ planning_accepted h b a e)
   where
-    go : (o : Answer Plan) → refused k ≡ (o >>= λ p. gives (outcome a p)) → o ≡ refused k
-    go (refused n) z = let y : k ≡ n = cc in ap refused (sym y)
+    go : (o : Answer Plan) → refused (number r) ≡ (o >>= λ p. gives (outcome a p)) → o ≡ refused (number r)
+    go (refused n) z = let y : number r ≡ n = cc in ap refused (sym y)
     go (gives p) z = refused_gives z
 
 -- what is made is the definition's plan
-pub plan_told : {h : Choices} {b : List ℕ} {l : Layout} {t s changes running first : List ℕ} {c : Counts} (a : Accepted) → accepted b ≡ gives a → PlanMade h b l t s changes running first (Made c) → (p : Plan) × TellsPlan h b l changes running first c a p
+pub plan_told : {h : Choices} {b : List ℕ} {l : Layout} {t s changes running first : List ℕ} {c : Counts} (a : Accepted) → accepted b ≡ gives a → PlanMade h b l t s changes running first (Ok c) → (p : Plan) × TellsPlan h b l changes running first c a p
 unfolding planned_by outcome
 plan_told {h} {b} {l} {t} {s} {changes} {running} {first} {c} a e m =
     let (p, g, z) = both_given (plan h a) (λ p. gives (outcome a p)) (sym (m.answer ∙ planning_accepted h b a e)) in

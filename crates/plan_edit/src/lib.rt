@@ -3,7 +3,6 @@
 #![tactic(auto)]
 
 ghost use Rattle.std.specs.Prelude.{◌≡◌, ◌++◌, ◌+◌, ◌*◌, ◌≤◌, length, drop, replicate};
-ghost use Rattle.std.proofs.Math.Seq.{paste};
 ghost use Rattle.choices.specs.Meant.{meant};
 ghost use Rattle.record_changes.specs.ChangeRow.{rows_of};
 ghost use Rattle.record_changes.specs.ChangeRowLaws.{rows_words};
@@ -13,14 +12,14 @@ ghost use Rattle.plan_model.specs.Ready.{listed_in, notes_in, table_in, Ready};
 ghost use Rattle.plan_model.specs.Fated.{RowsFated};
 ghost use Rattle.plan_edit.specs.Counted.{discarded_of};
 ghost use Rattle.plan_edit.specs.Stages.{Sorted, LeftBy, rule_rows, RowsJudged, ChangesJudged, ChangesFated, Rewriting, Rewrote};
-ghost use Rattle.plan_edit.specs.Answers.{PlanMade, recorded_as, Planning};
+ghost use Rattle.plan_edit.specs.Answers.{PlanMade, Planning};
+ghost use Rattle.plan_edit.specs.declared.Unplanned.TheVariants.{Refused, Overlap as Overlapping};
 
 use choices::Choices;
-use plan_notes::Notes;
-use plan_overlap::Replacements;
-use plan_rewrite::Rewritten;
+use plan_overlap::Overlap;
 use plan_withdraw::number_of;
 use read_layout::Layout;
+use refusals::Refusal;
 
 // Where the words stand that tell which changes are withdrawn: behind the change rows.
 pub const WITHDRAWN: usize = 3584;
@@ -35,19 +34,34 @@ pub struct Counts {
     pub climbs: usize,
 }
 
-// What the first stage finds: two changes overlap, told by their numbers; or of so many recorded changes so many stay, and each of these has its fate.
+// What the first stage finds where none overlap: how many changes are recorded, and how many of them stay, each with its fate.
 #[derive(Clone, Copy)]
-pub enum Judgement {
-    Overlap(usize, usize),
-    Fated(usize, usize),
+pub struct Fated {
+    pub recorded: usize,
+    pub staying: usize,
 }
 
-// A refusal, by its number; 8 with the numbers of the two that overlap; or a plan.
-#[derive(Clone, Copy)]
-pub enum Planned {
-    Refused(usize),
-    Overlap(usize, usize),
-    Made(Counts),
+// Why there is no plan: a refusal; where it is 8, the numbers of the two changes that overlap.
+#[derive(Clone, Copy, Debug, PartialEq, Eq)]
+pub enum Unplanned {
+    Refused(Refusal),
+    Overlap(Overlap),
+}
+
+impl From<Refusal> for Unplanned {
+    ghost from_gives = { λ r u. u ≡ Refused r };
+
+    fn from(refusal: Refusal) -> Unplanned {
+        Unplanned::Refused(refusal)
+    }
+}
+
+impl From<Overlap> for Unplanned {
+    ghost from_gives = { λ o u. u ≡ Overlapping o };
+
+    fn from(overlap: Overlap) -> Unplanned {
+        Unplanned::Overlap(overlap)
+    }
 }
 
 // How many of the `c` changes are discarded.
@@ -56,13 +70,9 @@ fn count_discarded(rows: &[u32], c: usize) -> usize
     ensures { (result ≡ discarded_of (rows_of c rows.now)) × (result ≤ c) }
 {
     let mut n: usize = 0;
-    let mut i: usize = 0;
-    while i < c {
+    for i in 0..c {
         if 1 < record_changes::field(rows, i, record_changes::FATE) {
             n += 1;
-            i += 1;
-        } else {
-            i += 1;
         }
     }
     n
@@ -119,7 +129,7 @@ fn leave_weaker(
     plan_withdraw::withdraw(sorted, n, table, withdrawn)
 }
 
-// Of `n` sorted changes `c` stay: two of these overlap, or each gets its fate.
+// Of `n` sorted changes `c` stay: each gets its fate, unless two of these overlap, told by their numbers.
 fn judge_rest(
     choices: Choices,
     sorted: &mut [u32],
@@ -127,19 +137,21 @@ fn judge_rest(
     c: usize,
     table: &[u32],
     withdrawn: &[u32],
-) -> Judgement
+) -> Result<Fated, Overlap>
     requires { (c ≤ 256) × (14 * c ≤ length sorted.old) × (n ≤ length withdrawn.now) }
     ensures { RowsJudged (meant choices) table.now n c sorted.old sorted.new withdrawn.now result }
 {
-    match plan_overlap::replacements_are_disjoint(sorted, c) {
-        Replacements::Overlap(j, k) => {
-            Judgement::Overlap(number_of(&withdrawn[..n], j), number_of(&withdrawn[..n], k))
-        }
-        Replacements::Disjoint => {
-            state_fates(choices, sorted, c, table);
-            Judgement::Fated(n, c)
-        }
+    if let Err(places) = plan_overlap::replacements_are_disjoint(sorted, c) {
+        return Err(Overlap {
+            earlier: number_of(&withdrawn[..n], places.earlier),
+            later: number_of(&withdrawn[..n], places.later),
+        });
     }
+    state_fates(choices, sorted, c, table);
+    Ok(Fated {
+        recorded: n,
+        staying: c,
+    })
 }
 
 // Rust: EditPlan::build, up to the fates. The first stage: the recorded changes in sorted order are judged. `withdrawn` tells which leave; unless two of the
@@ -154,7 +166,7 @@ pub fn judge_changes(
     order: &mut [u32],
     sorted: &mut [u32],
     withdrawn: &mut [u32],
-) -> Judgement
+) -> Result<Fated, Overlap>
     requires ready { Ready b.now l table.now source.now }
     requires in_bounds { (3584 ≤ length recorded.old) × (256 ≤ length order.old) × (3584 ≤ length sorted.old) × (withdrawn.old ≡ replicate 256 0) }
     ensures { ChangesJudged (meant choices) b.now l table.now source.now sorted.new withdrawn.new result }
@@ -172,7 +184,7 @@ fn settle(
     source: &[u32],
     map: &[u32],
     first: &mut [u32],
-) -> Notes
+) -> Result<(), Refusal>
     requires ready { Ready b.now l table.now source.now }
     requires mapped { Mapped l.sizes.elements map.now × (768 ≤ length first.old) }
     ensures { NotesSettled l.sizes.elements table.now source.now map.now (notes_in l b.now) l.sizes.notes first.old first.new result }
@@ -197,30 +209,26 @@ fn settle_and_order(
     order: &mut [u32],
     running: &mut [u32],
     first: &mut [u32],
-) -> Planned
+) -> Result<Counts, Unplanned>
     requires ready { Ready b.now l table.now source.now }
     requires rewrote { Rewrote (meant choices) b.now l table.now source.now map.now c steps changes.now }
     requires in_bounds { (256 ≤ length order.old) × (256 ≤ length running.old) × (768 ≤ length first.old) }
     ensures { PlanMade (meant choices) b.now l table.now source.now changes.now running.new first.new result }
 {
-    match settle(b, l, table, source, map, first) {
-        Notes::Refused(number) => Planned::Refused(number),
-        Notes::Settled => {
-            let runs = plan_postorder::running_order(changes, c, order, running);
-            let discarded = count_discarded(changes, c);
-            // Those withdrawn are counted last (`keep_withdrawn`).
-            Planned::Made(Counts {
-                recorded: c,
-                changes: c,
-                runs,
-                discarded,
-                climbs: steps,
-            })
-        }
-    }
+    settle(b, l, table, source, map, first)?;
+    let runs = plan_postorder::running_order(changes, c, order, running);
+    let discarded = count_discarded(changes, c);
+    // Those withdrawn are counted last (`plan`).
+    Ok(Counts {
+        recorded: c,
+        changes: c,
+        runs,
+        discarded,
+        climbs: steps,
+    })
 }
 
-// Dependents are rewritten into `changes`, by the mappings and the fated rows of `sorted`.
+// Dependents are rewritten into `changes`, by the mappings and the fated rows of `sorted`: after how many climb steps.
 fn rewrite(
     b: &[u8],
     l: Layout,
@@ -230,7 +238,7 @@ fn rewrite(
     c: usize,
     map: &mut [u32],
     changes: &mut [u32],
-) -> Rewritten
+) -> Result<usize, Refusal>
     requires ready { Ready b.now l table.now source.now }
     requires rows_fated { RowsFated l.sizes.elements (table_in l table.now source.now) (listed_in l b.now) c sorted.now }
     requires in_bounds { (3584 ≤ length sorted.now) × (2048 ≤ length map.old) × (3584 ≤ length changes.old) }
@@ -257,39 +265,16 @@ fn rewrite_and_settle(
     running: &mut [u32],
     map: &mut [u32],
     first: &mut [u32],
-) -> Planned
+) -> Result<Counts, Unplanned>
     requires ready { Ready b.now l table.now source.now }
     requires changes_fated { ChangesFated (meant choices) b.now l table.now source.now sorted.now c }
     requires in_bounds { (3584 ≤ length sorted.now) × (3584 ≤ length rewritten.old) × (256 ≤ length order.old) × (256 ≤ length running.old) × (2048 ≤ length map.old) × (768 ≤ length first.old) }
     ensures { PlanMade (meant choices) b.now l table.now source.now rewritten.new running.new first.new result }
 {
-    match rewrite(b, l, table, source, sorted, c, map, rewritten) {
-        Rewritten::Refused(number) => Planned::Refused(number),
-        Rewritten::Steps(k) => {
-            settle_and_order(
-                choices, b, l, table, source, map, rewritten, c, k, order, running, first,
-            )
-        }
-    }
-}
-
-// The plan of those that stay, with the count of all `n` that are recorded; which of them are withdrawn is kept behind the rows.
-fn keep_withdrawn(planned: Planned, n: usize, withdrawn: &[u32], changes: &mut [u32]) -> Planned
-    requires { 3584 + length withdrawn.now ≤ length changes.old }
-    ensures { (result ≡ recorded_as n planned) × (changes.new ≡ paste changes.old 3584 withdrawn.now (length withdrawn.now)) }
-{
-    words::copy_in(changes, WITHDRAWN, withdrawn);
-    match planned {
-        Planned::Refused(number) => Planned::Refused(number),
-        Planned::Overlap(j, k) => Planned::Overlap(j, k),
-        Planned::Made(c) => Planned::Made(Counts {
-            recorded: n,
-            changes: c.changes,
-            runs: c.runs,
-            discarded: c.discarded,
-            climbs: c.climbs,
-        }),
-    }
+    let k = rewrite(b, l, table, source, sorted, c, map, rewritten)?;
+    settle_and_order(
+        choices, b, l, table, source, map, rewritten, c, k, order, running, first,
+    )
 }
 
 // Rust: EditPlan::build, with TreeStore::with_annotations. Planning of an accepted batch: the change rows as they run, the places in running order and the
@@ -307,13 +292,13 @@ pub fn plan(
     running: &mut [u32],
     map: &mut [u32],
     first: &mut [u32],
-) -> Planned
+) -> Result<Counts, Unplanned>
     requires ready { Ready b.now l table.now source.now }
     requires in_bounds { (3584 ≤ length recorded.old) × (3584 ≤ length sorted.old) × (3840 ≤ length changes.old) × (256 ≤ length order.old) × (256 ≤ length running.old) × (2048 ≤ length map.old) × (768 ≤ length first.old) }
     ensures { Planning (meant choices) b.now l table.now source.now changes.new running.new first.new result }
 {
     let mut withdrawn = [0u32; 256];
-    let judged = judge_changes(
+    let fated = judge_changes(
         choices,
         b,
         l,
@@ -323,14 +308,14 @@ pub fn plan(
         order,
         sorted,
         &mut withdrawn,
-    );
-    match judged {
-        Judgement::Overlap(j, k) => Planned::Overlap(j, k),
-        Judgement::Fated(n, c) => {
-            let planned = rewrite_and_settle(
-                choices, b, l, table, source, sorted, c, changes, order, running, map, first,
-            );
-            keep_withdrawn(planned, n, &withdrawn, changes)
-        }
-    }
+    )?;
+    let c = fated.staying;
+    let counts = rewrite_and_settle(
+        choices, b, l, table, source, sorted, c, changes, order, running, map, first,
+    )?;
+    words::copy_in(changes, WITHDRAWN, &withdrawn);
+    Ok(Counts {
+        recorded: fated.recorded,
+        ..counts
+    })
 }

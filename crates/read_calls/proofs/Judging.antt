@@ -58,7 +58,7 @@ module _ (op k n : ℕ) where
   unfolding word_fits wrong_count ruled_start among any
   start_alone h z = rw (h, z) (simp twice)
 
-  pub start_lists : op ≡ 6 → (k ≡ 0 → ⊥) → false ≡ word_fits op k n
+  pub start_lists : op ≡ 6 → (k ≡ 0 → ⊥) → eqb k 0 ≡ word_fits op k n
   unfolding word_fits wrong_count ruled_start among any
   start_lists h z = rw (h, above_zero k, ne_eqb k 0 z)
 
@@ -104,9 +104,9 @@ module _ (n : ℕ) (w r : List ℕ) (op x y : ℕ) (t : Bool) (W : Wellformed n 
     unfolding call_fits misplaced among any
     fits_root_by hy u h q k = rw (h, root_told n w r W.lines x hx, ← e, q, node_told n w r y hy) (k ∙ simp (or_false, twice))
 
-    pub fits_root : op ≤ 6 → (op ≡ 0 → ⊥) → (op ≡ 6 → ⊥) → (op ≡ 2 → ⊥) → t ≡ true → false ≡ call_fits (view n w r) op x y
+    pub fits_root : op ≤ 6 → (op ≡ 0 → ⊥) → (op ≡ 6 → ⊥) → (op ≡ 2 → ⊥) → t ≡ true → eqb op 2 ≡ call_fits (view n w r) op x y
     unfolding call_fits misplaced
-    fits_root h a b c q = rw (among_others op h a b c, root_told n w r W.lines x hx, ← e, q, ne_eqb op 0 a)
+    fits_root h a b c q = rw (ne_eqb op 2 c, among_others op h a b c, root_told n w r W.lines x hx, ← e, q, ne_eqb op 0 a)
 
     pub fits_run : (hy : y < n) (u : Bool) → op ≡ 5 → t ≡ false → u ≡ run_fits w x y → u ≡ call_fits (view n w r) op x y
     unfolding call_fits misplaced among any run_fits wrong_run
@@ -121,6 +121,6 @@ module _ (w : List ℕ) (x y a b : ℕ) (ha : a ≡ get_or w (8 * x + 1) 0) (hb 
   unfolding run_fits
   run_in_order c d q hc hd = rw (← ha, ← hb, eq-eqb a b q, hc, hd)
 
-  pub run_apart : (a ≡ b → ⊥) → false ≡ run_fits w x y
+  pub run_apart : (a ≡ b → ⊥) → eqb a b ≡ run_fits w x y
   unfolding run_fits
   run_apart q = rw (← ha, ← hb, ne_eqb a b q)

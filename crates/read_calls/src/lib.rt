@@ -50,32 +50,22 @@ pub fn run_fits(table: &[u32], x: usize, y: usize) -> bool
     requires { (8 * x + 8 ≤ length table.now) × (8 * y + 8 ≤ length table.now) }
     ensures { result ≡ run_fits table.now x y }
 {
-    if entry(table, x, PARENT) == entry(table, y, PARENT) {
-        return entry(table, x, CHILD) <= entry(table, y, CHILD);
-    }
-    false
+    entry(table, x, PARENT) == entry(table, y, PARENT)
+        && entry(table, x, CHILD) <= entry(table, y, CHILD)
 }
 
+// An operation stays a number here and below, since a call word may hold any, and callers pass what they read.
 // Whether a call word names a known operation, which may list `count` elements and carry the rule number `rule`.
 pub fn word_fits(operation: usize, count: usize, rule: usize) -> bool
     ensures { result ≡ word_fits operation count rule }
 {
-    if operation == 2 {
-        return count == 1;
+    match operation {
+        2 => count == 1,
+        3 => count == 0,
+        5 => 0 < count,
+        6 => count == 0 && rule == 0,
+        _ => operation <= 6,
     }
-    if operation == 3 {
-        return count == 0;
-    }
-    if operation == 5 {
-        return 0 < count;
-    }
-    if operation == 6 {
-        if count == 0 {
-            return rule == 0;
-        }
-        return false;
-    }
-    operation <= 6
 }
 
 // What else is asked of a call of a known operation, by its target and the first listed element (any element if it lists none).
@@ -91,20 +81,11 @@ pub fn call_fits(
     requires operation_bound { (operation ≤ 6) × (target < n) × (first < n) }
     ensures { result ≡ call_fits (view n table.now source.now) operation target first }
 {
-    if operation == 0 {
-        return is_node(source, target);
+    match operation {
+        0 => is_node(source, target),
+        6 => target == 0,
+        _ if is_root(table, target) => operation == 2 && is_node(source, first),
+        5 => run_fits(table, target, first),
+        _ => true,
     }
-    if operation == 6 {
-        return target == 0;
-    }
-    if is_root(table, target) {
-        if operation == 2 {
-            return is_node(source, first);
-        }
-        return false;
-    }
-    if operation == 5 {
-        return run_fits(table, target, first);
-    }
-    true
 }

@@ -1,5 +1,6 @@
 -- The loops: for each its invariant, that it holds at the start, after a turn, and what it says at the end.
 -- Assumes nothing.
+use Rattle.std.specs.Prelude.{None, Some}
 use mathlib.Core.Path.{◌≡◌, refl, sym, ap, subst, ◌∙◌}
 use mathlib.Core.List.{List, [], ◌∷◌, ◌++◌, map, append-nil, append_assoc}
 use mathlib.Core.Option
@@ -22,7 +23,6 @@ use Rattle.run_annotations.specs.Notes.{note_words, notes_of, note_at, length_no
 use Rattle.run_annotations.specs.Changed.{changed_word, changed_of, changed_in, changed_read, length_changed_in, changed_to, changed_added, changed_put}
 use Rattle.run_annotations.specs.Promises.{moved_changed, RowMoved, RowsMoved, moved_note, NoteMoved, NotesMoved, note_in, placed_note, NoteTaken, taken, NotesTaken, RowsAdded}
 use Rattle.run_annotations.specs.Places.{part_rows, length_part_rows}
-use Rattle.run_annotations.specs.declared.Taken.TheVariants.{Full, Count}
 
 -- ── Lists ───────────────────────────────────────────────────────────────────────────────────────────────────
 
@@ -311,11 +311,11 @@ module _ {l : List ℕ} {k p q at most : ℕ} {old : List ℕ} {c : ℕ} {out : 
       let e : i ≡ k = omega (arith, v.inside) in
       rw (← total h, ← placed_notes p q at (notes_of k l), ← e) (v.notes (omega (arith, total h)))
 
-  pub taking_full : k ≤ i → most < n → NotesTaken l k p q at most old c out Full
+  pub taking_full : k ≤ i → most < n → NotesTaken l k p q at most old c out None
   unfolding taken
   taking_full h b = record { answer = rw (← total h, lt-ltb most n b); notes = written h }
 
-  pub taking_done : k ≤ i → n ≤ most → NotesTaken l k p q at most old c out (Count n)
+  pub taking_done : k ≤ i → n ≤ most → NotesTaken l k p q at most old c out (Some n)
   unfolding taken
   taking_done h b = record { answer = rw (← total h, le-ltb most n b); notes = written h }
 
@@ -366,13 +366,14 @@ module _ {l : List ℕ} {k at rule : ℕ} {sizes out : List ℕ} {i row : ℕ} (
         small = omega (arith, v.small);
       }
 
-  pub adding_done : length sizes ≤ i → k + length sizes ≤ length l → All (λ x. x < 131072) (part_rows at sizes) → RowsAdded l k at rule sizes out (k + i)
+  pub adding_done : length sizes ≤ i → k + length sizes ≤ length l → All (λ x. x < 131072) (part_rows at sizes) → RowsAdded l k at rule sizes out (k + length sizes)
   unfolding changed_in
   adding_done h b a =
+      let e : length sizes ≡ i = omega (arith, v.inside) in
       let W : List ℕ = part_words rule at sizes in
       let m : length W ≡ length sizes = length-map (part_rows at sizes) (λ row. changed_word (put_in rule row)) ∙ length_part_rows at sizes in
       let t : take (k + i) out ≡ take k l ++ W = rw v.added (take-paste l k W i (omega arith) (omega (arith, v.inside)) ∙ ap (λ (s : List ℕ). take k l ++ s) (take_all i W (omega arith))) in
       record {
-        rows = ap (map changed_of) t ∙ (map_append changed_of (take k l) W ∙ ap (λ (s : List HeldChanged). map changed_of (take k l) ++ s) (changed_put rule (part_rows at sizes) a));
-        count = omega (arith, v.inside);
+        rows = rw e (ap (map changed_of) t ∙ (map_append changed_of (take k l) W ∙ ap (λ (s : List HeldChanged). map changed_of (take k l) ++ s) (changed_put rule (part_rows at sizes) a)));
+        count = refl;
       }

@@ -6,7 +6,7 @@ use Rattle.std.proofs.Common.{ap, ◌∙◌, arith, take-suc, take-suc-set, leng
 use Rattle.std.proofs.Math.Option.{Option, none, some}
 use Rattle.std.proofs.lemmas.List.{length-map}
 use Rattle.orders.specs.Lists.{All}
-use Rattle.orders.specs.ListLaws.{map_append, All-at}
+use Rattle.orders.specs.ListLaws.{map_append}
 use Rattle.run_model.specs.Store.{HeldChanged, put_in}
 
 -- a changed element's word

@@ -1,6 +1,7 @@
 -- What the functions on changed rows and notes promise, part by part.
 -- Assumes nothing.
-use Rattle.std.specs.Prelude.{◌≡◌, cond, List, [], ◌++◌, map, ℕ, suc, ◌+◌, ◌*◌, ◌≤◌, ltb, length, get_or, drop}
+use Rattle.std.specs.Prelude as prelude
+use Rattle.std.specs.Prelude.{◌≡◌, None, Some, cond, List, [], ◌++◌, map, ℕ, suc, ◌+◌, ◌*◌, ◌≤◌, ltb, length, get_or, drop}
 use Rattle.std.proofs.Math.Option
 use Rattle.std.proofs.Math.Option.{Option}
 use Rattle.orders.specs.Lists.{more, pick}
@@ -10,8 +11,6 @@ use Rattle.run_model.specs.Store.{HeldNote, HeldChanged, with_row, at_row, put_i
 use Rattle.run_annotations.specs.Notes.{notes_of, note_at}
 use Rattle.run_annotations.specs.Changed.{changed_of, changed_in}
 use Rattle.run_annotations.specs.Places.{part_rows}
-use Rattle.run_annotations.specs.declared.Taken.{Taken}
-use Rattle.run_annotations.specs.declared.Taken.TheVariants.{Full, Count}
 
 -- what becomes of a changed element where the rows p up to q give way to m others
 abbrev pub moved_changed : ℕ → ℕ → ℕ → HeldChanged → Option HeldChanged
@@ -64,11 +63,11 @@ pub record NoteTaken (l : List ℕ) (i p q at most : ℕ) (old : List ℕ) (c : 
   pub high : n ≤ c + 1
 
 -- n notes, if they are no more than `most`
-unfoldable pub taken : ℕ → ℕ → Taken
-taken most n = cond (ltb most n) Full (Count n)
+unfoldable pub taken : ℕ → ℕ → prelude.Option ℕ
+taken most n = cond (ltb most n) None (Some n)
 
 -- the notes in the rows p up to q taken behind the first c, told from the row `at` on
-pub record NotesTaken (l : List ℕ) (k p q at most : ℕ) (old : List ℕ) (c : ℕ) (out : List ℕ) (r : Taken) : Type 0 where
+pub record NotesTaken (l : List ℕ) (k p q at most : ℕ) (old : List ℕ) (c : ℕ) (out : List ℕ) (r : prelude.Option ℕ) : Type 0 where
   pub answer : r ≡ taken most (c + length (pick (note_in p q) (notes_of k l)))
   pub notes : c + length (pick (note_in p q) (notes_of k l)) ≤ most
       → notes_of (c + length (pick (note_in p q) (notes_of k l))) out ≡ notes_of c old ++ map (λ n. with_row n (at + n.row)) (pick (note_in p q) (notes_of k l))

@@ -71,11 +71,9 @@ pub fn move_changed(changed: &mut [u32], k: usize, p: usize, q: usize, m: usize)
     requires { (k ≤ length changed.old) × (p ≤ q) × (q < 2 ^ 16) × (m < 2 ^ 16) × All (λ c. c.row < 2 ^ 16) (changed_in k changed.old) }
     ensures { RowsMoved changed.old k p q m changed.new result }
 {
-    let mut i = 0;
     let mut r = 0;
-    while i < k {
+    for i in 0..k {
         r = move_row(changed, i, r, p, q, m);
-        i += 1;
     }
     r
 }
@@ -85,14 +83,12 @@ pub fn add_changed(changed: &mut [u32], k: usize, at: usize, rule: usize, sizes:
     requires { (k + length sizes.now ≤ length changed.old) × (rule < 4096) × (at < 2 ^ 16) × (length sizes.now < 2 ^ 12) × All (λ x. x < 2 ^ 16) sizes.now × All (λ x. x < 131072) (part_rows at sizes.now) }
     ensures { RowsAdded changed.old k at rule sizes.now changed.new result }
 {
-    let mut i = 0;
     let mut row = at;
-    while i < sizes.len() {
+    for (i, size) in sizes.iter().enumerate() {
         changed[k + i] = changed_word(row, rule) as u32;
-        row += word(sizes, i);
-        i += 1;
+        row += *size as usize;
     }
-    k + i
+    k + sizes.len()
 }
 
 // ── Notes: three words each, the row, the number and the place in the queue ──
@@ -130,23 +126,14 @@ pub fn move_notes(notes: &mut [u32], k: usize, p: usize, q: usize, m: usize) -> 
     requires { (3 * k ≤ length notes.old) × (p ≤ q) × (q < 2 ^ 16) × (m < 2 ^ 16) × All (λ n. n.row < 2 ^ 16) (notes_of k notes.old) }
     ensures { NotesMoved notes.old k p q m notes.new result }
 {
-    let mut i = 0;
     let mut r = 0;
-    while i < k {
+    for i in 0..k {
         r = move_note(notes, i, r, p, q, m);
-        i += 1;
     }
     r
 }
 
 // ── The notes that come in with a part ──
-
-// The notes are more than there is room for, or how many there are now.
-#[derive(Clone, Copy)]
-pub enum Taken {
-    Full,
-    Count(usize),
-}
 
 // The note at `i` is written to `out` at place `r`, with another row.
 fn copy_note(notes: &[u32], i: usize, out: &mut [u32], r: usize, row: usize)
@@ -187,7 +174,7 @@ fn take_note(
 }
 
 // Rust: `annotations_below` in TreeStore::prepare_element. Of the first `k` notes those in the rows `p` up to `q` go behind the first `count` of `out`,
-// where `p` comes to stand at the row `at`.
+// where `p` comes to stand at the row `at`: how many there are now, or none if they are more than there is room for.
 pub fn notes_in(
     notes: &[u32],
     k: usize,
@@ -197,18 +184,16 @@ pub fn notes_in(
     out: &mut [u32],
     count: usize,
     most: usize,
-) -> Taken
+) -> Option<usize>
     requires { (3 * k ≤ length notes.now) × (3 * most ≤ length out.old) × (count ≤ most) × (most < 2 ^ 16) × (k < 2 ^ 16) × (q < 2 ^ 16) × (at < 2 ^ 16) }
     ensures { NotesTaken notes.now k p q at most out.old count out.new result }
 {
-    let mut i = 0;
     let mut c = count;
-    while i < k {
+    for i in 0..k {
         c = take_note(notes, i, p, q, at, out, c, most);
-        i += 1;
     }
     if most < c {
-        return Taken::Full;
+        return None;
     }
-    Taken::Count(c)
+    Some(c)
 }

@@ -1,5 +1,6 @@
 -- What the row of a change tells: each answer from the words read.
 -- Assumes nothing.
+use Rattle.std.specs.Prelude as prelude
 use mathlib.Core.Path.{◌≡◌}
 use mathlib.Core.List.{List}
 use Prim.Native.Nat.{ℕ, ◌+◌, ◌-◌, ◌*◌, ◌^◌, ◌≤◌, ◌<◌}
@@ -12,7 +13,7 @@ use Rattle.read_element_table.specs.Told.{deep}
 use Rattle.record_changes.specs.ChangeRow.{row_of}
 use Rattle.record_changes.specs.ChangeRowLaws.{row_at}
 use Rattle.run_tree_store.specs.Promises.{SiteAt}
-use Rattle.run_tree_store.specs.declared.Site.{Site}
+use Rattle.run_tree_store.specs.declared.Gap.{Gap}
 use Rattle.run_change.specs.Told.{AboveBy, records_by}
 
 module _ (changes : List ℕ) (k : ℕ) {op x y : ℕ}
@@ -24,7 +25,7 @@ module _ (changes : List ℕ) (k : ℕ) {op x y : ℕ}
   unfolding row_at row_of
   ends_low marks t = (rw ex.0 t.0, rw ey.0 t.1)
 
-  pub site_told : {rows : List ℕ} {n : ℕ} {table marks : List ℕ} {r : Site} → SiteAt rows n table marks op x y r → SiteAt rows n table marks (row_at changes k).operation (row_at changes k).target (row_at changes k).end r
+  pub site_told : {rows : List ℕ} {n : ℕ} {table marks : List ℕ} {r : prelude.Option Gap} → SiteAt rows n table marks op x y r → SiteAt rows n table marks (row_at changes k).operation (row_at changes k).target (row_at changes k).end r
   unfolding row_at row_of
   site_told v = rw (← eo.0, ← ex.0, ← ey.0) v
 

@@ -10,9 +10,9 @@ ghost use Rattle.run_change.specs.Told.{AboveBy, records_by};
 
 use read_element_table::{DEPTH, entry};
 use record_changes::field;
-use run_tree_store::{Site, find_gap};
+use run_tree_store::{Gap, find_gap};
 
-// Where the change at place `k` goes.
+// Where the change at place `k` goes, if its target is still there.
 pub fn change_gap(
     rows: &[u32],
     n: usize,
@@ -20,7 +20,7 @@ pub fn change_gap(
     marks: &[u32],
     changes: &[u32],
     k: usize,
-) -> Site
+) -> Option<Gap>
     requires n_in_bounds { (3 * n ≤ length rows.now) × (n < 2 ^ 16) × (0 < n) × All (λ m. m < n) marks.now }
     requires lines { Lines (length marks.now) table.now × (k < 2 ^ 32) }
     requires k_in_bounds { ((row_at changes.now k).target < length marks.now) × ((row_at changes.now k).end < length marks.now) }

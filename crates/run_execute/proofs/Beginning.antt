@@ -1,5 +1,6 @@
 -- Before the first step: what is held.
 -- Assumes nothing.
+use Rattle.std.specs.Prelude.{Result}
 use mathlib.Core.Path.{◌≡◌, refl, sym, ap, ◌∙◌, subst}
 use mathlib.Core.List.{List, []}
 use Prim.Native.Nat.{ℕ, ◌+◌, ◌-◌, ◌*◌, ◌/◌, ◌≤◌, ◌<◌}
@@ -9,6 +10,7 @@ use native.Mathlib.Omega.{arith}
 use lib.ListN.{length, get_or, take, drop}
 use lib.Seq.{paste, take-paste, take-take, length-take-le, get_or-take}
 use Rattle.orders.specs.Lists.{All}
+use Rattle.refusals.specs.declared.Refusal.{Refusal}
 use Rattle.run_model.specs.Store.{Store, store_steps}
 use Rattle.rows_model.specs.Row.{triples, first_rows, bytes}
 use Rattle.rows_syntax_node.specs.Promises.{Bytes}
@@ -20,7 +22,6 @@ use Rattle.run_annotations.specs.Changed.{changed_in}
 use Rattle.run_tree_store.specs.Stored.{stored, stored_first}
 use Rattle.run_tree_state.specs.Store.{held_in}
 use Rattle.run_tree_state.specs.declared.TreeState.{TreeState}
-use Rattle.run_tree_state.specs.declared.Executed.{Executed}
 use Rattle.run_step.specs.Standing.{Begun, Now, now_first, Standing}
 use Rattle.run_step.specs.Stepping.{Performs}
 use Rattle.run_prepare.specs.Parts.{notes_in, words_in}
@@ -95,7 +96,7 @@ module _ {n : ℕ} {lines source first : List ℕ} (b : Begun n lines source fir
     pub begun_room : {m : ℕ} → lists_all (view n lines source) listed changes running ≤ m → s.changed + lists_all (view (length marks) lines source) listed changes running ≤ m
     begun_room {m} h = subst (λ (n : ℕ). s.changed + lists_all (view n lines source) listed changes running ≤ m) (sym many) (omega (arith, w.none))
 
-    pub executed : {rows' marks' notes' changed' : List ℕ} {x : Executed}
+    pub executed : {rows' marks' notes' changed' : List ℕ} {x : Result TreeState Refusal}
         → RanSteps lines source first listed changes running s rows marks notes changed rows' marks' notes' changed' x → Ran n lines source first listed changes running rows' marks' notes' changed' x
     executed {rows'} {marks'} {notes'} {changed'} {x} u = record {
       answer = λ text.

@@ -1,12 +1,13 @@
 -- The run: what it promises, and one step on.
 -- Assumes nothing.
-use Rattle.std.specs.Prelude.{◌≡◌, refl, List, [], ◌∷◌, map, ℕ, ◌+◌, ◌≤◌, length}
+use Rattle.std.specs.Prelude.{◌≡◌, Result, Ok, refl, List, [], ◌∷◌, map, ℕ, ◌+◌, ◌≤◌, length}
 use Rattle.std.proofs.Common.{sym, ap, ◌∙◌, arith}
 use Rattle.std.proofs.lemmas.List.{length-map}
 use Rattle.orders.specs.Lists.{total}
 use Rattle.definition.specs.Elements.{Table, table}
 use Rattle.definition.specs.Planning.{Planned}
 use Rattle.definition.specs.Running.{news, records}
+use Rattle.refusals.specs.declared.Refusal.{Refusal}
 use Rattle.run_model.specs.Store.{Store, store, store_steps}
 use Rattle.read_element_table.specs.View.{view}
 use Rattle.read_element_table.specs.Told.{length_view}
@@ -19,8 +20,6 @@ use Rattle.run_tree_store.specs.Stored.{stored, stored_first}
 use Rattle.run_tree_state.specs.Store.{held_in}
 use Rattle.run_tree_state.specs.Applied.{executed_in}
 use Rattle.run_tree_state.specs.declared.TreeState.{TreeState}
-use Rattle.run_tree_state.specs.declared.Executed.{Executed}
-use Rattle.run_tree_state.specs.declared.Executed.TheVariants.{Done}
 use Rattle.run_step.specs.Standing.{now_next, Standing}
 use Rattle.run_step.specs.Stepping.{Performs, lists_in, Stepped}
 use Rattle.run_prepare.specs.Parts.{notes_in}
@@ -41,11 +40,11 @@ lists_total T listed changes [] = refl
 lists_total T listed changes (k ∷ ks) = ap (λ (n : ℕ). lists_in T listed (row_at changes k) + n) (lists_total T listed changes ks)
 
 -- the run over the changes at some places
-pub record RanSteps (lines source first listed changes running : List ℕ) (s : TreeState) (rows marks notes changed rows' marks' notes' changed' : List ℕ) (r : Executed) : Type 0 where
+pub record RanSteps (lines source first listed changes running : List ℕ) (s : TreeState) (rows marks notes changed rows' marks' notes' changed' : List ℕ) (r : Result TreeState Refusal) : Type 0 where
   pub answer : (text : List ℕ)
       → executed_in text rows' marks' notes' changed' r
       ≡ store_steps (view (length marks) lines source) (stored_first text (length marks) source (notes_in first) []) (held_in text s rows marks notes changed) (plans_in listed changes running)
-  pub standing : (t : TreeState) → r ≡ Done t → Standing (length marks) lines source first t rows' marks' notes' changed'
+  pub standing : (t : TreeState) → r ≡ Ok t → Standing (length marks) lines source first t rows' marks' notes' changed'
 
 -- before the first step: what the batch's own words tell
 pub record Began (n : ℕ) (source first rows marks notes : List ℕ) (s : TreeState) : Type 0 where
@@ -56,11 +55,11 @@ pub record Began (n : ℕ) (source first rows marks notes : List ℕ) (s : TreeS
   pub measured : (text : List ℕ) → s.bytes ≡ bytes (first_rows text s.rows rows)
 
 -- the whole run
-pub record Ran (n : ℕ) (lines source first listed changes running rows marks notes changed : List ℕ) (r : Executed) : Type 0 where
+pub record Ran (n : ℕ) (lines source first listed changes running rows marks notes changed : List ℕ) (r : Result TreeState Refusal) : Type 0 where
   pub answer : (text : List ℕ)
       → executed_in text rows marks notes changed r
       ≡ store_steps (view n lines source) (stored_first text n source (notes_in first) []) (stored_first text n source (notes_in first) []) (plans_in listed changes running)
-  pub standing : (t : TreeState) → r ≡ Done t → Standing n lines source first t rows marks notes changed
+  pub standing : (t : TreeState) → r ≡ Ok t → Standing n lines source first t rows marks notes changed
 
 -- ── One step on ─────────────────────────────────────────────────────────────────────────────────────────────
 
@@ -76,7 +75,7 @@ marks_many {n} {lines} {source} {first} {s} {rows} {marks} v =
 -- what is held after a step stands too
 pub standing_next : {lines source first listed : List ℕ} {c : ChangeRow} {s t : TreeState} {rows marks notes changed rows' marks' notes' changed' : List ℕ}
     → Standing (length marks) lines source first s rows marks notes changed → Performs (length marks) (view (length marks) lines source) listed c
-    → Stepped lines source first listed c s rows marks notes changed rows' marks' notes' changed' (Done t) → 12291 ≤ length rows' → s.changed + lists_in (view (length marks) lines source) listed c ≤ length changed'
+    → Stepped lines source first listed c s rows marks notes changed rows' marks' notes' changed' (Ok t) → 12291 ≤ length rows' → s.changed + lists_in (view (length marks) lines source) listed c ≤ length changed'
     → Standing (length marks) lines source first t rows' marks' notes' changed'
 unfolding executed_in plan_of
 standing_next {lines} {source} {first} {listed} {c} {s} {t} {rows} {marks} {notes} {changed} {rows'} {marks'} {notes'} {changed'} v u w long room =

@@ -11,11 +11,12 @@ ghost use Rattle.run_step.specs.Stepping.{Performs};
 ghost use Rattle.run_prepare.specs.Parts.{words_in};
 ghost use Rattle.run_execute.specs.Running.{lists_all, RanSteps, Began, Ran};
 
+use refusals::Refusal;
 use rows_syntax_node::{ROW_WORDS, number_from, text_bytes};
 use run_annotations::NOTE_WORDS;
 use run_step::step;
-use run_tree_state::{Executed, TreeState};
-use words::{copy_in, word};
+use run_tree_state::TreeState;
+use words::copy_in;
 
 // ── Before the first step ──
 
@@ -64,7 +65,7 @@ fn run_steps(
     changes: &[u32],
     running: &[u32],
     start: TreeState,
-) -> Executed
+) -> Result<TreeState, Refusal>
     requires standing { Standing (length marks.old) table.now source.now first.now start rows.old marks.old notes.old changed.old }
     requires in_bounds { (12291 ≤ length rows.old) × (3072 ≤ length notes.old) × (12288 ≤ length prepared.old) × (most_listed ≤ length sizes.old) × (3072 ≤ length incoming.old) }
     requires listed_len_bound { (length listed.now ≤ 4096) × All (λ e. e < length marks.old) (words_in listed.now) }
@@ -73,22 +74,25 @@ fn run_steps(
     ensures { RanSteps table.now source.now first.now (words_in listed.now) changes.now running.now start rows.old marks.old notes.old changed.old rows.new marks.new notes.new changed.new result }
 {
     let mut s = start;
-    let mut i = 0;
-    while i < running.len() {
-        let k = word(running, i);
-        let next = step(
-            rows, marks, notes, changed, prepared, sizes, incoming, table, source, first, listed,
-            changes, k, s,
-        );
-        match next {
-            Executed::Refused(n) => return Executed::Refused(n),
-            Executed::Done(t) => {
-                s = t;
-                i += 1;
-            }
-        }
+    for k in running {
+        s = step(
+            rows,
+            marks,
+            notes,
+            changed,
+            prepared,
+            sizes,
+            incoming,
+            table,
+            source,
+            first,
+            listed,
+            changes,
+            *k as usize,
+            s,
+        )?;
     }
-    Executed::Done(s)
+    Ok(s)
 }
 
 // Rust: TreeStore::execute, which analyses nothing further. The performed changes, which are at the places in `running`, from the batch's own
@@ -107,7 +111,7 @@ pub fn execute(
     listed: &[u8],
     changes: &[u32],
     running: &[u32],
-) -> Executed
+) -> Result<TreeState, Refusal>
     requires begun { Begun (length marks.old) table.now source.now first.now }
     requires in_bounds { (12291 ≤ length rows.old) × (3072 ≤ length notes.old) × (12288 ≤ length prepared.old) × (most_listed ≤ length sizes.old) × (3072 ≤ length incoming.old) }
     requires listed_len_bound { (length listed.now ≤ 4096) × All (λ e. e < length marks.old) (words_in listed.now) }

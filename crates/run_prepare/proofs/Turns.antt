@@ -1,5 +1,7 @@
 -- Each answer and each turn, from what is known there.
 -- Assumes nothing.
+use Rattle.std.specs.Prelude as prelude
+use Rattle.std.specs.Prelude.{None, Some}
 use mathlib.Core.Path.{◌≡◌, refl, sym, ap, subst, ◌∙◌}
 use mathlib.Core.Bool.{Bool, true, false, cond}
 use mathlib.Core.List.{List, [], ◌∷◌, ◌++◌, map, flat_map, append-nil}
@@ -9,7 +11,7 @@ use native.Mathlib.Omega.{arith}
 use native.Mathlib.Numerals.{add-one}
 use borrow.Author.Tests.{ltb-true, ltb-false}
 use lib.ListN.{length, get_or, set, drop, length-set, length-append, length-map}
-use lib.Seq.{take-suc-set, drop-drop}
+use lib.Seq.{take-suc-set}
 use lib.Dec.{ltb}
 use Rattle.orders.specs.Lists.{All, pick}
 use Rattle.orders.specs.ListLaws.{map_append, All-at}
@@ -23,20 +25,17 @@ use Rattle.rows_syntax_node.specs.Promises.{Appended}
 use Rattle.run_annotations.specs.Notes.{notes_of}
 use Rattle.run_annotations.specs.Promises as annotations
 use Rattle.run_annotations.specs.Promises.{note_in, taken}
-use Rattle.run_annotations.specs.declared.Taken.{Taken}
-use Rattle.run_annotations.specs.declared.Taken.TheVariants.{Full, Count}
 use Rattle.run_tree_store.specs.Stored.{stored, stored_first}
 use Rattle.run_tree_store.specs.Promises as tree
 use Rattle.run_prepare.specs.Parts.{notes_in}
 use Rattle.run_prepare.specs.declared.Prepared.{Prepared}
-use Rattle.run_prepare.specs.declared.Prepared.TheVariants.{TooMany, Parts}
-use Rattle.run_prepare.specs.Yields.{new_notes, part_sizes, prepared_by, notes_from, notes_with, part_in, new_rows_append, part_sizes_append, new_notes_append, rows_over, notes_over, none_over, Few, within, over_more}
+use Rattle.run_prepare.specs.Yields.{came_in, came_same, new_notes, part_sizes, prepared_by, notes_from, notes_with, part_in, new_rows_append, part_sizes_append, new_notes_append, rows_over, notes_over, none_over, Few, within, over_more}
 use Rattle.run_prepare.specs.Bounds.{end_row_lem}
 use Rattle.run_prepare.specs.Promises.{NotesAlong, Behind, Came, ElementPrepared, ElementsPrepared}
 
 -- ── The notes of one element ────────────────────────────────────────────────────────────────────────────────
 
-module _ {marks first notes : List ℕ} {k e size at : ℕ} {old : List ℕ} {c : ℕ} {out : List ℕ} {r : Taken} where
+module _ {marks first notes : List ℕ} {k e size at : ℕ} {old : List ℕ} {c : ℕ} {out : List ℕ} {r : prelude.Option ℕ} where
   along : (l : List HeldNote) → notes_with marks first notes k e size ≡ l → r ≡ taken 1024 (c + length l) → (c + length l ≤ 1024 → notes_of (c + length l) out ≡ notes_of c old ++ map (λ n. with_row n (at + n.row)) l)
       → NotesAlong marks first notes k e size at old c out r
   along l g p q = record { answer = rw g p; notes = rw g q }
@@ -104,25 +103,25 @@ module _ (rows : List ℕ) (n : ℕ) (source marks first notes : List ℕ) (k e 
 -- ── The answer for one element ──────────────────────────────────────────────────────────────────────────────
 
 -- a full slice tells that there are more notes
-full_many : (n : ℕ) → Full ≡ taken 1024 n → 1024 < n
+full_many : (n : ℕ) → None ≡ taken 1024 n → 1024 < n
 unfolding taken
 full_many n = go (ltb 1024 n) refl
   where
-    go : (b : Bool) → ltb 1024 n ≡ b → Full ≡ cond b Full (Count n) → 1024 < n
+    go : (b : Bool) → ltb 1024 n ≡ b → None ≡ cond b None (Some n) → 1024 < n
     go true e h = ltb-true 1024 n e
     go false e h = let z : ◌≡◌ {A = ℕ} 0 1 = cc in absurd (omega arith)
 
 -- a count is the number of notes
-count_few : (y n : ℕ) → Count y ≡ taken 1024 n → (y ≡ n) × (n ≤ 1024)
+count_few : (y n : ℕ) → Some y ≡ taken 1024 n → (y ≡ n) × (n ≤ 1024)
 unfolding taken
 count_few y n = go (ltb 1024 n) refl
   where
-    go : (b : Bool) → ltb 1024 n ≡ b → Count y ≡ cond b Full (Count n) → (y ≡ n) × (n ≤ 1024)
+    go : (b : Bool) → ltb 1024 n ≡ b → Some y ≡ cond b None (Some n) → (y ≡ n) × (n ≤ 1024)
     go true e h = let z : ◌≡◌ {A = ℕ} 0 1 = cc in absurd (omega arith)
     go false e h = ((cc), ltb-false 1024 n e)
 
 -- nothing is told of what is too many
-no_parts : {X : Type 0} {m c : ℕ} → TooMany ≡ Parts m c → X
+no_parts : {X : Type 0} {m c : ℕ} → None ≡ came_in m c → X
 no_parts h = let z : ◌≡◌ {A = ℕ} 0 1 = cc in absurd (omega arith)
 
 -- a run is whole rows
@@ -136,7 +135,7 @@ run_fits m old P h b g = omega (arith, run_whole P)
 module _ (rows : List ℕ) (n : ℕ) (source marks first notes : List ℕ) (k e at : ℕ) (old : List ℕ) (m : ℕ) (held : List ℕ) (c : ℕ) (run : List ℕ)
     (P : tree.Prepared rows n source marks e run) (h : m ≤ 4096) where
   -- no room for its rows
-  pub element_long : 4096 - m < length run / 3 → ElementPrepared rows n source marks first notes k e at old m held c old held TooMany
+  pub element_long : 4096 - m < length run / 3 → ElementPrepared rows n source marks first notes k e at old m held c old held None
   element_long g = record {
     part = λ text changed₀ changed. record {
       answer = rows_over _ _ (omega (arith, rows_sized rows n source marks first notes k e run P text changed₀ changed));
@@ -145,7 +144,7 @@ module _ (rows : List ℕ) (n : ℕ) (source marks first notes : List ℕ) (k e 
     };
   }
 
-  module _ (old' held' : List ℕ) (end : ℕ) (r : Taken) (b : e < length marks) (g : length run / 3 ≤ 4096 - m)
+  module _ (old' held' : List ℕ) (end : ℕ) (r : prelude.Option ℕ) (b : e < length marks) (g : length run / 3 ≤ 4096 - m)
       (A : Appended old m run old' end) (N : NotesAlong marks first notes k e (length run / 3) (at + m) held c held' r) where
     abbrev with_notes : List HeldNote
     with_notes = notes_with marks first notes k e (length run / 3)
@@ -160,22 +159,22 @@ module _ (rows : List ℕ) (n : ℕ) (source marks first notes : List ℕ) (k e 
       rows_many : length run / 3 ≡ length with_part.rows
       rows_many = rows_sized rows n source marks first notes k e run P text changed₀ changed
 
-      full : 1024 < c + length with_notes → Behind text with_part (at + m) old m held c old' held' TooMany
+      full : 1024 < c + length with_notes → Behind text with_part (at + m) old m held c old' held' None
       full o = record { answer = notes_over _ _ (omega (arith, ap length notes_same)); rows = λ m' c'. no_parts; notes = λ m' c'. no_parts }
 
-      came : (y : ℕ) → y ≡ c + length with_notes → c + length with_notes ≤ 1024 → Behind text with_part (at + m) old m held c old' held' (Parts end y)
+      came : (y : ℕ) → y ≡ c + length with_notes → c + length with_notes ≤ 1024 → Behind text with_part (at + m) old m held c old' held' (came_in end y)
       came y e o = record {
         answer = rw (A.count, e, notes_same, rows_many) (none_over _ _ (omega (arith, rows_many)) (omega (arith, ap length notes_same)));
-        rows = λ m' c' z. let f : m' ≡ end = cc in rw f (A.told text ∙ ap (λ (l : List Row). first_rows text m old ++ l) (rows_told_lem rows n source marks first notes k _ run P text changed₀ changed));
-        notes = λ m' c' z. let f : c' ≡ c + length with_notes = cc in rw f (N.notes o ∙ ap (λ (l : List HeldNote). notes_of c held ++ map (λ n. with_row n (at + m + n.row)) l) notes_same);
+        rows = λ m' c' z. let f : m' ≡ end = sym (came_same z).0 in rw f (A.told text ∙ ap (λ (l : List Row). first_rows text m old ++ l) (rows_told_lem rows n source marks first notes k _ run P text changed₀ changed));
+        notes = λ m' c' z. let f : c' ≡ c + length with_notes = sym (came_same z).1 ∙ e in rw f (N.notes o ∙ ap (λ (l : List HeldNote). notes_of c held ++ map (λ n. with_row n (at + m + n.row)) l) notes_same);
       }
 
     -- no room for its notes
-    pub element_full : r ≡ Full → ElementPrepared rows n source marks first notes k e at old m held c old' held' TooMany
+    pub element_full : r ≡ None → ElementPrepared rows n source marks first notes k e at old m held c old' held' None
     element_full z = record { part = λ text changed₀ changed. full text changed₀ changed (full_many (c + length with_notes) (sym z ∙ N.answer)) }
 
     -- it came in
-    pub element_came : (y : ℕ) → r ≡ Count y → ElementPrepared rows n source marks first notes k e at old m held c old' held' (Parts end y)
+    pub element_came : (y : ℕ) → r ≡ Some y → ElementPrepared rows n source marks first notes k e at old m held c old' held' (came_in end y)
     element_came y z = let f = count_few y (c + length with_notes) (sym z ∙ N.answer) in record { part = λ text changed₀ changed. came text changed₀ changed y f.0 f.1 }
 
 -- ── One part more ───────────────────────────────────────────────────────────────────────────────────────────
@@ -199,7 +198,7 @@ came_none text at prepared sizes incoming = record { many = refl; noted = refl; 
 
 module _ {text : List ℕ} {new : List Part} {at : ℕ} {prepared sizes incoming : List ℕ} {m c : ℕ} (C : Came text new at prepared sizes incoming m c) where
   -- one more
-  came_more : (y : Part) (prepared' incoming' : List ℕ) (end z : ℕ) → Behind text y (at + m) prepared m incoming c prepared' incoming' (Parts end z) → length new < length sizes
+  came_more : (y : Part) (prepared' incoming' : List ℕ) (end z : ℕ) → Behind text y (at + m) prepared m incoming c prepared' incoming' (came_in end z) → length new < length sizes
       → Came text (new ++ (y ∷ [])) at prepared' (set sizes (length new) (end - m)) incoming' end z
   came_more y prepared' incoming' end z B h =
       let f : Few (m + length y.rows) (c + length y.notes) end z = within _ _ _ _ B.answer in
@@ -218,7 +217,7 @@ module _ {text : List ℕ} {new : List Part} {at : ℕ} {prepared sizes incoming
       }
 
   -- one more is too many
-  came_over : (y : Part) (rest : List Part) → TooMany ≡ prepared_by (m + length y.rows) (c + length y.notes) → TooMany ≡ prepared_by (length (new_rows (new ++ (y ∷ rest)))) (length (new_notes at (new ++ (y ∷ rest))))
+  came_over : (y : Part) (rest : List Part) → None ≡ prepared_by (m + length y.rows) (c + length y.notes) → None ≡ prepared_by (length (new_rows (new ++ (y ∷ rest)))) (length (new_notes at (new ++ (y ∷ rest))))
   came_over y rest h =
       let R : length (new_rows (y ∷ rest)) ≡ length y.rows + length (new_rows rest) = ap length (new_rows_append (y ∷ []) rest) ∙ rw (new_rows_one y) (length-append y.rows (new_rows rest)) in
       let i : ℕ = at + length (new_rows new) in
@@ -252,8 +251,8 @@ module _ (b : List ℕ) (i : ℕ) where
       omega (arith, f, All-at (λ x. x < length marks) 0 (words count b) i (omega (arith, length_words count b)) a)
 
 -- what came in with an element is few
-module _ {rows : List ℕ} {n : ℕ} {source marks first notes : List ℕ} {k e at : ℕ} {old : List ℕ} {m : ℕ} {held : List ℕ} {c : ℕ} {old' held' : List ℕ} {r : Prepared} {end y : ℕ}
-    (E : ElementPrepared rows n source marks first notes k e at old m held c old' held' r) (z : r ≡ Parts end y) where
+module _ {rows : List ℕ} {n : ℕ} {source marks first notes : List ℕ} {k e at : ℕ} {old : List ℕ} {m : ℕ} {held : List ℕ} {c : ℕ} {old' held' : List ℕ} {r : prelude.Option Prepared} {end y : ℕ}
+    (E : ElementPrepared rows n source marks first notes k e at old m held c old' held' r) (z : r ≡ came_in end y) where
   few : Few (m + length (part_in rows n source marks first notes k [] [] [] e).rows) (c + length (part_in rows n source marks first notes k [] [] [] e).notes) end y
   few = within _ _ _ _ (sym z ∙ (E.part [] [] []).answer)
 
@@ -291,7 +290,7 @@ module _ (rows : List ℕ) (n : ℕ) (source marks first notes : List ℕ) (k : 
     }
 
     module _ (prepared sizes incoming : List ℕ) (i m c : ℕ) (v : Preparing prepared sizes incoming i m c) where
-      pub preparing_done : count ≤ i → ElementsPrepared rows n source marks first notes k (words count b) at prepared sizes incoming (Parts m c)
+      pub preparing_done : count ≤ i → ElementsPrepared rows n source marks first notes k (words count b) at prepared sizes incoming (came_in m c)
       preparing_done h =
           let e : i ≡ count = omega (arith, v.inside) in
           record {
@@ -299,13 +298,13 @@ module _ (rows : List ℕ) (n : ℕ) (source marks first notes : List ℕ) (k : 
                 let C : Came text (map (part_in rows n source marks first notes k text changed₀ changed) (words count b)) at prepared sizes incoming m c = rw e at (v.came text changed₀ changed) in
                 record {
                   answer = none_over m c v.few_rows v.few_notes ∙ rw (← C.many, ← C.noted);
-                  came = λ m' c' z. let f : m' ≡ m = cc in let g : c' ≡ c = cc in rw (f, g) C;
+                  came = λ m' c' z. let f : m' ≡ m = sym (came_same z).0 in let g : c' ≡ c = sym (came_same z).1 in rw (f, g) C;
                 };
           }
 
-      module _ (e : ℕ) (h : i < count) (w : (e ≡ word (drop (4 * i) b)) × (e < 2 ^ 32)) (prepared' incoming' : List ℕ) (r : Prepared)
+      module _ (e : ℕ) (h : i < count) (w : (e ≡ word (drop (4 * i) b)) × (e < 2 ^ 32)) (prepared' incoming' : List ℕ) (r : prelude.Option Prepared)
           (E : ElementPrepared rows n source marks first notes k e at prepared m incoming c prepared' incoming' r) where
-        pub preparing_over : r ≡ TooMany → ElementsPrepared rows n source marks first notes k (words count b) at prepared' sizes incoming' TooMany
+        pub preparing_over : r ≡ None → ElementsPrepared rows n source marks first notes k (words count b) at prepared' sizes incoming' None
         preparing_over z = record {
           parts = λ text changed₀ changed.
               let part : ℕ → Part = part_in rows n source marks first notes k text changed₀ changed in
@@ -318,7 +317,7 @@ module _ (rows : List ℕ) (n : ℕ) (source marks first notes : List ℕ) (k : 
               };
         }
 
-        pub preparing_next : (end y : ℕ) → r ≡ Parts end y → count ≤ length sizes₀ → length prepared' ≡ length prepared → length incoming' ≡ length incoming → Preparing prepared' (set sizes i (end - m)) incoming' (i + 1) end y
+        pub preparing_next : (end y : ℕ) → r ≡ came_in end y → count ≤ length sizes₀ → length prepared' ≡ length prepared → length incoming' ≡ length incoming → Preparing prepared' (set sizes i (end - m)) incoming' (i + 1) end y
         preparing_next end y z room p q =
             record {
               inside = omega arith;
@@ -334,3 +333,18 @@ module _ (rows : List ℕ) (n : ℕ) (source marks first notes : List ℕ) (k : 
                   let s : map part (words (i + 1) b) ≡ new ++ (part e ∷ []) = ap (map part) (words_one b i) ∙ (map_append part (words i b) (word (drop (4 * i) b) ∷ []) ∙ rw (← w.0)) in
                   rw s (subst (λ (j : ℕ). Came text (new ++ (part e ∷ [])) at prepared' (set sizes j (end - m)) incoming' end y) l (came_more (v.came text changed₀ changed) (part e) prepared' incoming' end y (rw z at (E.part text changed₀ changed)) (omega (arith, l, v.long_sizes))));
             }
+
+-- the same of what is held
+module _ {rows : List ℕ} {n : ℕ} {source marks first notes : List ℕ} {k : ℕ} {b : List ℕ} {count at : ℕ} {prepared₀ sizes₀ incoming₀ prepared sizes incoming : List ℕ} {i : ℕ} {held : Prepared}
+    (v : Preparing rows n source marks first notes k b count at prepared₀ sizes₀ incoming₀ prepared sizes incoming i held.rows held.notes) where
+  pub prepared_done : count ≤ i → ElementsPrepared rows n source marks first notes k (words count b) at prepared sizes incoming (Some held)
+  prepared_done h = preparing_done rows n source marks first notes k b count at prepared₀ sizes₀ incoming₀ prepared sizes incoming i held.rows held.notes v h
+
+  module _ {e : ℕ} (w : (e ≡ word (drop (4 * i) b)) × (e < 2 ^ 32)) {prepared' incoming' : List ℕ} {r : prelude.Option Prepared}
+      (E : ElementPrepared rows n source marks first notes k e at prepared held.rows incoming held.notes prepared' incoming' r) (h : i < count) where
+    pub prepared_over : {r' : prelude.Option Prepared} → r ≡ None → r' ≡ None → ElementsPrepared rows n source marks first notes k (words count b) at prepared' sizes incoming' r'
+    prepared_over z y = rw y (preparing_over rows n source marks first notes k b count at prepared₀ sizes₀ incoming₀ prepared sizes incoming i held.rows held.notes v e h w prepared' incoming' r E z)
+
+    pub prepared_next : {next : Prepared} → r ≡ Some next → count ≤ length sizes₀ → length prepared' ≡ length prepared → length incoming' ≡ length incoming
+        → Preparing rows n source marks first notes k b count at prepared₀ sizes₀ incoming₀ prepared' (set sizes i (next.rows - held.rows)) incoming' (i + 1) next.rows next.notes
+    prepared_next {next} z = preparing_next rows n source marks first notes k b count at prepared₀ sizes₀ incoming₀ prepared sizes incoming i held.rows held.notes v e h w prepared' incoming' r E next.rows next.notes z

@@ -1,6 +1,6 @@
 -- Slices that are all of one kind: the words that some bytes hold, the notes that some words are; and how a part that is cut out of more tells the same.
 -- Assumes nothing.
-use Rattle.std.specs.Prelude.{◌≡◌, refl, List, ℕ, ◌+◌, ◌-◌, ◌*◌, ◌/◌, ◌≤◌, ◌<◌, length, get_or, take, drop}
+use Rattle.std.specs.Prelude.{◌≡◌, List, ℕ, ◌+◌, ◌-◌, ◌*◌, ◌/◌, ◌≤◌, ◌<◌, length, take, drop}
 use Rattle.std.proofs.Common.{sym, ap, ◌∙◌, arith, length-drop, length-take-le, get_or-take, ext_get_or}
 use Rattle.definition.specs.Words.{words}
 use Rattle.words.specs.Bytes.{word_drop, length_words, get_d_words}

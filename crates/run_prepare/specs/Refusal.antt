@@ -1,6 +1,6 @@
 -- Where too much comes in, the step is refused: 12 is certain.
 -- Assumes nothing.
-use Rattle.std.specs.Prelude.{◌≡◌, refl, Bool, true, false, ◌||◌, List, ◌++◌, map, ℕ, ◌+◌, length, ltb}
+use Rattle.std.specs.Prelude.{◌≡◌, None, refl, Bool, true, false, ◌||◌, List, ◌++◌, map, ℕ, ◌+◌, length, ltb}
 use Rattle.std.proofs.Common.{ap, ◌∙◌, inl, inr, arith, lt-ltb, length-append}
 use Rattle.std.proofs.Math.Option
 use Rattle.std.proofs.Math.Option.{Option}
@@ -10,7 +10,6 @@ use Rattle.rows_model.specs.Row.{bytes, height}
 use Rattle.run_model.specs.Store.{HeldNote, HeldChanged, with_row, Store, Gap, Part, new_rows, spliced_store, store_too_large}
 use Rattle.run_model.specs.Sums.{Within}
 use Rattle.run_model.proofs.Sums.{splice_length}
-use Rattle.run_prepare.specs.declared.Prepared.TheVariants.{TooMany}
 use Rattle.run_prepare.specs.Yields.{new_notes, prepared_by, over, part_in}
 use Rattle.run_prepare.specs.Promises.{ElementsPrepared}
 use Rattle.run_tree_store.specs.Stored.{stored}
@@ -22,7 +21,7 @@ third false true c d h = refl
 third false false c d h = rw h
 
 -- More rows or notes than a step takes make too much, wherever they go.
-pub too_many_refused : (above : ℕ) (g : Gap) (new : List Part) (recorded : Option ℕ) (s : Store) → Within (length s.rows) g → TooMany ≡ prepared_by (length (new_rows new)) (length (new_notes g.from new))
+pub too_many_refused : (above : ℕ) (g : Gap) (new : List Part) (recorded : Option ℕ) (s : Store) → Within (length s.rows) g → None ≡ prepared_by (length (new_rows new)) (length (new_notes g.from new))
     → store_too_large above new (spliced_store g new recorded s) ≡ true
 unfolding store_too_large spliced_store new_notes
 too_many_refused above g new recorded s w h = elim (over _ _ h) [
@@ -35,9 +34,9 @@ too_many_refused above g new recorded s w h = elim (over _ _ h) [
       (lt-ltb 1024 (length (kept ++ new_notes g.from new)) (omega (arith, length-append kept (new_notes g.from new))))
 ]
 
--- So where the answer is `TooMany`, the step is refused.
+-- So where nothing is answered, the step is refused.
 pub prepared_refused : {rows : List ℕ} {n : ℕ} {source marks first notes : List ℕ} {k : ℕ} {l : List ℕ} {at : ℕ} {prepared sizes incoming : List ℕ}
-    → ElementsPrepared rows n source marks first notes k l at prepared sizes incoming TooMany
+    → ElementsPrepared rows n source marks first notes k l at prepared sizes incoming None
     → (text : List ℕ) (changed₀ changed : List HeldChanged) (above : ℕ) (g : Gap) (recorded : Option ℕ) → at ≡ g.from → Within (length (stored text n rows marks (notes_of k notes) changed).rows) g
     → store_too_large above (map (part_in rows n source marks first notes k text changed₀ changed) l)
     (spliced_store g (map (part_in rows n source marks first notes k text changed₀ changed) l) recorded (stored text n rows marks (notes_of k notes) changed))

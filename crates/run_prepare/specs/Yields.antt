@@ -1,6 +1,7 @@
 -- What comes in with some parts, and what is answered.
 -- Assumes nothing.
-use Rattle.std.specs.Prelude.{◌≡◌, refl, Bool, true, false, cond, ◌||◌, ◌⊎◌, ℕ, zero, suc, ◌+◌, ◌≤◌, ◌<◌, length, get_or, ltb}
+use Rattle.std.specs.Prelude as prelude
+use Rattle.std.specs.Prelude.{◌≡◌, None, Some, refl, Bool, true, false, cond, ◌||◌, ◌⊎◌, ℕ, zero, suc, ◌+◌, ◌≤◌, ◌<◌, length, get_or, ltb}
 use Rattle.std.proofs.Common.{sym, ap, ◌∙◌, inl, inr, arith, add-zero, lt-ltb, le-ltb, ltb-true, ltb-false, length-append}
 use mathlib.Core.List.{List, [], ◌∷◌, ◌++◌, map, flat_map, append_assoc}
 use Rattle.orders.specs.Lists.{pick}
@@ -12,7 +13,6 @@ use Rattle.run_annotations.specs.Promises.{note_in}
 use Rattle.run_tree_store.specs.Stored.{stored, stored_first}
 use Rattle.run_prepare.specs.Parts.{notes_in}
 use Rattle.run_prepare.specs.declared.Prepared.{Prepared}
-use Rattle.run_prepare.specs.declared.Prepared.TheVariants.{TooMany, Parts}
 
 -- the notes that come in with parts, the first of which comes to stand at the row `at`
 unfoldable pub new_notes : ℕ → List Part → List HeldNote
@@ -22,9 +22,18 @@ new_notes at new = flat_map (λ y. map (λ n. with_row n (y.0 + n.row)) y.1.note
 unfoldable pub part_sizes : List Part → List ℕ
 part_sizes new = map (λ y. length y.rows) new
 
+-- so many rows and notes come in
+abbrev pub came_in : ℕ → ℕ → prelude.Option Prepared
+came_in m c = Some (record { rows = m; notes = c })
+
+pub came_same : {m c m' c' : ℕ} → came_in m c ≡ came_in m' c' → (m ≡ m') × (c ≡ c')
+came_same {m} {c} {m'} {c'} e =
+    let z : ◌≡◌ {A = Prepared} (record { rows = m; notes = c }) (record { rows = m'; notes = c' }) = cc in
+    (ap (λ (p : Prepared). p.rows) z, ap (λ (p : Prepared). p.notes) z)
+
 -- what is answered of so many rows and notes: a step takes at most 4,096 rows and 1,024 notes
-unfoldable pub prepared_by : ℕ → ℕ → Prepared
-prepared_by m c = cond (ltb 4096 m || ltb 1024 c) TooMany (Parts m c)
+unfoldable pub prepared_by : ℕ → ℕ → prelude.Option Prepared
+prepared_by m c = cond (ltb 4096 m || ltb 1024 c) None (came_in m c)
 
 -- the notes of `size` rows: of those held now from an element's mark on, of the first ones from its own row on once its path is dropped
 abbrev pub notes_from : List ℕ → List ℕ → ℕ → ℕ → ℕ → ℕ → List HeldNote
@@ -40,7 +49,7 @@ module _ (rows : List ℕ) (n : ℕ) (source marks first notes : List ℕ) (k : 
   abbrev pub part_in : List ℕ → List HeldChanged → List HeldChanged → ℕ → Part
   part_in text changed₀ changed = part_of (stored_first text (length marks) source (notes_in first) changed₀) (stored text n rows marks (notes_of k notes) changed)
 
--- ── Parts behind others ─────────────────────────────────────────────────────────────────────────────────────
+-- ── came_in behind others ─────────────────────────────────────────────────────────────────────────────────────
 
 pub new_rows_append : (p q : List Part) → new_rows (p ++ q) ≡ new_rows p ++ new_rows q
 unfolding new_rows
@@ -64,28 +73,28 @@ new_notes_append at (y ∷ p) q =
 -- ── What is answered ────────────────────────────────────────────────────────────────────────────────────────
 
 -- too many: of rows or of notes
-pub over : (m c : ℕ) → TooMany ≡ prepared_by m c → (4096 < m) ⊎ (1024 < c)
+pub over : (m c : ℕ) → None ≡ prepared_by m c → (4096 < m) ⊎ (1024 < c)
 unfolding prepared_by
 over m c = go (ltb 4096 m || ltb 1024 c) refl
   where
-    go : (b : Bool) → (ltb 4096 m || ltb 1024 c) ≡ b → TooMany ≡ cond b TooMany (Parts m c) → (4096 < m) ⊎ (1024 < c)
+    go : (b : Bool) → (ltb 4096 m || ltb 1024 c) ≡ b → None ≡ cond b None (came_in m c) → (4096 < m) ⊎ (1024 < c)
     go true e h = elim (either_true (ltb 4096 m) (ltb 1024 c) e) [ inl x ↦ inl (ltb-true 4096 m x) | inr x ↦ inr (ltb-true 1024 c x) ]
     go false e h = let z : ◌≡◌ {A = ℕ} 0 1 = cc in absurd (omega arith)
 
-pub rows_over : (m c : ℕ) → 4096 < m → TooMany ≡ prepared_by m c
+pub rows_over : (m c : ℕ) → 4096 < m → None ≡ prepared_by m c
 unfolding prepared_by
 rows_over m c h = rw (lt-ltb 4096 m h)
 
-pub notes_over : (m c : ℕ) → 1024 < c → TooMany ≡ prepared_by m c
+pub notes_over : (m c : ℕ) → 1024 < c → None ≡ prepared_by m c
 unfolding prepared_by
 notes_over m c k = go (ltb 4096 m)
   where
-    go : (b : Bool) → TooMany ≡ cond (b || ltb 1024 c) TooMany (Parts m c)
+    go : (b : Bool) → None ≡ cond (b || ltb 1024 c) None (came_in m c)
     go true = refl
     go false = rw (lt-ltb 1024 c k)
 
 -- neither
-pub none_over : (m c : ℕ) → m ≤ 4096 → c ≤ 1024 → Parts m c ≡ prepared_by m c
+pub none_over : (m c : ℕ) → m ≤ 4096 → c ≤ 1024 → came_in m c ≡ prepared_by m c
 unfolding prepared_by
 none_over m c h k = rw (le-ltb 4096 m h, le-ltb 1024 c k)
 
@@ -96,15 +105,15 @@ pub record Few (m c m' c' : ℕ) : Type 0 where
   pub few_rows : m ≤ 4096
   pub few_notes : c ≤ 1024
 
-pub within : (m c m' c' : ℕ) → Parts m' c' ≡ prepared_by m c → Few m c m' c'
+pub within : (m c m' c' : ℕ) → came_in m' c' ≡ prepared_by m c → Few m c m' c'
 unfolding prepared_by
 within m c m' c' = go (ltb 4096 m) (ltb 1024 c) refl refl
   where
-    go : (x y : Bool) → ltb 4096 m ≡ x → ltb 1024 c ≡ y → Parts m' c' ≡ cond (x || y) TooMany (Parts m c) → Few m c m' c'
+    go : (x y : Bool) → ltb 4096 m ≡ x → ltb 1024 c ≡ y → came_in m' c' ≡ cond (x || y) None (came_in m c) → Few m c m' c'
     go true y e f h = let z : ◌≡◌ {A = ℕ} 0 1 = cc in absurd (omega arith)
     go false true e f h = let z : ◌≡◌ {A = ℕ} 0 1 = cc in absurd (omega arith)
-    go false false e f h = record { rows = (cc); notes = (cc); few_rows = ltb-false 4096 m e; few_notes = ltb-false 1024 c f }
+    go false false e f h = record { rows = (came_same h).0; notes = (came_same h).1; few_rows = ltb-false 4096 m e; few_notes = ltb-false 1024 c f }
 
 -- more than too many is too many
-pub over_more : (m c m' c' : ℕ) → TooMany ≡ prepared_by m c → m ≤ m' → c ≤ c' → TooMany ≡ prepared_by m' c'
+pub over_more : (m c m' c' : ℕ) → None ≡ prepared_by m c → m ≤ m' → c ≤ c' → None ≡ prepared_by m' c'
 over_more m c m' c' h a b = elim (over m c h) [ inl x ↦ rows_over m' c' (omega arith) | inr x ↦ notes_over m' c' (omega arith) ]

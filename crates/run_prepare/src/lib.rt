@@ -7,15 +7,15 @@ ghost use Rattle.run_prepare.specs.Parts.{words_in};
 ghost use Rattle.run_prepare.specs.Promises.{NotesAlong, ElementPrepared, ElementsPrepared};
 
 use rows_syntax_node::{ROW_WORDS, append_rows};
-use run_annotations::{NOTE_WORDS, Taken, notes_in};
+use run_annotations::{NOTE_WORDS, notes_in};
 use run_tree_store::prepared_rows;
 use words::{read_word, word};
 
-// More than a step may bring, or how many rows and notes come in.
+// How many rows and notes come in.
 #[derive(Clone, Copy)]
-pub enum Prepared {
-    TooMany,
-    Parts(usize, usize),
+pub struct Prepared {
+    pub rows: usize,
+    pub notes: usize,
 }
 
 // The notes that come along with the `size` rows of element `e` go behind the first `c`, told from the row `at` on: while its mark is there those
@@ -30,7 +30,7 @@ fn element_notes(
     at: usize,
     incoming: &mut [u32],
     c: usize,
-) -> Taken
+) -> Option<usize>
     requires e_in_bounds { (e < length marks.now) × (length marks.now ≤ 2048) × (get_or marks.now e 0 ≤ 4097) × (size ≤ 4096) }
     requires first_len_bound { (length first.now ≤ 768) × (3 * k ≤ length notes.now) × (k ≤ 1024) }
     requires at_bound { (at ≤ 8193) × (c ≤ 1024) × (3072 ≤ length incoming.old) }
@@ -53,7 +53,7 @@ fn element_notes(
 }
 
 // Rust: TreeStore::prepare_element. What element `e` yields goes behind the first `m` prepared rows and the first `c` incoming notes; prepared row 0 comes
-// to stand at the row `at`.
+// to stand at the row `at`. None if that is more than a step may bring.
 fn prepare_element<'a>(
     rows: &'a [u32],
     n: usize,
@@ -68,7 +68,7 @@ fn prepare_element<'a>(
     m: usize,
     incoming: &mut [u32],
     c: usize,
-) -> Prepared
+) -> Option<Prepared>
     requires n_in_bounds { (3 * n ≤ length rows.now) × (n ≤ 4097) × All (λ m. m < n) marks.now }
     requires e_in_bounds { (e < length marks.now) × (length marks.now ≤ 2048) × (3 * length marks.now + 3 ≤ length source.now) }
     requires first_len_bound { (length first.now ≤ 768) × (3 * k ≤ length notes.now) × (k ≤ 1024) }
@@ -78,17 +78,18 @@ fn prepare_element<'a>(
     let run = prepared_rows(rows, n, source, marks, e);
     let size = run.len() / ROW_WORDS;
     if 4096 - m < size {
-        return Prepared::TooMany;
+        return None;
     }
     let end = append_rows(prepared, m, run);
-    match element_notes(marks, first, notes, k, e, size, at + m, incoming, c) {
-        Taken::Full => Prepared::TooMany,
-        Taken::Count(y) => Prepared::Parts(end, y),
-    }
+    let count = element_notes(marks, first, notes, k, e, size, at + m, incoming, c)?;
+    Some(Prepared {
+        rows: end,
+        notes: count,
+    })
 }
 
 // Rust: `replacement` in TreeStore::execute. What the listed elements yield: all are prepared before the step's splice,
-// which may remove them, and prepared row 0 comes to stand at the row `at`.
+// which may remove them, and prepared row 0 comes to stand at the row `at`. None if that is more than a step may bring.
 pub fn prepare<'a>(
     rows: &'a [u32],
     n: usize,
@@ -102,7 +103,7 @@ pub fn prepare<'a>(
     prepared: &mut [u32],
     sizes: &mut [u32],
     incoming: &mut [u32],
-) -> Prepared
+) -> Option<Prepared>
     requires n_in_bounds { (3 * n ≤ length rows.now) × (n ≤ 4097) × All (λ m. m < n) marks.now }
     requires marks_len_bound { (length marks.now ≤ 2048) × (3 * length marks.now + 3 ≤ length source.now) }
     requires first_len_bound { (length first.now ≤ 768) × (3 * k ≤ length notes.now) × (k ≤ 1024) }
@@ -110,22 +111,15 @@ pub fn prepare<'a>(
     requires at_bound { (at ≤ 4097) × (12288 ≤ length prepared.old) × (length list.now / 4 ≤ length sizes.old) × (3072 ≤ length incoming.old) }
     ensures { ElementsPrepared rows.now n source.now marks.now first.now notes.now k (words_in list.now) at prepared.new sizes.new incoming.new result }
 {
-    let mut i: usize = 0;
-    let mut m: usize = 0;
-    let mut c: usize = 0;
-    while i < list.len() / 4 {
+    let mut held = Prepared { rows: 0, notes: 0 };
+    for i in 0..list.len() / 4 {
         let e = read_word(list, 4 * i);
-        match prepare_element(
-            rows, n, source, marks, first, notes, k, e, at, prepared, m, incoming, c,
-        ) {
-            Prepared::TooMany => return Prepared::TooMany,
-            Prepared::Parts(end, y) => {
-                sizes[i] = (end - m) as u32;
-                m = end;
-                c = y;
-                i += 1;
-            }
-        }
+        let next = prepare_element(
+            rows, n, source, marks, first, notes, k, e, at, prepared, held.rows, incoming,
+            held.notes,
+        )?;
+        sizes[i] = (next.rows - held.rows) as u32;
+        held = next;
     }
-    Prepared::Parts(m, c)
+    Some(held)
 }

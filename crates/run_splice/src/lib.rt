@@ -59,12 +59,9 @@ pub fn notes_left(notes: &[u32], k: usize, p: usize, q: usize) -> usize
     requires { (3 * k ≤ length notes.now) × (k < 2 ^ 16) × (p ≤ q) }
     ensures { NotesLeft notes.now k p q result }
 {
-    let mut i = 0;
     let mut r = 0;
-    while i < k {
-        let x = word(notes, NOTE_WORDS * i);
-        r = count_left(r, x, p, q);
-        i += 1;
+    for i in 0..k {
+        r = count_left(r, word(notes, NOTE_WORDS * i), p, q);
     }
     r
 }

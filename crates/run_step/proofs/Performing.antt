@@ -1,5 +1,7 @@
 -- One performed change: what its row tells is what the definition's step goes by.
 -- Assumes nothing.
+use Rattle.std.specs.Prelude as prelude
+use Rattle.std.specs.Prelude.{None, Some, Result, Err}
 use mathlib.Core.Path.{◌≡◌, refl, sym, ap, ◌∙◌, subst}
 use mathlib.Core.Bool.{Bool, true, false, cond, ◌&&◌}
 use mathlib.Core.List.{List, [], map}
@@ -12,12 +14,15 @@ use borrow.Author.Tests.{ne_eqb}
 use Rattle.orders.specs.Lists.{All}
 use Rattle.definition.specs.Refusals.{most_listed}
 use Rattle.definition.specs.Basics.{refused, or_refuse, ◌>>=◌}
-use Rattle.definition.specs.Elements.{Table, tree, depth}
+use Rattle.definition.specs.Elements.{Table, depth}
 use Rattle.definition.specs.Planning.{own, dependent, discarded, Planned, target}
 use Rattle.definition.specs.Recording.{Change}
 use Rattle.definition.specs.Running.{news, owned, records, recorded_by}
 use Rattle.definition_laws.specs.Right.{right_sits}
 use Rattle.words.specs.Bytes.{length_words}
+use Rattle.refusals.specs.Numbers.{number}
+use Rattle.refusals.specs.declared.Refusal.{Refusal}
+use Rattle.refusals.specs.declared.Refusal.TheVariants.{Gone}
 use Rattle.run_model.specs.Store as model
 use Rattle.run_model.specs.Store.{Store, part_of, gap, depth_above, spliced_store, store_step}
 use Rattle.read_element_table.specs.View.{view}
@@ -35,13 +40,9 @@ use Rattle.run_tree_store.specs.Stored.{stored_first}
 use Rattle.run_tree_store.specs.Gaps.{gap_by, gap_by_lem, held, site_of}
 use Rattle.run_tree_store.specs.Promises.{SiteAt}
 use Rattle.run_tree_store.specs.declared.Gap.{Gap}
-use Rattle.run_tree_store.specs.declared.Site.{Site}
-use Rattle.run_tree_store.specs.declared.Site.TheVariants.{Gone, At}
 use Rattle.run_tree_state.specs.Store.{held_in, gap_told, Open}
 use Rattle.run_tree_state.specs.Applied.{executed_in, judged_store}
 use Rattle.run_tree_state.specs.declared.TreeState.{TreeState}
-use Rattle.run_tree_state.specs.declared.Executed.{Executed}
-use Rattle.run_tree_state.specs.declared.Executed.TheVariants.{Refused}
 use Rattle.run_change.specs.Told.{AboveBy, records_by}
 use Rattle.run_prepare.specs.Listed.{part_from, part_long, part_many, part_listed, news_listed}
 use Rattle.run_prepare.specs.Parts.{notes_in, words_in}
@@ -117,12 +118,12 @@ above_row n lines source listed r s d l t a =
 
 -- ── Where it goes ───────────────────────────────────────────────────────────────────────────────────────────
 
-site_at : (o : Option model.Gap) (g : Gap) → At g ≡ site_of o → o ≡ some (gap_told g)
+site_at : (o : Option model.Gap) (g : Gap) → Some g ≡ site_of o → o ≡ some (gap_told g)
 unfolding site_of held gap_told
 site_at none g e = let z : ◌≡◌ {A = ℕ} 0 1 = cc in absurd (omega arith)
 site_at (some x) g e = let z : g ≡ held x = cc in ap {B = Option model.Gap} (λ y. some (gap_told y)) (sym z)
 
-site_gone : (o : Option model.Gap) → Gone ≡ site_of o → o ≡ none
+site_gone : (o : Option model.Gap) → None ≡ site_of o → o ≡ none
 unfolding site_of
 site_gone none e = refl
 site_gone (some x) e = let z : ◌≡◌ {A = ℕ} 0 1 = cc in absurd (omega arith)
@@ -171,19 +172,19 @@ module _ {lines source first : List ℕ} {s : TreeState} {rows marks notes chang
   unfolding row_at row_of
   list_within e f = omega (arith, e.0, f.0, u.kept.stated.within, long_listed)
 
-  module _ {site : Site} (w : SiteAt rows s.rows lines marks R.operation R.target R.end site) where
+  module _ {site : prelude.Option Gap} (w : SiteAt rows s.rows lines marks R.operation R.target R.end site) where
     gap_site : (text : List ℕ) → site ≡ site_of (gap T (held_in text s rows marks notes changed) (change_of L R))
     gap_site text = w.site text source (notes_of s.notes notes) (changed_in s.changed changed) ∙ ap site_of (gap_row u.kept (held_in text s rows marks notes changed))
 
-    pub performed_gone : site ≡ Gone → Stepped lines source first L R s rows marks notes changed rows marks notes changed (Refused 11)
-    unfolding executed_in plan_of
+    pub performed_gone : site ≡ None → Stepped lines source first L R s rows marks notes changed rows marks notes changed (Err Gone)
+    unfolding executed_in number plan_of
     performed_gone e = record {
       answer = λ text. sym (step_gone T (stored_first text (length marks) source (notes_in first) []) (held_in text s rows marks notes changed) (plan_of L R) (site_gone _ (sym e ∙ gap_site text)));
       grown = λ t q. let z : ◌≡◌ {A = ℕ} 0 1 = cc in absurd (omega arith);
     }
 
     module _ {g : Gap} {above recorded list count : ℕ}
-        (e : site ≡ At g)
+        (e : site ≡ Some g)
         (ea : AboveBy lines R.operation R.target above)
         (er : recorded ≡ records_by R)
         (el : (list ≡ get_or (drop (14 * k) changes) 3 0) × (list < 2 ^ 32))
@@ -226,7 +227,7 @@ module _ {lines source first : List ℕ} {s : TreeState} {rows marks notes chang
           (rw (counted_is count, many) room)
           (rw er (ruled_row u.kept u.ruled))))
 
-      pub performed : {rows' marks' notes' changed' : List ℕ} {r : Executed} → SteppedAt s rows marks notes changed source first g above recorded (words_in (part_from listed list count)) rows' marks' notes' changed' r
+      pub performed : {rows' marks' notes' changed' : List ℕ} {r : Result TreeState Refusal} → SteppedAt s rows marks notes changed source first g above recorded (words_in (part_from listed list count)) rows' marks' notes' changed' r
           → Stepped lines source first L R s rows marks notes changed rows' marks' notes' changed' r
       unfolding yields_in plan_of lists_in
       performed {rows'} {marks'} {notes'} {changed'} {r} y = record {

@@ -1,10 +1,11 @@
 -- What the functions of one step promise. Text is not read, so that each promise holds for any.
 -- Assumes nothing.
-use Rattle.std.specs.Prelude.{◌≡◌, cond, List, [], map, ℕ, ◌+◌, ◌≤◌, ◌<◌, length}
+use Rattle.std.specs.Prelude.{◌≡◌, Result, Ok, cond, List, [], map, ℕ, ◌+◌, ◌≤◌, ◌<◌, length}
 use Rattle.definition.specs.Elements.{Table}
 use Rattle.definition.specs.Refusals.{most_listed}
 use Rattle.definition.specs.Running.{news, records}
 use Rattle.definition_laws.specs.Right.{Right}
+use Rattle.refusals.specs.declared.Refusal.{Refusal}
 use Rattle.rows_model.specs.Row.{first_rows, bytes}
 use Rattle.run_model.specs.Store.{Part, spliced_store, store_step}
 use Rattle.read_element_table.specs.View.{view}
@@ -17,8 +18,6 @@ use Rattle.run_tree_store.specs.declared.Gap.{Gap}
 use Rattle.run_tree_state.specs.Store.{held_in, gap_told}
 use Rattle.run_tree_state.specs.Applied.{executed_in, judged_store}
 use Rattle.run_tree_state.specs.declared.TreeState.{TreeState}
-use Rattle.run_tree_state.specs.declared.Executed.{Executed}
-use Rattle.run_tree_state.specs.declared.Executed.TheVariants.{Done}
 use Rattle.run_prepare.specs.Yields.{part_in}
 use Rattle.run_prepare.specs.Parts.{notes_in}
 
@@ -34,11 +33,11 @@ unfoldable pub yields_in : TreeState → List ℕ → List ℕ → List ℕ → 
 yields_in s rows marks notes changed source first text l = map (part_in rows s.rows source marks first notes s.notes text [] (changed_in s.changed changed)) l
 
 -- the gap has given way to what the elements l yield, or that was too much
-pub record SteppedAt (s : TreeState) (rows marks notes changed source first : List ℕ) (g : Gap) (above recorded : ℕ) (l rows' marks' notes' changed' : List ℕ) (r : Executed) : Type 0 where
+pub record SteppedAt (s : TreeState) (rows marks notes changed source first : List ℕ) (g : Gap) (above recorded : ℕ) (l rows' marks' notes' changed' : List ℕ) (r : Result TreeState Refusal) : Type 0 where
   pub answer : (text : List ℕ)
       → executed_in text rows' marks' notes' changed' r
       ≡ judged_store above (yields_in s rows marks notes changed source first text l) (spliced_store (gap_told g) (yields_in s rows marks notes changed source first text l) (rule_by recorded) (held_in text s rows marks notes changed))
-  pub grown : (t : TreeState) → r ≡ Done t → Grown s (count_by recorded (length l)) rows' t
+  pub grown : (t : TreeState) → r ≡ Ok t → Grown s (count_by recorded (length l)) rows' t
 
 -- ── One performed change ────────────────────────────────────────────────────────────────────────────────────
 
@@ -54,7 +53,7 @@ unfoldable pub lists_in : Table → List ℕ → ChangeRow → ℕ
 lists_in T listed r = cond (records T (plan_of listed r)) (length (news (change_of listed r))) 0
 
 -- the step of the change that a row states
-pub record Stepped (lines source first listed : List ℕ) (c : ChangeRow) (s : TreeState) (rows marks notes changed rows' marks' notes' changed' : List ℕ) (r : Executed) : Type 0 where
+pub record Stepped (lines source first listed : List ℕ) (c : ChangeRow) (s : TreeState) (rows marks notes changed rows' marks' notes' changed' : List ℕ) (r : Result TreeState Refusal) : Type 0 where
   pub answer : (text : List ℕ)
       → executed_in text rows' marks' notes' changed' r ≡ store_step (view (length marks) lines source) (stored_first text (length marks) source (notes_in first) []) (held_in text s rows marks notes changed) (plan_of listed c)
-  pub grown : (t : TreeState) → r ≡ Done t → Grown s (lists_in (view (length marks) lines source) listed c) rows' t
+  pub grown : (t : TreeState) → r ≡ Ok t → Grown s (lists_in (view (length marks) lines source) listed c) rows' t

@@ -13,11 +13,12 @@ ghost use Rattle.run_step.specs.Standing.{Standing};
 ghost use Rattle.run_step.specs.Stepping.{SteppedAt, Performs, lists_in, Stepped};
 
 use record_changes::field;
+use refusals::Refusal;
 use rows_syntax_node::ROW_WORDS;
 use run_change::{change_gap, depth_above, recorded_by};
-use run_prepare::{Prepared, prepare};
-use run_tree_state::{Executed, TreeState, apply};
-use run_tree_store::{Gap, Site};
+use run_prepare::prepare;
+use run_tree_state::{TreeState, apply};
+use run_tree_store::Gap;
 
 // The gap gives way to what the listed elements yield.
 fn step_at(
@@ -35,7 +36,7 @@ fn step_at(
     g: Gap,
     above: usize,
     recorded: usize,
-) -> Executed
+) -> Result<TreeState, Refusal>
     requires fact { Open s rows.old marks.old notes.old changed.old g recorded (length list.now / 4) }
     requires in_bounds { (12291 ≤ length rows.old) × (3072 ≤ length notes.old) × (above ≤ 64) }
     requires bytes_bound { (s.bytes ≤ 16384) × ((text : List ℕ) → s.bytes ≡ bytes_of (first_rows text s.rows rows.old)) }
@@ -44,30 +45,27 @@ fn step_at(
     requires in_bounds_2 { (12288 ≤ length prepared.old) × (most_listed ≤ length sizes.old) × (3072 ≤ length incoming.old) }
     ensures { SteppedAt s rows.old marks.old notes.old changed.old source.now first.now g above recorded (words_in list.now) rows.new marks.new notes.new changed.new result }
 {
-    let made = prepare(
+    let Some(made) = prepare(
         rows, s.rows, source, marks, first, notes, s.notes, list, g.from, prepared, sizes, incoming,
-    );
-    match made {
-        Prepared::TooMany => Executed::Refused(12),
-        Prepared::Parts(m, c) => {
-            let end = ROW_WORDS * m;
-            let count = list.len() / 4;
-            apply(
-                rows,
-                marks,
-                notes,
-                changed,
-                s,
-                g,
-                above,
-                recorded,
-                &prepared[..end],
-                &sizes[..count],
-                incoming,
-                c,
-            )
-        }
-    }
+    ) else {
+        return Err(Refusal::Large);
+    };
+    let end = ROW_WORDS * made.rows;
+    let count = list.len() / 4;
+    apply(
+        rows,
+        marks,
+        notes,
+        changed,
+        s,
+        g,
+        above,
+        recorded,
+        &prepared[..end],
+        &sizes[..count],
+        incoming,
+        made.notes,
+    )
 }
 
 // Rust: the body of TreeStore::execute. One performed change, the one at place `k`: 11, 12, or what is held then.
@@ -86,7 +84,7 @@ pub fn step(
     changes: &[u32],
     k: usize,
     s: TreeState,
-) -> Executed
+) -> Result<TreeState, Refusal>
     requires standing { Standing (length marks.old) table.now source.now first.now s rows.old marks.old notes.old changed.old }
     requires in_bounds { (12291 ≤ length rows.old) × (3072 ≤ length notes.old) × (12288 ≤ length prepared.old) × (most_listed ≤ length sizes.old) × (3072 ≤ length incoming.old) }
     requires listed_len_bound { (length listed.now ≤ 4096) × All (λ e. e < length marks.old) (words_in listed.now) × (k < 2 ^ 32) }
@@ -94,30 +92,27 @@ pub fn step(
     requires k_in_bounds { s.changed + lists_in (view (length marks.old) table.now source.now) (words_in listed.now) (row_at changes.now k) ≤ length changed.old }
     ensures { Stepped table.now source.now first.now (words_in listed.now) (row_at changes.now k) s rows.old marks.old notes.old changed.old rows.new marks.new notes.new changed.new result }
 {
-    let site = change_gap(rows, s.rows, table, marks, changes, k);
-    match site {
-        Site::Gone => Executed::Refused(11),
-        Site::At(g) => {
-            let above = depth_above(table, marks.len(), changes, k);
-            let recorded = recorded_by(changes, k);
-            let from = 4 * field(changes, k, record_changes::LIST);
-            let to = from + 4 * field(changes, k, record_changes::COUNT);
-            step_at(
-                rows,
-                marks,
-                notes,
-                changed,
-                prepared,
-                sizes,
-                incoming,
-                source,
-                first,
-                &listed[from..to],
-                s,
-                g,
-                above,
-                recorded,
-            )
-        }
-    }
+    let Some(g) = change_gap(rows, s.rows, table, marks, changes, k) else {
+        return Err(Refusal::Gone);
+    };
+    let above = depth_above(table, marks.len(), changes, k);
+    let recorded = recorded_by(changes, k);
+    let from = 4 * field(changes, k, record_changes::LIST);
+    let to = from + 4 * field(changes, k, record_changes::COUNT);
+    step_at(
+        rows,
+        marks,
+        notes,
+        changed,
+        prepared,
+        sizes,
+        incoming,
+        source,
+        first,
+        &listed[from..to],
+        s,
+        g,
+        above,
+        recorded,
+    )
 }

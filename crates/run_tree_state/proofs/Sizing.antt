@@ -1,5 +1,7 @@
 -- How large a step makes what is held: each answer, and what it tells of the step.
 -- Assumes nothing.
+use Rattle.std.specs.Prelude as prelude
+use Rattle.std.specs.Prelude.{None, Some, Ok, Err}
 use mathlib.Core.Path.{◌≡◌, refl, sym, ap, ◌∙◌}
 use mathlib.Core.Bool.{Bool, true, false}
 use mathlib.Core.List.{List, [], ◌++◌, map, flat_map}
@@ -10,6 +12,8 @@ use borrow.Author.Tests.{ltb-false}
 use Rattle.orders.specs.Lists.{pick}
 use Rattle.orders.specs.ListLaws.{either_false}
 use Rattle.definition.specs.Basics.{gives, ◌>>=◌, refuse}
+use Rattle.refusals.specs.Numbers.{number}
+use Rattle.refusals.specs.declared.Refusal.TheVariants.{Large}
 use Rattle.rows_model.specs.Row.{Row, triples, first_rows, bytes, height}
 use Rattle.rows_model.specs.Place.{between}
 use Rattle.rows_model.proofs.Words.{length_first, length_triples, words_between}
@@ -27,9 +31,6 @@ use Rattle.run_tree_state.specs.Store.{held_in, gap_told, Comes, Open, Coming, S
 use Rattle.run_tree_state.specs.Sizes.{BytesBetween, size_by, rows_then, bytes_then, notes_then, large_then, StepSize}
 use Rattle.run_tree_state.specs.Applied.{executed_in, judged_store, Applied}
 use Rattle.run_tree_state.specs.declared.TreeState.{TreeState}
-use Rattle.run_tree_state.specs.declared.Size.{Size}
-use Rattle.run_tree_state.specs.declared.Size.TheVariants.{TooLarge, Fits}
-use Rattle.run_tree_state.specs.declared.Executed.TheVariants.{Refused, Done}
 
 -- ── Sums ────────────────────────────────────────────────────────────────────────────────────────────────────
 
@@ -68,22 +69,22 @@ module _ (rows notes : List ℕ) (s : TreeState) (g : Gap) (run : List ℕ) (c a
   unfolding large_then rows_then notes_then
   large_then_lem text = j ∙ rw (bytes_then_lem text, b.count (length run / 3), e.most text)
 
-  pub size_large : t ≡ true → StepSize rows notes s g run c above TooLarge
+  pub size_large : t ≡ true → StepSize rows notes s g run c above None
   unfolding size_by
   size_large z = record { answer = λ text. rw (← large_then_lem text, z) }
 
-  pub size_fits : t ≡ false → StepSize rows notes s g run c above (Fits (s.bytes + come - lost))
+  pub size_fits : t ≡ false → StepSize rows notes s g run c above (Some (s.bytes + come - lost))
   unfolding size_by
   size_fits z = record { answer = λ text. rw (← large_then_lem text, z, bytes_then_lem text) }
 
 -- ── What the answer tells ───────────────────────────────────────────────────────────────────────────────────
 
-size_told : (large : Bool) (n m : ℕ) → Fits n ≡ size_by large m → (large ≡ false) × (n ≡ m)
+size_told : (large : Bool) (n m : ℕ) → Some n ≡ size_by large m → (large ≡ false) × (n ≡ m)
 unfolding size_by
 size_told true n m e = let z : ◌≡◌ {A = ℕ} 0 1 = cc in absurd (omega arith)
 size_told false n m e = (refl, cc)
 
-large_told : (large : Bool) (m : ℕ) → TooLarge ≡ size_by large m → large ≡ true
+large_told : (large : Bool) (m : ℕ) → None ≡ size_by large m → large ≡ true
 unfolding size_by
 large_told true m e = refl
 large_told false m e = let z : ◌≡◌ {A = ℕ} 0 1 = cc in absurd (omega arith)
@@ -119,9 +120,9 @@ module _ {s : TreeState} {rows marks notes changed : List ℕ} {g : Gap} {record
       (n ∙ ap (λ (x : ℕ). length (pick (moved_note g.from g.to x) (notes_of s.notes notes)) + c) (sym k))
       (ap (λ (l : List Row). above + min 65 (height l)) (sym i.told))
 
-  module _ {above : ℕ} {r : Size} (v : StepSize rows notes s g run c above r) where
+  module _ {above : ℕ} {r : prelude.Option ℕ} (v : StepSize rows notes s g run c above r) where
     -- it fits
-    small_then : {b : ℕ} → r ≡ Fits b → (rows_then rows notes s g run c above ≤ 4097) × (notes_then rows notes s g run c above ≤ 1024)
+    small_then : {b : ℕ} → r ≡ Some b → (rows_then rows notes s g run c above ≤ 4097) × (notes_then rows notes s g run c above ≤ 1024)
     unfolding large_then
     small_then {b} e =
         let (z, _) = size_told (large_then rows notes s g run c above []) b _ (sym e ∙ v.answer []) in
@@ -129,15 +130,15 @@ module _ {s : TreeState} {rows marks notes changed : List ℕ} {g : Gap} {record
         (x, y)
 
     -- so there is room for all
-    pub apply_asks : {b : ℕ} → r ≡ Fits b → (12291 ≤ length rows) × (3072 ≤ length notes) × (above ≤ 64)
+    pub apply_asks : {b : ℕ} → r ≡ Some b → (12291 ≤ length rows) × (3072 ≤ length notes) × (above ≤ 64)
         → (3 * (s.rows - (g.to - g.from)) + length run ≤ length rows) × (3 * (length (pick (moved_note g.from g.to (length run / 3)) (notes_of s.notes notes)) + c) ≤ length notes)
     unfolding rows_then notes_then
     apply_asks {b} e h =
         let (x, y) = small_then e in
         (omega (arith, w.whole, h.0), omega (arith, h.1))
 
-    pub apply_refused : r ≡ TooLarge → Applied s rows marks notes changed g above recorded run sizes incoming c rows marks notes changed (Refused 12)
-    unfolding executed_in judged_store refuse ◌>>=◌
+    pub apply_refused : r ≡ None → Applied s rows marks notes changed g above recorded run sizes incoming c rows marks notes changed (Err Large)
+    unfolding executed_in judged_store refuse ◌>>=◌ number
     apply_refused e = record {
       answer = λ text new i. rw (large_same above text new i, large_told (large_then rows notes s g run c above text) _ (sym e ∙ v.answer text));
       measured = λ t q. let z : ◌≡◌ {A = ℕ} 0 1 = cc in absurd (omega arith);
@@ -146,9 +147,9 @@ module _ {s : TreeState} {rows marks notes changed : List ℕ} {g : Gap} {record
       few = λ t q. let z : ◌≡◌ {A = ℕ} 0 1 = cc in absurd (omega arith);
     }
 
-    pub apply_done : {b : ℕ} {rows' marks' notes' changed' : List ℕ} {t : TreeState} → r ≡ Fits b
+    pub apply_done : {b : ℕ} {rows' marks' notes' changed' : List ℕ} {t : TreeState} → r ≡ Some b
         → StoreSpliced s rows marks notes changed g recorded run sizes incoming c b rows' marks' notes' changed' t
-        → Applied s rows marks notes changed g above recorded run sizes incoming c rows' marks' notes' changed' (Done t)
+        → Applied s rows marks notes changed g above recorded run sizes incoming c rows' marks' notes' changed' (Ok t)
     unfolding executed_in judged_store refuse ◌>>=◌ bytes_then rows_then
     apply_done {b} {rows'} {marks'} {notes'} {changed'} {t} e u = record {
       answer = λ text new i. rw (large_same above text new i, (size_told (large_then rows notes s g run c above text) b _ (sym e ∙ v.answer text)).0) (ap gives (u.store text new i));

@@ -1,6 +1,7 @@
 -- How large a step makes what is held, told before it.
 -- Assumes nothing.
-use Rattle.std.specs.Prelude.{◌≡◌, Bool, cond, List, [], ℕ, ◌+◌, ◌-◌, ◌/◌, ◌≤◌, min, length}
+use Rattle.std.specs.Prelude as prelude
+use Rattle.std.specs.Prelude.{◌≡◌, None, Some, Bool, cond, List, [], ℕ, ◌+◌, ◌-◌, ◌/◌, ◌≤◌, min, length}
 use Rattle.orders.specs.Lists.{pick}
 use Rattle.rows_model.specs.Row.{triples, first_rows, bytes, height}
 use Rattle.rows_model.specs.Place.{between}
@@ -9,8 +10,6 @@ use Rattle.run_annotations.specs.Notes.{notes_of}
 use Rattle.run_annotations.specs.Promises.{moved_note}
 use Rattle.run_tree_store.specs.declared.Gap.{Gap}
 use Rattle.run_tree_state.specs.declared.TreeState.{TreeState}
-use Rattle.run_tree_state.specs.declared.Size.{Size}
-use Rattle.run_tree_state.specs.declared.Size.TheVariants.{TooLarge, Fits}
 
 -- the text bytes of the rows p up to q
 pub record BytesBetween (rows : List ℕ) (n p q r : ℕ) : Type 0 where
@@ -18,8 +17,8 @@ pub record BytesBetween (rows : List ℕ) (n p q r : ℕ) : Type 0 where
   pub small : r ≤ bytes (first_rows [] n rows)
 
 -- too large, or the text bytes
-unfoldable pub size_by : Bool → ℕ → Size
-size_by large bytes = cond large TooLarge (Fits bytes)
+unfoldable pub size_by : Bool → ℕ → prelude.Option ℕ
+size_by large bytes = cond large None (Some bytes)
 
 module _ (rows notes : List ℕ) (s : TreeState) (g : Gap) (run : List ℕ) (c above : ℕ) where
   -- the rows, text bytes and notes that there will be, and the depth of what comes in
@@ -35,5 +34,5 @@ module _ (rows notes : List ℕ) (s : TreeState) (g : Gap) (run : List ℕ) (c a
   unfoldable pub large_then : List ℕ → Bool
   large_then text = too_large_by rows_then (bytes_then text) notes_then (above + min 65 (height (triples text run)))
 
-  pub record StepSize (r : Size) : Type 0 where
+  pub record StepSize (r : prelude.Option ℕ) : Type 0 where
     pub answer : (text : List ℕ) → r ≡ size_by (large_then text) (bytes_then text)

@@ -11,6 +11,7 @@ ghost use Rattle.run_tree_state.specs.Store.{Open, Coming, StoreSpliced};
 ghost use Rattle.run_tree_state.specs.Sizes.{BytesBetween, StepSize};
 ghost use Rattle.run_tree_state.specs.Applied.{Applied};
 
+use refusals::Refusal;
 use rows_syntax_node::{ROW_WORDS, height, text_bytes};
 use run_splice::{notes_left, splice_changed, splice_notes};
 use run_tree_store::{Gap, too_large};
@@ -98,13 +99,7 @@ fn replace_store(
     let t = splice_store(
         s, rows, marks, notes, changed, g, recorded, run, sizes, incoming, c, bytes,
     );
-    TreeState {
-        root: g.from,
-        rows: t.rows,
-        bytes: t.bytes,
-        notes: t.notes,
-        changed: t.changed,
-    }
+    TreeState { root: g.from, ..t }
 }
 
 // ── The state, lent to each splice step ──
@@ -258,14 +253,8 @@ fn bytes_between(rows: &[u32], n: usize, p: usize, q: usize) -> usize
     text_bytes(&rows[from..to])
 }
 
-// What a step makes is too large, or has so many text bytes.
-#[derive(Clone, Copy)]
-pub enum Size {
-    TooLarge,
-    Fits(usize),
-}
-
-// How large a step makes what is held, decided before it writes: the gap gives way to the run below a node at depth `above`, and `c` notes come in.
+// How many text bytes a step makes what is held, none if that is too large, decided before it writes: the gap gives way to the run below a node at depth
+// `above`, and `c` notes come in.
 fn step_size(
     rows: &[u32],
     notes: &[u32],
@@ -274,7 +263,7 @@ fn step_size(
     run: &[u32],
     c: usize,
     above: usize,
-) -> Size
+) -> Option<usize>
     requires rows_in_bounds { (3 * s.rows ≤ length rows.now) × (s.rows ≤ 4097) × (g.from ≤ g.to) × (g.to ≤ s.rows) }
     requires notes_in_bounds { (3 * s.notes ≤ length notes.now) × (s.notes ≤ 1024) × (length run.now ≤ 12288) × (c ≤ 1024) × (above ≤ 64) }
     requires bytes_bound { (s.bytes ≤ 16384) × ((text : List ℕ) → s.bytes ≡ bytes_of (first_rows text s.rows rows.now)) }
@@ -287,19 +276,12 @@ fn step_size(
     let bytes = s.bytes + text_bytes(run) - lost;
     let n = s.rows - (q - p) + run.len() / ROW_WORDS;
     if too_large(n, bytes, left + c, above + height(run)) {
-        return Size::TooLarge;
+        return None;
     }
-    Size::Fits(bytes)
+    Some(bytes)
 }
 
 // ── One step, where its gap and its parts are known ──
-
-// A refusal by its number, or how much is held at the end.
-#[derive(Clone, Copy)]
-pub enum Executed {
-    Refused(usize),
-    Done(TreeState),
-}
 
 // Rust: TreeState::apply. The gap below a node at depth `above` gives way to what comes in: 12 before anything is written, or what is held then.
 pub fn apply(
@@ -315,21 +297,17 @@ pub fn apply(
     sizes: &[u32],
     incoming: &[u32],
     c: usize,
-) -> Executed
+) -> Result<TreeState, Refusal>
     requires fact { Open s rows.old marks.old notes.old changed.old g recorded (length sizes.now) }
     requires coming { Coming run.now sizes.now incoming.now c }
     requires in_bounds { (12291 ≤ length rows.old) × (3072 ≤ length notes.old) × (above ≤ 64) }
     requires bytes_bound { (s.bytes ≤ 16384) × ((text : List ℕ) → s.bytes ≡ bytes_of (first_rows text s.rows rows.old)) }
     ensures { Applied s rows.old marks.old notes.old changed.old g above recorded run.now sizes.now incoming.now c rows.new marks.new notes.new changed.new result }
 {
-    let size = step_size(rows, notes, s, g, run, c, above);
-    match size {
-        Size::TooLarge => Executed::Refused(12),
-        Size::Fits(bytes) => {
-            let t = splice_held(
-                s, rows, marks, notes, changed, g, recorded, run, sizes, incoming, c, bytes,
-            );
-            Executed::Done(t)
-        }
-    }
+    let Some(bytes) = step_size(rows, notes, s, g, run, c, above) else {
+        return Err(Refusal::Large);
+    };
+    Ok(splice_held(
+        s, rows, marks, notes, changed, g, recorded, run, sizes, incoming, c, bytes,
+    ))
 }

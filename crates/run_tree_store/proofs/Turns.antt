@@ -1,5 +1,7 @@
 -- Each answer, from the tests that led there.
 -- Assumes nothing.
+use Rattle.std.specs.Prelude as prelude
+use Rattle.std.specs.Prelude.{None, Some}
 use mathlib.Core.Path.{◌≡◌, refl, sym, ap, ◌∙◌}
 use mathlib.Core.Bool.{Bool, true, false, cond}
 use mathlib.Core.List.{List}
@@ -25,8 +27,6 @@ use Rattle.run_tree_store.specs.Stored.{stored, stored_first}
 use Rattle.run_tree_store.specs.Gaps.{mark_or_top, parent_mark, parent_mark_lem, gap_marked, gap_by, held, site_of}
 use Rattle.run_tree_store.specs.Promises.{Prepared, GapOf, GapAfter, GapRun, RunSite, SiteAt}
 use Rattle.run_tree_store.specs.declared.Gap.{Gap}
-use Rattle.run_tree_store.specs.declared.Site.{Site}
-use Rattle.run_tree_store.specs.declared.Site.TheVariants.{Gone, At}
 
 -- ── Marks ───────────────────────────────────────────────────────────────────────────────────────────────────
 
@@ -115,24 +115,24 @@ module _ (rows : List ℕ) (n : ℕ) (table marks : List ℕ) (x m a b : ℕ) (L
   gap_run_lem k l f g = record { gap = λ text source notes changed. gap_same (above text source notes changed) refl (f.row text) (g.count text ∙ ap (λ (i : ℕ). trees_in (between m i (first_rows text n rows))) (f.row text)) }
 
 module _ (rows : List ℕ) (n : ℕ) (table marks : List ℕ) (x m y k : ℕ) (v : (k ≡ get_or marks y 0) × (k < 2 ^ 32)) where
-  pub run_gone : k ≡ 0 → RunSite rows n table marks x m y Gone
+  pub run_gone : k ≡ 0 → RunSite rows n table marks x m y None
   unfolding site_of marked stored
   run_gone z = record { site = λ text source notes changed. ap (λ (o : Option ℕ). site_of (map (gap_run (view (length marks) table source) (stored text n rows marks notes changed) x m) o)) (sym (ap there (sym v.0 ∙ z))) }
 
-  pub run_there : (g : Gap) → (k ≡ 0 → ⊥) → GapRun rows n table marks x m k g → RunSite rows n table marks x m y (At g)
+  pub run_there : (g : Gap) → (k ≡ 0 → ⊥) → GapRun rows n table marks x m k g → RunSite rows n table marks x m y (Some g)
   unfolding site_of marked stored
   run_there g z h = record {
     site = λ text source notes changed.
-        ap At (h.gap text source notes changed)
+        ap Some (h.gap text source notes changed)
         ∙ ap (λ (o : Option ℕ). site_of (map (gap_run (view (length marks) table source) (stored text n rows marks notes changed) x m) o)) (sym (ap there (sym v.0) ∙ there_not k z));
   }
 
 -- a call 2
-abbrev replaced_by : Table → Store → ℕ → Option ℕ → Site
+abbrev replaced_by : Table → Store → ℕ → Option ℕ → prelude.Option Gap
 replaced_by T s x o = site_of (map (gap_of T s x) o)
 
 pub replaced_root : (rows : List ℕ) (n : ℕ) (table marks : List ℕ) (x t m : ℕ) (b : Bool) (g : Gap) → Lines (length marks) table × (x < length marks) → b ≡ eqb (get_or table (8 * x + 1) 0) 0 → b ≡ true
-    → (t ≡ get_or table (8 * x + 7) 0) × (t < 2 ^ 32) → node.ChildAt rows n 0 t m → GapOf rows n table marks x m g → SiteAt rows n table marks 2 x x (At g)
+    → (t ≡ get_or table (8 * x + 7) 0) × (t < 2 ^ 32) → node.ChildAt rows n 0 t m → GapOf rows n table marks x m g → SiteAt rows n table marks 2 x x (Some g)
 unfolding gap_by site_of stored
 replaced_root rows n table marks x t m b g L e z f c h = record {
   site = λ text source notes changed.
@@ -140,7 +140,7 @@ replaced_root rows n table marks x t m b g L e z f c h = record {
       let s : Store = stored text n rows marks notes changed in
       let r : root? T x ≡ true = root_told (length marks) table source L.0 x L.1 ∙ (sym e ∙ z) in
       let d : m ≡ child_row (first_rows text n rows) 0 (tree T x) = c.row text ∙ ap (child_row (first_rows text n rows) 0) (f.0 ∙ sym (tree_told (length marks) table source L.0 x L.1)) in
-      ap At (h.gap text source notes changed)
+      ap Some (h.gap text source notes changed)
       ∙ (ap (λ (i : ℕ). replaced_by T s x (some i)) d ∙ ap (λ (a : Bool). replaced_by T s x (cond a (some (child_row (first_rows text n rows) 0 (tree T x))) (marked s x))) (sym r));
 }
 
@@ -154,16 +154,16 @@ module _ (rows : List ℕ) (n : ℕ) (table marks : List ℕ) (x m : ℕ) (b : B
       let r : root? T x ≡ false = root_told (length marks) table source L.0 x L.1 ∙ (sym e ∙ z) in
       ap (replaced_by T s x) (sym (ap there (sym v.0) ∙ q)) ∙ ap (λ (a : Bool). replaced_by T s x (cond a (some (child_row (first_rows text n rows) 0 (tree T x))) (marked s x))) (sym r)
 
-  pub replaced_gone : m ≡ 0 → SiteAt rows n table marks 2 x x Gone
+  pub replaced_gone : m ≡ 0 → SiteAt rows n table marks 2 x x None
   unfolding site_of
   replaced_gone q = record { site = replaced none (ap there q) }
 
-  pub replaced_there : (g : Gap) → (m ≡ 0 → ⊥) → GapOf rows n table marks x m g → SiteAt rows n table marks 2 x x (At g)
+  pub replaced_there : (g : Gap) → (m ≡ 0 → ⊥) → GapOf rows n table marks x m g → SiteAt rows n table marks 2 x x (Some g)
   unfolding site_of
-  replaced_there g q h = record { site = λ text source notes changed. ap At (h.gap text source notes changed) ∙ replaced (some m) (there_not m q) text source notes changed }
+  replaced_there g q h = record { site = λ text source notes changed. ap Some (h.gap text source notes changed) ∙ replaced (some m) (there_not m q) text source notes changed }
 
 -- any operation
-pub site_replaced : (rows : List ℕ) (n : ℕ) (table marks : List ℕ) (op x y : ℕ) (r : Site) → op ≡ 2 → SiteAt rows n table marks 2 x x r → SiteAt rows n table marks op x y r
+pub site_replaced : (rows : List ℕ) (n : ℕ) (table marks : List ℕ) (op x y : ℕ) (r : prelude.Option Gap) → op ≡ 2 → SiteAt rows n table marks 2 x x r → SiteAt rows n table marks op x y r
 unfolding gap_by
 site_replaced rows n table marks op x y r e h = rw e (record { site = λ text source notes changed. h.site text source notes changed })
 
@@ -177,29 +177,29 @@ module _ (rows : List ℕ) (n : ℕ) (table marks : List ℕ) (op x y m : ℕ) (
       ap (λ (o : Option ℕ). site_of (gap_marked T s op x y o)) (sym (ap there (sym v.0) ∙ q))
       ∙ ap (λ (a : Bool). site_of (cond a (map (gap_of T s x) (cond (root? T x) (some (child_row (first_rows text n rows) 0 (tree T x))) (marked s x))) (gap_marked T s op x y (marked s x)))) (sym (ne_eqb op 2 z))
 
-  pub site_gone : m ≡ 0 → SiteAt rows n table marks op x y Gone
+  pub site_gone : m ≡ 0 → SiteAt rows n table marks op x y None
   unfolding site_of gap_marked
   site_gone q = record { site = by_mark none (ap there q) }
 
   module _ (q : m ≡ 0 → ⊥) where
-    pub site_first : op ≡ 0 → SiteAt rows n table marks op x y (At (record { parent = m; from = m + 1; to = m + 1; lost = 0 }))
+    pub site_first : op ≡ 0 → SiteAt rows n table marks op x y (Some (record { parent = m; from = m + 1; to = m + 1; lost = 0 }))
     unfolding site_of gap_marked held
     site_first e = record {
       site = λ text source notes changed.
           let i : m + 1 ≡ suc m = omega arith in
-          ap At (gap_same refl i i refl)
+          ap Some (gap_same refl i i refl)
           ∙ (ap (λ (j : ℕ). site_of (gap_marked (view (length marks) table source) (stored text n rows marks notes changed) j x y (some m))) (sym e) ∙ by_mark (some m) (there_not m q) text source notes changed);
     }
 
-    pub site_after : (g : Gap) → op ≡ 1 → GapAfter rows n table marks x m g → SiteAt rows n table marks op x y (At g)
+    pub site_after : (g : Gap) → op ≡ 1 → GapAfter rows n table marks x m g → SiteAt rows n table marks op x y (Some g)
     unfolding site_of gap_marked
     site_after g e h = record {
       site = λ text source notes changed.
-          ap At (h.gap text source notes changed)
+          ap Some (h.gap text source notes changed)
           ∙ (ap (λ (j : ℕ). site_of (gap_marked (view (length marks) table source) (stored text n rows marks notes changed) j x y (some m))) (sym e) ∙ by_mark (some m) (there_not m q) text source notes changed);
     }
 
-    pub site_run : (r : Site) → op ≡ 5 → RunSite rows n table marks x m y r → SiteAt rows n table marks op x y r
+    pub site_run : (r : prelude.Option Gap) → op ≡ 5 → RunSite rows n table marks x m y r → SiteAt rows n table marks op x y r
     unfolding gap_marked
     site_run r e h = record {
       site = λ text source notes changed.
@@ -207,10 +207,10 @@ module _ (rows : List ℕ) (n : ℕ) (table marks : List ℕ) (op x y m : ℕ) (
           ∙ (ap (λ (j : ℕ). site_of (gap_marked (view (length marks) table source) (stored text n rows marks notes changed) j x y (some m))) (sym e) ∙ by_mark (some m) (there_not m q) text source notes changed);
     }
 
-    pub site_one : (g : Gap) → (op ≡ 0 → ⊥) → (op ≡ 1 → ⊥) → (op ≡ 5 → ⊥) → GapOf rows n table marks x m g → SiteAt rows n table marks op x y (At g)
+    pub site_one : (g : Gap) → (op ≡ 0 → ⊥) → (op ≡ 1 → ⊥) → (op ≡ 5 → ⊥) → GapOf rows n table marks x m g → SiteAt rows n table marks op x y (Some g)
     unfolding site_of gap_marked
     site_one g a b c h = record {
-      site = λ text source notes changed. ap At (h.gap text source notes changed) ∙ (ap site_of (sym (one text source notes changed)) ∙ by_mark (some m) (there_not m q) text source notes changed);
+      site = λ text source notes changed. ap Some (h.gap text source notes changed) ∙ (ap site_of (sym (one text source notes changed)) ∙ by_mark (some m) (there_not m q) text source notes changed);
     }
       where
         one : (text source : List ℕ) (notes : List HeldNote) (changed : List HeldChanged)

@@ -1,9 +1,10 @@
 -- Where a change goes, by the change's numbers, as the code answers it.
 -- Assumes nothing.
-use Rattle.std.specs.Prelude.{◌≡◌, refl, cond, List, ℕ, zero, suc, ◌+◌, ◌*◌, ◌<◌, length, get_or, eqb}
+use Rattle.std.specs.Prelude as prelude
+use Rattle.std.specs.Prelude.{◌≡◌, None, Some, refl, cond, List, ℕ, zero, suc, ◌+◌, ◌*◌, ◌<◌, length, get_or, eqb}
 use Rattle.std.proofs.Common.{sym, ap, ◌∙◌}
 use Rattle.std.proofs.Math.Option.{Option, none, some, map, bind}
-use Rattle.definition.specs.Elements.{Table, root?, parent, tree}
+use Rattle.definition.specs.Elements.{Table, root?, tree}
 use Rattle.definition.specs.Recording.{first_child, after, Change, insert, replace, delete, replace_with_many, replace_all}
 use Rattle.definition.specs.Planning.{target}
 use Rattle.read_element_table.specs.View.{view}
@@ -14,8 +15,6 @@ use Rattle.run_model.specs.Store as model
 use Rattle.run_model.specs.Store.{Store, marked, row_or_top, parent_row, gap_of, gap_after, gap_run, gap}
 use Rattle.record_changes.specs.ChangeRow.{operation, end_of}
 use Rattle.run_tree_store.specs.declared.Gap.{Gap}
-use Rattle.run_tree_store.specs.declared.Site.{Site}
-use Rattle.run_tree_store.specs.declared.Site.TheVariants.{Gone, At}
 
 -- the row of the element that a word names: 0 none, p + 1 element p
 abbrev pub mark_or_top : List ℕ → ℕ → ℕ
@@ -80,6 +79,6 @@ unfoldable pub held : model.Gap → Gap
 held g = record { parent = g.parent; from = g.from; to = g.to; lost = g.lost }
 
 -- a gap or none, as the code answers it
-unfoldable pub site_of : Option model.Gap → Site
-site_of none = Gone
-site_of (some g) = At (held g)
+unfoldable pub site_of : Option model.Gap → prelude.Option Gap
+site_of none = None
+site_of (some g) = Some (held g)

@@ -46,13 +46,6 @@ pub struct Gap {
     pub lost: usize,
 }
 
-// Where a change goes, if its target is still there.
-#[derive(Clone, Copy)]
-pub enum Site {
-    Gone,
-    At(Gap),
-}
-
 // The row of element `p` - 1; the root of all where `p` is 0.
 fn row_or_top(marks: &[u32], p: usize) -> usize
     requires { p ≤ length marks.now }
@@ -141,7 +134,7 @@ fn gap_run(
     }
 }
 
-// The run from the element `x` at row `m` to the element `y`.
+// The run from the element `x` at row `m` to the element `y`, if that is still there.
 fn run_site(
     rows: &[u32],
     n: usize,
@@ -150,7 +143,7 @@ fn run_site(
     x: usize,
     m: usize,
     y: usize,
-) -> Site
+) -> Option<Gap>
     requires n_in_bounds { (3 * n ≤ length rows.now) × (n < 2 ^ 16) × All (λ m. m < n) marks.now }
     requires lines { Lines (length marks.now) table.now × (x < length marks.now) }
     requires y_in_bounds { y < length marks.now }
@@ -158,14 +151,13 @@ fn run_site(
 {
     let k = word(marks, y);
     if k == 0 {
-        return Site::Gone;
+        return None;
     }
-    let g = gap_run(rows, n, table, marks, x, m, k);
-    Site::At(g)
+    Some(gap_run(rows, n, table, marks, x, m, k))
 }
 
-// Where a call 2 on the element `x` goes: a root is found by counting, and needs no mark, since its mark is gone once it was replaced before.
-fn replaced_site(rows: &[u32], n: usize, table: &[u32], marks: &[u32], x: usize) -> Site
+// Where a call 2 on the element `x` goes, if that is still there: a root is found by counting, and needs no mark, since its mark is gone once it was replaced before.
+fn replaced_site(rows: &[u32], n: usize, table: &[u32], marks: &[u32], x: usize) -> Option<Gap>
     requires n_in_bounds { (3 * n ≤ length rows.now) × (n < 2 ^ 16) × (0 < n) × All (λ m. m < n) marks.now }
     requires lines { Lines (length marks.now) table.now × (x < length marks.now) }
     ensures { SiteAt rows.now n table.now marks.now 2 x x result }
@@ -173,19 +165,17 @@ fn replaced_site(rows: &[u32], n: usize, table: &[u32], marks: &[u32], x: usize)
     if is_root(table, x) {
         let t = entry(table, x, TREE);
         let top = child_row(rows, n, 0, t);
-        let g = gap_of(rows, n, table, marks, x, top);
-        return Site::At(g);
+        return Some(gap_of(rows, n, table, marks, x, top));
     }
     let m = word(marks, x);
     if m == 0 {
-        return Site::Gone;
+        return None;
     }
-    let g = gap_of(rows, n, table, marks, x, m);
-    Site::At(g)
+    Some(gap_of(rows, n, table, marks, x, m))
 }
 
 // Rust: TreeState::apply, what it finds before it splices (TreeState::map_original_element). Where a change goes, by its operation, its target `x` and its end
-// `y`: gone if a mark that it needs is, where the Rust panics.
+// `y`: none if a mark that it needs is gone, where the Rust panics.
 pub fn find_gap(
     rows: &[u32],
     n: usize,
@@ -194,7 +184,7 @@ pub fn find_gap(
     operation: usize,
     x: usize,
     y: usize,
-) -> Site
+) -> Option<Gap>
     requires n_in_bounds { (3 * n ≤ length rows.now) × (n < 2 ^ 16) × (0 < n) × All (λ m. m < n) marks.now }
     requires lines { Lines (length marks.now) table.now × (x < length marks.now) }
     requires y_in_bounds { y < length marks.now }
@@ -205,10 +195,10 @@ pub fn find_gap(
     }
     let m = word(marks, x);
     if m == 0 {
-        return Site::Gone;
+        return None;
     }
     if operation == 0 {
-        return Site::At(Gap {
+        return Some(Gap {
             parent: m,
             from: m + 1,
             to: m + 1,
@@ -216,14 +206,12 @@ pub fn find_gap(
         });
     }
     if operation == 1 {
-        let g = gap_after(rows, n, table, marks, x, m);
-        return Site::At(g);
+        return Some(gap_after(rows, n, table, marks, x, m));
     }
     if operation == 5 {
         return run_site(rows, n, table, marks, x, m, y);
     }
-    let g = gap_of(rows, n, table, marks, x, m);
-    Site::At(g)
+    Some(gap_of(rows, n, table, marks, x, m))
 }
 
 // ── Refusal 12 ──

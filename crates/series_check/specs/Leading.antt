@@ -2,7 +2,7 @@
 -- Assumes nothing.
 use Rattle.std.proofs.Math.Path.{◌≡◌, refl, sym, ap}
 use Rattle.std.proofs.Common.{◌∙◌}
-use Rattle.std.specs.Prelude.{Bool, ◌||◌, List, ℕ, ◌+◌, ◌-◌, ◌*◌, ◌^◌, ◌≤◌, ◌<◌, get_or, drop}
+use Rattle.std.specs.Prelude.{Bool, ◌||◌, Option as Answer, None, is_some as found, List, ℕ, ◌+◌, ◌-◌, ◌*◌, ◌^◌, ◌≤◌, ◌<◌, get_or, drop}
 use Rattle.std.proofs.Math.Bool.{true, false, not}
 use Rattle.std.proofs.Math.Option.{Option, none, some}
 use native.Mathlib.Omega.{arith}
@@ -14,7 +14,6 @@ use Rattle.definition.specs.Basics.{is_some}
 use Rattle.rows_model.specs.Row.{rows_of, triples}
 use Rattle.rows_path.specs.Promises.{Resolves, standing}
 use Rattle.rows_path.specs.declared.Resolved.{Resolved}
-use Rattle.rows_path.specs.declared.Resolved.TheVariants.{At, Nothing}
 use Rattle.series_laws.specs.Lent.{longest_path, bookmark_in, beyond_slot}
 use Rattle.series_check.specs.Slots.{slot_at, slots_from, slots_none, slots_more, slot_word, slot_path}
 
@@ -54,24 +53,19 @@ module _ (rows b : List ℕ) (i : ℕ) {at n : ℕ} (ea : at ≡ 1 + 65 * i) (en
     twice false = refl
 
     -- the answer is what resolving tells
-    pub leads_resolved : {r : Resolved} (c : Bool) → Resolves rows path r → ((o : Option (Tree ℕ)) (t : Tree ℕ) → r ≡ standing path t o → c ≡ is_some o) → Leads rows (slot_at b i) c
+    pub leads_resolved : {r : Answer Resolved} (c : Bool) → Resolves rows path r → ((o : Option (Tree ℕ)) (t : Tree ℕ) → r ≡ standing path t o → c ≡ is_some o) → Leads rows (slot_at b i) c
     leads_resolved {r} c v f text t q = f (resolve path t) t (v.element text t q) ∙ sym (ap not (within t) ∙ twice (is_some (resolve path t)))
 
-    pub leads_found : {r : Resolved} → Resolves rows path r → (x y : ℕ) → r ≡ At x y → Leads rows (slot_at b i) true
+    pub leads_found : {r : Answer Resolved} {c : Bool} → Resolves rows path r → c ≡ found r → Leads rows (slot_at b i) c
     unfolding standing is_some
-    leads_found {r} v x y is = leads_resolved true v (λ o t e. go o t (sym is ∙ e))
+    leads_found {r} {c} v is = leads_resolved c v (λ o t e. is ∙ (ap found e ∙ go o t))
       where
-        go : (o : Option (Tree ℕ)) (t : Tree ℕ) → At x y ≡ standing path t o → true ≡ is_some o
-        go none t e = let z : ◌≡◌ {A = ℕ} 0 1 = cc in absurd (omega arith)
-        go (some u) t e = refl
+        go : (o : Option (Tree ℕ)) (t : Tree ℕ) → found (standing path t o) ≡ is_some o
+        go none t = refl
+        go (some u) t = refl
 
-    pub leads_nowhere : {r : Resolved} → Resolves rows path r → r ≡ Nothing → Leads rows (slot_at b i) false
-    unfolding standing is_some
-    leads_nowhere {r} v is = leads_resolved false v (λ o t e. go o t (sym is ∙ e))
-      where
-        go : (o : Option (Tree ℕ)) (t : Tree ℕ) → Nothing ≡ standing path t o → false ≡ is_some o
-        go none t e = refl
-        go (some u) t e = let z : ◌≡◌ {A = ℕ} 0 1 = cc in absurd (omega arith)
+    pub leads_nowhere : {r : Answer Resolved} → Resolves rows path r → r ≡ None → Leads rows (slot_at b i) false
+    leads_nowhere {r} v is = leads_found v (sym (ap found is))
 
 -- ── All ─────────────────────────────────────────────────────────────────────────────────────────────────────
 

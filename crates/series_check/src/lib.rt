@@ -15,7 +15,7 @@ ghost use Rattle.refusals.specs.Numbers.{answered};
 ghost use Rattle.series_check.specs.Judged.{judged, Remains};
 
 use refusals::Refusal;
-use rows_path::{Resolved, resolve};
+use rows_path::resolve;
 use rows_syntax_node::ROW_WORDS;
 use words::{read_word, word};
 
@@ -55,12 +55,10 @@ fn stands_again(bookmarks: &[u32], k: usize, i: usize, x: usize) -> bool
     requires { (1 + 65 * k ≤ length bookmarks.now) × (k < 2 ^ 32) }
     ensures { result ≡ among (numbers_from bookmarks.now k i) x }
 {
-    let mut j = i;
-    while j < k {
+    for j in i..k {
         if x == number_at(bookmarks, j) {
             return true;
         }
-        j += 1;
     }
     false
 }
@@ -70,13 +68,11 @@ fn repeats(bookmarks: &[u32], k: usize) -> bool
     requires { (1 + 65 * k ≤ length bookmarks.now) × (k < 2 ^ 32) }
     ensures { result ≡ not (no_repeat (numbers_from bookmarks.now k 0)) }
 {
-    let mut i = 0;
-    while i < k {
+    for i in 0..k {
         let x = number_at(bookmarks, i);
         if stands_again(bookmarks, k, i + 1, x) {
             return true;
         }
-        i += 1;
     }
     false
 }
@@ -95,10 +91,7 @@ fn leads(rows: &[u32], bookmarks: &[u32], i: usize) -> bool
     }
     let from = at + PATH;
     let to = from + n;
-    match resolve(rows, &bookmarks[from..to]) {
-        Resolved::At(_, _) => true,
-        Resolved::Nothing => false,
-    }
+    resolve(rows, &bookmarks[from..to]).is_some()
 }
 
 // Whether every path does.
@@ -106,12 +99,10 @@ fn all_lead(rows: &[u32], bookmarks: &[u32], k: usize) -> bool
     requires { (1 + 65 * k ≤ length bookmarks.now) × (k < 2 ^ 32) × (length rows.now < 3 * 2 ^ 16) }
     ensures { AllLead rows.now bookmarks.now k result }
 {
-    let mut i = 0;
-    while i < k {
+    for i in 0..k {
         if !leads(rows, bookmarks, i) {
             return false;
         }
-        i += 1;
     }
     true
 }
@@ -125,13 +116,11 @@ fn fill_rows(tree: &[u8], n: usize, rows: &mut [u32])
 {
     let measures = SIZES + 4 * n;
     let mut offset: usize = 0;
-    let mut i: usize = 0;
-    while i < n {
+    for i in 0..n {
         let kind = read_word(tree, SIZES + 4 * i);
         let measure = read_word(tree, measures + 4 * i);
         words::store3(rows, ROW_WORDS * i, kind, measure, offset);
         offset += read_spelling::length_of(kind, measure);
-        i += 1;
     }
 }
 

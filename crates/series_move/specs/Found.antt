@@ -1,6 +1,6 @@
 -- The element of a bookmark, by resolving its path in the batch's own rows, and its mark.
 -- Assumes nothing.
-use Rattle.std.specs.Prelude.{◌≡◌, refl, true, false, get_or, take, drop}
+use Rattle.std.specs.Prelude.{◌≡◌, refl, get_or, take, drop, Option as Answer, Some, is_some, IsSome}
 use Rattle.std.proofs.Common.{sym, ◌∙◌, take_all}
 use Rattle.std.proofs.Math.Path.{ap}
 use mathlib.Core.List.{List, [], ◌∷◌, tail}
@@ -8,8 +8,7 @@ use Rattle.std.proofs.Math.Option.{Option, none, some, bind}
 use Prim.Native.Nat.{ℕ, zero, suc, ◌+◌, ◌*◌, ◌^◌, ◌≤◌, ◌<◌}
 use native.Mathlib.Omega.{arith}
 use Rattle.std.proofs.Math.ListN.{length, get_elem?, length-drop}
-use Rattle.orders.specs.ListLaws.{some_inj, none_some, bind_some}
-use Rattle.orders.specs.Tree.{Tree, node, forest, list, Path, resolve}
+use Rattle.orders.specs.Tree.{Tree, forest, Path, resolve}
 use Rattle.orders.proofs.TreeLaws.{list_forest, resolve_child}
 use Rattle.definition_laws.specs.Running.{top}
 use Rattle.rows_model.specs.Row.{rows_of, first_rows, triples, skip}
@@ -17,11 +16,10 @@ use Rattle.rows_model.specs.Place.{place, subtree, mark_of}
 use Rattle.rows_model.proofs.PlaceLaws.{place_forest, place_pos, subtree_at}
 use Rattle.rows_model.proofs.Words.{length_first}
 use Rattle.rows_syntax_node.specs.Promises.{Part}
-use Rattle.rows_path.specs.Promises.{Resolves}
+use Rattle.rows_path.specs.Promises.{Resolves, at_row}
 use Rattle.rows_path.proofs.Promises.{resolves_there}
 use Rattle.rows_path.specs.Offset.{offset}
 use Rattle.rows_path.specs.declared.Resolved.{Resolved}
-use Rattle.rows_path.specs.declared.Resolved.TheVariants.{At, Nothing}
 use Rattle.series_move.specs.Standing.{Stood, mark_at}
 
 -- the path leads to an element of tree 0
@@ -50,28 +48,25 @@ module _ {source : List ℕ} {e : ℕ} {marks rows : List ℕ} {n : ℕ} {path :
         p.told s.stood.old_text ∙ (ap (λ rs. subtree rs 1) s.stood.old ∙ (ap (subtree (rows_of (top s.stood.trees))) (sym one) ∙ subtree_at (0 ∷ []) (top s.stood.trees) t root))
 
     -- resolving tells its number, and the mark at that number is where it stands
-    pub found_told : {r : Resolved} → Resolves part path r → (k : ℕ) × (o : ℕ) × (r ≡ At k o) × (k < e) × (get_or marks k 0 ≡ mark_of s.stood.world.trees (moved_by s))
+    pub found_told : {r : Answer Resolved} → Resolves part path r → (k : ℕ) × (o : ℕ) × (r ≡ at_row k o) × (k < e) × (get_or marks k 0 ≡ mark_of s.stood.world.trees (moved_by s))
     found_told {r} v =
         let (t, g, f) = below in
         let (k, a, b, c) = mark_at s.stood path s.end s.leads (length path) in
         let all : take (length path) path ≡ path = take_all (length path) path (omega arith) in
         let at : place path t ≡ k = omega (arith, place_forest 2147483648 s.stood.trees 0 path t g, b, ap (λ (p : Path). place (0 ∷ p) (top s.stood.trees)) all) in
-        (k, offset path t, resolves_there v s.stood.old_text t s.end (part_told t g) f ∙ ap (λ (i : ℕ). At i (offset path t)) at, a, c ∙ ap (λ (p : Path). mark_of s.stood.world.trees (s.stood.follows.move (0 ∷ p))) all)
+        (k, offset path t, resolves_there v s.stood.old_text t s.end (part_told t g) f ∙ ap (λ (i : ℕ). at_row i (offset path t)) at, a, c ∙ ap (λ (p : Path). mark_of s.stood.world.trees (s.stood.follows.move (0 ∷ p))) all)
 
-    at_same : {k l i j : ℕ} → At k i ≡ At l j → k ≡ l
-    at_same e = cc
+    at_same : {f : Resolved} {l j : ℕ} → Some f ≡ at_row l j → f.row ≡ l
+    at_same {f} {l} {j} e = let q : f ≡ record { row = l; start = j } = cc in ap (λ (r : Resolved). r.row) q
 
-    pub number_low : {r : Resolved} {k o : ℕ} → Resolves part path r → r ≡ At k o → k < length marks
-    number_low v e = let (k, o, a, l, b) = found_told v in omega (arith, at_same (sym a ∙ e), s.stood.many)
+    pub number_low : {r : Answer Resolved} {f : Resolved} → Resolves part path r → r ≡ Some f → f.row < length marks
+    number_low v e = let (k, o, a, l, b) = found_told v in omega (arith, at_same (sym e ∙ a), s.stood.many)
 
-    pub mark_told : {r : Resolved} {k o w : ℕ} → Resolves part path r → r ≡ At k o → (w ≡ get_or marks k 0) × (w < 2 ^ 32) → w ≡ mark_of s.stood.world.trees (moved_by s)
+    pub mark_told : {r : Answer Resolved} {f : Resolved} {w : ℕ} → Resolves part path r → r ≡ Some f → (w ≡ get_or marks f.row 0) × (w < 2 ^ 32) → w ≡ mark_of s.stood.world.trees (moved_by s)
     mark_told v e w = let (k, o, a, l, b) = found_told v in w.0 ∙ (ap (λ (i : ℕ). get_or marks i 0) (at_same (sym e ∙ a)) ∙ b)
 
-    pub mark_nothing : {r : Resolved} → Resolves part path r → r ≡ Nothing → 0 ≡ mark_of s.stood.world.trees (moved_by s)
-    mark_nothing v e = let (k, o, a, l, b) = found_told v in apart (sym e ∙ a)
-      where
-        apart : {k o x y : ℕ} → Nothing ≡ At k o → x ≡ y
-        apart q = let z : ◌≡◌ {A = ℕ} 0 1 = cc in absurd (omega arith)
+    pub mark_found : {r : Answer Resolved} → Resolves part path r → IsSome r
+    mark_found v = let (k, o, a, l, b) = found_told v in ap is_some a
 
     -- the part is no longer than the source
     pub part_short : length part < 3 * 2 ^ 16

@@ -1,8 +1,8 @@
 -- The path of a bookmark that survives is written, child number by child number.
 -- Assumes nothing.
-use Rattle.std.specs.Prelude.{◌≡◌, refl, List, [], ◌∷◌, ◌++◌, ℕ, zero, suc, ◌+◌, ◌-◌, ◌*◌, ◌^◌, ◌≤◌, ◌<◌, length, get_or, set, take, drop}
+use Rattle.std.specs.Prelude.{◌≡◌, refl, List, [], ◌∷◌, ◌++◌, ℕ, zero, suc, ◌+◌, ◌-◌, ◌^◌, ◌≤◌, ◌<◌, length, get_or, set, take}
 use Rattle.std.proofs.Common.{sym, ap, ◌∙◌, add-one, arith, length-set, take_all, take-suc-set}
-use Rattle.std.proofs.Math.Option.{Option, none, some}
+use Rattle.std.proofs.Math.Option.{some}
 use Rattle.orders.specs.Tree.{Tree, forest, Path, resolve}
 use Rattle.definition_laws.specs.Running.{top}
 use Rattle.rows_model.specs.Row.{rows_of, first_rows, trees_in}

@@ -2,14 +2,14 @@
 -- Assumes nothing.
 use Rattle.std.specs.Prelude.{◌≡◌, refl, ℕ, zero, suc, ◌+◌, ◌-◌, ◌*◌, ◌^◌, ◌≤◌, ◌<◌, drop}
 use Rattle.std.proofs.Math.Path.{sym, ap}
-use Rattle.std.proofs.Common.{◌∙◌, subst, length-append, take-append-drop, take_all}
-use mathlib.Core.List.{List, [], ◌∷◌, ◌++◌, map, append_assoc, append-nil, tail}
-use Rattle.std.proofs.Math.Option.{Option, none, some, bind}
+use Rattle.std.proofs.Common.{◌∙◌, take-append-drop}
+use mathlib.Core.List.{List, [], ◌∷◌, ◌++◌, map, tail}
+use Rattle.std.proofs.Math.Option.{Option, none, some}
 use native.Mathlib.Omega.{arith}
-use Rattle.std.proofs.Math.ListN.{length, get_or, take, get_elem?, length-map}
+use Rattle.std.proofs.Math.ListN.{length, get_or, take, length-map}
 use Rattle.std.proofs.Math.Seq.{length-take-le}
-use Rattle.orders.specs.ListLaws.{some_inj, none_some, map_some, bind_some, get_lt}
-use Rattle.orders.specs.Tree.{Tree, Trees, node, list, forest, Path, resolve, HasRun}
+use Rattle.orders.specs.ListLaws.{map_some, bind_some, get_lt}
+use Rattle.orders.specs.Tree.{Tree, list, Path, resolve, HasRun}
 use Rattle.orders.proofs.TreeLaws.{resolve_append}
 use Rattle.definition.specs.Elements.{Table, table, row, no_row}
 use Rattle.definition.specs.Running.{World}
@@ -19,7 +19,7 @@ use Rattle.definition_laws.specs.Kin.{element_tree, element_path, element_stands
 use Rattle.definition_laws.specs.Running.{top, Follows}
 use Rattle.definition_account.proofs.Moving.{keeps_above, parts_same}
 use Rattle.rows_model.specs.Row.{Row, rows_of, first_rows, trees_in}
-use Rattle.rows_model.specs.Place.{place, size, child_row, between, mark_of, run_of}
+use Rattle.rows_model.specs.Place.{place, child_row, between, mark_of, run_of}
 use Rattle.rows_model.proofs.PlaceLaws.{child_at, place_first, place_lt, parent_of, run_rows, run_order}
 use Rattle.rows_model.proofs.RowLaws.{trees_count}
 use Rattle.rows_model.proofs.Numbers.{element_row}

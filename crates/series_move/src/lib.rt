@@ -13,7 +13,7 @@ ghost use Rattle.series_move.specs.Moved.{PathNow};
 ghost use Rattle.series_move.specs.Kept.{Here, Put};
 ghost use Rattle.series_move.specs.Packing.{Moving, Packs, bookmarks_after};
 
-use rows_path::{Resolved, resolve};
+use rows_path::resolve;
 use rows_syntax_node::{child_row, children_between, subtree};
 use series_check::{PATH, PATH_LENGTH, slot_at};
 use words::word;
@@ -35,14 +35,12 @@ fn write_path(
     ensures { (s : Survives source.now e marks.now rows.now n path.now) → take (length path.now) out.new ≡ s.now }
 {
     let mut x = 1;
-    let mut j = 0;
-    while j < path.len() {
-        let y = child_row(source, e + 1, x, word(path, j));
+    for (j, number) in path.iter().enumerate() {
+        let y = child_row(source, e + 1, x, *number as usize);
         let above = word(marks, x - 1);
         let here = word(marks, y - 1);
         out[j] = children_between(rows, n, above + 1, here) as u32;
         x = y;
-        j += 1;
     }
 }
 
@@ -52,11 +50,9 @@ fn mark_now(source: &[u32], e: usize, marks: &[u32], rows: &[u32], n: usize, pat
     ensures { (s : Stands source.now e marks.now rows.now n path.now) → result ≡ mark_of s.stood.world.trees (moved_by s) }
 {
     let tree = subtree(source, e + 1, 1);
-    match resolve(tree, path) {
-        Resolved::At(k, _) => word(marks, k),
-        // It leads to an element.
-        Resolved::Nothing => 0,
-    }
+    // It leads to an element.
+    let found = resolve(tree, path).unwrap();
+    word(marks, found.row)
 }
 
 // The path now of the element to which a path leads; false where it is gone.
@@ -139,10 +135,8 @@ fn pack_bookmarks(
     ensures { (result ≤ k) × ((v : Moving source.now e marks.now rows.now n bookmarks.old k) → Packs v.run.moves bookmarks.old k bookmarks.new result) }
 {
     let mut to = 0;
-    let mut i = 0;
-    while i < k {
+    for i in 0..k {
         to = move_bookmark(source, e, marks, rows, n, bookmarks, i, to, path);
-        i += 1;
     }
     to
 }

@@ -8,7 +8,7 @@ use borrow.Author.Tests.{ltb-false}
 use Rattle.orders.specs.ListLaws.{either_false}
 use Rattle.definition.specs.Basics.{gives, ◌>>=◌}
 use Rattle.definition.specs.Words.{word}
-use Rattle.definition.specs.Batch.{Batch, batch}
+use Rattle.definition.specs.Batch.{Batch}
 use Rattle.definition_laws.specs.Answers.{gives_inj}
 use Rattle.definition_laws.specs.Accepted.{accepts}
 use Rattle.definition_laws.specs.Spelling.{Spells}

@@ -6,7 +6,7 @@ use mathlib.Core.List.{List, [], ◌∷◌, ◌++◌, map, flat_map, append-nil}
 use Rattle.std.specs.Prelude.{ℕ, ◌+◌, ◌-◌, ◌*◌, ◌/◌, ◌^◌, ◌≤◌, ◌<◌, take, drop}
 use Rattle.std.proofs.Math.ListN.{length, length-map}
 use Rattle.orders.specs.ListLaws.{map_append}
-use Rattle.orders.specs.Tree.{Tree, list, children, label, measure, text, preorder}
+use Rattle.orders.specs.Tree.{Tree, children, label, measure, text, preorder}
 use Rattle.orders.proofs.TreeLaws.{list_forest}
 use Rattle.definition.specs.Basics.{gives}
 use Rattle.definition.specs.Words.{words}

@@ -27,14 +27,12 @@ fn same_words(a: &[u8], i: usize, b: &[u8], j: usize, n: usize) -> bool
     requires { (i + 4 * n ≤ length a.now) × (j + 4 * n ≤ length b.now) }
     ensures { result ≡ same_bytes (words n (drop i a.now)) (words n (drop j b.now)) }
 {
-    let mut k = 0;
-    while k < n {
+    for k in 0..n {
         let x = read_word(a, i + 4 * k);
         let y = read_word(b, j + 4 * k);
         if x != y {
             return false;
         }
-        k += 1;
     }
     true
 }

@@ -63,8 +63,12 @@ module _ {d : List ℕ} {at : ℕ} {os ns rs e : List ℕ} {i : ℕ} (v : Callin
       rw (add-one i, take-suc (call_words os ns rs) i 0 (omega arith), get_d_calls os ns rs i h (omega (arith, q.0)) (omega (arith, q.1)), ← g, ← one_written w) (written_append (take i (call_words os ns rs)) (w ∷ [])) in
       record { inside = omega arith; long = m ∙ v.long; begun = rw more (appended_on v.begun one) }
 
-  pub calling_done : length os ≤ i → Appended d at (written (call_words os ns rs)) e (at + 4 * i)
-  calling_done h = let z = v.begun in rw (take_all i (call_words os ns rs) (omega (arith, length_calls os ns rs q.0 q.1))) at z
+  pub calling_done : length os ≤ i → Appended d at (written (call_words os ns rs)) e (at + 4 * length os)
+  calling_done h =
+      let z = v.begun in
+      let z = rw (take_all i (call_words os ns rs) (omega (arith, length_calls os ns rs q.0 q.1))) at z in
+      let r : at + 4 * i ≡ at + 4 * length os = omega (arith, v.inside) in
+      rw r at z
 
 -- ── A batch ─────────────────────────────────────────────────────────────────────────────────────────────────
 

@@ -14,6 +14,7 @@ ghost use Rattle.write_layout.specs.Laying.{uneven, lists_in};
 use read_layout::Sizes;
 
 // Whether the lists that are to be in step are, by their lengths.
+#[tactic(auto, unfolding(crate::specs::Laying::uneven))]
 fn in_step(
     kinds: usize,
     measures: usize,
@@ -28,49 +29,28 @@ fn in_step(
 ) -> bool
     ensures { result ≡ not (uneven kinds measures operations counts rules targets inputs outputs noted numbers) }
 {
-    if kinds != measures {
-        return false;
-    }
-    if operations != counts {
-        return false;
-    }
-    if operations != rules {
-        return false;
-    }
-    if operations != targets {
-        return false;
-    }
-    if inputs != outputs {
-        return false;
-    }
-    noted == numbers
+    kinds == measures
+        && operations == counts
+        && operations == rules
+        && operations == targets
+        && inputs == outputs
+        && noted == numbers
 }
 
 // Whether each word is below `limit`.
 fn all_below(s: &[u32], limit: usize) -> bool
     ensures { result ≡ not (any (leb limit) s.now) }
 {
-    let mut i = 0;
-    while i < s.len() {
-        if limit <= words::word(s, i) {
-            return false;
-        }
-        i += 1;
-    }
-    true
+    s.iter().all(|&w| (w as usize) < limit)
 }
 
 // Whether each operation, each count and each rule number fits its part of a call word.
 fn parts_fit(operations: &[u32], counts: &[u32], rules: &[u32]) -> bool
     ensures { result ≡ not (any (leb 256) operations.now || any (leb 4096) counts.now || any (leb 4096) rules.now) }
 {
-    if !all_below(operations, read_layout::OPERATIONS) {
-        return false;
-    }
-    if !all_below(counts, read_layout::COUNTS) {
-        return false;
-    }
-    all_below(rules, read_layout::RULES)
+    all_below(operations, read_layout::OPERATIONS)
+        && all_below(counts, read_layout::COUNTS)
+        && all_below(rules, read_layout::RULES)
 }
 
 // Whether lists can be laid out. No sum of lengths is made.
@@ -179,12 +159,10 @@ fn append_calls(
     requires operations_in_bounds { at + 4 * length operations.now ≤ length draft.old }
     ensures { Appended draft.old at (written (call_words operations.now counts.now rules.now)) draft.new result }
 {
-    let mut i = 0;
-    while i < operations.len() {
+    for i in 0..operations.len() {
         words::write_word(draft, at + 4 * i, call_word(operations, counts, rules, i));
-        i += 1;
     }
-    at + 4 * i
+    at + 4 * operations.len()
 }
 
 // Call words, targets and listed elements.

@@ -1,11 +1,6 @@
 use Rattle.check_clauses.proofs.Turns.{Asking}
 use Rattle.check_model.specs.Clauses.{parents_meet}
-use lib.ListN.{length}
-use Prim.Native.Nat.{◌-◌}
 use Rattle.check_clauses.proofs.all_parents_meet.Given as goal
 
 abbrev pub invariant-loop-i : goal.invariant-loop-i
 invariant-loop-i l = Asking (parents_meet l.old l.new l.partners) l.olds l.news l.i
-
-abbrev pub decreases-loop-i : goal.decreases-loop-i
-decreases-loop-i l = length l.olds - l.i

@@ -1,18 +1,11 @@
--- `beyond` meets its contract.
-use Rattle.check_clauses.proofs.Turns.{looking_start, looking_found, looking_next, looking_end}
-use borrow.Author.Rules.{rules}
-use native.Mathlib.Omega.{arith}
-use Prim.Native.Nat.{◌-◌}
+-- `beyond` meets its contract: the library's test of a list is the definition's.
+use mathlib.Core.Path.{◌∙◌}
+use lib.Dec.{leb}
+use Rattle.std.proofs.Common.{rules, tests}
+use Rattle.std.proofs.lemmas.Iterator.{YieldsList-from_slice}
+use Rattle.std.proofs.lemmas.Iterator.Search.{any_from_yields_List}
+use Rattle.check_clauses.proofs.Turns.{some_alike}
 use Rattle.check_clauses.proofs.beyond.Goals as goal
 
-pub loop-i-init : goal.loop-i-init
-loop-i-init c = looking_start _ _
-
-pub returns-then-n-word : goal.returns-then-n-word
-returns-then-n-word c = search (looking_found, rules)
-
-pub loop-i-preserved : goal.loop-i-preserved
-loop-i-preserved c = looking_next _ _ c.loop-i.invariant (omega arith) c.word.ensures.0 (omega arith)
-
 pub returns : goal.returns
-returns c = search (looking_end, rules)
+returns c = any_from_yields_List (leb c.args.n) _ _ _ c.any.ensures.ran (YieldsList-from_slice c.args.list.now cc) (λ x b q k. search (rules, tests)) ∙ some_alike _ _

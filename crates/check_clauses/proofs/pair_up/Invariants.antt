@@ -1,10 +1,5 @@
 use Rattle.check_clauses.proofs.Turns.{Pairing}
-use lib.ListN.{length}
-use Prim.Native.Nat.{◌-◌}
 use Rattle.check_clauses.proofs.pair_up.Given as goal
 
 abbrev pub invariant-loop-i : goal.invariant-loop-i
 invariant-loop-i l = Pairing l.olds l.news l.initial.partners l.partners l.i
-
-abbrev pub decreases-loop-i : goal.decreases-loop-i
-decreases-loop-i l = length l.olds - l.i

@@ -1,20 +1,15 @@
 -- `rising` meets its contract.
-use Rattle.check_clauses.proofs.Turns.{rising_start, rising_none, rising_no, rising_next, rising_end}
+use Rattle.check_clauses.proofs.Turns.{rising_none, rising_no, rising_next, rising_end}
+use mathlib.Core.Path.{refl}
 use borrow.Author.Rules.{rules}
-use Prim.Native.Nat.{◌-◌}
 use Rattle.check_clauses.proofs.rising.Goals as goal
-
-pub loop-i-init : goal.loop-i-init
-loop-i-init c = rising_start _ _
-
-pub loop-i-preserved-then-w-eq0 : goal.loop-i-preserved-then-w-eq0
-loop-i-preserved-then-w-eq0 c = search (rising_none, rules)
+use Rattle.check_clauses.proofs.rising.Goals.{then-w-ne0+else-w-last, else-w-ne0}
 
 pub returns-then-w-last : goal.returns-then-w-last
 returns-then-w-last c = search (rising_no, rules)
 
-pub loop-i-preserved : goal.loop-i-preserved
-loop-i-preserved c = search (rising_next, rules)
+pub loop-w-preserved : goal.loop-w-preserved
+loop-w-preserved c = elim c.if-w-ne0.branch [ then-w-ne0+else-w-last w ↦ rising_next _ c.loop-w.invariant c.loop-w-test.true refl w.if-w-ne0.true w.if-w-last.false w.last-is | else-w-ne0 w ↦ rising_none _ c.loop-w.invariant c.loop-w-test.true refl w.if-w-ne0.false w.last-is ]
 
 pub returns : goal.returns
 returns c = search (rising_end, rules)

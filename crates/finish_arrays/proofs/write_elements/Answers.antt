@@ -1,5 +1,4 @@
 -- `write_elements` meets its contract: the kinds and the measures of the rows passed are written, and each was read once.
-use native.Mathlib.Omega.{arith}
 use borrow.Author.Rules.{rules}
 use Rattle.finish_arrays.proofs.Turns.{sweeping, sweeping_next, sweeping_done}
 use Rattle.finish_arrays.proofs.write_elements.Goals as goal

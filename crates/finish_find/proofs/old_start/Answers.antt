@@ -1,6 +1,6 @@
 -- `old_start` meets its contract: the element's own path leads to it.
 use borrow.Author.Rules.{rules}
-use Rattle.finish_find.proofs.OldPath.{first_ends, first_short, start_there, start_nowhere}
+use Rattle.finish_find.proofs.OldPath.{first_ends, first_short, start_there, start_somewhere}
 use Rattle.finish_find.proofs.old_start.Goals as goal
 
 pub slice_bounds-resolve-end : goal.slice_bounds-resolve-end
@@ -9,8 +9,8 @@ slice_bounds-resolve-end c = first_ends c.requires.trees_told c.requires.k_lt_n 
 pub resolve-requires : goal.resolve-requires
 resolve-requires c = first_short c.requires.trees_told c.requires.k_lt_n c.entry-end.ensures
 
-pub returns-in-At : goal.returns-in-At
-returns-in-At c = search (start_there, rules)
+pub unwrap-found-requires : goal.unwrap-found-requires
+unwrap-found-requires c = search (start_somewhere, rules)
 
-pub returns-in-Nothing : goal.returns-in-Nothing
-returns-in-Nothing c = search (start_nowhere, rules)
+pub returns : goal.returns
+returns c = search (start_there, rules)

@@ -1,4 +1,3 @@
-use Prim.Native.Nat.{◌-◌}
 use Rattle.words.proofs.Turns.{Writing}
 use Rattle.finish_result.specs.Arrays.{note_column}
 use Rattle.finish_result.proofs.write_column.Given as goal

@@ -1,4 +1,3 @@
-use Prim.Native.Nat.{◌-◌}
 use Rattle.words.proofs.Turns.{Writing}
 use Rattle.finish_result.specs.Arrays.{rule_column}
 use Rattle.finish_result.proofs.write_rules.Given as goal

@@ -6,5 +6,5 @@ use Rattle.read_calls.proofs.run_fits.Goals as goal
 pub returns-then-entry : goal.returns-then-entry
 returns-then-entry c = search (run_in_order, rules)
 
-pub returns : goal.returns
-returns c = search (run_apart, rules)
+pub returns-else-entry : goal.returns-else-entry
+returns-else-entry c = search (run_apart, rules)

@@ -1,5 +1,4 @@
 -- `add_changed` meets its contract. The rows of the parts passed are added.
-use Prim.Native.Nat.{◌-◌}
 use Rattle.run_annotations.proofs.Turns.{adding_start, adding_small, adding_next, adding_done}
 use borrow.Author.Rules.{rules}
 use Rattle.run_annotations.proofs.add_changed.Goals as goal

@@ -1,5 +1,4 @@
 -- `move_changed` meets its contract. The rows passed are moved.
-use Prim.Native.Nat.{◌-◌}
 use Rattle.run_annotations.proofs.Turns.{moving_start, moving_small, moving_next, moving_done}
 use borrow.Author.Rules.{rules}
 use Rattle.run_annotations.proofs.move_changed.Goals as goal

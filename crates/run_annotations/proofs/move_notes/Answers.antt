@@ -1,5 +1,4 @@
 -- `move_notes` meets its contract. The notes passed are moved.
-use Prim.Native.Nat.{◌-◌}
 use Rattle.run_annotations.proofs.Turns.{notes_start, notes_small, notes_next, notes_done}
 use borrow.Author.Rules.{rules}
 use Rattle.run_annotations.proofs.move_notes.Goals as goal

@@ -1,9 +1,5 @@
-use Prim.Native.Nat.{◌-◌}
 use Rattle.run_annotations.proofs.Turns.{MovingNotes}
 use Rattle.run_annotations.proofs.move_notes.Given as goal
 
 abbrev pub invariant-loop-i : goal.invariant-loop-i
 invariant-loop-i l = MovingNotes l.initial.notes l.k l.p l.q l.m l.notes l.i l.r
-
-abbrev pub decreases-loop-i : goal.decreases-loop-i
-decreases-loop-i l = l.k - l.i

@@ -1,5 +1,4 @@
 -- `notes_in` meets its contract. The notes passed are taken or counted.
-use Prim.Native.Nat.{◌-◌}
 use Rattle.run_annotations.proofs.Turns.{taking_start, taking_next, taking_full, taking_done}
 use borrow.Author.Rules.{rules}
 use Rattle.run_annotations.proofs.notes_in.Goals as goal

@@ -1,10 +1,8 @@
-use Prim.Native.Nat.{◌-◌, ◌/◌}
+use Prim.Native.Nat.{◌/◌}
 use lib.ListN.{length}
 use Rattle.run_prepare.proofs.Turns.{Preparing}
 use Rattle.run_prepare.proofs.prepare.Given as goal
 
 abbrev pub invariant-loop-i : goal.invariant-loop-i
-invariant-loop-i l = Preparing l.rows l.n l.source l.marks l.first l.notes l.k l.list (length l.list / 4) l.at l.initial.prepared l.initial.sizes l.initial.incoming l.prepared l.sizes l.incoming l.i l.m l.c
-
-abbrev pub decreases-loop-i : goal.decreases-loop-i
-decreases-loop-i l = length l.list / 4 - l.i
+invariant-loop-i l =
+    Preparing l.rows l.n l.source l.marks l.first l.notes l.k l.list (length l.list / 4) l.at l.initial.prepared l.initial.sizes l.initial.incoming l.prepared l.sizes l.incoming l.i l.held.rows l.held.notes

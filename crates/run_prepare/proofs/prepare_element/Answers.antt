@@ -15,8 +15,8 @@ element_notes-requires c =
     let p = c.requires in
     record { e_in_bounds = (p.e_in_bounds.0, p.e_in_bounds.1, search (mark_few, rules), omega arith); first_len_bound = p.first_len_bound; at_bound = (omega arith, omega arith, omega arith) }
 
-pub returns-in-Full : goal.returns-in-Full
-returns-in-Full c = let p = c.requires in search (element_full, rules)
+pub returns-in_err-count : goal.returns-in_err-count
+returns-in_err-count c = let p = c.requires in search (element_full, rules)
 
-pub returns-in-Count : goal.returns-in-Count
-returns-in-Count c = let p = c.requires in search (element_came, rules)
+pub returns : goal.returns
+returns c = let p = c.requires in search (element_came, rules)

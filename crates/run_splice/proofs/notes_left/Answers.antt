@@ -1,6 +1,5 @@
 -- `notes_left` meets its contract. Of the notes passed, those that stay are counted.
 use borrow.Author.Rules.{rules}
-use Prim.Native.Nat.{◌-◌}
 use Rattle.run_splice.proofs.Turns.{staying_done, staying_next, staying_start}
 use Rattle.run_splice.proofs.notes_left.Goals as goal
 

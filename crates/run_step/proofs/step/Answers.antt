@@ -4,8 +4,8 @@ use Rattle.run_step.specs.Opening.{bytes_few}
 use Rattle.run_step.proofs.Performing.{asks_depth, asks_gap, list_within, listed_low, opens, performed, performed_gone}
 use Rattle.run_step.proofs.step.Goals as goal
 
-pub change_gap-site-requires : goal.change_gap-site-requires
-change_gap-site-requires c = let q = asks_gap c.requires.standing c.args.listed.now c.args.changes.now c.args.k c.requires.listed_len_bound c.requires.performs in record { n_in_bounds = q.0; lines = q.1.0; k_in_bounds = q.1.1 }
+pub change_gap-requires : goal.change_gap-requires
+change_gap-requires c = let q = asks_gap c.requires.standing c.args.listed.now c.args.changes.now c.args.k c.requires.listed_len_bound c.requires.performs in record { n_in_bounds = q.0; lines = q.1.0; k_in_bounds = q.1.1 }
 
 pub depth_above-above-requires : goal.depth_above-above-requires
 depth_above-above-requires c = asks_depth c.requires.standing c.args.listed.now c.args.changes.now c.args.k c.requires.listed_len_bound c.requires.performs
@@ -32,10 +32,10 @@ pub slice_bounds-step_at-end : goal.slice_bounds-step_at-end
 slice_bounds-step_at-end c = let q = list_within c.requires.standing c.args.listed.now c.args.changes.now c.args.k c.requires.listed_len_bound c.requires.performs c.field-from.ensures c.field.ensures in omega arith
 
 pub step_at-requires : goal.step_at-requires
-step_at-requires c = let p = c.requires in let v = p.standing in let q = listed_low c.requires.standing c.args.listed.now c.args.changes.now c.args.k c.requires.listed_len_bound c.requires.performs c.change_gap-site.ensures c.in-At.is c.depth_above-above.ensures c.recorded_by-recorded.ensures c.field-from.ensures c.field.ensures in let gap = opens c.requires.standing c.args.listed.now c.args.changes.now c.args.k c.requires.listed_len_bound c.requires.performs c.change_gap-site.ensures c.in-At.is c.depth_above-above.ensures c.recorded_by-recorded.ensures c.field-from.ensures c.field.ensures p.in_bounds.1 p.k_in_bounds in let d = c.depth_above-above.ensures.low in record { fact = gap; in_bounds = (p.in_bounds.0, p.in_bounds.1, d); bytes_bound = (bytes_few v, v.measured); marks_len_bound = (v.begun.formed.few, v.begun.long, v.begun.few_notes); list_len_bound = q; in_bounds_2 = (p.in_bounds.2, p.in_bounds.3, p.in_bounds.4) }
+step_at-requires c = let p = c.requires in let v = p.standing in let q = listed_low c.requires.standing c.args.listed.now c.args.changes.now c.args.k c.requires.listed_len_bound c.requires.performs c.change_gap.ensures c.in-Some.is c.depth_above-above.ensures c.recorded_by-recorded.ensures c.field-from.ensures c.field.ensures in let gap = opens c.requires.standing c.args.listed.now c.args.changes.now c.args.k c.requires.listed_len_bound c.requires.performs c.change_gap.ensures c.in-Some.is c.depth_above-above.ensures c.recorded_by-recorded.ensures c.field-from.ensures c.field.ensures p.in_bounds.1 p.k_in_bounds in let d = c.depth_above-above.ensures.low in record { fact = gap; in_bounds = (p.in_bounds.0, p.in_bounds.1, d); bytes_bound = (bytes_few v, v.measured); marks_len_bound = (v.begun.formed.few, v.begun.long, v.begun.few_notes); list_len_bound = q; in_bounds_2 = (p.in_bounds.2, p.in_bounds.3, p.in_bounds.4) }
 
-pub returns-in-Gone : goal.returns-in-Gone
-returns-in-Gone c = performed_gone c.requires.standing c.args.listed.now c.args.changes.now c.args.k c.requires.listed_len_bound c.requires.performs c.change_gap-site.ensures c.in-Gone.is
+pub returns-in_default : goal.returns-in_default
+returns-in_default c = performed_gone c.requires.standing c.args.listed.now c.args.changes.now c.args.k c.requires.listed_len_bound c.requires.performs c.change_gap.ensures c.in_default.is
 
-pub returns-in-At : goal.returns-in-At
-returns-in-At c = performed c.requires.standing c.args.listed.now c.args.changes.now c.args.k c.requires.listed_len_bound c.requires.performs c.change_gap-site.ensures c.in-At.is c.depth_above-above.ensures c.recorded_by-recorded.ensures c.field-from.ensures c.field.ensures c.step_at.ensures
+pub returns : goal.returns
+returns c = performed c.requires.standing c.args.listed.now c.args.changes.now c.args.k c.requires.listed_len_bound c.requires.performs c.change_gap.ensures c.in-Some.is c.depth_above-above.ensures c.recorded_by-recorded.ensures c.field-from.ensures c.field.ensures c.step_at.ensures

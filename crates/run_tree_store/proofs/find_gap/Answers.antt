@@ -12,8 +12,8 @@ returns-then-m-eq0 c = search (site_gone, rules)
 pub returns-then-operation-eq0 : goal.returns-then-operation-eq0
 returns-then-operation-eq0 c = search (site_first, rules)
 
-pub gap_after-g-requires : goal.gap_after-g-requires
-gap_after-g-requires c = search (mark_low, rules)
+pub gap_after-requires : goal.gap_after-requires
+gap_after-requires c = search (mark_low, rules)
 
 pub returns-then-operation-eq1 : goal.returns-then-operation-eq1
 returns-then-operation-eq1 c = search (site_after, rules)
@@ -21,8 +21,8 @@ returns-then-operation-eq1 c = search (site_after, rules)
 pub returns-then-operation-eq5 : goal.returns-then-operation-eq5
 returns-then-operation-eq5 c = search (site_run, rules)
 
-pub gap_of-g-requires : goal.gap_of-g-requires
-gap_of-g-requires c = search (mark_low, rules)
+pub gap_of-requires : goal.gap_of-requires
+gap_of-requires c = search (mark_low, rules)
 
 pub returns : goal.returns
 returns c = search (site_one, rules)

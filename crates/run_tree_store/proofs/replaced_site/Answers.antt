@@ -9,8 +9,8 @@ returns-then-is_root c = search (replaced_root, rules)
 pub returns-then-m-eq0 : goal.returns-then-m-eq0
 returns-then-m-eq0 c = search (replaced_gone, rules)
 
-pub gap_of-g-requires-2 : goal.gap_of-g-requires-2
-gap_of-g-requires-2 c = search (mark_low, rules)
+pub gap_of-requires-2 : goal.gap_of-requires-2
+gap_of-requires-2 c = search (mark_low, rules)
 
 pub returns : goal.returns
 returns c = search (replaced_there, rules)

@@ -6,8 +6,8 @@ use Rattle.run_tree_store.proofs.run_site.Goals as goal
 pub returns-then-k-eq0 : goal.returns-then-k-eq0
 returns-then-k-eq0 c = search (run_gone, rules)
 
-pub gap_run-g-requires : goal.gap_run-g-requires
-gap_run-g-requires c = search (mark_low, rules)
+pub gap_run-requires : goal.gap_run-requires
+gap_run-requires c = search (mark_low, rules)
 
 pub returns : goal.returns
 returns c = search (run_there, rules)

@@ -1,14 +1,11 @@
 -- `leads` meets its contract.
 use borrow.Author.Rules.{rules}
 use mathlib.Core.Path.{refl}
-use Rattle.series_check.specs.Leading.{leads_beyond, leads_found, leads_nowhere}
+use Rattle.series_check.specs.Leading.{leads_beyond, leads_found}
 use Rattle.series_check.proofs.leads.Goals as goal
 
 pub returns-then-n-gt-LONGEST_PATH : goal.returns-then-n-gt-LONGEST_PATH
 returns-then-n-gt-LONGEST_PATH c = search (leads_beyond, rules)
 
-pub returns-in-At : goal.returns-in-At
-returns-in-At c = leads_found _ _ _ c.slot_at-at.ensures c.word-n.ensures c.if-n-gt-LONGEST_PATH.false refl c.in-At.ensures _ _ refl
-
-pub returns-in-Nothing : goal.returns-in-Nothing
-returns-in-Nothing c = leads_nowhere _ _ _ c.slot_at-at.ensures c.word-n.ensures c.if-n-gt-LONGEST_PATH.false refl c.in-Nothing.ensures refl
+pub returns : goal.returns
+returns c = leads_found _ _ _ c.slot_at-at.ensures c.word-n.ensures c.if-n-gt-LONGEST_PATH.false refl c.resolve.ensures c.is_some.ensures

@@ -1,7 +1,6 @@
 -- `mark_now` meets its contract.
 use native.Mathlib.Omega.{arith}
-use mathlib.Core.Path.{refl}
-use Rattle.series_move.specs.Found.{number_low, mark_told, mark_nothing, part_short}
+use Rattle.series_move.specs.Found.{number_low, mark_told, mark_found, part_short}
 use Rattle.series_move.proofs.mark_now.Goals as goal
 
 pub overflow_add-e : goal.overflow_add-e
@@ -13,11 +12,11 @@ subtree-tree-requires c = (c.requires.stood.long_old, omega (arith, c.requires.s
 pub resolve-requires : goal.resolve-requires
 resolve-requires c = part_short c.requires c.subtree-tree.ensures
 
+pub unwrap-found-requires : goal.unwrap-found-requires
+unwrap-found-requires c = mark_found c.requires c.subtree-tree.ensures c.resolve.ensures
+
 pub word-requires : goal.word-requires
-word-requires c = number_low c.requires c.subtree-tree.ensures c.in-At.ensures refl
+word-requires c = number_low c.requires c.subtree-tree.ensures c.resolve.ensures c.unwrap-found.ensures
 
-pub returns-in-At : goal.returns-in-At
-returns-in-At c = λ s. mark_told s c.subtree-tree.ensures c.in-At.ensures refl c.word.ensures
-
-pub returns-in-Nothing : goal.returns-in-Nothing
-returns-in-Nothing c = λ s. mark_nothing s c.subtree-tree.ensures c.in-Nothing.ensures refl
+pub returns : goal.returns
+returns c = λ s. mark_told s c.subtree-tree.ensures c.resolve.ensures c.unwrap-found.ensures c.word.ensures

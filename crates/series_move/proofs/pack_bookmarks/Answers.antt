@@ -1,7 +1,6 @@
 -- `pack_bookmarks` meets its contract.
 use native.Mathlib.Omega.{arith}
 use mathlib.Core.Path.{refl, ◌∙◌}
-use Prim.Native.Nat.{◌-◌}
 use Rattle.series_move.specs.Packing.{packing_start, packing_here, packing_next, packing_done}
 use Rattle.series_move.proofs.pack_bookmarks.Goals as goal
 

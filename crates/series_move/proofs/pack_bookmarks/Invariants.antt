@@ -1,11 +1,7 @@
 use lib.ListN.{length}
 use mathlib.Core.Path.{◌≡◌}
-use Prim.Native.Nat.{◌-◌}
 use Rattle.series_move.specs.Packing.{Packing}
 use Rattle.series_move.proofs.pack_bookmarks.Given as goal
 
 abbrev pub invariant-loop-i : goal.invariant-loop-i
 invariant-loop-i l = (length l.path ≡ length l.initial.path) × Packing l.source l.e l.marks l.rows l.n l.initial.bookmarks l.bookmarks l.k l.i l.to
-
-abbrev pub decreases-loop-i : goal.decreases-loop-i
-decreases-loop-i l = l.k - l.i

@@ -1,10 +1,5 @@
-use Prim.Native.Nat.{◌-◌}
-use lib.ListN.{length}
 use Rattle.series_move.specs.Paths.{Writing}
 use Rattle.series_move.proofs.write_path.Given as goal
 
 abbrev pub invariant-loop-j : goal.invariant-loop-j
 invariant-loop-j l = Writing l.source l.e l.marks l.rows l.n l.path l.initial.out l.out l.x l.j
-
-abbrev pub decreases-loop-j : goal.decreases-loop-j
-decreases-loop-j l = length l.path - l.j

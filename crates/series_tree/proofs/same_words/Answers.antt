@@ -1,5 +1,4 @@
 -- `same_words` meets its contract.
-use Prim.Native.Nat.{◌-◌}
 use Rattle.series_tree.specs.Same.{comparing_start, comparing_other, comparing_next, comparing_end}
 use Rattle.series_tree.proofs.same_words.Goals as goal
 

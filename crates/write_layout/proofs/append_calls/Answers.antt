@@ -1,6 +1,5 @@
 -- `append_calls` meets its contract: call by call.
 use borrow.Author.Rules.{rules}
-use Prim.Native.Nat.{◌-◌}
 use Rattle.write_layout.proofs.Ways.{calling_start, calling_next, calling_done}
 use Rattle.write_layout.proofs.append_calls.Goals as goal
 

@@ -1,11 +1,5 @@
-use borrow.Author.Rules.{rules}
-use Prim.Native.Nat.{◌-◌}
-use lib.ListN.{length}
 use Rattle.write_layout.proofs.Ways.{Calling}
 use Rattle.write_layout.proofs.append_calls.Given as goal
 
 abbrev pub invariant-loop-i : goal.invariant-loop-i
 invariant-loop-i l = Calling l.initial.draft l.at l.operations l.counts l.rules l.draft l.i
-
-abbrev pub decreases-loop-i : goal.decreases-loop-i
-decreases-loop-i l = length l.operations - l.i

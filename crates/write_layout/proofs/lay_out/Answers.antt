@@ -1,7 +1,6 @@
 -- `lay_out` meets its contract: array behind array; each has room, since all are within their limits.
 use native.Mathlib.Omega.{arith}
 use Rattle.write_layout.proofs.Ways.{in_limits, room_trees, room_queue, room_names, room_text, all_laid}
-use borrow.Author.Rules.{rules}
 use Rattle.write_layout.proofs.lay_out.Goals as goal
 
 pub append_sizes-trees_at-requires : goal.append_sizes-trees_at-requires
