@@ -12,24 +12,25 @@ use Rattle.rows_model.specs.Place.{place}
 use Rattle.rows_model.proofs.PlaceLaws.{place_lt}
 use Rattle.rows_model.proofs.Words.{length_triples}
 use Rattle.rows_path.specs.Offset.{offset}
-use Rattle.rows_path.specs.Promises.{standing, Resolves}
-use Rattle.rows_path.specs.declared.Resolved.TheVariants.{At}
+use Rattle.rows_path.specs.Promises.{at_row, standing, Resolves}
+use Rattle.rows_path.specs.declared.Resolved.{Resolved}
 use Rattle.run_model.specs.Store.{HeldNote, HeldChanged}
 use Rattle.finish_arrays.specs.Starts.{Starts}
 use Rattle.finish_sort.specs.Keys.{start_key, note_key}
 
 -- `finish` has the starts of the rows of the new tree t listed, and hands one for each row on to sorting. Resolving a path in those rows gives element e and a start
-module _ {tree d l : List ℕ} (v : Starts tree d l) (text : List ℕ) (t : Tree ℕ) (told : triples text tree ≡ rows_of t) {path : Path} {e start : ℕ} (q : Resolves tree path (At e start)) where
+module _ {tree d l : List ℕ} (v : Starts tree d l) (text : List ℕ) (t : Tree ℕ) (told : triples text tree ≡ rows_of t) {path : Path} {e start : ℕ} (q : Resolves tree path (at_row e start)) where
   -- the start that is listed for e
   pub start_listed : get_or (take (length tree / 3) l) e 0 ≡ start
   unfolding standing
   start_listed = go (resolve path t) refl (q.element text t told)
     where
-      go : (o : Option (Tree ℕ)) → resolve path t ≡ o → At e start ≡ standing path t o → get_or (take (length tree / 3) l) e 0 ≡ start
-      go none f g = absurd (let z : ◌≡◌ {A = ℕ} 0 1 = cc in omega arith)
+      go : (o : Option (Tree ℕ)) → resolve path t ≡ o → at_row e start ≡ standing path t o → get_or (take (length tree / 3) l) e 0 ≡ start
+      go none f g = cc
       go (some u) f g =
-          let a : e ≡ place path t = cc in
-          let b : start ≡ offset path t = cc in
+          let s : ◌≡◌ {A = Resolved} (record { row = e; start = start }) (record { row = place path t; start = offset path t }) = cc in
+          let a : e ≡ place path t = ap (λ (r : Resolved). r.row) s in
+          let b : start ≡ offset path t = ap (λ (r : Resolved). r.start) s in
           let h : e < length tree / 3 = omega (arith, place_lt path t u f, ap length told, length_triples text tree) in
           get_or-take (length tree / 3) l e 0 h ∙ (ap (λ i. get_or l i 0) a ∙ (v.paths text t path u told f ∙ sym b))
 

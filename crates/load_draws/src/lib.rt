@@ -160,13 +160,11 @@ pub fn first_call(i: u32, d: u32) -> DrawnCall
     requires { (i < 3) × (d < 65536) }
     ensures { Called result (get_or (first_calls d) i none) }
 {
-    if i == 0 {
-        return listing_one(d / 16, REPLACE, replaced_block(d), REPLACEMENT);
+    match i {
+        0 => listing_one(d / 16, REPLACE, replaced_block(d), REPLACEMENT),
+        1 => listing_one(d / 16, AFTER, block_token(d % 64, d / 64 % 4), donor(0)),
+        _ => listing_one(d / 16, AFTER, block_token(d / 1024, d / 256 % 4), donor(1)),
     }
-    if i == 1 {
-        return listing_one(d / 16, AFTER, block_token(d % 64, d / 64 % 4), donor(0));
-    }
-    listing_one(d / 16, AFTER, block_token(d / 1024, d / 256 % 4), donor(1))
 }
 
 // A call in block b. Only a later one deletes it.
@@ -175,28 +173,17 @@ fn free_call(later: bool, b: u32, what: u32, place: u32) -> DrawnCall
     ensures { Called result (free_call later b what place) }
 {
     let rule = what / 16;
-    let case = what % 8;
     let token = token_drawn(b, place);
     let first = donor_drawn(place);
-    if case == 0 {
-        return listing_one(rule, FIRST_CHILD, block(b), first);
+    match what % 8 {
+        0 => listing_one(rule, FIRST_CHILD, block(b), first),
+        1 | 2 => listing_one(rule, AFTER, token, first),
+        3 => listing_two(rule, AFTER, separator(b), first, other_drawn(place)),
+        4 | 5 => listing_one(rule, REPLACE, token, first),
+        6 => listing_none(rule, DELETE, token),
+        _ if later => listing_none(rule, DELETE, block(b)),
+        _ => listing_one(rule, AFTER, separator(b), first),
     }
-    if case < 3 {
-        return listing_one(rule, AFTER, token, first);
-    }
-    if case == 3 {
-        return listing_two(rule, AFTER, separator(b), first, other_drawn(place));
-    }
-    if case < 6 {
-        return listing_one(rule, REPLACE, token, first);
-    }
-    if case == 6 {
-        return listing_none(rule, DELETE, token);
-    }
-    if later {
-        return listing_none(rule, DELETE, block(b));
-    }
-    listing_one(rule, AFTER, separator(b), first)
 }
 
 // The only call in block b.
@@ -218,14 +205,10 @@ pub fn call_at(i: u32, what: u32, place: u32) -> DrawnCall
     requires { (i < 96) × (place < 65536) }
     ensures { Called result (call_at i what place) }
 {
-    if i < 32 {
-        return free_call(false, place % 64, what, place);
+    match i {
+        ..32 => free_call(false, place % 64, what, place),
+        32 => listing_none(0, FURTHER_EDITOR, 0),
+        33..64 => free_call(true, 64 + place % 32, what, place),
+        _ => own_call(i + 32, what, place),
     }
-    if i == 32 {
-        return listing_none(0, FURTHER_EDITOR, 0);
-    }
-    if i < 64 {
-        return free_call(true, 64 + place % 32, what, place);
-    }
-    own_call(i + 32, what, place)
 }

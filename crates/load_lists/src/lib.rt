@@ -12,84 +12,59 @@ use load_draws::{DrawnCall, call_at, drawn, first_call, next};
 // How many elements tree 0 has; the root of tree 1, of tree 2, and the copy of a block in it.
 const OF_TREE_0: usize = 769;
 
-const REPLACEMENT: usize = 786;
+const REPLACEMENT: usize = load_draws::REPLACEMENT as usize;
 
-const COPY: usize = 787;
+const COPY: usize = load_draws::COPY as usize;
 
 // Element e's kind word.
+#[tactic(auto, unfolding(load_laws::specs::Load::kind_at))]
 fn kind_at(e: usize) -> u32
     ensures { result ≡ kind_at e }
 {
-    if e == 0 {
-        return 0x8000_0001;
+    match e {
+        0 => 0x8000_0001,
+        1..OF_TREE_0 => match (e - 1) % 6 {
+            0 => 2,
+            1 => 0x8000_0003,
+            _ => 4,
+        },
+        OF_TREE_0 => 0x8000_0005,
+        ..REPLACEMENT => 6,
+        REPLACEMENT => 0x8000_0007,
+        COPY => 0x8000_0003,
+        _ => 4,
     }
-    if e < OF_TREE_0 {
-        let r = (e - 1) % 6;
-        if r == 0 {
-            return 2;
-        }
-        if r == 1 {
-            return 0x8000_0003;
-        }
-        return 4;
-    }
-    if e == OF_TREE_0 {
-        return 0x8000_0005;
-    }
-    if e < REPLACEMENT {
-        return 6;
-    }
-    if e == REPLACEMENT {
-        return 0x8000_0007;
-    }
-    if e == COPY {
-        return 0x8000_0003;
-    }
-    4
 }
 
 // Element e's measure.
+#[tactic(auto, unfolding(load_laws::specs::Load::measure_at))]
 fn measure_at(e: usize) -> u32
     ensures { result ≡ measure_at e }
 {
-    if e == 0 {
-        return 256;
+    match e {
+        0 => 256,
+        1..OF_TREE_0 if (e - 1) % 6 == 1 => 4,
+        OF_TREE_0 => 16,
+        COPY => 4,
+        _ => 1,
     }
-    if e < OF_TREE_0 {
-        if (e - 1) % 6 == 1 {
-            return 4;
-        }
-        return 1;
-    }
-    if e == OF_TREE_0 {
-        return 16;
-    }
-    if e < REPLACEMENT {
-        return 1;
-    }
-    if e == COPY {
-        return 4;
-    }
-    1
 }
 
 // Byte t of the text.
+#[tactic(auto, unfolding(load_laws::specs::Load::byte_at))]
 fn byte_at(t: usize) -> u8
     requires { t < 660 }
     ensures { result ≡ byte_at t }
 {
-    if t < 640 {
-        if t % 5 == 0 {
-            return b';';
-        }
-        return b'a' + ((t / 5 + t % 5 - 1) % 26) as u8;
+    match t {
+        ..640 if t % 5 == 0 => b';',
+        ..640 => b'a' + ((t / 5 + t % 5 - 1) % 26) as u8,
+        640..656 => b'A' + (t - 640) as u8,
+        _ => b'0' + (t - 656) as u8,
     }
-    if t < 656 {
-        return b'A' + (t - 640) as u8;
-    }
-    b'0' + (t - 656) as u8
 }
 
+// Three loops of one line each stay three: a closure lent to one is no plainer, since the contract would speak of the closure.
 // The kind words of as many elements as there is room for.
 fn fill_kinds(kinds: &mut [u32])
     ensures { kinds.new ≡ along kind_at 0 (length kinds.old) }
@@ -140,16 +115,15 @@ fn numbered(i: u32, present: u32) -> DrawnCall
 }
 
 // What the generator holds after call i: calls 0, 1 and 2 share one draw, each further call takes two.
+#[tactic(auto, unfolding(crate::specs::Numbered::passed))]
 fn passed(i: u32, present: u32) -> u32
     ensures { result ≡ passed_of i present }
 {
-    if i < 2 {
-        return present;
+    match i {
+        0 | 1 => present,
+        2 => next(present),
+        _ => next(next(present)),
     }
-    if i == 2 {
-        return next(present);
-    }
-    next(next(present))
 }
 
 // The lists of calls; answers how many elements they list. Of each call both places are written, and those that it does not list are written again.

@@ -54,6 +54,7 @@ pub fn run_fits(table: &[u32], x: usize, y: usize) -> bool
         && entry(table, x, CHILD) <= entry(table, y, CHILD)
 }
 
+// An operation stays a number here and below, since a call word may hold any, and callers pass what they read.
 // Whether a call word names a known operation, which may list `count` elements and carry the rule number `rule`.
 pub fn word_fits(operation: usize, count: usize, rule: usize) -> bool
     ensures { result ≡ word_fits operation count rule }
@@ -80,17 +81,11 @@ pub fn call_fits(
     requires operation_bound { (operation ≤ 6) × (target < n) × (first < n) }
     ensures { result ≡ call_fits (view n table.now source.now) operation target first }
 {
-    if operation == 0 {
-        return is_node(source, target);
+    match operation {
+        0 => is_node(source, target),
+        6 => target == 0,
+        _ if is_root(table, target) => operation == 2 && is_node(source, first),
+        5 => run_fits(table, target, first),
+        _ => true,
     }
-    if operation == 6 {
-        return target == 0;
-    }
-    if is_root(table, target) {
-        return operation == 2 && is_node(source, first);
-    }
-    if operation == 5 {
-        return run_fits(table, target, first);
-    }
-    true
 }

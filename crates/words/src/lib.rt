@@ -3,6 +3,7 @@
 
 ghost use Rattle.std.specs.Prelude.{◌≡◌, ◌∷◌, [], ◌++◌, ◌+◌, ◌-◌, ◌*◌, ◌^◌, ◌≤◌, ◌<◌, length, get_or, take, drop, replicate};
 ghost use Rattle.std.proofs.Math.Seq.{paste};
+ghost use Rattle.std.specs.List.{AllByRecursion};
 ghost use Rattle.definition.specs.Words.{word as word_of, words, bytes, written};
 ghost use Rattle.words.specs.Parts.{spliced};
 
@@ -105,12 +106,22 @@ pub fn splice_words(s: &mut [u32], n: usize, p: usize, q: usize, ins: &[u32])
     copy_in(s, p, ins);
 }
 
+// Each number of `row` is written as a word, the first at `at`.
+pub fn store(s: &mut [u32], at: usize, row: &[usize])
+    requires { (at + length row.now ≤ length s.old) × AllByRecursion (λ x. x < 2 ^ 32) row.now }
+    ensures { s.new ≡ paste s.old at row.now (length row.now) }
+{
+    for (i, x) in row.iter().enumerate() {
+        s[at + i] = *x as u32;
+    }
+}
+
 // Three words are written at `at`.
 pub fn store3(s: &mut [u32], at: usize, a: usize, b: usize, c: usize)
     requires { (at + 3 ≤ length s.old) × (a < 2 ^ 32) × (b < 2 ^ 32) × (c < 2 ^ 32) }
     ensures { s.new ≡ paste s.old at (a ∷ b ∷ c ∷ []) 3 }
 {
-    copy_in(s, at, &[a as u32, b as u32, c as u32]);
+    store(s, at, &[a, b, c]);
 }
 
 // Eight words are written at `at`.
@@ -129,8 +140,5 @@ pub fn store8(
     requires { (at + 8 ≤ length s.old) × (a < 2 ^ 32) × (b < 2 ^ 32) × (c < 2 ^ 32) × (d < 2 ^ 32) × (e < 2 ^ 32) × (f < 2 ^ 32) × (g < 2 ^ 32) × (h < 2 ^ 32) }
     ensures { s.new ≡ paste s.old at (a ∷ b ∷ c ∷ d ∷ e ∷ f ∷ g ∷ h ∷ []) 8 }
 {
-    let row = [
-        a as u32, b as u32, c as u32, d as u32, e as u32, f as u32, g as u32, h as u32,
-    ];
-    copy_in(s, at, &row);
+    store(s, at, &[a, b, c, d, e, f, g, h]);
 }

@@ -22,8 +22,8 @@ returns-then-not-stands c = search (reading_wrong, rules)
 pub returns-then-bytes-end : goal.returns-then-bytes-end
 returns-then-bytes-end c = search (reading_over, rules)
 
-pub store4-requires : goal.store4-requires
-store4-requires c =
+pub store-requires : goal.store-requires
+store-requires c =
     let l = c.loop-d in
     let v = l.invariant in
     let a = c.requires in
@@ -31,7 +31,7 @@ store4-requires c =
     let g = v.few in
     let f = v.small (l.d - 1) in
     let j = v.inside in
-    (omega arith, omega (arith, c.word-k.ensures.1), omega arith, omega arith, omega arith)
+    (omega arith, (omega (arith, c.word-k.ensures.1), (omega arith, (omega arith, (omega arith, tt)))))
 
 pub bounds-left-d : goal.bounds-left-d
 bounds-left-d c =
@@ -51,7 +51,7 @@ loop-d-preserved c =
     let s = c.stands in
     let n = c.length_of in
     let a = c.requires in
-    reading_open l.invariant a.0 (omega arith) c.if-x-eq0.false (omega arith) k.ensures.0 m.ensures.0 s.ensures c.if-not-stands.false n.ensures.0 c.children_of.ensures (omega arith) (omega arith) c.store4.ensures
+    reading_open l.invariant a.0 (omega arith) c.if-x-eq0.false (omega arith) k.ensures.0 m.ensures.0 s.ensures c.if-not-stands.false n.ensures.0 c.children_of.ensures (omega arith) (omega arith) c.store.ensures
 
 pub returns-then-i-kinds : goal.returns-then-i-kinds
 returns-then-i-kinds c = search (reading_long, rules)
