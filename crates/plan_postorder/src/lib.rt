@@ -41,9 +41,7 @@ fn link_dependents(
     requires first_value { (first.old ≡ replicate 258 0) × (length next.old ≡ 256) }
     ensures { Links (owned_by rows.now (ranked_places rows.now n)) first.new next.new }
 {
-    let mut i = n;
-    while 0 < i {
-        i -= 1;
+    for i in (0..n).rev() {
         let k = word(ranked, i);
         let owner = owner_of(rows, k);
         next[k] = first[owner];

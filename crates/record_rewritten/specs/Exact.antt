@@ -7,7 +7,7 @@ use Rattle.std.proofs.Common.{sym, ◌∙◌, subst, add-zero, get_or-drop}
 use Rattle.std.proofs.Math.ListN.{get_or, take}
 use Rattle.definition.specs.Elements.{Table}
 use Rattle.definition.specs.Recording.{first_child, after, Change, insert, replace, delete, replace_with_many, replace_all}
-use Rattle.definition.specs.Planning.{Fate, target, rank}
+use Rattle.definition.specs.Planning.{Fate, target}
 use Rattle.definition.specs.Running.{news}
 use Rattle.record_changes.specs.ChangeRow.{ChangeRow, operation, end_of, change_row}
 use Rattle.plan_sort.specs.Rows.{row_fate, with_fate, fate_stated, Tells, row_tells, fate_tells}

@@ -69,5 +69,5 @@ pub fn copy_row(rows: &[u32], i: usize, out: &mut [u32])
 {
     let from = record_changes::WORDS * i;
     let to = from + record_changes::WORDS;
-    words::copy_in(out, from, &rows[from..to]);
+    out[from..to].copy_from_slice(&rows[from..to]);
 }

@@ -3,6 +3,3 @@ use Rattle.plan_postorder.proofs.link_dependents.Given as goal
 
 abbrev pub invariant-loop-i : goal.invariant-loop-i
 invariant-loop-i l = Linking l.rows l.n l.first l.next l.i
-
-abbrev pub decreases-loop-i : goal.decreases-loop-i
-decreases-loop-i l = l.i
