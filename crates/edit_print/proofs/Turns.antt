@@ -8,13 +8,13 @@ use native.Mathlib.Numerals.{add-one}
 use native.Mathlib.Omega.{arith}
 use borrow.Author.Tests.{lt-ltb, le-ltb, le-leb, lt-leb}
 use lib.ListN.{length, get_or, set, take, drop, length-append, length-take, length-drop}
-use lib.Seq.{paste, paste-zero, take-suc, take_all, length-take-le, drop-drop}
+use lib.Seq.{paste, paste-zero, take-suc, take_all, length-take-le}
 use Rattle.definition.specs.Printed.{ascii, digits, decimal, hex_digit, hex, line, element_line, text_line, print}
 use Rattle.definition.specs.Basics.{refused, gives}
 use Rattle.definition.specs.Finishing.{six_sizes}
-use Rattle.definition.specs.Words.{word, words}
+use Rattle.definition.specs.Words.{word}
 use Rattle.definition.specs.Elements.{is_node, kind_of}
-use Rattle.words.specs.Bytes.{length_words, get_d_words}
+use Rattle.words.specs.Bytes.{length_words}
 use Rattle.words.specs.Parts.{set_paste}
 use Rattle.definition_laws.specs.Basics.{flat_map_append}
 use Rattle.result_laws.specs.Decoded.{told, decoded}

@@ -20,7 +20,7 @@ fn put(out: &mut [u8], at: usize, byte: u8) -> usize
     at + 1
 }
 
-// The last `k` digits of `n` in decimal, with no zeros in front, are written at `at`.
+// The last `k` digits of `n` in decimal, with no zeros in front, are written at `at`. By hand: the library's `Display` has no contract that says which digits, nor how many.
 pub fn put_digits(out: &mut [u8], at: usize, n: usize, k: usize) -> usize
     requires { at + k ≤ length out.old }
     ensures { Put out.old at (digits k n) out.new result }
@@ -29,10 +29,10 @@ pub fn put_digits(out: &mut [u8], at: usize, n: usize, k: usize) -> usize
         return at;
     }
     if n < 10 {
-        return put(out, at, 48 + n as u8);
+        return put(out, at, b'0' + n as u8);
     }
     let end = put_digits(out, at, n / 10, k - 1);
-    put(out, end, 48 + (n % 10) as u8)
+    put(out, end, b'0' + (n % 10) as u8)
 }
 
 // A number is written at `at`, after a space.
@@ -40,7 +40,7 @@ fn put_number(out: &mut [u8], at: usize, n: usize) -> usize
     requires { at + 11 ≤ length out.old }
     ensures { Put out.old at (spaced n) out.new result }
 {
-    let to = put(out, at, 32);
+    let to = put(out, at, b' ');
     put_digits(out, to, n, 10)
 }
 
@@ -50,10 +50,8 @@ fn put_numbers(out: &mut [u8], at: usize, ns: &[usize]) -> usize
     ensures { Put out.old at (flat_map spaced ns.now) out.new result }
 {
     let mut to = at;
-    let mut i = 0;
-    while i < ns.len() {
-        to = put_number(out, to, ns[i]);
-        i += 1;
+    for n in ns {
+        to = put_number(out, to, *n);
     }
     to
 }
@@ -65,20 +63,20 @@ pub fn put_line(out: &mut [u8], at: usize, name: &[u8], ns: &[usize]) -> usize
 {
     words::copy_bytes(out, at, name);
     let end = put_numbers(out, at + name.len(), ns);
-    put(out, end, 10)
+    put(out, end, b'\n')
 }
 
 // A digit in hexadecimal.
-fn hex_digit(n: usize) -> u8
+fn hex_digit(n: u8) -> u8
     requires { n < 16 }
     ensures { result ≡ hex_digit n }
 {
-    if n < 10 { 48 + n as u8 } else { 87 + n as u8 }
+    if n < 10 { b'0' + n } else { b'a' - 10 + n }
 }
 
 // A byte in hexadecimal is written at `at`.
-fn put_hex(out: &mut [u8], at: usize, byte: usize) -> usize
-    requires { (at + 2 ≤ length out.old) × (byte < 2 ^ 8) }
+fn put_hex(out: &mut [u8], at: usize, byte: u8) -> usize
+    requires { at + 2 ≤ length out.old }
     ensures { Put out.old at (hex byte) out.new result }
 {
     let to = put(out, at, hex_digit(byte / 16));
@@ -91,10 +89,8 @@ fn put_bytes(out: &mut [u8], at: usize, text: &[u8]) -> usize
     ensures { Put out.old at (flat_map hex text.now) out.new result }
 {
     let mut to = at;
-    let mut i = 0;
-    while i < text.len() {
-        to = put_hex(out, to, words::byte(text, i));
-        i += 1;
+    for byte in text {
+        to = put_hex(out, to, *byte);
     }
     to
 }
@@ -104,12 +100,12 @@ fn put_text(out: &mut [u8], at: usize, text: &[u8]) -> usize
     requires { at + 2 * length text.now + 6 ≤ length out.old }
     ensures { Put out.old at (text_line text.now) out.new result }
 {
-    if text.len() == 0 {
+    if text.is_empty() {
         return put_line(out, at, b"text", &[]);
     }
     words::copy_bytes(out, at, b"text ");
     let to = put_bytes(out, at + 5, text);
-    put(out, to, 10)
+    put(out, to, b'\n')
 }
 
 // The line of an element is written at `at`.
@@ -129,12 +125,10 @@ fn put_elements(out: &mut [u8], at: usize, b: &[u8], from: usize, n: usize) -> u
     ensures { Put out.old at (flat_map element_line (pairs_at b.now from n)) out.new result }
 {
     let mut to = at;
-    let mut i = 0;
-    while i < n {
+    for i in 0..n {
         let kind = words::read_word(b, from + 4 * i);
         let measure = words::read_word(b, from + 4 * n + 4 * i);
         to = put_element(out, to, kind, measure);
-        i += 1;
     }
     to
 }
@@ -161,12 +155,10 @@ fn put_all_changed(out: &mut [u8], at: usize, b: &[u8], from: usize, n: usize) -
     ensures { Put out.old at (flat_map changed_line (pairs_at b.now from n)) out.new result }
 {
     let mut to = at;
-    let mut i = 0;
-    while i < n {
+    for i in 0..n {
         let element = words::read_word(b, from + 4 * i);
         let rule = words::read_word(b, from + 4 * n + 4 * i);
         to = put_changed(out, to, element, rule);
-        i += 1;
     }
     to
 }
@@ -177,12 +169,10 @@ fn put_notes(out: &mut [u8], at: usize, b: &[u8], from: usize, n: usize) -> usiz
     ensures { Put out.old at (flat_map note_line (pairs_at b.now from n)) out.new result }
 {
     let mut to = at;
-    let mut i = 0;
-    while i < n {
+    for i in 0..n {
         let number = words::read_word(b, from + 4 * i);
         let element = words::read_word(b, from + 4 * n + 4 * i);
         to = put_note(out, to, number, element);
-        i += 1;
     }
     to
 }

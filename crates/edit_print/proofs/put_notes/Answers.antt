@@ -1,5 +1,4 @@
 -- `put_notes` meets its contract.
-use Prim.Native.Nat.{◌-◌}
 use borrow.Author.Rules.{rules}
 use Rattle.edit_print.proofs.Turns.{pairs_done, pairs_next, pairs_room, pairs_start}
 use Rattle.edit_print.specs.Lines.{note_line, note_length}
