@@ -1,16 +1,15 @@
 -- The ways out of the program's functions.
 -- Assumes nothing.
-use mathlib.Core.Path.{◌≡◌, refl, sym, ap, ◌∙◌}
+use mathlib.Core.Path.{◌≡◌, sym, ap, ◌∙◌}
 use mathlib.Core.Bool.{Bool}
-use mathlib.Core.List.{List, [], ◌∷◌, ◌++◌, zip, zip_with, flat_map}
+use mathlib.Core.List.{List, [], ◌∷◌, zip, zip_with}
 use Prim.Native.Nat.{ℕ, ◌+◌, ◌-◌, ◌*◌, ◌≤◌, ◌<◌}
 use native.Mathlib.Omega.{arith}
 use native.Mathlib.Nat.{zero-add}
-use lib.Dec.{ltb, eqb}
 use lib.ListN.{length, take, drop, length-drop}
 use lib.Seq.{paste, take_all, take-paste}
 use borrow.Author.Tests.{lt-ltb, le-ltb, eq-eqb, ne_eqb}
-use Rattle.definition.specs.Basics.{Answer, refused, gives, ◌>>=◌, refuse, any}
+use Rattle.definition.specs.Basics.{Answer, refused, ◌>>=◌, refuse, any}
 use Rattle.definition.specs.Answers.{too_short, with_work}
 use Rattle.definition.specs.Printed.{ascii, line}
 use Rattle.definition.specs.Words.{word, words}

@@ -2,10 +2,11 @@
 -- Assumes nothing.
 use Rattle.std.specs.Prelude.{◌≡◌, refl, Bool, List, ℕ, ◌≤◌, length, take}
 use Rattle.std.proofs.Common.{sym, ap, ◌∙◌, arith, length-take-le, take_all}
-use Rattle.program_input.specs.Counts.{IsPrefixLen}
+use Rattle.std.proofs.lemmas.List.{take-take}
+use Rattle.program_input.specs.Told as told
 use Rattle.definition.specs.Basics.{Answer, ◌>>=◌}
 use Rattle.check_laws.specs.Check.{checked}
-use Rattle.check_laws.specs.Layout.{claims_of, verdict_line, claim_room, claim_printed}
+use Rattle.check_laws.specs.Layout.{claims_of, verdict_line, claim_printed}
 use Rattle.edit_print.specs.Lines.{Put, put_fits, put_front}
 
 -- the answer to claims as bytes
@@ -13,10 +14,13 @@ unfoldable pub answered : List ℕ → Answer Bool
 answered b = claims_of b >>= checked
 
 -- the first `written` bytes of the output are what is printed of the first `read` bytes of the claims' buffer
-pub record Responds (claim : List ℕ) (read : ℕ) (out : List ℕ) (written : ℕ) : Type 0 where
-  pub judged : read ≤ length claim
-  pub fits : IsPrefixLen written out
-  pub says : take written out ≡ claim_printed (take read claim)
+abbrev pub Responds : List ℕ → ℕ → List ℕ → ℕ → Type 0
+Responds = told.Responds claim_printed
+
+-- no more of the input is judged than the buffer has room for
+pub judged_in_room : (bs : List ℕ) → claim_printed (take 262144 bs) ≡ claim_printed bs
+unfolding claim_printed
+judged_in_room bs = rw (take-take 262144 262144 bs (omega arith)) refl
 
 -- the bytes that are judged are no more than the buffer has
 pub front_within : (read : ℕ) (b : List ℕ) → 262144 ≡ length b → read ≤ length b → length (take read b) ≤ 262144

@@ -1,18 +1,16 @@
 // The program `check`: reads claims on standard input and prints whether they are accepted.
 #![tactic(auto)]
 
-ghost use Rattle.std.specs.Prelude.{◌≡◌, ◌+◌, ◌<◌, ◌≤◌, length, take, OnOk};
-ghost use Rattle.std.specs.Io.KnownBytes.{Consumes, IsAtEnd};
+ghost use Rattle.std.specs.Prelude.{◌≡◌, ◌+◌, ◌≤◌, length, OnOk};
 ghost use Rattle.check_laws.specs.Check.{checked};
 ghost use Rattle.check_laws.specs.Layout.{claims_from, claim_printed, verdict_line};
 ghost use Rattle.check_claim.specs.Judging.{answer_of};
 ghost use Rattle.edit_print.specs.Lines.{Put};
-ghost use Rattle.program_input.specs.Counts.{IsPrefixLen};
 ghost use Rattle.program_input.specs.Told.{Writes};
-ghost use Rattle.check_program.specs.Responds.{answered, Responds};
+ghost use Rattle.check_program.specs.Responds.{answered, judged_in_room};
 
 use check_claim::Verdict;
-use program_input::Filled;
+use program_input::Program;
 use refusals::Refusal;
 use std::io;
 use std::io::{Read, Write};
@@ -95,64 +93,28 @@ fn show(verdict: Result<Verdict, Refusal>, out: &mut [u8]) -> usize
     }
 }
 
-// What is printed of the claims in the first `read` bytes is written at the front of `out`.
-fn answer(claim: &[u8], read: usize, out: &mut [u8]) -> usize
-    requires { (262144 ≡ length claim.now) × (read ≤ length claim.now) × (32 ≤ length out.old) }
-    ensures { Responds claim.now read out.new result }
-{
-    let verdict = judge(&claim[..read]);
-    show(verdict, out)
-}
+// The program, whose buffer holds 262,144 bytes of claims.
+struct Checking;
 
-// Reads claims into the front of their buffer. What is known of the input's bytes is told as `program_input::read_full` tells
-// it. Which bytes the operating system puts there, and how many, no contract says.
-fn read_claim<R: Read>(from: &mut R, claim: &mut [u8]) -> Filled
-    requires { 262144 ≡ length claim.old }
-    ensures bound { IsPrefixLen result.count claim.new }
-    ensures bytes { Consumes (R.remaining from.old) (R.remaining from.new) (take result.count claim.new) }
-    ensures end { OnOk result.ended (result.count < length claim.new → IsAtEnd (R.remaining from.new)) }
-{
-    program_input::read_full(from, claim)
-}
+impl Program<262144, 64> for Checking {
+    ghost says = { λ _. claim_printed };
 
-// How many bytes of the claims were read, and how many of the output are to be printed.
-#[derive(Clone, Copy)]
-pub struct Response {
-    pub read: usize,
-    pub written: usize,
-}
+    fn answer(&self, claim: &[u8], read: usize, out: &mut [u8]) -> usize {
+        let verdict = judge(&claim[..read]);
+        show(verdict, out)
+    }
 
-// Reads claims and writes what is printed of them at the front of `out`, and answers besides whether reading ended well. The bytes judged are the first `read` of the claims' buffer, as reading left it: where it is
-// known what bytes the input has left, the next of them.
-pub fn respond<R: Read>(
-    from: &mut R,
-    claim: &mut [u8],
-    out: &mut [u8],
-) -> (Response, io::Result<()>)
-    requires { (262144 ≡ length claim.old) × (32 ≤ length out.old) }
-    ensures responds { Responds claim.new result.0.read out.new result.0.written }
-    ensures bytes { Consumes (R.remaining from.old) (R.remaining from.new) (take result.0.read claim.new) }
-    ensures end { OnOk result.1 (result.0.read < length claim.new → IsAtEnd (R.remaining from.new)) }
-{
-    let filled = read_claim(from, claim);
-    let read = filled.count;
-    let written = answer(claim, read, out);
-    (Response { read, written }, filled.ended)
+    ghost cut = { λ _ bs. judged_in_room bs };
 }
 
 // Reads claims and prints what is printed of them. Where a read fails, of what was read before, and then ends with that error. Where it is known what bytes the input has left and the output holds, what is printed of those comes behind these.
 pub fn serve<R: Read, W: Write>(from: &mut R, to: &mut W) -> io::Result<()>
     ensures { OnOk result (Writes claim_printed (R.remaining from.old) (W.contents to.old) (W.contents to.new)) }
 {
-    let mut claim = [0u8; 262144];
-    let mut out = [0u8; 64];
-    let (response, ended) = respond(from, &mut claim, &mut out);
-    let written = response.written;
-    to.write_all(&out[..written])?;
-    ended
+    program_input::serve(&Checking, from, to)
 }
 
 // The whole program, on standard input and output. Which bytes the operating system gives, and how many of those printed it takes, is not promised.
 pub fn run<R: Input + Print>(rt: &R) -> io::Result<()> {
-    serve(&mut rt.reader(), &mut io::writer(rt))
+    program_input::run(&Checking, rt)
 }

@@ -1,6 +1,6 @@
 -- What `read_tree` tells of the definition: whether the lists spell a tree, and what the words then say of it.
 -- Assumes nothing.
-use Rattle.std.specs.Prelude.{◌≡◌, Bool, true, ℕ, ◌*◌}
+use Rattle.std.specs.Prelude.{◌≡◌, true, ℕ, ◌*◌}
 use Rattle.std.proofs.Math.Path.{refl, sym, ap}
 use Rattle.std.proofs.Common.{◌∙◌, arith}
 use Rattle.std.proofs.Math.Bool.{false}
@@ -8,13 +8,11 @@ use mathlib.Core.List.{List, [], ◌∷◌, zip}
 use Rattle.std.proofs.Math.Option.{Option, none, some}
 use Rattle.std.proofs.Math.ListN.{length, take}
 use Rattle.orders.specs.ListLaws.{bool_absurd}
-use Rattle.orders.specs.Tree.{Tree, forest, text_of}
+use Rattle.orders.specs.Tree.{Tree, forest}
 use Rattle.definition.specs.Basics.{is_some}
 use Rattle.definition.specs.Elements.{table, spelled}
 use Rattle.definition_laws.specs.Rows.{table_length}
-use Rattle.read_spelling.specs.Spelling.{accepts}
 use Rattle.read_spelling.specs.SpellingLaws.{accepts_spelled}
-use Rattle.read_spelling.specs.Preorder.{flats, Spelt}
 use Rattle.read_element_table.specs.Filled.{elements_in, accepted, spelled_trees, spelled_spelt, spelled_count}
 use Rattle.check_laws.specs.Check.{Flat, alone}
 use Rattle.check_model.proofs.Pairing.{length_zip}

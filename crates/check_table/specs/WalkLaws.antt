@@ -1,14 +1,14 @@
 -- The walk writes, for elements that spell one tree, the words of the rows of the definition's table.
 -- Assumes nothing.
-use Rattle.std.specs.Prelude.{◌≡◌, refl, Bool, true, false, cond, ℕ, zero, suc, ◌+◌, length}
+use Rattle.std.specs.Prelude.{◌≡◌, refl, ℕ, suc, ◌+◌, length}
 use Rattle.std.proofs.Common.{sym, ap, ◌∙◌, add-zero, add-one, arith, length-append}
-use mathlib.Core.List.{List, [], ◌∷◌, ◌++◌, tail, head_d, append_assoc, append-nil}
+use mathlib.Core.List.{List, [], ◌∷◌, ◌++◌, head_d, append_assoc}
 use Rattle.orders.specs.Tree.{Tree, Trees, node, token, nil, cons, list, forest, Path, preorders, elements, elements_of, text, text_of}
-use Rattle.definition.specs.Elements.{is_node, rows, rows_below, table}
+use Rattle.definition.specs.Elements.{rows, rows_below, table}
 use Rattle.read_spelling.specs.Spelling.{children_of, length_of}
 use Rattle.read_spelling.specs.Preorder.{flat, flats, flat_node, flat_token, flats_cons, Worded, WordedAll}
 use Rattle.check_model.specs.Table.{up_of, own_end, told_all, told_append}
-use Rattle.check_table.specs.Walk.{opening, words_from, words_of}
+use Rattle.check_table.specs.Walk.{words_from, words_of}
 
 -- ── A turn of the walk ──────────────────────────────────────────────────────────────────────────────────────
 

@@ -2,8 +2,7 @@
 #![tactic(auto)]
 
 ghost use Rattle.std.specs.Prelude.{◌≡◌, ◌+◌, ◌*◌, ◌^◌, ◌≤◌, ◌<◌, length};
-ghost use mathlib.Core.List.{◌∷◌, [], zip};
-ghost use Rattle.std.proofs.Math.Seq.{paste};
+ghost use mathlib.Core.List.{zip};
 ghost use Rattle.check_model.specs.Clauses.{entry as word_of};
 ghost use Rattle.check_table.specs.Walk.{Reads};
 
@@ -18,20 +17,12 @@ pub const END: usize = 2;
 // Its parent + 1; 0 for the root.
 pub const PARENT: usize = 3;
 
-// Word `k` of element `e`.
+// Word `k` of element `e`. Beside `read_element_table::entry`, whose elements have eight words: each is one look-up by its own definition.
 pub fn entry(table: &[u32], e: usize, k: usize) -> usize
     requires { (k < 4) × (4 * e + 4 ≤ length table.now) }
     ensures { (result ≡ word_of table.now e k) × (result < 2 ^ 32) }
 {
     words::word(table, WORDS * e + k)
-}
-
-// Four words are written at `at`.
-fn store4(table: &mut [u32], at: usize, a: usize, b: usize, c: usize, d: usize)
-    requires { (at + 4 ≤ length table.old) × (a < 2 ^ 32) × (b < 2 ^ 32) × (c < 2 ^ 32) × (d < 2 ^ 32) }
-    ensures { table.new ≡ paste table.old at (a ∷ b ∷ c ∷ d ∷ []) 4 }
-{
-    words::copy_in(table, at, &[a as u32, b as u32, c as u32, d as u32]);
 }
 
 // Line 5 of one tree with `bytes` bytes of text; where it accepts, the words of all elements stand in the table. Each turn closes the innermost open element,
@@ -64,7 +55,7 @@ pub fn read_tree(kinds: &[u32], measures: &[u32], bytes: usize, table: &mut [u32
             if bytes < end {
                 return false;
             }
-            store4(table, WORDS * i, k, sum, end, owner[top]);
+            words::store(table, WORDS * i, &[k, sum, end, owner[top]]);
             left[top] = x - 1;
             left[d] = read_spelling::children_of(k, m);
             owner[d] = i + 1;

@@ -7,7 +7,7 @@ ghost use Rattle.definition.specs.Printed.{digits, hex_digit, hex, element_line,
 ghost use Rattle.definition.specs.Basics.{refused, gives};
 ghost use Rattle.result_laws.specs.Decoded.{told, decoded};
 ghost use Rattle.edit_print.specs.Printable.{Fits, Printable};
-ghost use Rattle.edit_print.specs.Lines.{Put, spaced, line_of, pairs_at, changed_line, note_line};
+ghost use Rattle.edit_print.specs.Lines.{Put, spaced, line_of, pairs_at, pair_line, changed_line, note_line};
 
 use result_laws::ARRAYS;
 
@@ -20,7 +20,7 @@ fn put(out: &mut [u8], at: usize, byte: u8) -> usize
     at + 1
 }
 
-// The last `k` digits of `n` in decimal, with no zeros in front, are written at `at`.
+// The last `k` digits of `n` in decimal, with no zeros in front, are written at `at`. By hand: the library's `Display` has no contract that says which digits, nor how many.
 pub fn put_digits(out: &mut [u8], at: usize, n: usize, k: usize) -> usize
     requires { at + k ≤ length out.old }
     ensures { Put out.old at (digits k n) out.new result }
@@ -29,10 +29,10 @@ pub fn put_digits(out: &mut [u8], at: usize, n: usize, k: usize) -> usize
         return at;
     }
     if n < 10 {
-        return put(out, at, 48 + n as u8);
+        return put(out, at, b'0' + n as u8);
     }
     let end = put_digits(out, at, n / 10, k - 1);
-    put(out, end, 48 + (n % 10) as u8)
+    put(out, end, b'0' + (n % 10) as u8)
 }
 
 // A number is written at `at`, after a space.
@@ -40,7 +40,7 @@ fn put_number(out: &mut [u8], at: usize, n: usize) -> usize
     requires { at + 11 ≤ length out.old }
     ensures { Put out.old at (spaced n) out.new result }
 {
-    let to = put(out, at, 32);
+    let to = put(out, at, b' ');
     put_digits(out, to, n, 10)
 }
 
@@ -50,10 +50,8 @@ fn put_numbers(out: &mut [u8], at: usize, ns: &[usize]) -> usize
     ensures { Put out.old at (flat_map spaced ns.now) out.new result }
 {
     let mut to = at;
-    let mut i = 0;
-    while i < ns.len() {
-        to = put_number(out, to, ns[i]);
-        i += 1;
+    for n in ns {
+        to = put_number(out, to, *n);
     }
     to
 }
@@ -65,20 +63,20 @@ pub fn put_line(out: &mut [u8], at: usize, name: &[u8], ns: &[usize]) -> usize
 {
     words::copy_bytes(out, at, name);
     let end = put_numbers(out, at + name.len(), ns);
-    put(out, end, 10)
+    put(out, end, b'\n')
 }
 
 // A digit in hexadecimal.
-fn hex_digit(n: usize) -> u8
+fn hex_digit(n: u8) -> u8
     requires { n < 16 }
     ensures { result ≡ hex_digit n }
 {
-    if n < 10 { 48 + n as u8 } else { 87 + n as u8 }
+    if n < 10 { b'0' + n } else { b'a' - 10 + n }
 }
 
 // A byte in hexadecimal is written at `at`.
-fn put_hex(out: &mut [u8], at: usize, byte: usize) -> usize
-    requires { (at + 2 ≤ length out.old) × (byte < 2 ^ 8) }
+fn put_hex(out: &mut [u8], at: usize, byte: u8) -> usize
+    requires { at + 2 ≤ length out.old }
     ensures { Put out.old at (hex byte) out.new result }
 {
     let to = put(out, at, hex_digit(byte / 16));
@@ -91,10 +89,8 @@ fn put_bytes(out: &mut [u8], at: usize, text: &[u8]) -> usize
     ensures { Put out.old at (flat_map hex text.now) out.new result }
 {
     let mut to = at;
-    let mut i = 0;
-    while i < text.len() {
-        to = put_hex(out, to, words::byte(text, i));
-        i += 1;
+    for byte in text {
+        to = put_hex(out, to, *byte);
     }
     to
 }
@@ -104,12 +100,12 @@ fn put_text(out: &mut [u8], at: usize, text: &[u8]) -> usize
     requires { at + 2 * length text.now + 6 ≤ length out.old }
     ensures { Put out.old at (text_line text.now) out.new result }
 {
-    if text.len() == 0 {
+    if text.is_empty() {
         return put_line(out, at, b"text", &[]);
     }
     words::copy_bytes(out, at, b"text ");
     let to = put_bytes(out, at + 5, text);
-    put(out, to, 10)
+    put(out, to, b'\n')
 }
 
 // The line of an element is written at `at`.
@@ -129,60 +125,24 @@ fn put_elements(out: &mut [u8], at: usize, b: &[u8], from: usize, n: usize) -> u
     ensures { Put out.old at (flat_map element_line (pairs_at b.now from n)) out.new result }
 {
     let mut to = at;
-    let mut i = 0;
-    while i < n {
+    for i in 0..n {
         let kind = words::read_word(b, from + 4 * i);
         let measure = words::read_word(b, from + 4 * n + 4 * i);
         to = put_element(out, to, kind, measure);
-        i += 1;
     }
     to
 }
 
-// The line of a changed element is written at `at`.
-fn put_changed(out: &mut [u8], at: usize, element: usize, rule: usize) -> usize
-    requires { at + 30 ≤ length out.old }
-    ensures { Put out.old at (changed_line (element, rule)) out.new result }
-{
-    put_line(out, at, b"changed", &[element, rule])
-}
-
-// The line of a note is written at `at`.
-fn put_note(out: &mut [u8], at: usize, number: usize, element: usize) -> usize
-    requires { at + 27 ≤ length out.old }
-    ensures { Put out.old at (note_line (number, element)) out.new result }
-{
-    put_line(out, at, b"note", &[number, element])
-}
-
-// The lines of `n` changed elements are written at `at`; their numbers stand at `from`, their rule numbers behind those.
-fn put_all_changed(out: &mut [u8], at: usize, b: &[u8], from: usize, n: usize) -> usize
-    requires { (from + 8 * n ≤ length b.now) × (at + 30 * n ≤ length out.old) }
-    ensures { Put out.old at (flat_map changed_line (pairs_at b.now from n)) out.new result }
+// `n` lines of a name and two numbers are written at `at`; the first numbers stand at `from`, the second ones behind those.
+fn put_pairs(out: &mut [u8], at: usize, name: &[u8], b: &[u8], from: usize, n: usize) -> usize
+    requires { (from + 8 * n ≤ length b.now) × (at + (length name.now + 23) * n ≤ length out.old) }
+    ensures { Put out.old at (flat_map (pair_line name.now) (pairs_at b.now from n)) out.new result }
 {
     let mut to = at;
-    let mut i = 0;
-    while i < n {
-        let element = words::read_word(b, from + 4 * i);
-        let rule = words::read_word(b, from + 4 * n + 4 * i);
-        to = put_changed(out, to, element, rule);
-        i += 1;
-    }
-    to
-}
-
-// The lines of `n` notes are written at `at`; their numbers stand at `from`, their elements behind those.
-fn put_notes(out: &mut [u8], at: usize, b: &[u8], from: usize, n: usize) -> usize
-    requires { (from + 8 * n ≤ length b.now) × (at + 27 * n ≤ length out.old) }
-    ensures { Put out.old at (flat_map note_line (pairs_at b.now from n)) out.new result }
-{
-    let mut to = at;
-    let mut i = 0;
-    while i < n {
-        let number = words::read_word(b, from + 4 * i);
-        let element = words::read_word(b, from + 4 * n + 4 * i);
-        to = put_note(out, to, number, element);
-        i += 1;
+    for i in 0..n {
+        let first = words::read_word(b, from + 4 * i);
+        let second = words::read_word(b, from + 4 * n + 4 * i);
+        to = put_line(out, to, name, &[first, second]);
     }
     to
 }
@@ -202,8 +162,8 @@ fn put_found(out: &mut [u8], at: usize, b: &[u8], from: usize, c: usize, m: usiz
     requires { (from + 8 * c + 8 * m ≤ length b.now) × (at + 30 * c + 27 * m ≤ length out.old) }
     ensures { Put out.old at (flat_map changed_line (pairs_at b.now from c) ++ flat_map note_line (pairs_at b.now (from + 8 * c) m)) out.new result }
 {
-    let to = put_all_changed(out, at, b, from, c);
-    put_notes(out, to, b, from + 8 * c, m)
+    let to = put_pairs(out, at, b"changed", b, from, c);
+    put_pairs(out, to, b"note", b, from + 8 * c, m)
 }
 
 // What is printed of the result that the sizes and the arrays in `b` tell is written at the front.

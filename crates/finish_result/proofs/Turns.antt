@@ -1,52 +1,22 @@
--- One word of each note written, one part of each changed element; the arrays; the answer.
+-- The arrays, and the answer.
 -- Assumes nothing.
-use mathlib.Core.Path.{◌≡◌, sym, ap, ◌∙◌}
+use mathlib.Core.Path.{◌≡◌, ap, ◌∙◌}
 use mathlib.Core.List.{List, [], ◌∷◌, map, flat_map}
 use Prim.Native.Nat.{ℕ, ◌+◌, ◌*◌, ◌/◌, ◌^◌, ◌≤◌, ◌<◌}
 use native.Mathlib.Omega.{arith}
-use lib.ListN.{length, get_or, length-map}
+use lib.ListN.{length, length-map}
 use lib.Seq.{paste, length-paste}
-use Rattle.definition.specs.Words.{bytes as bytes_of, written}
+use Rattle.definition.specs.Words.{written}
 use Rattle.definition.specs.Finishing.{encoded}
-use Rattle.words.proofs.Turns.{Writing, writing_start, writing_next, writing_done}
 use Rattle.words.specs.Bytes.{length_written}
 use Rattle.words.specs.Parts.{paste_swap}
 use Rattle.rows_model.specs.Row.{kind, measure, own, triples}
 use Rattle.rows_model.proofs.Words.{length_triples}
-use Rattle.run_model.specs.Store.{HeldChanged}
-use Rattle.run_annotations.specs.Changed.{changed_of}
 use Rattle.finish_arrays.specs.Sweep.{elements_over, Swept}
 use Rattle.std.specs.Prelude.{Ok, Err}
 use Rattle.refusals.specs.declared.Refusal.TheVariants.{ShortResult}
 use Rattle.finish_result.specs.Answered.{Answered, answered_short, answered_bytes}
-use Rattle.finish_result.specs.Arrays.{note_column, length_column, column_at, changed_column, element_column, rule_column, length_parts, part_at_lem, front_over, Front, arrays_over, rest_over, told_result, whole_length, whole_written}
-
--- ── One word of each note ───────────────────────────────────────────────────────────────────────────────────
-
-pub column_start : (d : List ℕ) (at j : ℕ) (w : List ℕ) → Writing d at (note_column j w) d 0
-column_start d at j w = writing_start d at (note_column j w)
-
-module _ (j : ℕ) (w : List ℕ) {d : List ℕ} {at : ℕ} {l : List ℕ} {i : ℕ} (v : Writing d at (note_column j w) l i) where
-  pub column_next : {l' : List ℕ} {x : ℕ} → (at + 4 * (length w / 3) ≤ length d) × (j < 3) → i < length w / 3 → (x ≡ get_or w (3 * i + j) 0) × (x < 2 ^ 32) → length l' ≡ length l → l' ≡ paste l (at + 4 * i) (bytes_of x) 4
-      → Writing d at (note_column j w) l' (i + 1)
-  column_next p h e m q = writing_next v (omega (arith, length_column j w)) (omega (arith, length_column j w, p.0)) (e.0 ∙ sym (column_at j w i p.1 h)) m q
-
-  pub column_done : length w / 3 ≤ i → l ≡ paste d at (written (note_column j w)) (4 * (length w / 3))
-  column_done h = writing_done v (omega (arith, length_column j w)) ∙ ap (λ n. paste d at (written (note_column j w)) (4 * n)) (length_column j w)
-
--- ── One part of each changed element ────────────────────────────────────────────────────────────────────────
-
-module _ (f : HeldChanged → ℕ) where
-  pub parts_start : (d : List ℕ) (at : ℕ) (w : List ℕ) → Writing d at (changed_column f w) d 0
-  parts_start d at w = writing_start d at (changed_column f w)
-
-  module _ (w : List ℕ) {d : List ℕ} {at : ℕ} {l : List ℕ} {i : ℕ} (v : Writing d at (changed_column f w) l i) where
-    pub parts_next : {l' : List ℕ} {x : ℕ} → at + 4 * length w ≤ length d → i < length w → x ≡ f (changed_of (get_or w i 0)) → length l' ≡ length l → l' ≡ paste l (at + 4 * i) (bytes_of x) 4
-        → Writing d at (changed_column f w) l' (i + 1)
-    parts_next p h g m q = writing_next v (omega (arith, length_parts f w)) (omega (arith, length_parts f w)) (g ∙ sym (part_at_lem f w i h)) m q
-
-    pub parts_done : length w ≤ i → l ≡ paste d at (written (changed_column f w)) (4 * length w)
-    parts_done h = writing_done v (omega (arith, length_parts f w)) ∙ ap (λ n. paste d at (written (changed_column f w)) (4 * n)) (length_parts f w)
+use Rattle.finish_result.specs.Arrays.{note_column, element_column, rule_column, front_over, Front, arrays_over, rest_over, told_result, whole_length, whole_written}
 
 -- ── The arrays ──────────────────────────────────────────────────────────────────────────────────────────────
 

@@ -1,7 +1,7 @@
 // The result from what the run leaves: changed elements and notes in order, refusal 13, and the bytes.
 #![tactic(auto)]
 
-ghost use Rattle.std.specs.Prelude.{◌≡◌, ℕ, ◌+◌, ◌*◌, ◌/◌, ◌^◌, ◌≤◌, ◌<◌, length};
+ghost use Rattle.std.specs.Prelude.{◌≡◌, ℕ, ◌+◌, ◌*◌, ◌/◌, ◌^◌, ◌≤◌, ◌<◌, length, get_or};
 ghost use mathlib.Core.List.{List, flat_map, ◌∷◌, []};
 ghost use Rattle.std.proofs.Math.Seq.{paste};
 ghost use Rattle.definition.specs.Words.{written};
@@ -24,34 +24,14 @@ use words::{word, write_word};
 
 // ── The arrays ──
 
-// Word `j` of each note is written at `at`.
-fn write_column(b: &mut [u8], at: usize, notes: &[u32], j: usize)
-    requires { (at + 4 * (length notes.now / 3) ≤ length b.old) × (j < 3) }
-    ensures { b.new ≡ paste b.old at (written (note_column j notes.now)) (4 * (length notes.now / 3)) }
+// `n` words are written at `at`, one of each item.
+fn write_column<F: Fn(usize) -> usize>(b: &mut [u8], at: usize, n: usize, item: F)
+    requires room { at + 4 * n ≤ length b.old }
+    requires callable { (i : ℕ) → i < n → F.pre item i }
+    ensures { (xs : List ℕ) → length xs ≡ n → ((i x : ℕ) → i < n → F.post item i x → x ≡ get_or xs i 0) → b.new ≡ paste b.old at (written xs) (4 * n) }
 {
-    for i in 0..notes.len() / NOTE_WORDS {
-        let w = word(notes, NOTE_WORDS * i + j);
-        write_word(b, at + 4 * i, w);
-    }
-}
-
-// The number of each changed element is written at `at`.
-fn write_numbers(b: &mut [u8], at: usize, changed: &[u32])
-    requires { at + 4 * length changed.now ≤ length b.old }
-    ensures { b.new ≡ paste b.old at (written (element_column changed.now)) (4 * length changed.now) }
-{
-    for (i, w) in changed.iter().enumerate() {
-        write_word(b, at + 4 * i, changed_row(*w as usize));
-    }
-}
-
-// The rule number of each changed element is written at `at`.
-fn write_rules(b: &mut [u8], at: usize, changed: &[u32])
-    requires { at + 4 * length changed.now ≤ length b.old }
-    ensures { b.new ≡ paste b.old at (written (rule_column changed.now)) (4 * length changed.now) }
-{
-    for (i, w) in changed.iter().enumerate() {
-        write_word(b, at + 4 * i, changed_rule(*w as usize));
+    for i in 0..n {
+        write_word(b, at + 4 * i, item(i));
     }
 }
 
@@ -81,10 +61,10 @@ fn write_arrays(b: &mut [u8], at: usize, changed: &[u32], notes: &[u32])
 {
     let c = changed.len();
     let m = notes.len() / NOTE_WORDS;
-    write_numbers(b, at, changed);
-    write_rules(b, at + 4 * c, changed);
-    write_column(b, at + 8 * c, notes, NUMBER);
-    write_column(b, at + 8 * c + 4 * m, notes, 0);
+    write_column(b, at, c, |i| changed_row(word(changed, i)));
+    write_column(b, at + 4 * c, c, |i| changed_rule(word(changed, i)));
+    write_column(b, at + 8 * c, m, |i| word(notes, NOTE_WORDS * i + NUMBER));
+    write_column(b, at + 8 * c + 4 * m, m, |i| word(notes, NOTE_WORDS * i));
 }
 
 // The changed elements and their rule numbers, the numbers and elements of the notes and the text are written from `at` on.

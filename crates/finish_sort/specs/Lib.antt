@@ -2,8 +2,10 @@
 --     Items      items in a slice, some copied, one put among those sorted, all that are picked sorted
 --     Keys       what changed elements and notes are sorted by
 --     Sorted     what the functions promise, in words
+--     Halved     places told by a test: those that pass stand on the left
 --     Counted    how many are picked, counted one by one
 pub mod Items
+pub mod Halved
 pub mod Keys
 pub mod Sorted
 pub mod Counted

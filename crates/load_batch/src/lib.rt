@@ -27,8 +27,8 @@ fn write_notes(
 ) -> Result<usize, Refusal>
     ensures { Writes (with_notes start kinds.now measures.now text.now operations.now counts.now rules.now targets.now listed.now) destination.old (draft.old ∷ table.old ∷ source.old ∷ []) (answered result) destination.new (draft.new ∷ table.new ∷ source.new ∷ []) }
 {
-    let inputs = [load_draws::replaced_block(load_draws::drawn(start)); 1];
-    let outputs = [load_draws::COPY; 1];
+    let inputs = [load_draws::replaced_block(load_draws::drawn(start))];
+    let outputs = [load_draws::COPY];
     let mut noted = [0u32; 8];
     let mut numbers = [0u32; 8];
     load_lists::fill_notes(start, &mut noted, &mut numbers);

@@ -2,7 +2,7 @@
 -- Assumes nothing.
 use Rattle.std.proofs.Math.Path.{◌≡◌, refl, ap}
 use Rattle.std.proofs.Common.{sym, ◌∙◌, take_at}
-use Rattle.std.specs.Prelude.{false, ℕ, ◌≤◌}
+use Rattle.std.specs.Prelude.{Result, Ok, Err, Some, None, false, ℕ, ◌≤◌}
 use mathlib.Core.List.{List, [], ◌∷◌, ◌++◌, zip}
 use Rattle.std.proofs.Math.Option.{Option, none, some}
 use native.Mathlib.Omega.{arith}
@@ -15,14 +15,12 @@ use Rattle.definition_laws.specs.Answers.{gives_inj}
 use Rattle.promises.specs.Slices.{lengths}
 use Rattle.promises.specs.Promises.{left_in}
 use Rattle.promises.specs.Writing.{writer_needs, wrote}
-use Rattle.write_batch.specs.Handing.{answer_of}
-use Rattle.write_batch.specs.declared.Written.{Written}
-use Rattle.write_batch.specs.declared.Written.TheVariants.{Refused, Bytes}
+use Rattle.refusals.specs.Numbers.{number, answered}
+use Rattle.refusals.specs.declared.Refusal.{Refusal}
 use Rattle.load_laws.specs.Load.{load}
 use Rattle.load_laws.proofs.Good.{load_length}
 use Rattle.load_batch.specs.Loads.{Loads, loads_bytes}
-use Rattle.load_program.specs.declared.Start.{Start}
-use Rattle.load_program.specs.declared.Start.TheVariants.{Number, Wrong}
+use Rattle.std.specs.declared.option.Option as std
 use Rattle.load_program.specs.Start.{start_of, meant}
 
 -- the batch of a starting number, nothing without one
@@ -47,15 +45,15 @@ module _ (start : ℕ) (held a b c : List ℕ) (room : 8632 ≤ length held) (p 
   given = loads_bytes (a ∷ b ∷ c ∷ []) start (length held) (suffice a b c p q r) (omega (arith, (load_length start).1))
 
   -- a load is not refused
-  pub not_refused : (o : Written) (n m : ℕ) (holds : List ℕ) (left : List (List ℕ)) → Loads start held (a ∷ b ∷ c ∷ []) (answer_of o) holds left → o ≡ Refused n → Puts (laid_out (load start)) holds m
-  unfolding answer_of ◌>>=◌
-  not_refused o n m holds left h k =
-      let e : refused n ≡ gives (length (laid_out (load start))) = rw k at h.answer ∙ rw given refl in
+  pub not_refused : (o : Result ℕ Refusal) (r : Refusal) (m : ℕ) (holds : List ℕ) (left : List (List ℕ)) → Loads start held (a ∷ b ∷ c ∷ []) (answered o) holds left → o ≡ Err r → Puts (laid_out (load start)) holds m
+  unfolding answered ◌>>=◌
+  not_refused o r m holds left h k =
+      let e : refused (number r) ≡ gives (length (laid_out (load start))) = rw k at h.answer ∙ rw given refl in
       absurd (let z : ◌≡◌ {A = ℕ} 0 1 = cc in omega arith)
 
   -- its bytes are put
-  pub put_bytes : (o : Written) (n : ℕ) (holds : List ℕ) (left : List (List ℕ)) → Loads start held (a ∷ b ∷ c ∷ []) (answer_of o) holds left → o ≡ Bytes n → Puts (laid_out (load start)) holds n
-  unfolding answer_of ◌>>=◌ left_in
+  pub put_bytes : (o : Result ℕ Refusal) (n : ℕ) (holds : List ℕ) (left : List (List ℕ)) → Loads start held (a ∷ b ∷ c ∷ []) (answered o) holds left → o ≡ Ok n → Puts (laid_out (load start)) holds n
+  unfolding answered ◌>>=◌ left_in
   put_bytes o n holds left h k =
       let e : n ≡ length (laid_out (load start)) = gives_inj (rw k at h.answer ∙ rw given refl) in
       let b = laid_out (load start) in
@@ -65,11 +63,11 @@ module _ (start : ℕ) (held a b c : List ℕ) (room : 8632 ≤ length held) (p 
 
 -- ── An argument ─────────────────────────────────────────────────────────────────────────────────────────────
 
-module _ (a : List ℕ) (o : Start) (e : meant o ≡ start_of a) (out : List ℕ) where
-  pub respond_number : (n m : ℕ) → o ≡ Number n → Puts (laid_out (load n)) out m → Puts (told (start_of a)) out m
+module _ (a : List ℕ) (o : std.Option ℕ) (e : meant o ≡ start_of a) (out : List ℕ) where
+  pub respond_number : (n m : ℕ) → o ≡ Some n → Puts (laid_out (load n)) out m → Puts (told (start_of a)) out m
   unfolding told meant
   respond_number n m k p = rw (← e, k) p
 
-  pub respond_none : o ≡ Wrong → Puts (told (start_of a)) out 0
+  pub respond_none : o ≡ None → Puts (told (start_of a)) out 0
   unfolding told meant
   respond_none k = rw (← e, k) (record { fits = (omega arith, refl); says = refl })

@@ -1,14 +1,14 @@
 -- START, as the bytes of an argument tell it: a decimal number from 0 to 4,294,967,295.
 -- Assumes nothing.
-use Rattle.std.specs.Prelude.{◌≡◌, cond, ◌||◌, List, [], ◌∷◌, ℕ, suc, ◌+◌, ◌-◌, ◌*◌, ◌≤◌, ◌<◌, ltb, length, get_or, drop}
+use Rattle.std.specs.Prelude.{Some, None, ◌≡◌, ◌⊎◌, cond, ◌||◌, List, [], ◌∷◌, ℕ, suc, ◌+◌, ◌-◌, ◌*◌, ◌≤◌, ◌<◌, ltb, length, get_or, drop}
 use Rattle.std.proofs.Math.Path.{refl}
 use Rattle.std.proofs.Math.Option.{Option, none, some}
-use Rattle.std.proofs.Common.{arith, drop-cons}
+use Rattle.std.proofs.Common.{inl, inr, arith, drop-cons}
 use Rattle.std.proofs.Math.Numerals.{add-one}
 use Rattle.std.proofs.Math.Seq.{drop-length}
 use borrow.Author.Tests.{lt-ltb, le-ltb}
-use Rattle.load_program.specs.declared.Start.{Start}
-use Rattle.load_program.specs.declared.Start.TheVariants.{Number, Wrong}
+use Rattle.std.specs.Option.{SomeIff}
+use Rattle.std.specs.declared.option.Option as std
 
 -- the number that some digits tell, n being what those before them told; none where a byte is no digit, or the number outgrows 32 bits
 unfoldable pub decimal : ℕ → List ℕ → Option ℕ
@@ -24,9 +24,9 @@ start_of [] = none
 start_of (b ∷ bs) = decimal 0 (b ∷ bs)
 
 -- what the code says of it
-unfoldable pub meant : Start → Option ℕ
-meant (Number n) = some n
-meant Wrong = none
+unfoldable pub meant : std.Option ℕ → Option ℕ
+meant (Some n) = some n
+meant None = none
 
 -- ── Byte by byte ────────────────────────────────────────────────────────────────────────────────────────────
 
@@ -37,7 +37,7 @@ pub record ReadTo (argument : List ℕ) (n i : ℕ) : Type 0 where
   pub small : n ≤ 4294967295
   pub told : start_of argument ≡ decimal n (drop i argument)
 
-pub read_none : (a : List ℕ) → length a ≡ 0 → meant Wrong ≡ start_of a
+pub read_none : (a : List ℕ) → length a ≡ 0 → meant None ≡ start_of a
 unfolding meant start_of
 read_none [] e = refl
 read_none (b ∷ a) e = absurd (omega arith)
@@ -51,15 +51,20 @@ module _ (a : List ℕ) (n i b : ℕ) (h : ReadTo a n i) (k : i < length a) (is 
   here : drop i a ≡ b ∷ drop (suc i) a
   here = rw is (drop-cons a i 0 k)
 
-  pub read_low : b < 48 → meant Wrong ≡ start_of a
+  pub read_low : b < 48 → meant None ≡ start_of a
   unfolding meant decimal
   read_low l = rw (h.told, here, lt-ltb b 48 l) refl
 
-  pub read_high : 57 < b → meant Wrong ≡ start_of a
+  pub read_high : 57 < b → meant None ≡ start_of a
   unfolding meant decimal
   read_high l = rw (h.told, here, le-ltb b 48 (omega arith), lt-ltb 57 b l) refl
 
-  pub read_large : 48 ≤ b → b ≤ 57 → 4294967295 < 10 * n + (b - 48) → meant Wrong ≡ start_of a
+  -- a byte that is no digit
+  pub read_other : (b < 48) ⊎ (57 < b) → meant None ≡ start_of a
+  read_other (inl l) = read_low l
+  read_other (inr l) = read_high l
+
+  pub read_large : 48 ≤ b → b ≤ 57 → 4294967295 < 10 * n + (b - 48) → meant None ≡ start_of a
   unfolding meant decimal
   read_large low high l = rw (h.told, here, le-ltb b 48 low, le-ltb 57 b high, lt-ltb 4294967295 (10 * n + (b - 48)) l) refl
 
@@ -72,6 +77,17 @@ module _ (a : List ℕ) (n i b : ℕ) (h : ReadTo a n i) (k : i < length a) (is 
     told = rw (h.told, here, le-ltb b 48 low, le-ltb 57 b high, le-ltb 4294967295 (10 * n + (b - 48)) l, add-one i) refl;
   }
 
-pub read_last : (a : List ℕ) (n i : ℕ) → ReadTo a n i → length a ≤ i → meant (Number n) ≡ start_of a
+  -- the number that the turn comes to
+  pub read_turn_to : {m : ℕ} → 48 ≤ b → b ≤ 57 → m ≡ 10 * n + (b - 48) → m ≤ 4294967295 → ReadTo a m (i + 1)
+  read_turn_to {m} low high e l = rw e (read_turn low high (omega arith))
+
+-- what a checked sum or product comes to
+pub none_over : {r : std.Option ℕ} {v k : ℕ} → SomeIff r (v < k) v → r ≡ None → k ≤ v
+none_over {r} {v} {k} s e = let t = rw e at s in omega (arith, t)
+
+pub some_is : {r : std.Option ℕ} {v k x : ℕ} → SomeIff r (v < k) v → r ≡ Some x → (x ≡ v) × (v < k)
+some_is {r} {v} {k} {x} s e = let t = rw e at s in (t.1, t.0)
+
+pub read_last : (a : List ℕ) (n i : ℕ) → ReadTo a n i → length a ≤ i → meant (Some n) ≡ start_of a
 unfolding meant decimal
 read_last a n i h k = let z : i ≡ length a = omega (arith, h.within) in rw (h.told, z, drop-length a) refl

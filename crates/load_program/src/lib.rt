@@ -11,47 +11,22 @@ ghost use Rattle.load_program.specs.Responds.{told, Puts};
 use std::io;
 use std::io::Write;
 use std::rt::Env;
-use write_batch::Written;
 
-// A starting number, or that an argument is none.
-#[derive(Clone, Copy)]
-pub enum Start {
-    Number(u32),
-    Wrong,
-}
-
-// A byte as a number.
-fn wide(x: u8) -> usize
-    ensures { result ≡ x }
-{
-    x as usize
-}
-
-// The starting number that an argument tells.
-fn start_of(argument: &[u8]) -> Start
+// The starting number that an argument tells. By `parse` it would be no plainer: that takes a sign too, and asks for text first.
+fn start_of(argument: &[u8]) -> Option<u32>
     ensures { meant result ≡ start_of argument.now }
 {
-    if argument.len() == 0 {
-        return Start::Wrong;
+    if argument.is_empty() {
+        return None;
     }
-    let mut n = 0;
-    let mut i = 0;
-    while i < argument.len() {
-        let byte = wide(argument[i]);
-        if byte < 48 {
-            return Start::Wrong;
+    let mut n: u32 = 0;
+    for byte in argument {
+        if !byte.is_ascii_digit() {
+            return None;
         }
-        if 57 < byte {
-            return Start::Wrong;
-        }
-        let more = 10 * n + (byte - 48);
-        if 4294967295 < more {
-            return Start::Wrong;
-        }
-        n = more;
-        i += 1;
+        n = n.checked_mul(10)?.checked_add(u32::from(*byte - b'0'))?;
     }
-    Start::Number(n as u32)
+    Some(n)
 }
 
 // The load of a starting number is written at the front of `out`, with work slices of its own.
@@ -63,10 +38,7 @@ pub fn write_load(start: u32, out: &mut [u8]) -> usize
     let mut table = [0u32; 16384];
     let mut source = [0u32; 6147];
     let written = load_batch::load(start, out, &mut draft, &mut table, &mut source);
-    match written {
-        Written::Refused(_) => 0,
-        Written::Bytes(n) => n,
-    }
+    written.unwrap_or(0)
 }
 
 // What is printed of an argument is written at the front of `out`: nothing of one that tells no starting number.
@@ -74,10 +46,9 @@ pub fn respond(argument: &[u8], out: &mut [u8]) -> usize
     requires { 8632 ≤ length out.old }
     ensures { Puts (told (start_of argument.now)) out.new result }
 {
-    let start = start_of(argument);
-    match start {
-        Start::Number(n) => write_load(n, out),
-        Start::Wrong => 0,
+    match start_of(argument) {
+        Some(start) => write_load(start, out),
+        None => 0,
     }
 }
 

@@ -15,7 +15,8 @@ use Rattle.definition.specs.Rewriting.{mapped_or, climb, trail}
 use Rattle.read_element_table.specs.View.{view}
 use Rattle.read_element_table.specs.Wellformed.{Lines}
 use Rattle.read_element_table.specs.Told.{element_of, length_view, parent_told, child_told}
-use Rattle.std.specs.Prelude.{Ok, Err}
+use Rattle.std.specs.Prelude.{Option as Opt, Some, None, Ok, Err, SomeIff}
+use Rattle.std.specs.Option.{unwrap_or}
 use Rattle.refusals.specs.declared.Refusal.TheVariants.{Unmapped, Endless}
 use Rattle.refusals.specs.Numbers.{number}
 use Rattle.plan_mapping.specs.Mapped.{mapped_by, Mapped}
@@ -25,17 +26,21 @@ use Rattle.plan_mapping.specs.Answers.{climbed, steps_of, Climbed}
 -- ── The mapped node, or the element itself ──────────────────────────────────────────────────────────────────
 
 module _ (n : ℕ) (m : List ℕ) (e y : ℕ) (M : Mapped n m) (h : e < n) (q : y ≡ get_or m e 0) where
-  pub unmapped : y ≡ 0 → (e ≡ Option.get_or (mapped_by m e) e) × (e < n)
+  unmapped : y ≡ 0 → (e ≡ Option.get_or (mapped_by m e) e) × (e < n)
   unfolding mapped_by element_of
   unmapped z = (rw (← q, z), h)
 
-  pub mapped_to : (y ≡ 0 → ⊥) → (y - 1 ≡ Option.get_or (mapped_by m e) e) × (y - 1 < n)
+  mapped_to : (y ≡ 0 → ⊥) → (y - 1 ≡ Option.get_or (mapped_by m e) e) × (y - 1 < n)
   unfolding mapped_by element_of
   mapped_to z = (rw (← q) (go y z), omega (arith, M.low e))
     where
       go : (y : ℕ) → (y ≡ 0 → ⊥) → y - 1 ≡ Option.get_or (element_of y) e
       go zero z = absurd (z refl)
       go (suc k) z = omega arith
+
+  pub mapped_or_same : (o : Opt ℕ) → SomeIff o (1 ≤ y) (y - 1) → (r : ℕ) → r ≡ unwrap_or o e → (r ≡ Option.get_or (mapped_by m e) e) × (r < n)
+  mapped_or_same None f r g = rw g (unmapped (omega (arith, f)))
+  mapped_or_same (Some x) f r g = rw (g, f.1) (mapped_to (λ z. omega (arith, f.0, z)))
 
 -- ── One step of the climb ───────────────────────────────────────────────────────────────────────────────────
 

@@ -1,6 +1,8 @@
+-- Told       what is told of an element
 -- Filling    the loop of `fill_mapping`
 -- Climbing   the loop of `upmap_to_ancestor`
 -- Placing    the loop of `place_below`
+pub mod Told
 pub mod Filling
 pub mod Climbing
 pub mod Placing

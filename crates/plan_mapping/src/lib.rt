@@ -31,11 +31,7 @@ pub fn upmap_node_single(map: &[u32], n: usize, e: usize) -> usize
     requires e_lt_n { e < n }
     ensures { (result ≡ get_or (mapped_by map.now e) e) × (result < n) }
 {
-    let y = words::word(map, e);
-    if y == 0 {
-        return e;
-    }
-    y - 1
+    words::word(map, e).checked_sub(1).unwrap_or(e)
 }
 
 // Rust: `to_first_upmap` in SyntaxMapping::upmap_child. How many child numbers lead from `x` down to `e`; none if `e` is neither `x` nor below it. They are
@@ -54,13 +50,12 @@ pub fn place_below(
     let mut at = e;
     let mut k: usize = 0;
     while at != x {
-        let p = read_element_table::entry(table, at, read_element_table::PARENT);
-        if p == 0 {
-            return None;
-        }
+        let parent = read_element_table::entry(table, at, read_element_table::PARENT).checked_sub(
+            1,
+        )?;
         place[k] = table[read_element_table::WORDS * at + read_element_table::CHILD];
         k += 1;
-        at = p - 1;
+        at = parent;
     }
     Some(k)
 }
@@ -87,14 +82,12 @@ pub fn upmap_to_ancestor(
     trail[0] = table[read_element_table::WORDS * x + read_element_table::CHILD];
     let mut k: usize = 1;
     loop {
-        let p = read_element_table::entry(table, x, read_element_table::PARENT);
-        if p == 0 {
-            return Err(Refusal::Unmapped);
-        }
+        let parent = read_element_table::entry(table, x, read_element_table::PARENT)
+            .checked_sub(1)
+            .ok_or(Refusal::Unmapped)?;
         if n < k {
             return Err(Refusal::Endless);
         }
-        let parent = p - 1;
         let next = upmap_node_single(map, n, parent);
         if parent == output {
             return Ok(k);

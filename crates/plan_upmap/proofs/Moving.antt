@@ -4,28 +4,23 @@ use mathlib.Core.List.{List, [], ◌∷◌, ◌++◌}
 use mathlib.Core.Option.{Option, none, some, bind}
 use mathlib.Core.Path.{◌≡◌, refl, sym, ◌∙◌}
 use Prim.Native.Nat.{ℕ}
-use native.Mathlib.Omega.{arith}
 use lib.ListN.{get_elem?}
 use Rattle.orders.specs.Tree.{Path}
 use Rattle.definition.specs.Basics.{refused, gives, ◌>>=◌, or_refuse}
 use Rattle.definition.specs.Elements.{Table, row, descend}
 use Rattle.definition.specs.Rewriting.{trail, land, moved}
 use Rattle.read_element_table.specs.View.{view}
-use Rattle.std.specs.Prelude.{Option as Opt, Some, None, Result, Ok, Err}
+use Rattle.std.specs.Prelude.{Option as Opt, Some, Result, Ok, Err}
 use Rattle.std.specs.Option.{ok_or}
 use Rattle.refusals.specs.declared.Refusal.{Refusal}
 use Rattle.refusals.specs.declared.Refusal.TheVariants.{Unmapped}
 use Rattle.refusals.specs.Numbers.{number}
 use Rattle.plan_upmap.specs.declared.Moved.{Moved}
 use Rattle.plan_mapping.specs.Mapped.{mapped_by}
+use Rattle.plan_mapping.proofs.Told.{nothing}
 use Rattle.plan_mapping.specs.Backward.{backward, length_backward}
 use Rattle.plan_mapping.specs.Answers.{below, Placed, climbed, Climbed, trail_room}
 use Rattle.plan_upmap.specs.Answers.{found, within_at, Descended, Landed, moved_by, moved_from, MovedFrom, MovedTo}
-
--- nothing is refused as it is told
-pub nothing : {A E : Type 0} {e v : E} (o : Opt A) → ok_or o e ≡ Err v → (o ≡ None) × (v ≡ e)
-nothing None q = (refl, grind arith)
-nothing (Some x) q = absurd (grind arith)
 
 -- down one path, and then down another
 descend_append : (T : Table) (r : ℕ) (q p : Path) → descend T r (q ++ p) ≡ bind (descend T r q) (λ x. descend T x p)

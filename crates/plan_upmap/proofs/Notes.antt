@@ -26,7 +26,7 @@ use Rattle.plan_mapping.specs.Mapped.{mapped_by}
 use Rattle.plan_mapping.specs.Backward.{backward}
 use Rattle.plan_mapping.specs.Answers.{below, Placed}
 use Rattle.plan_upmap.specs.Answers.{found, Within, Landed}
-use Rattle.plan_upmap.proofs.Moving.{nothing}
+use Rattle.plan_mapping.proofs.Told.{nothing}
 use Rattle.plan_upmap.specs.Settling.{Nearest, SettledWithin, settled_at_lem, OneMove, SettledAt}
 
 -- ── The nearest mapped ancestor ─────────────────────────────────────────────────────────────────────────────

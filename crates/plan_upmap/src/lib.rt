@@ -133,11 +133,7 @@ fn nearest_mapped(table: &[u32], map: &[u32], n: usize, e: usize) -> Option<usiz
 {
     let mut at = e;
     while words::word(map, at) == 0 {
-        let p = read_element_table::entry(table, at, read_element_table::PARENT);
-        if p == 0 {
-            return None;
-        }
-        at = p - 1;
+        at = read_element_table::entry(table, at, read_element_table::PARENT).checked_sub(1)?;
     }
     Some(at)
 }

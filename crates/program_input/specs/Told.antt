@@ -1,11 +1,18 @@
 -- What is written of an input, where its bytes are known.
 -- Assumes nothing.
-use Rattle.std.specs.Prelude.{◌⊎◌, ◌≡◌, ℕ, ◌<◌, ◌≤◌, Bool, true, false, ltb, List, [], ◌++◌, length, take, ⊤, None, Some}
+use Rattle.std.specs.Prelude.{◌≡◌, ℕ, ◌<◌, ◌≤◌, Bool, true, false, ltb, List, [], ◌++◌, length, take, ⊤, None, Some}
 use Rattle.std.proofs.Common.{refl, sym, ap, ◌∙◌, arith, length-take-le, take_all}
 use Rattle.std.proofs.lemmas.List.{append-nil, take-append-le}
 use Rattle.std.specs.Io.KnownBytes.{Appends, Consumes, IsAtEnd}
 use Rattle.std.specs.declared.option.Option.{Option}
+use Rattle.program_input.specs.Counts.{IsPrefixLen}
 use borrow.Author.Tests.{ltb-true, ltb-false}
+
+-- the first `written` bytes of the output are what is said of the first `read` bytes of the input's buffer
+pub record Responds (say : List ℕ → List ℕ) (input : List ℕ) (read : ℕ) (out : List ℕ) (written : ℕ) : Type 0 where
+  pub judged : read ≤ length input
+  pub fits : IsPrefixLen written out
+  pub says : take written out ≡ say (take read input)
 
 -- where the input's bytes are known, what was said of them was written
 abbrev pub Writes : (List ℕ → List ℕ) → Option (List ℕ) → Option (List ℕ) → Option (List ℕ) → Type 0

@@ -81,17 +81,11 @@ pub fn call_fits(
     requires operation_bound { (operation ≤ 6) × (target < n) × (first < n) }
     ensures { result ≡ call_fits (view n table.now source.now) operation target first }
 {
-    if operation == 0 {
-        return is_node(source, target);
+    match operation {
+        0 => is_node(source, target),
+        6 => target == 0,
+        _ if is_root(table, target) => operation == 2 && is_node(source, first),
+        5 => run_fits(table, target, first),
+        _ => true,
     }
-    if operation == 6 {
-        return target == 0;
-    }
-    if is_root(table, target) {
-        return operation == 2 && is_node(source, first);
-    }
-    if operation == 5 {
-        return run_fits(table, target, first);
-    }
-    true
 }

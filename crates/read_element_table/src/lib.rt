@@ -96,8 +96,8 @@ fn fill_elements(
             let m = words::read_word(b, measures + 4 * i);
             let s = if_root(d, 0, at);
             let t = if_root(d, x.next, tree);
-            words::store8(table, WORDS * i, o, x.owner, x.next, d, s, s, i, t);
-            words::store3(source, ROW_WORDS * (i + 1), k, m, o);
+            words::store(table, WORDS * i, &[o, x.owner, x.next, d, s, s, i, t]);
+            words::store(source, ROW_WORDS * (i + 1), &[k, m, o]);
             let left = x.left - 1;
             let owner = x.owner;
             let next = x.next + 1;
@@ -130,7 +130,7 @@ pub fn fill(
     requires accepted { Accepted trees (elements_at b.now kinds measures n) }
     ensures { Filled trees n (elements_at b.now kinds measures n) table.old source.old table.new source.new }
 {
-    words::store3(source, 0, 0x8000_0000, trees, 0);
+    words::store(source, 0, &[0x8000_0000, trees, 0]);
     fill_elements(b, kinds, measures, n, trees, table, source);
 }
 

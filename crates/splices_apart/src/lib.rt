@@ -74,11 +74,8 @@ fn apart_from(rows: &[u32], e: usize, splices: &[u32], i: usize) -> bool
     requires { (3 * e ≤ length rows.now) × (e < 2 ^ 16) × (6 * i + 5 < length splices.now) × RowsTo e splices.now (i + 1) }
     ensures { ApartFrom rows.now e splices.now i i result }
 {
-    let mut j = 0;
-    while j < i {
-        if apart(rows, e, splices, i, j) {
-            j += 1;
-        } else {
+    for j in 0..i {
+        if !apart(rows, e, splices, i, j) {
             return false;
         }
     }
@@ -90,11 +87,8 @@ pub fn all_apart(rows: &[u32], e: usize, splices: &[u32], c: usize) -> bool
     requires { (3 * e ≤ length rows.now) × (e < 2 ^ 16) × (6 * c ≤ length splices.now) × RowsTo e splices.now c }
     ensures { ApartAll rows.now e splices.now c result }
 {
-    let mut k = 0;
-    while k < c {
-        if apart_from(rows, e, splices, k) {
-            k += 1;
-        } else {
+    for k in 0..c {
+        if !apart_from(rows, e, splices, k) {
             return false;
         }
     }

@@ -4,9 +4,9 @@ use mathlib.Core.Path.{◌≡◌, refl, sym, ap, ◌∙◌}
 use mathlib.Core.Bool.{Bool, true, false}
 use mathlib.Core.List.{List, [], ◌∷◌}
 use mathlib.Core.Logic.{inl, inr}
-use Prim.Native.Nat.{ℕ, zero, suc, ◌+◌, ◌-◌, ◌*◌, ◌^◌, ◌≤◌, ◌<◌}
+use Prim.Native.Nat.{ℕ, zero, suc, ◌+◌, ◌-◌, ◌*◌, ◌/◌, ◌^◌, ◌≤◌, ◌<◌}
 use native.Mathlib.Omega.{arith}
-use native.Mathlib.Nat.{sub-zero}
+use native.Mathlib.Nat.{sub-zero, zero-add}
 use native.Mathlib.Numerals.{add-one}
 use lib.Dec.{leb, ltb, eqb}
 use lib.ListN.{length, get_or, take, drop}
@@ -36,30 +36,22 @@ pub record Owing (run : List ℕ) (o i : ℕ) : Type 0 where
 pub owing_start : (run : List ℕ) → Owing run 0 0
 owing_start run = record { inside = omega arith; small = omega arith; rest = λ text. refl }
 
-owed_cons : (o : ℕ) (l l' : List Row) (r : Row) → l ≡ r ∷ l' → (o ≡ 0 → ⊥) → owed o l ≡ owed (o - 1 + owes r) l'
+owed_cons : (o : ℕ) (l l' : List Row) (r : Row) → l ≡ r ∷ l' → owed o l ≡ owed (o - 1 + owes r) l'
 unfolding owed
-owed_cons zero l l' r e h = absurd (h refl)
-owed_cons (suc o) l l' r e h = let q : suc o - 1 ≡ o = omega arith in rw (e, q)
+owed_cons zero l l' r e = rw (e, zero-add (owes r))
+owed_cons (suc o) l l' r e = let q : suc o - 1 ≡ o = omega arith in rw (e, q)
 
 module _ {run : List ℕ} {o i : ℕ} (v : Owing run o i) where
-  pub owing_first : {m : ℕ} → 3 * i + 2 < length run → Counted run i m → o ≡ 0 → Owing run m (i + 1)
-  unfolding owed
-  owing_first h c z = record {
-    inside = omega arith;
-    small = omega (arith, c.small);
-    rest = λ text. rw (add-one i) (v.rest text ∙ rw (z, triples_at text i run h) (ap (λ n. owed n (drop (suc i) (triples text run))) (sym (c.count text))));
-  }
-
-  pub owing_next : {m : ℕ} → 3 * i + 2 < length run → Counted run i m → (o ≡ 0 → ⊥) → Owing run (o - 1 + m) (i + 1)
-  owing_next h c z = record {
+  pub owing_next : {m x : ℕ} → i < length run / 3 → x ≡ o - 1 → Counted run i m → Owing run (x + m) (i + 1)
+  owing_next h e c = record {
     inside = omega arith;
     small = omega (arith, v.small, c.small);
-    rest = λ text. rw (add-one i) (v.rest text ∙ rw (owed_cons o _ _ (row_in text run i) (triples_at text i run h) z, ← c.count text));
+    rest = λ text. rw (e, add-one i) (v.rest text ∙ rw (owed_cons o _ _ (row_in text run i) (triples_at text i run (omega arith)), ← c.count text));
   }
 
-  pub owing_done : length run ≤ 3 * i + 2 → Closes run (eqb o 0)
+  pub owing_done : length run / 3 ≤ i → Closes run (eqb o 0)
   unfolding closed owed
-  owing_done h = record { says = λ text. sym (ap (λ n. eqb n 0) (v.rest text ∙ ap (owed o) (triples_end text i run h))) }
+  owing_done h = record { says = λ text. sym (ap (λ n. eqb n 0) (v.rest text ∙ ap (owed o) (triples_end text i run (omega arith)))) }
 
 -- ── One splice ──────────────────────────────────────────────────────────────────────────────────────────────
 

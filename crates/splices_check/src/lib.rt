@@ -5,12 +5,13 @@
 ghost use Rattle.std.specs.Prelude.{◌≡◌, true, ◌+◌, ◌*◌, ◌^◌, ◌≤◌, ◌<◌, length, get_or, take};
 ghost use Rattle.splices_model.specs.Bounds.{rows_to};
 ghost use Rattle.splices_model.specs.Cuts.{part_at};
+ghost use Rattle.splices_model.specs.Refusals.{refusal_in};
 ghost use Rattle.splices_model.specs.Verdict.{bounded_at, has_run_at, limited, roomy};
 ghost use Rattle.splices_check.specs.Promises.{Closes, FitsAt, FitsAll, OneTree, Fitted, Judged};
 
-use rows_syntax_node::{MEASURE, ROW_WORDS, TEXT, child_count, trees_in};
+use rows_syntax_node::{MEASURE, ROW_WORDS, child_count, trees_in};
 use splices_apart::all_apart;
-use splices_model::{FROM, PARENT, ROWS, SPLICE_WORDS, START, TO};
+use splices_model::{FROM, PARENT, ROWS, SPLICE_WORDS, START, SpliceRefusal, TO};
 use words::word;
 
 // ── It fits ──
@@ -20,17 +21,9 @@ fn closes(run: &[u32]) -> bool
     requires { length run.now < 3 * 2 ^ 16 }
     ensures { Closes run.now result }
 {
-    let mut o = 0;
-    let mut i = 0;
-    while ROW_WORDS * i + TEXT < run.len() {
-        let m = child_count(run, i);
-        if o == 0 {
-            o = m;
-            i += 1;
-        } else {
-            o = o - 1 + m;
-            i += 1;
-        }
+    let mut o: usize = 0;
+    for i in 0..run.len() / ROW_WORDS {
+        o = o.saturating_sub(1) + child_count(run, i);
     }
     o == 0
 }
@@ -97,11 +90,8 @@ fn all_fit(rows: &[u32], e: usize, splices: &[u32], prepared: &[u32], c: usize) 
     requires { (6 * c ≤ length splices.now) × (length prepared.now < 3 * 2 ^ 16) × (3 * e ≤ length rows.now) }
     ensures { FitsAll rows.now e splices.now prepared.now c result }
 {
-    let mut k = 0;
-    while k < c {
-        if fits(rows, e, splices, prepared, k) {
-            k += 1;
-        } else {
+    for k in 0..c {
+        if !fits(rows, e, splices, prepared, k) {
             return false;
         }
     }
@@ -136,10 +126,8 @@ pub fn rows_to(splices: &[u32], c: usize) -> usize
     ensures { (result ≡ rows_to splices.now c) × (result < 2 ^ 48) }
 {
     let mut sum = 0;
-    let mut k = 0;
-    while k < c {
+    for k in 0..c {
         sum += word(splices, SPLICE_WORDS * k + ROWS);
-        k += 1;
     }
     sum
 }
@@ -174,32 +162,44 @@ fn room(long: usize, e: usize, splices: &[u32], c: usize) -> bool
 
 // ── The verdict ──
 
-// 3 if the first `e` rows are not those of one tree, 4 if one of the first `c` splices does not fit it, 5 if two are not apart, else 0.
-fn fitted(rows: &[u32], e: usize, splices: &[u32], prepared: &[u32], c: usize) -> usize
+// Refused if the first `e` rows are not those of one tree, then if one of the first `c` splices does not fit it, then if two are not apart.
+fn fitted(
+    rows: &[u32],
+    e: usize,
+    splices: &[u32],
+    prepared: &[u32],
+    c: usize,
+) -> Result<(), SpliceRefusal>
     requires { (6 * c ≤ length splices.now) × (length prepared.now < 3 * 2 ^ 16) × (3 * e ≤ length rows.now) × (e < 2 ^ 16) }
-    ensures { Fitted rows.now e splices.now prepared.now c result }
+    ensures { Fitted rows.now e splices.now prepared.now c (refusal_in result) }
 {
-    if spells_tree(rows, e) {
-        if all_fit(rows, e, splices, prepared, c) {
-            if all_apart(rows, e, splices, c) {
-                return 0;
-            }
-            return 5;
-        }
-        return 4;
+    if !spells_tree(rows, e) {
+        return Err(SpliceRefusal::NoTree);
     }
-    3
+    if !all_fit(rows, e, splices, prepared, c) {
+        return Err(SpliceRefusal::Unfit);
+    }
+    if !all_apart(rows, e, splices, c) {
+        return Err(SpliceRefusal::NotApart);
+    }
+    Ok(())
 }
 
-// The first refusal: 1 if a slice is beyond its limit, 2 if there is no room, 3 to 5 if the list does not fit a tree or is not apart; 0 if there is none.
-pub fn judged(rows: &[u32], e: usize, splices: &[u32], prepared: &[u32], c: usize) -> usize
-    ensures { Judged rows.now e splices.now prepared.now c result }
+// The first refusal: if a slice is beyond its limit, then if there is no room, then if the list does not fit a tree or is not apart.
+pub fn judged(
+    rows: &[u32],
+    e: usize,
+    splices: &[u32],
+    prepared: &[u32],
+    c: usize,
+) -> Result<(), SpliceRefusal>
+    ensures { Judged rows.now e splices.now prepared.now c (refusal_in result) }
 {
-    if within(e, splices, prepared, c) {
-        if room(rows.len(), e, splices, c) {
-            return fitted(rows, e, splices, prepared, c);
-        }
-        return 2;
+    if !within(e, splices, prepared, c) {
+        return Err(SpliceRefusal::OutOfLimits);
     }
-    1
+    if !room(rows.len(), e, splices, c) {
+        return Err(SpliceRefusal::NoRoom);
+    }
+    fitted(rows, e, splices, prepared, c)
 }

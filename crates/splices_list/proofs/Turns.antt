@@ -1,5 +1,6 @@
 -- What each way out and each turn of a loop knows.
 -- Assumes nothing.
+use Rattle.std.specs.Prelude.{Result, Ok, Err}
 use mathlib.Core.Path.{◌≡◌, refl, sym, ap, ◌∙◌}
 use mathlib.Core.List.{List, [], ◌∷◌}
 use Prim.Native.Nat.{ℕ, zero, suc, ◌+◌, ◌*◌, ◌/◌, ◌^◌, ◌≤◌, ◌<◌, ◌-◌}
@@ -14,6 +15,10 @@ use Rattle.orders.specs.Splices.{Splice, begin, one_go, AllApart}
 use Rattle.rows_model.specs.Row.{rows_of}
 use Rattle.rows_model.specs.Place.{size}
 use Rattle.rows_model.proofs.Words.{rows_many}
+use Rattle.definition.specs.Basics.{Answer, gives}
+use Rattle.splices_model.specs.Refusals.{number, refusal_in}
+use Rattle.splices_model.specs.declared.SpliceRefusal.{SpliceRefusal}
+use Rattle.splices_model.specs.declared.SpliceRefusal.TheVariants.{OutOfLimits, NoRoom, NoTree, Unfit, NotApart}
 use Rattle.splices_model.specs.Cuts.{cuts_to, Holds, Told, state_of}
 use Rattle.splices_model.specs.Bounds.{BoundedTo, BoundedAll, rows_to, rows_to_more, rows_to_mono, bounded_to}
 use Rattle.splices_model.specs.Orders.{one_more, one_go_rows}
@@ -23,7 +28,6 @@ use Rattle.splices_model.specs.Found.{places_below, legible, old_told, list_told
 use Rattle.splices_check.specs.Promises.{Judged}
 use Rattle.definition_laws.specs.Basics.{up_from, up_long}
 use Rattle.splices_model.specs.Step.{begin_holds}
-use Rattle.splices_list.specs.declared.Outcome.TheVariants.{Refused, Done}
 use Rattle.splices_step.specs.Promises.{Stepped}
 use Rattle.splices_list.specs.Plain.{plain_word, plain, plain_next, plain_long, plain_beyond, plain_words, rows_inside}
 use Rattle.splices_list.specs.Promises.{Listed, Good, ListedAll, Tidied, outcome_of, rows_left, marks_left, Spliced}
@@ -152,21 +156,35 @@ module _ {rows marks s p : List ℕ} {c : ℕ} {sum : ℕ} (S : (sum ≡ rows_to
 
 -- ── The whole list ──────────────────────────────────────────────────────────────────────────────────────────
 
-module _ (rows marks s p : List ℕ) {k : ℕ} (J : Judged rows (length marks) s p (length s / 6) k) where
-  wrong_is : wrong rows (length marks) s p (length s / 6) ≡ k
+-- a refusal has a number
+numbered : (r : SpliceRefusal) → number r ≡ 0 → ⊥
+numbered OutOfLimits z = omega arith
+numbered NoRoom z = omega arith
+numbered NoTree z = omega arith
+numbered Unfit z = omega arith
+numbered NotApart z = omega arith
+
+module _ (rows marks s p : List ℕ) {A : Type 0} (v : Result A SpliceRefusal) (J : Judged rows (length marks) s p (length s / 6) (refusal_in v)) where
+  wrong_is : wrong rows (length marks) s p (length s / 6) ≡ refusal_in v
   wrong_is =
       let n = legible rows (length marks) s p in
       sym (J.says (places_below n.0) ∙ judged_wrong rows (length marks) s p n.0 n.1 (length s / 6))
 
-  pub spliced_refused : (k ≡ 0 → ⊥) → Spliced rows marks s p rows marks (Refused k)
+  pub spliced_refused : {r : SpliceRefusal} → v ≡ Err r → Spliced rows marks s p rows marks (Err r)
   unfolding outcome_of rows_left marks_left
-  spliced_refused z = let e = answer_wrong rows marks s p k wrong_is z in record { outcome = rw e; result = rw e; moved = rw e }
+  spliced_refused {r} z =
+      let f : wrong rows (length marks) s p (length s / 6) ≡ number r = wrong_is ∙ ap refusal_in z in
+      let e = answer_wrong rows marks s p (number r) f (numbered r) in
+      record { outcome = rw e; result = rw e; moved = rw e }
 
-  module _ (z : k ≡ 0) where
+  module _ {u : A} (y : v ≡ Ok u) where
+    z : refusal_in v ≡ 0
+    z = ap refusal_in y
+
     pub good : Good rows marks s p (length s / 6)
     good = let w = judged_bounds [] rows (length marks) s p (length s / 6) (sym (J.says []) ∙ z) in record { room = w.0; bounds = w.1 }
 
-    pub spliced_done : {out marked : List ℕ} {r : ℕ} → Tidied rows marks s p (length s / 6) out marked r → Spliced rows marks s p out marked (Done r)
+    pub spliced_done : {out marked : List ℕ} {r : ℕ} → Tidied rows marks s p (length s / 6) out marked r → Spliced rows marks s p out marked (Ok r)
     unfolding outcome_of rows_left marks_left rewritten filled
     spliced_done {out} {marked} {r} t =
         let L = legible rows (length marks) s p in
@@ -182,4 +200,4 @@ module _ (rows marks s p : List ℕ) {k : ℕ} (J : Judged rows (length marks) s
         let words : take (3 * r) (plain r t.left) ≡ words_of (rows_of new) = plain_words L.0 r t.left (rw o.0 (rows_inside new)) k ∙ ap words_of o.0 in
         let many : r ≡ size new = sym (rows_many (places_below L.0) r t.left new k o.0) in
         let e = answer_right rows marks s p R in
-        record { outcome = rw e (ap Done many); result = rw e (t.is ∙ rw (words, w.beyond)); moved = rw e o.1 }
+        record { outcome = rw e (ap {B = Answer ℕ} gives many); result = rw e (t.is ∙ rw (words, w.beyond)); moved = rw e o.1 }

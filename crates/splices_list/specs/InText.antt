@@ -1,6 +1,6 @@
 -- The words that are left, read again: they tell the one-go tree; and in a text that has the tokens' places, that tree with its text.
 -- Assumes nothing.
-use Rattle.std.specs.Prelude.{◌≡◌, true, drop, leb, ltb}
+use Rattle.std.specs.Prelude.{◌≡◌, Ok, true, drop, leb, ltb}
 use Rattle.std.proofs.Math.Path.{refl, ap}
 use Rattle.std.proofs.Common.{sym, subst, ◌∙◌, drop-cons}
 use mathlib.Core.List.{List, [], ◌∷◌, ◌++◌, map}
@@ -27,7 +27,6 @@ use Rattle.splices_model.specs.Found.{Inside, told_inside, closed_trees, old_tre
 use Rattle.splices_list.specs.Plain.{text_there}
 use Rattle.splices_list.specs.Promises.{Spliced}
 use Rattle.splices_list.specs.TwoOrders.{told, spliced_done}
-use Rattle.splices_list.specs.declared.Outcome.TheVariants.{Done}
 
 -- ── What holds of every row, the one go keeps ───────────────────────────────────────────────────────────────
 
@@ -174,7 +173,7 @@ module _ (P : Row → Type 0) where
       let t : rows_told (part_at s p k) ≡ rows_all (trees_of (rows_told (part_at s p k))) = closed_trees (rows_told (part_at s p k)) b.1 (told_inside (part_at s p k)) in
       (trees_hold P measured (trees_of (rows_told (part_at s p k))) (subst (All P) t (h k (omega arith))), brought measured old e s p k x.1 (λ j g. h j (omega arith)))
 
-module _ (rows marks s p out marked : List ℕ) (n : ℕ) (w : Spliced rows marks s p out marked (Done n)) where
+module _ (rows marks s p out marked : List ℕ) (n : ℕ) (w : Spliced rows marks s p out marked (Ok n)) where
   new : Tree ℕ
   new = one_go (told rows marks s p) (old_tree rows (length marks))
 

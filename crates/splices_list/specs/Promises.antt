@@ -1,6 +1,6 @@
 -- What the functions on a list of splices promise, part by part. Text is not read, so that each promise holds for any.
 -- Assumes nothing.
-use Rattle.std.specs.Prelude.{◌≡◌, List, ℕ, ◌+◌, ◌*◌, ◌≤◌, length, take, drop}
+use Rattle.std.specs.Prelude.{◌≡◌, Result, List, ℕ, ◌+◌, ◌*◌, ◌≤◌, length, take, drop}
 use Rattle.orders.specs.Tree.{Tree}
 use Rattle.orders.specs.Splices.{Splice, begin, AllApart}
 use Rattle.definition.specs.Basics.{Answer, refused, gives}
@@ -8,10 +8,10 @@ use Rattle.rows_model.specs.Row.{first_rows, rows_of}
 use Rattle.splices_model.specs.Bounds.{BoundedAll, rows_to}
 use Rattle.splices_model.specs.Verdict.{Room}
 use Rattle.splices_model.specs.Cuts.{Holds, Told, state_of}
+use Rattle.splices_model.specs.Refusals.{answered}
+use Rattle.splices_model.specs.declared.SpliceRefusal.{SpliceRefusal}
 use Rattle.splices_model.specs.SpliceList.{Left, filled, splice_list}
 use Rattle.splices_list.specs.Plain.{plain}
-use Rattle.splices_list.specs.declared.Outcome.{Outcome}
-use Rattle.splices_list.specs.declared.Outcome.TheVariants.{Refused, Done}
 
 -- the first c splices done, from the first to the last: the state that the law leaves, for every list of them that is apart
 pub record Listed (rows : List ℕ) (n : ℕ) (marks splices prepared : List ℕ) (c : ℕ) (out marked : List ℕ) (r : ℕ) : Type 0 where
@@ -40,9 +40,9 @@ pub record Tidied (rows marks splices prepared : List ℕ) (c : ℕ) (out marked
 -- ── The promise ─────────────────────────────────────────────────────────────────────────────────────────────
 
 -- the outcome of an answer
-unfoldable pub outcome_of : Answer Left → Outcome
-outcome_of (refused n) = Refused n
-outcome_of (gives l) = Done l.many
+unfoldable pub outcome_of : Answer Left → Answer ℕ
+outcome_of (refused n) = refused n
+outcome_of (gives l) = gives l.many
 
 -- what the rows slice holds then, which held `held`: on refusal all that it held
 unfoldable pub rows_left : List ℕ → Answer Left → List ℕ
@@ -55,7 +55,7 @@ marks_left held (refused n) = held
 marks_left held (gives l) = l.marks
 
 -- THE PROMISE of `splice_all`: the outcome and every word of both slices are those of the definition, from what was lent
-pub record Spliced (rows marks splices prepared out marked : List ℕ) (r : Outcome) : Type 0 where
-  pub outcome : r ≡ outcome_of (splice_list rows marks splices prepared)
+pub record Spliced (rows marks splices prepared out marked : List ℕ) (r : Result ℕ SpliceRefusal) : Type 0 where
+  pub outcome : answered r ≡ outcome_of (splice_list rows marks splices prepared)
   pub result : out ≡ rows_left rows (splice_list rows marks splices prepared)
   pub moved : marked ≡ marks_left marks (splice_list rows marks splices prepared)

@@ -1,6 +1,6 @@
 -- Two orders of the same words: the six words of each splice, in two orders, leave the same words, or are refused by the same number.
 -- Assumes nothing.
-use Rattle.std.specs.Prelude.{◌≡◌, Bool, true, false, not, ◌&&◌, take, drop, get_or}
+use Rattle.std.specs.Prelude.{◌≡◌, Result, Bool, true, false, not, ◌&&◌, take, drop, get_or}
 use Rattle.std.proofs.Math.Path.{refl, ap}
 use Rattle.std.proofs.Common.{sym, ◌∙◌, arith, get_or-take, get_or-drop}
 use mathlib.Core.List.Permᴰ
@@ -23,7 +23,8 @@ use Rattle.splices_model.specs.Verdict.{tree_rows, limited, roomy}
 use Rattle.splices_model.specs.SpliceList.{rows_told, old_tree, splice_at, splices_to, tells_at, suits_at, suits_to, Left, rewritten, splice_list}
 use Rattle.splices_model.specs.Found.{suits_apart}
 use Rattle.splices_list.specs.Promises.{outcome_of, rows_left, marks_left, Spliced}
-use Rattle.splices_list.specs.declared.Outcome.{Outcome}
+use Rattle.splices_model.specs.Refusals.{answered_same}
+use Rattle.splices_model.specs.declared.SpliceRefusal.{SpliceRefusal}
 
 -- ── Six words for each splice ───────────────────────────────────────────────────────────────────────────────
 
@@ -137,5 +138,5 @@ module _ (rows marks s s' p : List ℕ) (same : Permᴰ (sixes s (length s / 6))
       room = unfold roomy in rw sums
 
   -- TWO ORDERS LEAVE THE SAME WORDS: the outcome, every word of the rows slice and every mark are the same
-  pub same_every_word : {out marked out' marked' : List ℕ} {r r' : Outcome} → Spliced rows marks s p out marked r → Spliced rows marks s' p out' marked' r' → (r ≡ r') × (out ≡ out') × (marked ≡ marked')
-  same_every_word w w' = (w.outcome ∙ (ap outcome_of every_order ∙ sym w'.outcome), w.result ∙ (ap (rows_left rows) every_order ∙ sym w'.result), w.moved ∙ (ap (marks_left marks) every_order ∙ sym w'.moved))
+  pub same_every_word : {out marked out' marked' : List ℕ} {r r' : Result ℕ SpliceRefusal} → Spliced rows marks s p out marked r → Spliced rows marks s' p out' marked' r' → (r ≡ r') × (out ≡ out') × (marked ≡ marked')
+  same_every_word {r = r} {r' = r'} w w' = (answered_same r r' (w.outcome ∙ (ap outcome_of every_order ∙ sym w'.outcome)), w.result ∙ (ap (rows_left rows) every_order ∙ sym w'.result), w.moved ∙ (ap (marks_left marks) every_order ∙ sym w'.moved))

@@ -1,6 +1,6 @@
 -- What a list that is done leaves is the law's state; two orders of one list leave the same.
 -- Assumes nothing.
-use Rattle.std.specs.Prelude.{◌≡◌, refl, ◌↔◌, ℕ, zero, suc, ◌+◌, ◌*◌, ◌/◌, ◌<◌, length, take, get_or}
+use Rattle.std.specs.Prelude.{◌≡◌, Ok, refl, ◌↔◌, ℕ, zero, suc, ◌*◌, ◌/◌, ◌<◌, length, take, get_or}
 use Rattle.std.proofs.Common.{sym, ap, ◌∙◌, arith, take_at}
 use mathlib.Core.List.Permᴰ
 use mathlib.Core.List.{List, [], ◌∷◌, ◌++◌, map, append-nil, reverse_aux, Permᴰ, cons≢nil}
@@ -22,10 +22,10 @@ use Rattle.definition_laws.specs.Kin.{get_get_d}
 use Rattle.splices_model.specs.Cuts.{paths, state_of}
 use Rattle.splices_model.specs.Places.{get_map, paths_at}
 use Rattle.splices_model.specs.Orders.{map_same, state_after, performs_state}
+use Rattle.definition.specs.Basics.{Answer, refused, gives}
 use Rattle.splices_model.specs.SpliceList.{old_tree, words_of, splices_to, filled, rewritten}
 use Rattle.splices_model.specs.Found.{wrong, answer_wrong, Right, none_right, answer_right}
 use Rattle.splices_list.specs.Promises.{outcome_of, rows_left, marks_left, Spliced}
-use Rattle.splices_list.specs.declared.Outcome.TheVariants.{Refused, Done}
 
 -- ── What is done ────────────────────────────────────────────────────────────────────────────────────────────
 
@@ -51,17 +51,17 @@ pub record DoneAll (rows marks s p out marked : List ℕ) (n : ℕ) : Type 0 whe
   pub words : take (3 * n) out ≡ words_of (rows_of (one_go (told rows marks s p) (old_tree rows (length marks))))
   pub paths : marked ≡ map (λ e. mark_of (one_go (told rows marks s p) (old_tree rows (length marks))) (one_go_path (told rows marks s p) e)) (paths (old_tree rows (length marks)))
 
-pub spliced_done : (rows marks s p out marked : List ℕ) (n : ℕ) → Spliced rows marks s p out marked (Done n) → DoneAll rows marks s p out marked n
+pub spliced_done : (rows marks s p out marked : List ℕ) (n : ℕ) → Spliced rows marks s p out marked (Ok n) → DoneAll rows marks s p out marked n
 unfolding outcome_of rows_left marks_left rewritten filled
 spliced_done rows marks s p out marked n w = go (wrong rows (length marks) s p (length s / 6)) refl
   where
     go : (k : ℕ) → wrong rows (length marks) s p (length s / 6) ≡ k → DoneAll rows marks s p out marked n
-    go (suc k) z = let u : Done n ≡ Refused (suc k) = w.outcome ∙ ap outcome_of (answer_wrong rows marks s p (suc k) z (λ e. omega arith)) in let y : ◌≡◌ {A = ℕ} 0 1 = cc in absurd (omega arith)
+    go (suc k) z = let u : ◌≡◌ {A = Answer ℕ} (gives n) (refused (suc k)) = w.outcome ∙ ap outcome_of (answer_wrong rows marks s p (suc k) z (λ e. omega arith)) in let y : ◌≡◌ {A = ℕ} 0 1 = cc in absurd (omega arith)
     go zero z =
         let R = none_right rows (length marks) s p (length s / 6) z in
         let e = answer_right rows marks s p R in
         let new : Tree ℕ = one_go (told rows marks s p) (old_tree rows (length marks)) in
-        let u : Done n ≡ Done (size new) = w.outcome ∙ ap outcome_of e in
+        let u : ◌≡◌ {A = Answer ℕ} (gives n) (gives (size new)) = w.outcome ∙ ap outcome_of e in
         let m : n ≡ size new = cc in
         record {
           right = R;
@@ -82,7 +82,7 @@ reversed_twice [] A B = refl
 reversed_twice (x ∷ D) A B = reversed_twice D (x ∷ A) B
 
 -- what is done is what the law does with the list, from its first splice to its last; and that is what demand 3 demands
-pub spliced_demanded : (rows marks s p out marked : List ℕ) (n : ℕ) → Spliced rows marks s p out marked (Done n)
+pub spliced_demanded : (rows marks s p out marked : List ℕ) (n : ℕ) → Spliced rows marks s p out marked (Ok n)
     → Leaves (old_tree rows (length marks)) (performs (given rows marks s p) (begin (old_tree rows (length marks)))) out n marked
     × Demanded (old_tree rows (length marks)) (given rows marks s p) (performs (given rows marks s p) (begin (old_tree rows (length marks))))
 unfolding state_of
@@ -100,7 +100,7 @@ spliced_demanded rows marks s p out marked n w =
 
 -- two orders of one list leave the same rows and the same marks, wherever their prepared rows stand
 pub two_orders : (rows marks s p s' p' : List ℕ) → Permᴰ (told rows marks s p) (told rows marks s' p') → {out marked out' marked' : List ℕ} {n n' : ℕ}
-    → Spliced rows marks s p out marked (Done n) → Spliced rows marks s' p' out' marked' (Done n') → (n ≡ n') × (take (3 * n) out ≡ take (3 * n') out') × (marked ≡ marked')
+    → Spliced rows marks s p out marked (Ok n) → Spliced rows marks s' p' out' marked' (Ok n') → (n ≡ n') × (take (3 * n) out ≡ take (3 * n') out') × (marked ≡ marked')
 two_orders rows marks s p s' p' same {n = n} {n' = n'} w w' =
     let old = old_tree rows (length marks) in
     let d = spliced_done rows marks s p _ _ n w in

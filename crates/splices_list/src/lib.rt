@@ -11,9 +11,8 @@ ghost use Rattle.splices_model.specs.SpliceList.{filled};
 
 use rows_syntax_node::{MEASURE, ROW_WORDS, TEXT, number_from};
 use splices_check::{judged, rows_to};
-use splices_model::SPLICE_WORDS;
+use splices_model::{SPLICE_WORDS, SpliceRefusal};
 use splices_step::splice_once;
-use words::clear;
 
 // The first `c` splices, from the first to the last. The new number of rows.
 fn splice_each(
@@ -29,10 +28,8 @@ fn splice_each(
     ensures { Listed rows.old n marks.old splices.now prepared.now c rows.new marks.new result }
 {
     let mut m = n;
-    let mut k = 0;
-    while k < c {
+    for k in 0..c {
         m = splice_once(rows, m, marks, splices, prepared, k);
-        k += 1;
     }
     m
 }
@@ -71,13 +68,11 @@ fn make_plain(rows: &mut [u32], n: usize)
     requires { (3 * n ≤ length rows.old) × (n < 2 ^ 16) }
     ensures { rows.new ≡ plain n rows.old }
 {
-    let mut i = 0;
-    while i < n {
+    for i in 0..n {
         let k = rows[ROW_WORDS * i];
         let m = rows[ROW_WORDS * i + MEASURE];
         let o = rows[ROW_WORDS * i + TEXT];
         rows[ROW_WORDS * i + TEXT] = plain_word(k, m, o);
-        i += 1;
     }
 }
 
@@ -88,7 +83,7 @@ fn tidy(rows: &mut [u32], n: usize, to: usize)
 {
     make_plain(rows, n);
     let from = ROW_WORDS * n;
-    clear(&mut rows[from..to]);
+    rows[from..to].fill(0);
 }
 
 // A list that is judged well, done and tidied: zeros stand behind the rows that are left, as far as the list could use rows. The new number of rows.
@@ -108,23 +103,18 @@ fn splice_tidy(
     n
 }
 
-#[derive(Clone, Copy)]
-pub enum Outcome {
-    // The number of the first refusal (docs/WORK.md).
-    Refused(usize),
-    // The number of rows of the new tree.
-    Done(usize),
-}
-
-// All splices of the list, in the order given, on the old tree that the first rows tell, one row for each mark: refused with nothing changed, or done. The rows
-// are then those of the new tree, where a third word that tells nothing is 0; zeros stand behind them as far as the list could use rows.
-pub fn splice_all(rows: &mut [u32], marks: &mut [u32], splices: &[u32], prepared: &[u32]) -> Outcome
+// All splices of the list, in the order given, on the old tree that the first rows tell, one row for each mark: the first refusal (docs/WORK.md) with nothing
+// changed, or the number of rows of the new tree. The rows are then those of the new tree, where a third word that tells nothing is 0; zeros stand behind them as
+// far as the list could use rows.
+pub fn splice_all(
+    rows: &mut [u32],
+    marks: &mut [u32],
+    splices: &[u32],
+    prepared: &[u32],
+) -> Result<usize, SpliceRefusal>
     ensures { Spliced rows.old marks.old splices.now prepared.now rows.new marks.new result }
 {
     let c = splices.len() / SPLICE_WORDS;
-    let refusal = judged(rows, marks.len(), splices, prepared, c);
-    if refusal == 0 {
-        return Outcome::Done(splice_tidy(rows, marks, splices, prepared, c));
-    }
-    Outcome::Refused(refusal)
+    judged(rows, marks.len(), splices, prepared, c)?;
+    Ok(splice_tidy(rows, marks, splices, prepared, c))
 }

@@ -6,6 +6,7 @@
 --     Bounds    what keeps every step within the slices
 --     Verdict   whether a list fits the old tree and is apart, told in rows
 --     SpliceList  what a list of splices leaves, from the words that are lent: THE DEFINITION
+--     Refusals  the number of a refusal, and what is answered as the definition has it
 --     Found     what is judged is what the definition reads
 --     Examples  the definition computed
 pub mod Cuts
@@ -17,3 +18,4 @@ pub mod Verdict
 pub mod SpliceList
 pub mod Found
 pub mod Examples
+pub mod Refusals

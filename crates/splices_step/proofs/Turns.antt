@@ -20,7 +20,7 @@ use Rattle.rows_model.proofs.RowLaws.{children_few}
 use Rattle.rows_model.proofs.PlaceLaws.{place_bound}
 use Rattle.rows_model.proofs.Words.{node_at, rows_many}
 use Rattle.run_splice.specs.Promises.{SplicedMarks}
-use Rattle.splices_model.specs.Cuts.{part_at, gain, left_cut, start_cut, cut_at, cuts_to, Holds, Told}
+use Rattle.splices_model.specs.Cuts.{part_at, left_cut, start_cut, cut_at, cuts_to, Holds, Told}
 use Rattle.splices_model.specs.Bounds.{Bounded, BoundedTo, part_is, part_long}
 use Rattle.splices_model.specs.Step.{Due, parent_row, lost_trees, step_holds}
 use Rattle.splices_step.specs.declared.Gap.{Gap}
@@ -142,11 +142,8 @@ module _ {s p : List ℕ} {i gained lost from : ℕ} (v : Shifted s p i i gained
   unfolding start_cut cut_at
   start_told text = unfold cut_at in (rw (v.comes text, v.goes text, f.0) refl)
 
-  pub start_none : from + gained < lost → Started s p i 0
-  start_none h = record { start = λ text. omega (arith, start_told text); small = omega arith }
-
-  pub start_some : {e : ℕ} → Bounded e s p i → e < 2 ^ 16 → i < 2 ^ 15 → Started s p i (from + gained - lost)
-  start_some h k l = record { start = start_told; small = omega (arith, v.few, f.0, h.ordered, h.within) }
+  pub started : {e x : ℕ} → Bounded e s p i → e < 2 ^ 16 → i < 2 ^ 15 → x ≡ from + gained - lost → Started s p i x
+  started h k l z = rw z (record { start = start_told; small = omega (arith, v.few, f.0, h.ordered, h.within) })
 
 module _ (marks s : List ℕ) (i : ℕ) {pw : ℕ} (f : Read pw (get_or s (6 * i + 1) 0)) where
   pub parent_inside : get_or s (6 * i + 1) 0 < length marks → pw < length marks

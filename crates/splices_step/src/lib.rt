@@ -78,14 +78,10 @@ fn moves_left(splices: &[u32], prepared: &[u32], e: usize, i: usize) -> Moves
 {
     let mut gained = 0;
     let mut lost = 0;
-    let mut j = 0;
-    while j < i {
+    for j in 0..i {
         if left_of(splices, i, j) {
             gained += trees_of(splices, prepared, j);
             lost += deleted(splices, j);
-            j += 1;
-        } else {
-            j += 1;
         }
     }
     Moves { gained, lost }
@@ -98,15 +94,13 @@ fn start_now(splices: &[u32], prepared: &[u32], e: usize, i: usize) -> usize
 {
     let moves = moves_left(splices, prepared, e, i);
     let from = word(splices, SPLICE_WORDS * i + FROM);
-    if from + moves.gained < moves.lost {
-        return 0;
-    }
-    from + moves.gained - moves.lost
+    (from + moves.gained).saturating_sub(moves.lost)
 }
 
 // ── One splice ──
 
-// The rows `from` up to `to` below the row `parent`: `lost` trees, which give way to `gain` others.
+// The rows `from` up to `to` below the row `parent`: `lost` trees, which give way to `gain` others. Not the run's `Gap` with a field more: that stands
+// above the element table and the records of changes, which a list of splices knows nothing of.
 #[derive(Clone, Copy)]
 pub struct Gap {
     pub parent: usize,

@@ -4,7 +4,6 @@ use Rattle.check_table.proofs.Reading.{reading_start, reading_close, reading_lon
 use borrow.Author.Rules.{rules}
 use native.Mathlib.Omega.{arith}
 use mathlib.Core.Path.{sym, ◌∙◌}
-use Prim.Native.Nat.{◌-◌}
 use Rattle.check_table.proofs.read_tree.Goals as goal
 
 pub loop-d-init : goal.loop-d-init
@@ -21,17 +20,6 @@ returns-then-not-stands c = search (reading_wrong, rules)
 
 pub returns-then-bytes-end : goal.returns-then-bytes-end
 returns-then-bytes-end c = search (reading_over, rules)
-
-pub store4-requires : goal.store4-requires
-store4-requires c =
-    let l = c.loop-d in
-    let v = l.invariant in
-    let a = c.requires in
-    let h = v.same in
-    let g = v.few in
-    let f = v.small (l.d - 1) in
-    let j = v.inside in
-    (omega arith, omega (arith, c.word-k.ensures.1), omega arith, omega arith, omega arith)
 
 pub bounds-left-d : goal.bounds-left-d
 bounds-left-d c =
@@ -51,7 +39,7 @@ loop-d-preserved c =
     let s = c.stands in
     let n = c.length_of in
     let a = c.requires in
-    reading_open l.invariant a.0 (omega arith) c.if-x-eq0.false (omega arith) k.ensures.0 m.ensures.0 s.ensures c.if-not-stands.false n.ensures.0 c.children_of.ensures (omega arith) (omega arith) c.store4.ensures
+    reading_open l.invariant a.0 (omega arith) c.if-x-eq0.false (omega arith) k.ensures.0 m.ensures.0 s.ensures c.if-not-stands.false n.ensures.0 c.children_of.ensures (omega arith) (omega arith) c.store.ensures
 
 pub returns-then-i-kinds : goal.returns-then-i-kinds
 returns-then-i-kinds c = search (reading_long, rules)

@@ -1,5 +1,4 @@
 -- `put_elements` meets its contract.
-use Prim.Native.Nat.{◌-◌}
 use borrow.Author.Rules.{rules}
 use Rattle.definition.specs.Printed.{element_line}
 use Rattle.edit_print.proofs.Turns.{pairs_done, pairs_next, pairs_room, pairs_start}

@@ -1,4 +1,3 @@
-use Prim.Native.Nat.{◌-◌}
 use Rattle.definition.specs.Printed.{element_line}
 use Rattle.edit_print.proofs.Turns.{Putting}
 use Rattle.edit_print.specs.Lines.{pairs_at}
@@ -6,6 +5,3 @@ use Rattle.edit_print.proofs.put_elements.Given as goal
 
 abbrev pub invariant-loop-i : goal.invariant-loop-i
 invariant-loop-i l = Putting element_line 24 (pairs_at l.b l.from l.n) l.initial.out l.at l.out l.to l.i
-
-abbrev pub decreases-loop-i : goal.decreases-loop-i
-decreases-loop-i l = l.n - l.i

@@ -1,10 +1,6 @@
 -- `upmap_node_single` meets its contract. A word 0 maps to nothing.
-use borrow.Author.Rules.{rules}
-use Rattle.plan_mapping.proofs.Climbing.{unmapped, mapped_to}
+use Rattle.plan_mapping.proofs.Climbing.{mapped_or_same}
 use Rattle.plan_mapping.proofs.upmap_node_single.Goals as goal
 
-pub returns-then-y-eq0 : goal.returns-then-y-eq0
-returns-then-y-eq0 c = unmapped _ _ _ _ (search rules) (search rules) c.word-y.ensures.0 c.if-y-eq0.true
-
 pub returns : goal.returns
-returns c = mapped_to _ _ _ _ (search rules) (search rules) c.word-y.ensures.0 c.if-y-eq0.false
+returns c = mapped_or_same _ _ _ _ c.requires.mapped c.requires.e_lt_n c.word.ensures.0 _ c.checked_sub.ensures _ c.unwrap_or.ensures

@@ -1,8 +1,8 @@
 use Rattle.plan_upmap.proofs.Notes.{Rising}
 use Rattle.plan_upmap.proofs.nearest_mapped.Given as goal
 
-abbrev pub invariant-loop-p : goal.invariant-loop-p
-invariant-loop-p l = Rising l.n l.table l.map l.e l.at
+abbrev pub invariant-loop-at : goal.invariant-loop-at
+invariant-loop-at l = Rising l.n l.table l.map l.e l.at
 
-abbrev pub decreases-loop-p : goal.decreases-loop-p
-decreases-loop-p l = l.at
+abbrev pub decreases-loop-at : goal.decreases-loop-at
+decreases-loop-at l = l.at

@@ -8,6 +8,6 @@ loop-done-preserved g c =
     let d = c.loop-done.done in
     let n = c.in-Ok.n in
     let s = c.loop-done.buf in
-    let ys = c.read-read.new.buf in
+    let ys = c.read.new.buf in
     let e = front_more d (length s - d) n s ys (c.loop-done.invariant.0) (c.in-Ok.ensures.bound.0) in
     (search rules, rw e (consumes_more _ _ _ _ _ c.loop-done.invariant.1 c.in-Ok.ensures.bytes.0))

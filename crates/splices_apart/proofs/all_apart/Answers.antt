@@ -1,7 +1,6 @@
 -- `all_apart` meets its contract.
 use borrow.Author.Rules.{rules}
 use Rattle.splices_apart.proofs.Turns.{pairing_start, pairing_next, pairing_not, pairing_done, rows_first}
-use Prim.Native.Nat.{◌-◌}
 use Rattle.splices_apart.proofs.all_apart.Goals as goal
 
 pub loop-k-init : goal.loop-k-init
@@ -13,8 +12,8 @@ apart_from-requires c = search (rows_first, rules)
 pub loop-k-preserved : goal.loop-k-preserved
 loop-k-preserved c = search (pairing_next, rules)
 
-pub returns-else-apart_from : goal.returns-else-apart_from
-returns-else-apart_from c = search (pairing_not, rules)
+pub returns-then-not-apart_from : goal.returns-then-not-apart_from
+returns-then-not-apart_from c = search (pairing_not, rules)
 
 pub returns : goal.returns
 returns c = search (pairing_done, rules)

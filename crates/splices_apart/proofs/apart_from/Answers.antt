@@ -2,7 +2,6 @@
 use borrow.Author.Rules.{rules}
 use Rattle.splices_apart.proofs.Turns.{parting_start, parting_next, parting_not, parting_done}
 use native.Mathlib.Omega.{arith}
-use Prim.Native.Nat.{◌-◌}
 use Rattle.splices_apart.proofs.apart_from.Goals as goal
 
 pub loop-j-init : goal.loop-j-init
@@ -19,8 +18,8 @@ apart-requires c =
 pub loop-j-preserved : goal.loop-j-preserved
 loop-j-preserved c = search (parting_next, rules)
 
-pub returns-else-apart : goal.returns-else-apart
-returns-else-apart c = search (parting_not, rules)
+pub returns-then-not-apart : goal.returns-then-not-apart
+returns-then-not-apart c = search (parting_not, rules)
 
 pub returns : goal.returns
 returns c = search (parting_done, rules)

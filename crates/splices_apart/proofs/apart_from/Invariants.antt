@@ -1,9 +1,5 @@
 use Rattle.splices_apart.proofs.Turns.{Parting}
-use Prim.Native.Nat.{◌-◌}
 use Rattle.splices_apart.proofs.apart_from.Given as goal
 
 abbrev pub invariant-loop-j : goal.invariant-loop-j
 invariant-loop-j l = Parting l.rows l.e l.splices l.i l.j
-
-abbrev pub decreases-loop-j : goal.decreases-loop-j
-decreases-loop-j l = l.i - l.j

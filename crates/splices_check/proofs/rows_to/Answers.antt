@@ -1,7 +1,6 @@
 -- `rows_to` meets its contract.
 use borrow.Author.Rules.{rules}
 use Rattle.splices_check.proofs.Turns.{summed_start, summed_next, summed_done}
-use Prim.Native.Nat.{◌-◌}
 use Rattle.splices_check.proofs.rows_to.Goals as goal
 
 pub loop-k-init : goal.loop-k-init

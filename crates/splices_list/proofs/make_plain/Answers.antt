@@ -1,6 +1,5 @@
 -- `make_plain` meets its contract.
 use borrow.Author.Rules.{rules}
-use Prim.Native.Nat.{◌-◌}
 use Rattle.splices_list.proofs.Turns.{plaining_start, plaining_next, plaining_done}
 use Rattle.splices_list.proofs.make_plain.Goals as goal
 

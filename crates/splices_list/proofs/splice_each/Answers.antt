@@ -2,7 +2,6 @@
 use borrow.Author.Rules.{rules}
 use Rattle.splices_list.proofs.Turns.{going_start, going_next, going_done, going_room, going_small, going_bounds}
 use native.Mathlib.Omega.{arith}
-use Prim.Native.Nat.{◌-◌}
 use Rattle.splices_list.proofs.splice_each.Goals as goal
 
 pub loop-k-init : goal.loop-k-init
