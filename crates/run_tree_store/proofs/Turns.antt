@@ -216,22 +216,3 @@ module _ (rows : List ℕ) (n : ℕ) (table marks : List ℕ) (op x y m : ℕ) (
         one : (text source : List ℕ) (notes : List HeldNote) (changed : List HeldChanged)
             → gap_marked (view (length marks) table source) (stored text n rows marks notes changed) op x y (some m) ≡ some (gap_of (view (length marks) table source) (stored text n rows marks notes changed) x m)
         one text source notes changed = rw (ne_eqb op 0 a, ne_eqb op 1 b, ne_eqb op 5 c)
-
--- ── Refusal 12 ──────────────────────────────────────────────────────────────────────────────────────────────
-
-module _ (rows bytes notes depth : ℕ) where
-  pub large_rows : 4097 < rows → true ≡ too_large_by rows bytes notes depth
-  unfolding too_large_by
-  large_rows h = rw (lt-ltb 4097 rows h)
-
-  pub large_bytes : rows ≤ 4097 → 16384 < bytes → true ≡ too_large_by rows bytes notes depth
-  unfolding too_large_by
-  large_bytes a h = rw (le-ltb 4097 rows a, lt-ltb 16384 bytes h)
-
-  pub large_notes : rows ≤ 4097 → bytes ≤ 16384 → 1024 < notes → true ≡ too_large_by rows bytes notes depth
-  unfolding too_large_by
-  large_notes a b h = rw (le-ltb 4097 rows a, le-ltb 16384 bytes b, lt-ltb 1024 notes h)
-
-  pub large_depth : rows ≤ 4097 → bytes ≤ 16384 → notes ≤ 1024 → ltb 64 depth ≡ too_large_by rows bytes notes depth
-  unfolding too_large_by
-  large_depth a b c = rw (le-ltb 4097 rows a, le-ltb 16384 bytes b, le-ltb 1024 notes c)

@@ -217,17 +217,9 @@ pub fn find_gap(
 // ── Refusal 12 ──
 
 // Whether a step makes too much, by the rows, text bytes and notes that there would be, and by the depth of what comes in.
+#[tactic(auto, unfolding(run_model::specs::Sums::too_large_by))]
 pub fn too_large(rows: usize, bytes: usize, notes: usize, depth: usize) -> bool
     ensures { result ≡ too_large_by rows bytes notes depth }
 {
-    if 4097 < rows {
-        return true;
-    }
-    if 16384 < bytes {
-        return true;
-    }
-    if 1024 < notes {
-        return true;
-    }
-    64 < depth
+    4097 < rows || 16384 < bytes || 1024 < notes || 64 < depth
 }
