@@ -9,8 +9,8 @@ use mathlib.Core.Option.{Option, none, some, map}
 use Prim.Native.Nat.{ℕ, zero, suc, ◌+◌, ◌-◌, ◌*◌, ◌^◌, ◌≤◌, ◌<◌}
 use native.Mathlib.Omega.{arith}
 use lib.ListN.{length, get_or}
-use lib.Dec.{eqb, ltb}
-use borrow.Author.Tests.{lt-ltb, le-ltb, ne_eqb}
+use lib.Dec.{eqb}
+use borrow.Author.Tests.{ne_eqb}
 use Rattle.orders.specs.Lists.{All}
 use Rattle.orders.specs.ListLaws.{All-at}
 use Rattle.definition_laws.specs.Basics.{up_from, up_at}
@@ -21,7 +21,6 @@ use Rattle.definition.specs.Elements.{Table, root?, tree}
 use Rattle.rows_model.specs.Row.{Row, first_rows, trees_in}
 use Rattle.rows_model.specs.Place.{child_row, between, subtree}
 use Rattle.run_model.specs.Store.{HeldNote, HeldChanged, Store, there, marked, parent_row, end_row, gap_of, gap_after, gap_run, Part, part_at, part_of}
-use Rattle.run_model.specs.Sums.{too_large_by}
 use Rattle.rows_syntax_node.specs.Promises as node
 use Rattle.run_tree_store.specs.Stored.{stored, stored_first}
 use Rattle.run_tree_store.specs.Gaps.{mark_or_top, parent_mark, parent_mark_lem, gap_marked, gap_by, held, site_of}

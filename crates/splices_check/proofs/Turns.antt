@@ -12,12 +12,12 @@ use lib.Dec.{eqb}
 use lib.ListN.{length, get_or, take, drop}
 use borrow.Author.Tests.{ltb-true}
 use Rattle.orders.specs.ListLaws.{both_true, lt_or_le}
-use Rattle.rows_syntax_node.specs.Promises.{Counted, TreesIn}
+use Rattle.rows_syntax_node.specs.Promises.{Counted}
 use Rattle.rows_model.specs.Row.{Row, owes, row_in, triples}
 use Rattle.rows_model.proofs.Words.{triples_at, triples_end}
 use Rattle.splices_model.specs.Cuts.{part_at}
 use Rattle.splices_model.specs.Bounds.{rows_to, rows_to_more, part_is}
-use Rattle.splices_model.specs.Verdict.{owed, closed, bounded_at, has_run_at, fit_at, tree_rows, fits_to, limited, roomy, judged_by, and-false, fits_each}
+use Rattle.splices_model.specs.Verdict.{owed, closed, bounded_at, fit_at, fits_to, limited, roomy, judged_by, and-false, fits_each}
 use Rattle.splices_apart.specs.Promises.{RowsTo, ApartAll}
 use Rattle.splices_check.specs.Promises.{Closes, FitsAt, FitsAll, OneTree, Fitted, Judged}
 
@@ -58,20 +58,6 @@ module _ {run : List ℕ} {o i : ℕ} (v : Owing run o i) where
 pub part_closes : (s p : List ℕ) (j : ℕ) {a m : ℕ} {r : Bool} → Read a (get_or s (6 * j + 4) 0) → Read m (get_or s (6 * j + 5) 0) → Closes (take (3 * a + 3 * m - 3 * a) (drop (3 * a) p)) r → Closes (part_at s p j) r
 part_closes s p j h k t = rw (part_is s p j h.0 k.0) at t
 
-module _ {rows : List ℕ} {e : ℕ} {s p : List ℕ} {j : ℕ} {b : Bool} (B : b ≡ bounded_at e s p j) where
-  pub unbounded : b ≡ false → FitsAt rows e s p j false
-  unfolding fit_at
-  unbounded z = record { says = λ text. rw (← B, z) }
-
-  module _ {c : Bool} (C : c ≡ has_run_at rows s j) (y : b ≡ true) where
-    pub runless : c ≡ false → FitsAt rows e s p j false
-    unfolding fit_at
-    runless z = record { says = λ text. rw (← B, y, ← C, z) }
-
-    pub fit : {r : Bool} → c ≡ true → Closes (part_at s p j) r → FitsAt rows e s p j r
-    unfolding fit_at
-    fit z w = record { says = λ text. w.says text ∙ rw (← B, y, ← C, z) }
-
 -- ── Every splice ────────────────────────────────────────────────────────────────────────────────────────────
 
 -- the first k splices fit
@@ -103,15 +89,6 @@ module _ {rows : List ℕ} {e : ℕ} {s p : List ℕ} {c k : ℕ} (v : Fitting r
   fitting_done h = let q : k ≡ c = omega (arith, v.inside) in record { says = λ text. sym (rw q at (v.fits text)) }
 
 -- ── One tree ────────────────────────────────────────────────────────────────────────────────────────────────
-
-module _ (run : List ℕ) {b : Bool} (B : Closes run b) where
-  pub not_closed : b ≡ false → OneTree run false
-  unfolding tree_rows
-  not_closed z = record { says = λ text. rw (← B.says text, z) }
-
-  pub tree_counted : {n : ℕ} → b ≡ true → TreesIn run n → OneTree run (eqb n 1)
-  unfolding tree_rows
-  tree_counted z t = record { says = λ text. rw (← B.says text, z, t.count text) }
 
 pub from_the_first : (rows : List ℕ) (e : ℕ) {r : Bool} → OneTree (take (3 * e - 0) rows) r → OneTree (take (3 * e) rows) r
 from_the_first rows e t = rw (sub-zero (3 * e)) at t

@@ -66,17 +66,12 @@ fn spelt(splices: &[u32], prepared: &[u32], j: usize) -> bool
 }
 
 // Whether splice `j` fits the old tree.
+#[tactic(auto, unfolding(splices_model::specs::Verdict::fit_at))]
 fn fits(rows: &[u32], e: usize, splices: &[u32], prepared: &[u32], j: usize) -> bool
     requires { (6 * j + 5 < length splices.now) × (length prepared.now < 3 * 2 ^ 16) × (3 * e ≤ length rows.now) }
     ensures { FitsAt rows.now e splices.now prepared.now j result }
 {
-    if bounded(e, splices, prepared, j) {
-        if has_run(rows, splices, j) {
-            return spelt(splices, prepared, j);
-        }
-        return false;
-    }
-    false
+    bounded(e, splices, prepared, j) && has_run(rows, splices, j) && spelt(splices, prepared, j)
 }
 
 // Whether each of the first `c` splices does.
@@ -93,14 +88,12 @@ fn all_fit(rows: &[u32], e: usize, splices: &[u32], prepared: &[u32], c: usize) 
 }
 
 // Whether a run is one whole tree.
+#[tactic(auto, unfolding(splices_model::specs::Verdict::tree_rows))]
 fn one_tree(run: &[u32]) -> bool
     requires { length run.now < 3 * 2 ^ 16 }
     ensures { OneTree run.now result }
 {
-    if closes(run) {
-        return trees_in(run) == 1;
-    }
-    false
+    closes(run) && trees_in(run) == 1
 }
 
 // Whether the first `e` rows are those of one tree.
