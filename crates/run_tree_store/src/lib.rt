@@ -176,6 +176,7 @@ fn replaced_site(rows: &[u32], n: usize, table: &[u32], marks: &[u32], x: usize)
 
 // Rust: TreeState::apply, what it finds before it splices (TreeState::map_original_element). Where a change goes, by its operation, its target `x` and its end
 // `y`: none if a mark that it needs is gone, where the Rust panics.
+// The operation stays a number: any may come, and all but four are one gap.
 pub fn find_gap(
     rows: &[u32],
     n: usize,
