@@ -24,16 +24,7 @@ pub enum Verdict {
 fn too_short(old: &[u32], new: &[u32], partners: &[u32], marks: &[u32]) -> bool
     ensures { result ≡ too_short (lengths checker_needs (old.now ∷ new.now ∷ partners.now ∷ marks.now ∷ [])) }
 {
-    if old.len() < 16384 {
-        return true;
-    }
-    if new.len() < 16384 {
-        return true;
-    }
-    if partners.len() < 4096 {
-        return true;
-    }
-    marks.len() < 4096
+    old.len() < 16384 || new.len() < 16384 || partners.len() < 4096 || marks.len() < 4096
 }
 
 // Every work slice becomes zeros.
@@ -50,13 +41,7 @@ fn clear_work(old: &mut [u32], new: &mut [u32], partners: &mut [u32], marks: &mu
 fn too_big(kinds: usize, measures: usize, text: usize) -> bool
     ensures { result ≡ big_sizes kinds measures text }
 {
-    if 4096 < kinds {
-        return true;
-    }
-    if 4096 < measures {
-        return true;
-    }
-    16384 < text
+    4096 < kinds || 4096 < measures || 16384 < text
 }
 
 // 3 and 4, of lists of these lengths.
@@ -105,10 +90,8 @@ fn read_both(
     requires new_measures_len { (length new_measures.now ≡ length new_kinds.now) × (length new_kinds.now ≤ 4096) × (new_bytes ≤ 16384) × (16384 ≤ length new.old) }
     ensures { ReadsBoth (zip old_kinds.now old_measures.now) old_bytes (zip new_kinds.now new_measures.now) new_bytes result old.new new.new }
 {
-    if !check_table::read_tree(old_kinds, old_measures, old_bytes, old) {
-        return false;
-    }
-    check_table::read_tree(new_kinds, new_measures, new_bytes, new)
+    check_table::read_tree(old_kinds, old_measures, old_bytes, old)
+        && check_table::read_tree(new_kinds, new_measures, new_bytes, new)
 }
 
 // 19: whether a claim names no element, of so many old and new ones.
@@ -121,13 +104,9 @@ fn names_none(
 ) -> bool
     ensures { result ≡ naming old_count new_count olds.now news.now changed.now }
 {
-    if check_clauses::beyond(olds, old_count) {
-        return true;
-    }
-    if check_clauses::beyond(news, new_count) {
-        return true;
-    }
-    check_clauses::beyond(changed, new_count)
+    check_clauses::beyond(olds, old_count)
+        || check_clauses::beyond(news, new_count)
+        || check_clauses::beyond(changed, new_count)
 }
 
 // The partners and the marks of the new elements; false where one is paired twice.

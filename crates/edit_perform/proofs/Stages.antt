@@ -1,5 +1,6 @@
 -- The ways from stage to stage, and out.
 -- Assumes nothing.
+use Rattle.std.specs.Prelude.{Result, Ok, Err}
 use mathlib.Core.Path.{◌≡◌, refl, sym, ap, subst, ◌∙◌}
 use mathlib.Core.Bool.{Bool, true, false}
 use mathlib.Core.List.{List, ◌++◌}
@@ -13,15 +14,14 @@ use Rattle.definition.specs.Choices as definition
 use Rattle.definition.specs.Choices.{chosen}
 use Rattle.definition.specs.Answers.{too_short, with_work, with_choices}
 use Rattle.definition.specs.Account.{account}
-use Rattle.choices.specs.Meant.{meant, refusal_of, well_chosen, wrongly_chosen}
-use Rattle.choices.specs.declared.Choices.{Choices}
+use Rattle.refusals.specs.Numbers.{number, answered}
+use Rattle.refusals.specs.declared.Refusal.{Refusal}
+use Rattle.refusals.specs.declared.Refusal.TheVariants.{ShortWork}
 use Rattle.read_element_table.specs.View.{view}
 use Rattle.plan_mapping.specs.Mapped.{words_at}
 use Rattle.record_changes.specs.ChangeRowLaws.{row_at}
-use Rattle.read_layout.specs.Layout.{laid_of, arrays_at}
+use Rattle.read_layout.specs.Layout.{arrays_at}
 use Rattle.read_layout.specs.declared.Layout.{Layout}
-use Rattle.read_layout.specs.declared.Laid.{Laid}
-use Rattle.read_layout.specs.declared.Laid.TheVariants.{Refused as Unlaid}
 use Rattle.read_batch.specs.Accepting.{judged_refuses}
 use Rattle.read_batch.specs.Leaving.{Judged}
 use Rattle.run_prepare.specs.Parts as parts
@@ -29,39 +29,48 @@ use Rattle.run_prepare.specs.Parts.{words_in, words_part}
 use Rattle.plan_edit.specs.Answers.{Planning}
 use Rattle.plan_edit.specs.Left.{plan_refused, fated_accepted, overlap_accepted}
 use Rattle.plan_edit.specs.declared.Counts.{Counts}
-use Rattle.plan_edit.specs.declared.Planned.{Planned}
-use Rattle.plan_edit.specs.declared.Planned.TheVariants.{Refused as Unplanned, Overlap as Overlapping, Made}
+use Rattle.plan_edit.specs.declared.Unplanned.{Unplanned}
+use Rattle.plan_edit.specs.declared.Unplanned.TheVariants.{Refused, Overlap}
 use Rattle.run_tree_state.specs.declared.TreeState.{TreeState}
-use Rattle.run_tree_state.specs.declared.Executed.{Executed}
-use Rattle.run_tree_state.specs.declared.Executed.TheVariants.{Refused as Stopped, Done as Ran-through}
 use Rattle.run_execute.specs.Standing.{Begun}
 use Rattle.run_execute.specs.Stepping.{Performs as RowPerforms}
 use Rattle.run_execute.specs.Running.{lists_all, Ran}
 use Rattle.edit_perform.specs.Ending.{ending}
+use Rattle.edit_perform.specs.First.{before, nothing_wrong}
 use Rattle.edit_perform.specs.Beginning.{LaidOut, tells}
 use Rattle.edit_perform.specs.AtEnd.{AtEnd, Told, Overlapped, Performs}
 use Rattle.edit_perform.specs.Performing.{begins, all_perform, room_recorded, all_elements, run_refused, run_ended, run_marked, run_recounted}
 use Rattle.edit_perform.specs.Accounting.{not_accepted, overlapping, not_planned}
 use Rattle.edit_perform.specs.declared.Ended.{Ended}
-use Rattle.edit_perform.specs.declared.Performed.{Performed}
-use Rattle.edit_perform.specs.declared.Performed.TheVariants.{Refused, Overlap, Done}
 
 -- ── Refused ─────────────────────────────────────────────────────────────────────────────────────────────────
 
-performs_refused : {h : definition.Choices} {b t s changes rows notes changed marks : List ℕ} (k : ℕ) → (ending h b ≡ refused k) × (account h b ≡ refused k) → Performs h b t s changes rows notes changed marks (Refused k)
-performs_refused k e = record {
-  refuses = λ j i. let same : k ≡ j = cc in (e.0 ∙ ap refused same, e.1 ∙ ap refused same);
-  overlaps = λ j n i. absurd (let z : ◌≡◌ {A = ℕ} 0 1 = cc in omega arith);
+performs_refused : {h : definition.Choices} {b t s changes rows notes changed marks : List ℕ} (e : Refusal) → (ending h b ≡ refused (number e)) × (account h b ≡ refused (number e)) → Performs h b t s changes rows notes changed marks (Err (Refused e))
+performs_refused e q = record {
+  refuses = λ f i. let same : e ≡ f = cc in (q.0 ∙ ap (λ (g : Refusal). refused (number g)) same, q.1 ∙ ap (λ (g : Refusal). refused (number g)) same);
+  overlaps = λ j k i. absurd (let z : ◌≡◌ {A = ℕ} 0 1 = cc in omega arith);
   ends = λ d i. absurd (let z : ◌≡◌ {A = ℕ} 0 1 = cc in omega arith);
   tells = λ d i. absurd (let z : ◌≡◌ {A = ℕ} 0 1 = cc in omega arith);
   marked = λ d i. absurd (let z : ◌≡◌ {A = ℕ} 0 1 = cc in omega arith);
   recounts = λ d i. absurd (let z : ◌≡◌ {A = ℕ} 0 1 = cc in omega arith);
 }
 
-performs_overlap : {h : definition.Choices} {b t s changes rows notes changed marks : List ℕ} (j k : ℕ) → Overlapped h b j k → Performs h b t s changes rows notes changed marks (Overlap j k)
+-- the two changes of an overlap
+earlier_of : Result Ended Unplanned → ℕ
+earlier_of (Err (Overlap o)) = o.earlier
+earlier_of (Err (Refused e)) = 0
+earlier_of (Ok d) = 0
+
+later_of : Result Ended Unplanned → ℕ
+later_of (Err (Overlap o)) = o.later
+later_of (Err (Refused e)) = 0
+later_of (Ok d) = 0
+
+performs_overlap : {h : definition.Choices} {b t s changes rows notes changed marks : List ℕ} (j k : ℕ) → Overlapped h b j k → Performs h b t s changes rows notes changed marks (Err (Overlap (record { earlier = j; later = k })))
+unfolding earlier_of later_of
 performs_overlap {h} {b} j k o = record {
-  refuses = λ n i. absurd (let z : ◌≡◌ {A = ℕ} 0 1 = cc in omega arith);
-  overlaps = λ m n i. let x : j ≡ m = cc in let y : k ≡ n = cc in subst (λ (q : ℕ). Overlapped h b m q) y (subst (λ (q : ℕ). Overlapped h b q k) x o);
+  refuses = λ f i. absurd (let z : ◌≡◌ {A = ℕ} 0 1 = cc in omega arith);
+  overlaps = λ m n i. let x : j ≡ m = ap earlier_of i in let y : k ≡ n = ap later_of i in subst (λ (q : ℕ). Overlapped h b m q) y (subst (λ (q : ℕ). Overlapped h b q k) x o);
   ends = λ d i. absurd (let z : ◌≡◌ {A = ℕ} 0 1 = cc in omega arith);
   tells = λ d i. absurd (let z : ◌≡◌ {A = ℕ} 0 1 = cc in omega arith);
   marked = λ d i. absurd (let z : ◌≡◌ {A = ℕ} 0 1 = cc in omega arith);
@@ -82,7 +91,7 @@ told_of {b} {l} L =
 
 -- ── The steps ───────────────────────────────────────────────────────────────────────────────────────────────
 
-module _ {h : definition.Choices} {b : List ℕ} {l : Layout} {t s changes running first : List ℕ} {c : Counts} (L : LaidOut b l t s) (P : Planning h b l t s changes running first (Made c)) (n : ℕ) (q : n ≡ l.sizes.elements) where
+module _ {h : definition.Choices} {b : List ℕ} {l : Layout} {t s changes running first : List ℕ} {c : Counts} (L : LaidOut b l t s) (P : Planning h b l t s changes running first (Ok c)) (n : ℕ) (q : n ≡ l.sizes.elements) where
   abbrev settled : List ℕ
   settled = take (3 * l.sizes.notes) first
 
@@ -120,19 +129,19 @@ module _ {h : definition.Choices} {b : List ℕ} {l : Layout} {t s changes runni
   pub list_within : l.list + 4 * l.sizes.listed ≤ length b
   list_within = L.leaves.within.list
 
-  module _ (ls : 6147 ≤ length s) (lf : 768 ≤ length first) {rows marks notes changed : List ℕ} {x : Executed}
+  module _ (ls : 6147 ≤ length s) (lf : 768 ≤ length first) {rows marks notes changed : List ℕ} {x : Result TreeState Refusal}
       (R : Ran n t s settled (words_in part) changes (take c.runs running) rows marks notes changed x) where
     same : Ran l.sizes.elements t s settled (words_at b l.list l.sizes.listed) changes (take c.runs running) rows marks notes changed x
     same =
         subst (λ (listed : List ℕ). Ran l.sizes.elements t s settled listed changes (take c.runs running) rows marks notes changed x) told
         (subst (λ (k : ℕ). Ran k t s settled (words_in part) changes (take c.runs running) rows marks notes changed x) q R)
 
-    pub steps_refused : (k : ℕ) → x ≡ Stopped k → Performs h b t s changes rows notes changed marks (Refused k)
-    steps_refused k e = performs_refused k (run_refused L.leaves P.made L.long L.long_rows ls lf same k e)
+    pub steps_refused : (f : Refusal) → x ≡ Err f → Performs h b t s changes rows notes changed marks (Err (Refused f))
+    steps_refused f e = performs_refused f (run_refused L.leaves P.made L.long L.long_rows ls lf same f e)
 
-    pub steps_ended : (r : TreeState) → x ≡ Ran-through r → 3072 ≤ length notes
+    pub steps_ended : (r : TreeState) → x ≡ Ok r → 3072 ≤ length notes
         → Performs h b t s changes rows notes changed marks
-        (Done (record { text = l.text; elements = l.sizes.elements; recorded = c.recorded; root = r.root; rows = r.rows; notes = r.notes; changed = r.changed; discarded = c.discarded; climbs = c.climbs }))
+        (Ok (record { text = l.text; elements = l.sizes.elements; recorded = c.recorded; root = r.root; rows = r.rows; notes = r.notes; changed = r.changed; discarded = c.discarded; climbs = c.climbs }))
     steps_ended r e ln =
         let d : Ended = record { text = l.text; elements = l.sizes.elements; recorded = c.recorded; root = r.root; rows = r.rows; notes = r.notes; changed = r.changed; discarded = c.discarded; climbs = c.climbs } in
         let v = L.leaves in
@@ -148,7 +157,7 @@ module _ {h : definition.Choices} {b : List ℕ} {l : Layout} {t s changes runni
         }
 
 -- what stands behind the marks of the batch's elements says nothing
-pub marks_behind : {h : definition.Choices} {b t s changes rows notes changed marks : List ℕ} {r : Performed} (behind : List ℕ) → Performs h b t s changes rows notes changed marks r → Performs h b t s changes rows notes changed (marks ++ behind) r
+pub marks_behind : {h : definition.Choices} {b t s changes rows notes changed marks : List ℕ} {r : Result Ended Unplanned} (behind : List ℕ) → Performs h b t s changes rows notes changed marks r → Performs h b t s changes rows notes changed (marks ++ behind) r
 marks_behind {marks = marks} behind p = record {
   refuses = p.refuses;
   overlaps = p.overlaps;
@@ -160,43 +169,56 @@ marks_behind {marks = marks} behind p = record {
 
 -- ── Refused before them ─────────────────────────────────────────────────────────────────────────────────────
 
-module _ {h : definition.Choices} {b : List ℕ} {l : Layout} {t s changes running first : List ℕ} {r : Planned} (P : Planning h b l t s changes running first r) where
-  pub plan_stops : {rows notes changed marks : List ℕ} → LaidOut b l t s → (k : ℕ) → r ≡ Unplanned k → Performs h b t s changes rows notes changed marks (Refused k)
-  plan_stops L k e =
-      let Q : Planning h b l t s changes running first (Unplanned k) = subst (Planning h b l t s changes running first) e P in
+module _ {h : definition.Choices} {b : List ℕ} {l : Layout} {t s changes running first : List ℕ} {r : Result Counts Unplanned} (P : Planning h b l t s changes running first r) where
+  pub plan_stops : {rows notes changed marks : List ℕ} → LaidOut b l t s → (u : Unplanned) → r ≡ Err u → Performs h b t s changes rows notes changed marks (Err u)
+  plan_stops L (Refused f) e =
+      let Q : Planning h b l t s changes running first (Err (Refused f)) = subst (Planning h b l t s changes running first) e P in
       let a = L.leaves.what in
       let x = L.leaves.accepted in
-      performs_refused k (not_planned h b a x Q.made.found.changes (fated_accepted h b Q.made.found.changes a x Q.made.found.judged) k (plan_refused a x Q.made))
-
-  pub plan_overlaps : {rows notes changed marks : List ℕ} → LaidOut b l t s → (j k : ℕ) → r ≡ Overlapping j k → Performs h b t s changes rows notes changed marks (Overlap j k)
-  plan_overlaps L j k e =
-      let Q : Planning h b l t s changes running first (Overlapping j k) = subst (Planning h b l t s changes running first) e P in
+      performs_refused f (not_planned h b a x Q.made.found.changes (fated_accepted h b Q.made.found.changes a x Q.made.found.judged) (number f) (plan_refused a x Q.made))
+  plan_stops L (Overlap p) e =
+      let Q : Planning h b l t s changes running first (Err (Overlap p)) = subst (Planning h b l t s changes running first) e P in
       let a = L.leaves.what in
       let x = L.leaves.accepted in
-      let o = overlapping h b a x j k (overlap_accepted h b j k a x Q.made.found) in
-      performs_overlap j k (record { refused8 = o.0; text = o.1 })
+      let o = overlapping h b a x p.earlier p.later (overlap_accepted h b p.earlier p.later a x Q.made.found) in
+      performs_overlap p.earlier p.later (record { refused8 = o.0; text = o.1 })
 
-  pub plan_made : (c : Counts) → r ≡ Made c → Planning h b l t s changes running first (Made c)
+  pub plan_made : (c : Counts) → r ≡ Ok c → Planning h b l t s changes running first (Ok c)
   plan_made c e = subst (Planning h b l t s changes running first) e P
 
-module _ {h : definition.Choices} {b t₀ s₀ t s : List ℕ} {r : Laid} (J : Judged b t₀ s₀ t s r) where
-  pub judged_stops : {changes rows notes changed marks : List ℕ} (k : ℕ) → r ≡ Unlaid k → Performs h b t s changes rows notes changed marks (Refused k)
-  unfolding laid_of
-  judged_stops k e = performs_refused k (not_accepted h b k (judged_refuses b k (sym J.answer ∙ ap laid_of e)))
+module _ {h : definition.Choices} {b t₀ s₀ t s : List ℕ} {r : Result Layout Refusal} (J : Judged b t₀ s₀ t s r) where
+  pub judged_stops : {changes rows notes changed marks : List ℕ} (f : Refusal) → r ≡ Err f → Performs h b t s changes rows notes changed marks (Err (Refused f))
+  unfolding answered
+  judged_stops f e = performs_refused f (not_accepted h b (number f) (judged_refuses b (number f) (sym J.answer ∙ ap answered e)))
 
 -- ── Refused before anything is read ─────────────────────────────────────────────────────────────────────────
 
--- 17, 1, or neither
-module _ (c : Choices) (work : List (ℕ × ℕ)) (k : ℕ) (e : k ≡ refusal_of (chosen (meant c))) where
-  pub wrong_choice : ¬ (k ≡ 0) → k ≡ refusal_of (with_choices (meant c) work (gives tt))
-  unfolding refusal_of with_choices ◌>>=◌
-  wrong_choice n = rw (wrongly_chosen c k e n) refl
+-- 17, 18, 1, or none
+module _ (h : definition.Choices) (work : List (ℕ × ℕ)) {c : Result (Unit {0}) Refusal} (e : answered c ≡ chosen h) where
+  pub wrong_choice : (f : Refusal) → c ≡ Err f → answered (Err f) ≡ before h work
+  unfolding answered with_choices ◌>>=◌
+  wrong_choice f i = let x : chosen h ≡ refused (number f) = sym e ∙ ap answered i in rw x refl
 
-  module _ (z : k ≡ 0) (t : Bool) (f : t ≡ too_short work) where
-    pub refused_1 : t ≡ true → 1 ≡ refusal_of (with_choices (meant c) work (gives tt))
-    unfolding refusal_of with_choices with_work refuse ◌>>=◌
-    refused_1 h = rw (well_chosen c k e z, sym f ∙ h) refl
+  module _ (i : c ≡ Ok tt) (t : Bool) (f : t ≡ too_short work) where
+    well_chosen : chosen h ≡ gives tt
+    unfolding answered
+    well_chosen = sym e ∙ ap answered i
 
-    pub refused_0 : t ≡ false → 0 ≡ refusal_of (with_choices (meant c) work (gives tt))
-    unfolding refusal_of with_choices with_work refuse ◌>>=◌
-    refused_0 h = rw (well_chosen c k e z, sym f ∙ h) refl
+    pub refused_1 : t ≡ true → answered (Err ShortWork) ≡ before h work
+    unfolding answered number with_choices with_work refuse ◌>>=◌
+    refused_1 q = rw (well_chosen, sym f ∙ q) refl
+
+    pub refused_0 : t ≡ false → answered (Ok tt) ≡ before h work
+    unfolding answered with_choices with_work refuse ◌>>=◌
+    refused_0 q = rw (well_chosen, sym f ∙ q) refl
+
+-- what is answered before everything else: the refusal
+module _ (h : definition.Choices) (work : List (ℕ × ℕ)) {r : Result (Unit {0}) Refusal} (e : answered r ≡ before h work) where
+  pub early_refused : (f : Refusal) → r ≡ Err f → before h work ≡ refused (number f)
+  unfolding answered
+  early_refused f i = sym e ∙ ap answered i
+
+  -- or nothing
+  pub early_passed : r ≡ Ok tt → (chosen h ≡ gives tt) × (too_short work ≡ false)
+  unfolding answered
+  early_passed i = nothing_wrong h work (sym e ∙ ap answered i)

@@ -1,6 +1,6 @@
 -- What is held at the end of a run, as the words tell it.
 -- Assumes nothing.
-use Rattle.std.specs.Prelude.{◌≡◌, false, List, map, ℕ, ◌+◌, ◌*◌, ◌^◌, ◌≤◌, ◌<◌, length, take, drop}
+use Rattle.std.specs.Prelude.{◌≡◌, Result, Ok, Err, false, List, map, ℕ, ◌+◌, ◌*◌, ◌^◌, ◌≤◌, ◌<◌, length, take, drop}
 use Rattle.orders.specs.Tree.{node, forest}
 use Rattle.definition.specs.Basics.{Answer, refused, gives, ◌>>=◌, keep}
 use Rattle.definition.specs.Choices.{Choices, chosen}
@@ -26,8 +26,10 @@ use Rattle.run_tree_store.specs.Stored.{stored}
 use Rattle.promises.specs.Slices.{needed, lengths}
 use Rattle.edit_perform.specs.Ending.{End, ending, result_at}
 use Rattle.edit_perform.specs.declared.Ended.{Ended}
-use Rattle.edit_perform.specs.declared.Performed.{Performed}
-use Rattle.edit_perform.specs.declared.Performed.TheVariants.{Refused, Overlap, Done}
+use Rattle.plan_edit.specs.declared.Unplanned.{Unplanned}
+use Rattle.plan_edit.specs.declared.Unplanned.TheVariants.{Refused, Overlap}
+use Rattle.refusals.specs.Numbers.{number}
+use Rattle.refusals.specs.declared.Refusal.{Refusal}
 
 -- the run of the batch b has ended, and the slices hold what it left, with these counts
 pub record AtEnd (h : Choices) (b rows notes changed : List ℕ) (d : Ended) : Type 0 where
@@ -90,15 +92,15 @@ pub record Overlapped (h : Choices) (b : List ℕ) (j k : ℕ) : Type 0 where
   pub text : account h b ≡ gives (overlap_line j k)
 
 -- a run of the batch b: refused by the definition's number, or at the end of the run
-pub record Performs (h : Choices) (b t s changes rows notes changed marks : List ℕ) (r : Performed) : Type 0 where
-  pub refuses : (k : ℕ) → r ≡ Refused k → (ending h b ≡ refused k) × (account h b ≡ refused k)
-  pub overlaps : (j k : ℕ) → r ≡ Overlap j k → Overlapped h b j k
-  pub ends : (d : Ended) → r ≡ Done d → AtEnd h b rows notes changed d
-  pub tells : (d : Ended) → r ≡ Done d → Told b t s d.elements
-  pub marked : (d : Ended) → r ≡ Done d → Marked h b marks d
-  pub recounts : (d : Ended) → r ≡ Done d → Recounted h b changes d
+pub record Performs (h : Choices) (b t s changes rows notes changed marks : List ℕ) (r : Result Ended Unplanned) : Type 0 where
+  pub refuses : (e : Refusal) → r ≡ Err (Refused e) → (ending h b ≡ refused (number e)) × (account h b ≡ refused (number e))
+  pub overlaps : (j k : ℕ) → r ≡ Err (Overlap (record { earlier = j; later = k })) → Overlapped h b j k
+  pub ends : (d : Ended) → r ≡ Ok d → AtEnd h b rows notes changed d
+  pub tells : (d : Ended) → r ≡ Ok d → Told b t s d.elements
+  pub marked : (d : Ended) → r ≡ Ok d → Marked h b marks d
+  pub recounts : (d : Ended) → r ≡ Ok d → Recounted h b changes d
 
 -- THE PROMISE of performing by the choices h with the work slices `work`: 17 or 18 where there is no such choice, 1 where a slice is too short, or what a run answers
-pub data PerformsWith (h : Choices) (work : List (List ℕ)) (b t s changes rows notes changed marks : List ℕ) (r : Performed) : Type 0 where
-  early : (k : ℕ) → ◌≡◌ {A = Answer (Unit {0})} (with_choices h (lengths needed work) (gives tt)) (refused k) → r ≡ Refused k → PerformsWith h work b t s changes rows notes changed marks r
+pub data PerformsWith (h : Choices) (work : List (List ℕ)) (b t s changes rows notes changed marks : List ℕ) (r : Result Ended Unplanned) : Type 0 where
+  early : (e : Refusal) → ◌≡◌ {A = Answer (Unit {0})} (with_choices h (lengths needed work) (gives tt)) (refused (number e)) → r ≡ Err (Refused e) → PerformsWith h work b t s changes rows notes changed marks r
   long : chosen h ≡ gives tt → too_short (lengths needed work) ≡ false → Performs h b t s changes rows notes changed marks r → PerformsWith h work b t s changes rows notes changed marks r

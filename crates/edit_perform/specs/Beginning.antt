@@ -1,6 +1,6 @@
 -- What an accepted and planned batch leaves in words is where the run begins.
 -- Assumes nothing.
-use Rattle.std.specs.Prelude.{◌≡◌, List, map, ℕ, ◌+◌, ◌*◌, ◌≤◌, ◌<◌}
+use Rattle.std.specs.Prelude.{◌≡◌, Result, Ok, List, map, ℕ, ◌+◌, ◌*◌, ◌≤◌, ◌<◌}
 use Rattle.std.proofs.Math.Path.{refl, ap, subst}
 use Rattle.std.proofs.Common.{◌∙◌, arith}
 use Rattle.std.proofs.Math.ListN.{length, drop}
@@ -17,8 +17,7 @@ use Rattle.read_element_table.specs.Filled.{Tells, filled_tells}
 use Rattle.read_layout.specs.Layout.{arrays_at}
 use Rattle.read_layout.specs.declared.Layout.{Layout}
 use Rattle.read_batch.specs.Accepting.{Parts, accepted_parts}
-use Rattle.read_layout.specs.declared.Laid.{Laid}
-use Rattle.read_layout.specs.declared.Laid.TheVariants.{At}
+use Rattle.refusals.specs.declared.Refusal.{Refusal}
 use Rattle.read_batch.specs.Leaving.{Leaves, Judged}
 use Rattle.run_prepare.specs.Parts.{notes_in}
 use Rattle.run_model.specs.Store.{held_note, store}
@@ -33,7 +32,7 @@ pub record LaidOut (b : List ℕ) (l : Layout) (t s : List ℕ) : Type 0 where
   pub long_rows : 6147 ≤ length before_rows
 
 -- as lines 2 to 7 leave it
-pub judged_laid : {b t₀ s₀ t s : List ℕ} {r : Laid} → Judged b t₀ s₀ t s r → (l : Layout) → r ≡ At l → 16384 ≤ length t₀ → 6147 ≤ length s₀ → LaidOut b l t s
+pub judged_laid : {b t₀ s₀ t s : List ℕ} {r : Result Layout Refusal} → Judged b t₀ s₀ t s r → (l : Layout) → r ≡ Ok l → 16384 ≤ length t₀ → 6147 ≤ length s₀ → LaidOut b l t s
 judged_laid {t₀ = t₀} {s₀ = s₀} J l e lt ls = record { before = t₀; before_rows = s₀; leaves = J.left l e; long = lt; long_rows = ls }
 
 module _ {b : List ℕ} {l : Layout} {t₀ s₀ t s : List ℕ} (v : Leaves b l t₀ s₀ t s) where

@@ -1,6 +1,6 @@
 -- The run of an accepted and planned batch, in words: what it asks for is there, and what it answers is the definition's.
 -- Assumes nothing.
-use Rattle.std.specs.Prelude.{◌≡◌, ℕ, ◌*◌, ◌≤◌, ◌<◌, take, drop}
+use Rattle.std.specs.Prelude.{◌≡◌, Result, Ok, Err, ℕ, ◌*◌, ◌≤◌, ◌<◌, take, drop}
 use Rattle.std.proofs.Math.Path.{refl, sym, ap}
 use Rattle.std.proofs.Common.{subst, ◌∙◌, arith, length-take-le}
 use mathlib.Core.List.{List, [], map, map-map}
@@ -11,12 +11,12 @@ use Rattle.orders.specs.Lists.{All}
 use Rattle.orders.specs.ListLaws.{All-map₂}
 use Rattle.definition.specs.Basics.{Answer, refused, gives, ◌>>=◌}
 use Rattle.definition.specs.Choices.{Choices}
-use Rattle.definition.specs.Elements.{Table, table}
+use Rattle.definition.specs.Elements.{Table}
 use Rattle.definition.specs.Planning.{Fate, Planned}
 use Rattle.definition.specs.Running.{World, begin, news, records}
 use Rattle.orders.specs.Lists.{total}
-use Rattle.definition.specs.Answers.{sorted_changes, withdrawing, remaining, Plan, plan, at_first, performed, ran}
-use Rattle.definition.specs.Refusals.{most_listed, Accepted, accepted}
+use Rattle.definition.specs.Answers.{sorted_changes, withdrawing, remaining, Plan, at_first, performed, ran}
+use Rattle.definition.specs.Refusals.{most_listed, Accepted}
 use Rattle.definition.specs.Finishing.{fitting}
 use Rattle.definition.specs.Printed.{program_room}
 use Rattle.definition.specs.Withdrawing.{staying}
@@ -49,12 +49,11 @@ use Rattle.plan_edit.specs.Stages.{Withdrew}
 use Rattle.plan_edit.specs.Answers.{PlanMade}
 use Rattle.plan_edit.specs.Left.{TellsPlan, plan_told, fated_accepted}
 use Rattle.plan_edit.specs.declared.Counts.{Counts}
-use Rattle.plan_edit.specs.declared.Planned.TheVariants.{Made as PlanIs}
 use Rattle.run_tree_state.specs.Applied.{executed_in}
 use Rattle.run_tree_state.specs.Store.{held_in}
 use Rattle.run_tree_state.specs.declared.TreeState.{TreeState}
-use Rattle.run_tree_state.specs.declared.Executed.{Executed}
-use Rattle.run_tree_state.specs.declared.Executed.TheVariants.{Refused, Done}
+use Rattle.refusals.specs.Numbers.{number}
+use Rattle.refusals.specs.declared.Refusal.{Refusal}
 use Rattle.run_execute.specs.Standing.{Begun, first_told, Standing}
 use Rattle.run_execute.specs.Opening.{rows_some, rows_few, notes_few, bytes_few}
 use Rattle.run_execute.specs.Stepping.{Performs}
@@ -65,7 +64,7 @@ use Rattle.edit_perform.specs.Accounting.{told_of, planned_account, planned_leng
 use Rattle.edit_perform.specs.AtEnd.{AtEnd, Marked, withdrawn_in, Recounted}
 use Rattle.edit_perform.specs.declared.Ended.{Ended}
 
-module _ {h : Choices} {b : List ℕ} {l : Layout} {t₀ s₀ t s : List ℕ} (v : Leaves b l t₀ s₀ t s) {changes running first : List ℕ} {c : Counts} (P : PlanMade h b l t s changes running first (PlanIs c)) where
+module _ {h : Choices} {b : List ℕ} {l : Layout} {t₀ s₀ t s : List ℕ} (v : Leaves b l t₀ s₀ t s) {changes running first : List ℕ} {c : Counts} (P : PlanMade h b l t s changes running first (Ok c)) where
   abbrev a : Accepted
   a = v.what
 
@@ -145,7 +144,7 @@ module _ {h : Choices} {b : List ℕ} {l : Layout} {t₀ s₀ t s : List ℕ} (v
 
   -- ── What it answers ──
 
-  module _ (lt : 16384 ≤ length t₀) (ls : 6147 ≤ length s₀) (ls' : 6147 ≤ length s) (lf : 768 ≤ length first) {rows marks notes changed : List ℕ} {x : Executed}
+  module _ (lt : 16384 ≤ length t₀) (ls : 6147 ≤ length s₀) (ls' : 6147 ≤ length s) (lf : 768 ≤ length first) {rows marks notes changed : List ℕ} {x : Result TreeState Refusal}
       (R : Ran E t s settled listed changes ks rows marks notes changed x) where
     text : List ℕ
     text = drop l.text b
@@ -172,18 +171,18 @@ module _ {h : Choices} {b : List ℕ} {l : Layout} {t₀ s₀ t s : List ℕ} (v
     accounted_by = planned_account h b a v.accepted P.found.changes (fated_accepted h b P.found.changes a v.accepted P.found.judged) p m.plan
 
     -- refused at the same step
-    pub run_refused : (k : ℕ) → x ≡ Refused k → (ending h b ≡ refused k) × (account h b ≡ refused k)
+    pub run_refused : (f : Refusal) → x ≡ Err f → (ending h b ≡ refused (number f)) × (account h b ≡ refused (number f))
     unfolding executed_in ◌>>=◌
-    run_refused k e = go (ran a p) refl (sym (ap (executed_in text rows marks notes changed) e) ∙ ran_told)
+    run_refused f e = go (number f) (ran a p) refl (sym (ap (executed_in text rows marks notes changed) e) ∙ ran_told)
       where
-        go : (o : Answer World) → ran a p ≡ o → refused k ≡ in_rows o → (ending h b ≡ refused k) × (account h b ≡ refused k)
-        go (refused n) i j =
+        go : (k : ℕ) (o : Answer World) → ran a p ≡ o → refused k ≡ in_rows o → (ending h b ≡ refused k) × (account h b ≡ refused k)
+        go k (refused n) i j =
             let same : n ≡ k = cc in
             (ended_by (refused n) i ∙ ap refused same, accounted_by ∙ (ap (λ (o : Answer World). o >>= λ w. told_of (withdrawing h a) p w) i ∙ ap refused same))
-        go (gives w) i j = refused_gives j
+        go k (gives w) i j = refused_gives j
 
     -- or what is held at the end is the definition's
-    pub run_ended : (r : TreeState) → x ≡ Done r → 3072 ≤ length notes
+    pub run_ended : (r : TreeState) → x ≡ Ok r → 3072 ≤ length notes
         → AtEnd h b rows notes changed (record { text = l.text; elements = E; recorded = c.recorded; root = r.root; rows = r.rows; notes = r.notes; changed = r.changed; discarded = c.discarded; climbs = c.climbs })
     unfolding executed_in ◌>>=◌ text store stored
     run_ended r e ln = go (ran a p) refl (sym (ap (executed_in text rows marks notes changed) e) ∙ ran_told)
@@ -224,7 +223,7 @@ module _ {h : Choices} {b : List ℕ} {l : Layout} {t₀ s₀ t s : List ℕ} (v
                 omega (arith, length_changed_in r.changed changed S.held, ap (λ (y : Store). length y.changed) same, length-map w.changed (held_changed w.trees), ran_changed b a p w (known v) (planned v h p m.plan) i)
 
     -- and the marks are where the elements stand
-    pub run_marked : (r : TreeState) → x ≡ Done r → (d : Ended) → d.elements ≡ E → Marked h b marks d
+    pub run_marked : (r : TreeState) → x ≡ Ok r → (d : Ended) → d.elements ≡ E → Marked h b marks d
     unfolding executed_in ◌>>=◌ text store stored
     run_marked r e d q = go (ran a p) refl (sym (ap (executed_in text rows marks notes changed) e) ∙ ran_told)
       where
@@ -255,7 +254,7 @@ module _ {h : Choices} {b : List ℕ} {l : Layout} {t₀ s₀ t s : List ℕ} (v
         ∙ (ap length m.changes ∙ (planned_length h a p m.plan ∙ (sym (staying_alike (withdrawing h a) ps (sorted_changes a) many) ∙ ap (λ us. length (staying us ps)) (sym ws)))))
 
     -- so that the account is told by them
-    pub run_recounted : Withdrew h b c.recorded (drop 3584 changes) → 3840 ≤ length changes → (r : TreeState) → x ≡ Done r → (d : Ended) → d.recorded ≡ c.recorded → Recounted h b changes d
+    pub run_recounted : Withdrew h b c.recorded (drop 3584 changes) → 3840 ≤ length changes → (r : TreeState) → x ≡ Ok r → (d : Ended) → d.recorded ≡ c.recorded → Recounted h b changes d
     unfolding executed_in result_at ◌>>=◌
     run_recounted W long r e d q = go (ran a p) refl (sym (ap (executed_in text rows marks notes changed) e) ∙ ran_told)
       where

@@ -4,20 +4,20 @@
 ghost use Rattle.std.specs.Prelude.{◌≡◌, ◌∷◌, [], ◌≤◌, length};
 ghost use Rattle.definition.specs.Basics.{gives};
 ghost use Rattle.definition.specs.Answers.{with_choices};
-ghost use Rattle.choices.specs.Meant.{meant, refusal_of};
+ghost use Rattle.refusals.specs.Numbers.{answered};
+ghost use Rattle.choices.specs.Meant.{meant};
 ghost use Rattle.promises.specs.Slices.{needed, lengths};
 ghost use Rattle.plan_edit.specs.Answers.{Planning};
-ghost use Rattle.plan_edit.specs.declared.Planned.TheVariants.{Made};
 ghost use Rattle.edit_perform.specs.Beginning.{LaidOut};
 ghost use Rattle.edit_perform.specs.AtEnd.{Performs, PerformsWith};
 
 use choices::Choices;
-use plan_edit::{Counts, Planned, plan};
+use plan_edit::{Counts, Unplanned, plan};
 use read_batch::accept;
-use read_layout::{Laid, Layout};
+use read_layout::Layout;
+use refusals::Refusal;
 use run_annotations::NOTE_WORDS;
 use run_execute::execute;
-use run_tree_state::Executed;
 
 // What a run leaves: where the batch's text starts, how many elements it has, how many changes are recorded (withdrawn ones among them), where the root of tree 0 stands, the rows, notes and changed elements that are held, and two numbers of the result.
 #[derive(Clone, Copy)]
@@ -31,14 +31,6 @@ pub struct Ended {
     pub changed: usize,
     pub discarded: usize,
     pub climbs: usize,
-}
-
-// A refusal, by its number; 8 with the numbers of the two changes that overlap; or what the run leaves.
-#[derive(Clone, Copy)]
-pub enum Performed {
-    Refused(usize),
-    Overlap(usize, usize),
-    Done(Ended),
 }
 
 // The steps of the plan, over marks for just the batch's elements.
@@ -58,9 +50,9 @@ fn run_plan(
     marks: &mut [u32],
     rows: &mut [u32],
     prepared: &mut [u32],
-) -> Performed
+) -> Result<Ended, Unplanned>
     requires laid_out { LaidOut b.now l table.now source.now }
-    requires planning { Planning (meant choices) b.now l table.now source.now changes.now running.now first.now (Made c) }
+    requires planning { Planning (meant choices) b.now l table.now source.now changes.now running.now first.now (Ok c) }
     requires in_bounds { (6147 ≤ length source.now) × (256 ≤ length running.now) × (768 ≤ length first.now) }
     requires marks_len { (length marks.old ≡ l.sizes.elements) × (3072 ≤ length notes.old) × (3072 ≤ length incoming.old) × (1024 ≤ length changed.old) × (12291 ≤ length rows.old) × (12288 ≤ length prepared.old) }
     ensures { Performs (meant choices) b.now table.now source.now changes.now rows.new notes.new changed.new marks.new result }
@@ -72,7 +64,7 @@ fn run_plan(
     let listed = l.list;
     let end = listed + 4 * s.listed;
     let runs = c.runs;
-    let done = execute(
+    let t = execute(
         rows,
         marks,
         notes,
@@ -86,21 +78,18 @@ fn run_plan(
         &b[listed..end],
         changes,
         &running[..runs],
-    );
-    match done {
-        Executed::Refused(n) => Performed::Refused(n),
-        Executed::Done(t) => Performed::Done(Ended {
-            text: l.text,
-            elements: s.elements,
-            recorded: c.recorded,
-            root: t.root,
-            rows: t.rows,
-            notes: t.notes,
-            changed: t.changed,
-            discarded: c.discarded,
-            climbs: c.climbs,
-        }),
-    }
+    )?;
+    Ok(Ended {
+        text: l.text,
+        elements: s.elements,
+        recorded: c.recorded,
+        root: t.root,
+        rows: t.rows,
+        notes: t.notes,
+        changed: t.changed,
+        discarded: c.discarded,
+        climbs: c.climbs,
+    })
 }
 
 // The plan of an accepted batch, and its steps. Before the first step the rows, the prepared rows, the changed rows and the marks serve planning.
@@ -117,7 +106,7 @@ pub fn plan_and_run(
     marks: &mut [u32],
     rows: &mut [u32],
     prepared: &mut [u32],
-) -> Performed
+) -> Result<Ended, Unplanned>
     requires laid_out { LaidOut b.now l table.now source.now }
     requires in_bounds { (6147 ≤ length source.now) × (3840 ≤ length changes.old) }
     requires in_bounds_2 { (2048 ≤ length marks.old) × (3072 ≤ length notes.old) × (3072 ≤ length incoming.old) × (1024 ≤ length changed.old) × (12291 ≤ length rows.old) × (12288 ≤ length prepared.old) }
@@ -127,7 +116,7 @@ pub fn plan_and_run(
     let mut first = [0u32; 768];
     let s = l.sizes;
     let elements = s.elements;
-    let planned = plan(
+    let c = plan(
         choices,
         b,
         l,
@@ -140,31 +129,27 @@ pub fn plan_and_run(
         &mut running,
         marks,
         &mut first,
-    );
-    match planned {
-        Planned::Refused(n) => Performed::Refused(n),
-        Planned::Overlap(j, k) => Performed::Overlap(j, k),
-        Planned::Made(c) => run_plan(
-            choices,
-            b,
-            l,
-            c,
-            table,
-            source,
-            changes,
-            &running,
-            &first,
-            notes,
-            incoming,
-            changed,
-            &mut marks[0..elements],
-            rows,
-            prepared,
-        ),
-    }
+    )?;
+    run_plan(
+        choices,
+        b,
+        l,
+        c,
+        table,
+        source,
+        changes,
+        &running,
+        &first,
+        notes,
+        incoming,
+        changed,
+        &mut marks[0..elements],
+        rows,
+        prepared,
+    )
 }
 
-// 17 or 18 where there is no such choice, 1 where a work slice is too short, else 0.
+// 17 or 18 where there is no such choice, 1 where a work slice is too short.
 pub fn refused_first(
     choices: Choices,
     table: &[u32],
@@ -176,19 +161,16 @@ pub fn refused_first(
     marks: &[u32],
     rows: &[u32],
     prepared: &[u32],
-) -> usize
-    ensures { result ≡ refusal_of (with_choices (meant choices) (lengths needed (table.now ∷ source.now ∷ changes.now ∷ notes.now ∷ incoming.now ∷ changed.now ∷ marks.now ∷ rows.now ∷ prepared.now ∷ [])) (gives tt)) }
+) -> Result<(), Refusal>
+    ensures { answered result ≡ with_choices (meant choices) (lengths needed (table.now ∷ source.now ∷ changes.now ∷ notes.now ∷ incoming.now ∷ changed.now ∷ marks.now ∷ rows.now ∷ prepared.now ∷ [])) (gives tt) }
 {
-    let n = choices::refusal(choices);
-    if n != 0 {
-        return n;
-    }
+    choices::judge(choices)?;
     if promises::too_short(
         table, source, changes, notes, incoming, changed, marks, rows, prepared,
     ) {
-        return 1;
+        return Err(Refusal::ShortWork);
     }
-    0
+    Ok(())
 }
 
 // From a batch to what its run leaves, or the first refusal out of 17, 18, 1 to 12 and 16.
@@ -204,20 +186,14 @@ pub fn perform(
     marks: &mut [u32],
     rows: &mut [u32],
     prepared: &mut [u32],
-) -> Performed
+) -> Result<Ended, Unplanned>
     ensures { PerformsWith (meant choices) (table.old ∷ source.old ∷ changes.old ∷ notes.old ∷ incoming.old ∷ changed.old ∷ marks.old ∷ rows.old ∷ prepared.old ∷ []) b.now table.new source.new changes.new rows.new notes.new changed.new marks.new result }
 {
-    let n = refused_first(
+    refused_first(
         choices, table, source, changes, notes, incoming, changed, marks, rows, prepared,
-    );
-    if n != 0 {
-        return Performed::Refused(n);
-    }
-    let laid = accept(b, table, source);
-    match laid {
-        Laid::Refused(n) => Performed::Refused(n),
-        Laid::At(l) => plan_and_run(
-            choices, b, l, table, source, changes, notes, incoming, changed, marks, rows, prepared,
-        ),
-    }
+    )?;
+    let l = accept(b, table, source)?;
+    plan_and_run(
+        choices, b, l, table, source, changes, notes, incoming, changed, marks, rows, prepared,
+    )
 }

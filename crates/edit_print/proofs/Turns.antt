@@ -19,7 +19,7 @@ use Rattle.words.specs.Parts.{set_paste}
 use Rattle.definition_laws.specs.Basics.{flat_map_append}
 use Rattle.result_laws.specs.Decoded.{told, decoded}
 use Rattle.edit_print.specs.Printable.{Fits}
-use Rattle.edit_print.specs.Lines.{Put, put_more, digits_length, spaced, spaced_length, texts_length, line_of, line_of_length, pairs_at, pairs_length, pair_at, changed_line, changed_length, note_line, element_length, hex_length, text_length}
+use Rattle.edit_print.specs.Lines.{Put, put_more, digits_length, spaced, spaced_length, texts_length, line_of, line_of_length, pairs_at, pairs_length, pair_at, pair_line, changed_line, changed_length, note_line, element_length, hex_length, text_length}
 
 -- ── A byte and digits ───────────────────────────────────────────────────────────────────────────────────────
 
@@ -169,13 +169,24 @@ module _ {d : List ℕ} {at : ℕ} (kind measure : ℕ) {l : List ℕ} {to : ℕ
 
 -- ── Arrays of the result ────────────────────────────────────────────────────────────────────────────────────
 
-pub changed_put : {d : List ℕ} {at : ℕ} (e r : ℕ) {l : List ℕ} {to : ℕ} → Put d at (line_of (99 ∷ 104 ∷ 97 ∷ 110 ∷ 103 ∷ 101 ∷ 100 ∷ []) (e ∷ r ∷ [])) l to → Put d at (changed_line (e, r)) l to
-unfolding changed_line line line_of ascii spaced
-changed_put e r p = p
+pub pair_put : {d : List ℕ} (name : List ℕ) {at : ℕ} (x y : ℕ) {l : List ℕ} {to : ℕ} → Put d at (line_of name (x ∷ y ∷ [])) l to → Put d at (pair_line name (x, y)) l to
+unfolding pair_line
+pair_put name x y p = p
 
-pub note_put : {d : List ℕ} {at : ℕ} (m e : ℕ) {l : List ℕ} {to : ℕ} → Put d at (line_of (110 ∷ 111 ∷ 116 ∷ 101 ∷ []) (m ∷ e ∷ [])) l to → Put d at (note_line (m, e)) l to
-unfolding note_line line line_of ascii spaced
-note_put m e p = p
+-- the lines of changed elements and of notes are such lines
+changed_pairs : (xs : List (ℕ × ℕ)) → flat_map (pair_line (99 ∷ 104 ∷ 97 ∷ 110 ∷ 103 ∷ 101 ∷ 100 ∷ [])) xs ≡ flat_map changed_line xs
+unfolding pair_line changed_line line line_of ascii spaced
+changed_pairs xs = refl
+
+note_pairs : (xs : List (ℕ × ℕ)) → flat_map (pair_line (110 ∷ 111 ∷ 116 ∷ 101 ∷ [])) xs ≡ flat_map note_line xs
+unfolding pair_line note_line line line_of ascii spaced
+note_pairs xs = refl
+
+pub changed_put : {d : List ℕ} {at : ℕ} (xs : List (ℕ × ℕ)) {l : List ℕ} {to : ℕ} → Put d at (flat_map (pair_line (99 ∷ 104 ∷ 97 ∷ 110 ∷ 103 ∷ 101 ∷ 100 ∷ [])) xs) l to → Put d at (flat_map changed_line xs) l to
+changed_put xs p = rw (← changed_pairs xs) p
+
+pub note_put : {d : List ℕ} {at : ℕ} (xs : List (ℕ × ℕ)) {l : List ℕ} {to : ℕ} → Put d at (flat_map (pair_line (110 ∷ 111 ∷ 116 ∷ 101 ∷ [])) xs) l to → Put d at (flat_map note_line xs) l to
+note_put xs p = rw (← note_pairs xs) p
 
 -- the pairs of two arrays of n words
 module _ (f : ℕ × ℕ → List ℕ) (k : ℕ) (s : (e : ℕ × ℕ) → length (f e) ≤ k) (b : List ℕ) (from n : ℕ) where

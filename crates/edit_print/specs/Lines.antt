@@ -50,6 +50,10 @@ spaced n = 32 ∷ decimal n
 unfoldable pub line_of : List ℕ → List ℕ → List ℕ
 line_of name ns = name ++ flat_map spaced ns ++ (10 ∷ [])
 
+-- a line of a name and two numbers
+unfoldable pub pair_line : List ℕ → ℕ × ℕ → List ℕ
+pair_line name m = line_of name (m.0 ∷ m.1 ∷ [])
+
 -- the line of a changed element: its number, its rule number
 unfoldable pub changed_line : ℕ × ℕ → List ℕ
 changed_line m = line "changed" (m.0 ∷ m.1 ∷ [])
@@ -90,6 +94,10 @@ line_of_length name ns = simp length-append (omega (arith, texts_length spaced 1
 -- a line whose word is known
 line_length : (name ns : List ℕ) (k : ℕ) → length name + 11 * length ns + 1 ≤ k → length (line_of name ns) ≤ k
 line_length name ns k h = omega (arith, line_of_length name ns)
+
+pub pair_length : (name : List ℕ) (m : ℕ × ℕ) → length (pair_line name m) ≤ length name + 23
+unfolding pair_line
+pair_length name m = line_length name (m.0 ∷ m.1 ∷ []) (length name + 23) (omega arith)
 
 pub element_length : (e : ℕ × ℕ) → length (element_line e) ≤ 24
 unfolding element_line line line_of spaced ascii

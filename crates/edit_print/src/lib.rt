@@ -7,7 +7,7 @@ ghost use Rattle.definition.specs.Printed.{digits, hex_digit, hex, element_line,
 ghost use Rattle.definition.specs.Basics.{refused, gives};
 ghost use Rattle.result_laws.specs.Decoded.{told, decoded};
 ghost use Rattle.edit_print.specs.Printable.{Fits, Printable};
-ghost use Rattle.edit_print.specs.Lines.{Put, spaced, line_of, pairs_at, changed_line, note_line};
+ghost use Rattle.edit_print.specs.Lines.{Put, spaced, line_of, pairs_at, pair_line, changed_line, note_line};
 
 use result_laws::ARRAYS;
 
@@ -133,46 +133,16 @@ fn put_elements(out: &mut [u8], at: usize, b: &[u8], from: usize, n: usize) -> u
     to
 }
 
-// The line of a changed element is written at `at`.
-fn put_changed(out: &mut [u8], at: usize, element: usize, rule: usize) -> usize
-    requires { at + 30 ≤ length out.old }
-    ensures { Put out.old at (changed_line (element, rule)) out.new result }
-{
-    put_line(out, at, b"changed", &[element, rule])
-}
-
-// The line of a note is written at `at`.
-fn put_note(out: &mut [u8], at: usize, number: usize, element: usize) -> usize
-    requires { at + 27 ≤ length out.old }
-    ensures { Put out.old at (note_line (number, element)) out.new result }
-{
-    put_line(out, at, b"note", &[number, element])
-}
-
-// The lines of `n` changed elements are written at `at`; their numbers stand at `from`, their rule numbers behind those.
-fn put_all_changed(out: &mut [u8], at: usize, b: &[u8], from: usize, n: usize) -> usize
-    requires { (from + 8 * n ≤ length b.now) × (at + 30 * n ≤ length out.old) }
-    ensures { Put out.old at (flat_map changed_line (pairs_at b.now from n)) out.new result }
+// `n` lines of a name and two numbers are written at `at`; the first numbers stand at `from`, the second ones behind those.
+fn put_pairs(out: &mut [u8], at: usize, name: &[u8], b: &[u8], from: usize, n: usize) -> usize
+    requires { (from + 8 * n ≤ length b.now) × (at + (length name.now + 23) * n ≤ length out.old) }
+    ensures { Put out.old at (flat_map (pair_line name.now) (pairs_at b.now from n)) out.new result }
 {
     let mut to = at;
     for i in 0..n {
-        let element = words::read_word(b, from + 4 * i);
-        let rule = words::read_word(b, from + 4 * n + 4 * i);
-        to = put_changed(out, to, element, rule);
-    }
-    to
-}
-
-// The lines of `n` notes are written at `at`; their numbers stand at `from`, their elements behind those.
-fn put_notes(out: &mut [u8], at: usize, b: &[u8], from: usize, n: usize) -> usize
-    requires { (from + 8 * n ≤ length b.now) × (at + 27 * n ≤ length out.old) }
-    ensures { Put out.old at (flat_map note_line (pairs_at b.now from n)) out.new result }
-{
-    let mut to = at;
-    for i in 0..n {
-        let number = words::read_word(b, from + 4 * i);
-        let element = words::read_word(b, from + 4 * n + 4 * i);
-        to = put_note(out, to, number, element);
+        let first = words::read_word(b, from + 4 * i);
+        let second = words::read_word(b, from + 4 * n + 4 * i);
+        to = put_line(out, to, name, &[first, second]);
     }
     to
 }
@@ -192,8 +162,8 @@ fn put_found(out: &mut [u8], at: usize, b: &[u8], from: usize, c: usize, m: usiz
     requires { (from + 8 * c + 8 * m ≤ length b.now) × (at + 30 * c + 27 * m ≤ length out.old) }
     ensures { Put out.old at (flat_map changed_line (pairs_at b.now from c) ++ flat_map note_line (pairs_at b.now (from + 8 * c) m)) out.new result }
 {
-    let to = put_all_changed(out, at, b, from, c);
-    put_notes(out, to, b, from + 8 * c, m)
+    let to = put_pairs(out, at, b"changed", b, from, c);
+    put_pairs(out, to, b"note", b, from + 8 * c, m)
 }
 
 // What is printed of the result that the sizes and the arrays in `b` tell is written at the front.

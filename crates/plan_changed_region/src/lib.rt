@@ -6,12 +6,13 @@ ghost use Rattle.std.specs.Prelude.{◌≡◌, cond, ◌++◌, suc, ◌+◌, ◌
 ghost use Rattle.orders.specs.Lists.{All};
 ghost use Rattle.definition.specs.Planning.{fate};
 ghost use Rattle.record_changes.specs.ChangeRow.{rows_of, fate_of};
+ghost use Rattle.record_changes.specs.Numbers.{fate_number};
 ghost use Rattle.record_changes.specs.ChangeRowLaws.{row_at, rows_words};
 ghost use Rattle.plan_changed_region.specs.Fates.{planned_rows};
 ghost use Rattle.plan_changed_region.specs.Stacks.{outer, contains, stack_to, enclosing, Outward, stated};
 ghost use Rattle.plan_changed_region.specs.Steps.{region_around, next_rows, next_tops};
 
-use record_changes::{field, word_or_zero};
+use record_changes::{Fate, Region, field, word_or_zero};
 
 // Whether the range of the change at place `j` contains the one from `from` to `to`, ends included.
 fn contains_range(rows: &[u32], j: usize, from: usize, to: usize) -> bool
@@ -29,7 +30,7 @@ fn outer_region(rows: &[u32], j: usize) -> usize
     requires { j < 2 ^ 32 }
     ensures { result ≡ outer (row_at rows.now j) }
 {
-    if field(rows, j, record_changes::FATE) == 0 {
+    if field(rows, j, record_changes::FATE) == Fate::Own as usize {
         0
     } else {
         field(rows, j, record_changes::OWNER) + 1
@@ -52,22 +53,22 @@ fn enclosing_region(rows: &[u32], top: usize, from: usize, to: usize) -> usize
     0
 }
 
-// Rust: NestedChanges. The fate of a change whose region around it is at the place `p`: 0 own, 1 dependent, 2 discarded. Only a node that is replaced by a
+// Rust: NestedChanges. The fate of a change whose region around it is at the place `p`. Only a node that is replaced by a
 // node, and is not discarded itself, has one counterpart into which inner targets can be mapped; else inner changes are dropped.
-fn fate_in(rows: &[u32], p: usize) -> usize
+fn fate_in(rows: &[u32], p: usize) -> Fate
     requires { p ≤ 256 }
-    ensures { (result ≡ fate_of (fate (stack_to rows.now p p))) × (result < 3) }
+    ensures { fate_number result ≡ fate_of (fate (stack_to rows.now p p)) }
 {
     if p == 0 {
-        return 0;
+        return Fate::Own;
     }
-    if 1 < field(rows, p - 1, record_changes::FATE) {
-        return 2;
+    if field(rows, p - 1, record_changes::FATE) > Fate::Dependent as usize {
+        return Fate::Discarded;
     }
-    if field(rows, p - 1, record_changes::REGION) == 2 {
-        1
+    if field(rows, p - 1, record_changes::REGION) == Region::NodeByNode as usize {
+        Fate::Dependent
     } else {
-        2
+        Fate::Discarded
     }
 }
 
@@ -76,9 +77,8 @@ fn state_fate(rows: &mut [u32], k: usize, p: usize)
     requires { (14 * k + 14 ≤ length rows.old) × (k < 256) × (p ≤ k) }
     ensures { rows.new ≡ stated rows.old k (fate (stack_to rows.old k p)) }
 {
-    let f = fate_in(rows, p);
-    rows[record_changes::WORDS * k + record_changes::FATE] = f as u32;
-    rows[record_changes::WORDS * k + record_changes::OWNER] = p.saturating_sub(1) as u32;
+    let fate = fate_in(rows, p);
+    record_changes::write_fate(rows, k, fate, p.saturating_sub(1));
 }
 
 // The last region of a tree becomes `top`.
@@ -97,7 +97,7 @@ fn last_region(rows: &[u32], k: usize, p: usize) -> usize
     requires { (k < 256) × (p ≤ k) }
     ensures { (result ≡ cond (eqb (row_at rows.now k).region 0) p (suc k)) × (result ≤ 256) }
 {
-    if field(rows, k, record_changes::REGION) == 0 {
+    if field(rows, k, record_changes::REGION) == Region::None as usize {
         p
     } else {
         k + 1

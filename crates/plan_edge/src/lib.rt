@@ -3,12 +3,13 @@
 
 ghost use Rattle.std.specs.Prelude.{◌≡◌, false, ◌++◌, suc, ◌+◌, ◌-◌, ◌*◌, ◌^◌, ◌≤◌, ◌<◌, length, get_or, drop};
 ghost use Rattle.record_changes.specs.ChangeRow.{rows_of, fate_of};
+ghost use Rattle.record_changes.specs.Numbers.{fate_number};
 ghost use Rattle.record_changes.specs.ChangeRowLaws.{row_at, rows_words};
 ghost use Rattle.plan_changed_region.specs.Stacks.{stated};
 ghost use Rattle.plan_edge.specs.Rule.{parent_or_root, target_parent, of_root, in_run, removes, only_in, is_run_of, inside, takes, region_depth, innermost, region_from, regions_of, is_discarded, fate_at, fated_rows, edge_rows};
 
 use read_element_table::PARENT;
-use record_changes::{field, word_or_zero};
+use record_changes::{Fate, Operation, Region, field, word_or_zero};
 
 // ── Where elements stand ──
 
@@ -55,7 +56,7 @@ fn target_parent(rows: &[u32], table: &[u32], k: usize) -> usize
     ensures { result ≡ target_parent table.now (row_at rows.now k) }
 {
     let x = field(rows, k, record_changes::TARGET);
-    if field(rows, k, record_changes::OPERATION) == 0 {
+    if field(rows, k, record_changes::OPERATION) == Operation::FirstChild as usize {
         return x;
     }
     parent_or_root(table, x)
@@ -66,7 +67,7 @@ fn of_root(rows: &[u32], table: &[u32], k: usize) -> bool
     requires { k < 2 ^ 32 }
     ensures { result ≡ of_root table.now (row_at rows.now k) }
 {
-    if field(rows, k, record_changes::OPERATION) != 2 {
+    if field(rows, k, record_changes::OPERATION) != Operation::Replace as usize {
         return false;
     }
     entry(table, field(rows, k, record_changes::TARGET), PARENT) == 0
@@ -94,13 +95,13 @@ fn only_in(rows: &[u32], table: &[u32], x: usize, y: usize, k: usize) -> bool
 {
     let operation = field(rows, k, record_changes::OPERATION);
     let e = field(rows, k, record_changes::TARGET);
-    if operation == 0 {
+    if operation == Operation::FirstChild as usize {
         return false;
     }
     if !in_run(table, x, y, e) {
         return false;
     }
-    if operation == 1 {
+    if operation == Operation::After as usize {
         return e != y;
     }
     in_run(table, x, y, field(rows, k, record_changes::END))
@@ -111,7 +112,7 @@ fn is_run_of(rows: &[u32], x: usize, y: usize, k: usize) -> bool
     requires { k < 2 ^ 32 }
     ensures { result ≡ is_run_of x y (row_at rows.now k) }
 {
-    if field(rows, k, record_changes::OPERATION) != 5 {
+    if field(rows, k, record_changes::OPERATION) != Operation::ReplaceAll as usize {
         return false;
     }
     if field(rows, k, record_changes::TARGET) != x {
@@ -125,7 +126,7 @@ fn is_inside(rows: &[u32], table: &[u32], j: usize, k: usize) -> bool
     requires { (j < 2 ^ 32) × (k < 2 ^ 32) }
     ensures { result ≡ inside table.now j (row_at rows.now j) k (row_at rows.now k) }
 {
-    if field(rows, j, record_changes::OPERATION) != 5 {
+    if field(rows, j, record_changes::OPERATION) != Operation::ReplaceAll as usize {
         return false;
     }
     let x = field(rows, j, record_changes::TARGET);
@@ -145,7 +146,7 @@ fn takes_change(rows: &[u32], table: &[u32], k: usize, p: usize, j: usize) -> bo
     requires k_value { (of_root table.now (row_at rows.now k) ≡ false) × (p ≡ target_parent table.now (row_at rows.now k)) }
     ensures { result ≡ takes table.now j (row_at rows.now j) k (row_at rows.now k) }
 {
-    if field(rows, j, record_changes::REGION) == 0 {
+    if field(rows, j, record_changes::REGION) == Region::None as usize {
         return false;
     }
     if removes_element(rows, table, j, p) {
@@ -226,7 +227,7 @@ fn is_discarded(rows: &[u32], regions: &[u32], most: usize, k: usize) -> bool
         if p == 0 {
             return false;
         }
-        if field(rows, p - 1, record_changes::REGION) != 2 {
+        if field(rows, p - 1, record_changes::REGION) != Region::NodeByNode as usize {
             return true;
         }
         at = p - 1;
@@ -234,18 +235,18 @@ fn is_discarded(rows: &[u32], regions: &[u32], most: usize, k: usize) -> bool
     false
 }
 
-// The fate of the change at place `k`: 0 own, 1 dependent, 2 discarded.
-fn fate_of(rows: &[u32], table: &[u32], regions: &[u32], k: usize) -> usize
+// The fate of the change at place `k`.
+fn fate_of(rows: &[u32], table: &[u32], regions: &[u32], k: usize) -> Fate
     requires { k < 2 ^ 32 }
-    ensures { (result ≡ fate_of (fate_at table.now rows.now regions.now k)) × (result < 3) }
+    ensures { fate_number result ≡ fate_of (fate_at table.now rows.now regions.now k) }
 {
     if word_or_zero(regions, k) == 0 {
-        return 0;
+        return Fate::Own;
     }
     if is_discarded(rows, regions, region_depth(rows, table, k) + 1, k) {
-        return 2;
+        return Fate::Discarded;
     }
-    1
+    Fate::Dependent
 }
 
 // The fate of the change at place `k` is written into its row.
@@ -253,11 +254,9 @@ fn state_fate(rows: &mut [u32], table: &[u32], regions: &[u32], k: usize)
     requires { (14 * k + 14 ≤ length rows.old) × (k < 256) }
     ensures { rows.new ≡ stated rows.old k (fate_at table.now rows.old regions.now k) }
 {
-    let f = fate_of(rows, table, regions, k);
-    rows[record_changes::WORDS * k + record_changes::FATE] = f as u32;
-    rows[record_changes::WORDS * k + record_changes::OWNER] = word_or_zero(
-        regions, k,
-    ).saturating_sub(1) as u32;
+    let fate = fate_of(rows, table, regions, k);
+    let owner = word_or_zero(regions, k).saturating_sub(1);
+    record_changes::write_fate(rows, k, fate, owner);
 }
 
 // The fates of `n` changes, by the region of each.

@@ -34,7 +34,7 @@ pub fn settle_notes(
         let element = words::read_word(b, noted + 4 * i);
         let number = words::read_word(b, numbers + 4 * i);
         let e = plan_upmap::upmap_element(table, source, map, n, element)?;
-        words::store3(notes, run_annotations::NOTE_WORDS * i, e + 1, number, i);
+        words::store(notes, run_annotations::NOTE_WORDS * i, &[e + 1, number, i]);
     }
     Ok(())
 }

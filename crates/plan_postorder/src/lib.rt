@@ -6,7 +6,7 @@ ghost use Rattle.plan_sort.specs.Sorting.{ranked_places};
 ghost use Rattle.plan_postorder.specs.Order.{running_places};
 ghost use Rattle.plan_postorder.specs.Links.{OwnerOf, Links, owned_by, linked_to, dependents};
 
-use record_changes::field;
+use record_changes::{Fate, field};
 use words::word;
 
 // Rust: PlanEntry::parent. The owner of the change at place `k`, index + 1; 0 = none, 257 of a change that never runs.
@@ -15,10 +15,10 @@ fn owner_of(rows: &[u32], k: usize) -> usize
     ensures { OwnerOf rows.now k result }
 {
     let fate = field(rows, k, record_changes::FATE);
-    if fate == 0 {
+    if fate == Fate::Own as usize {
         return 0;
     }
-    if fate != 1 {
+    if fate != Fate::Dependent as usize {
         return 257;
     }
     let owner = field(rows, k, record_changes::OWNER);

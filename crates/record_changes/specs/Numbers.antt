@@ -7,6 +7,8 @@ use Rattle.definition.specs.Recording.{first_child, after, insert, replace, dele
 use Rattle.record_changes.specs.ChangeRow.{ChangeRow}
 use Rattle.record_changes.specs.declared.Place.{Place}
 use Rattle.record_changes.specs.declared.Place.TheVariants.{FirstChild, After}
+use Rattle.record_changes.specs.declared.Fate.{Fate}
+use Rattle.record_changes.specs.declared.Fate.TheVariants.{Own, Dependent, Discarded}
 use Rattle.record_changes.specs.declared.Listed.{Listed}
 use Rattle.record_changes.specs.declared.Change.{Change}
 use Rattle.record_changes.specs.declared.Change.TheVariants.{Insert, Replace, Delete, ReplaceWithMany, ReplaceAll}
@@ -17,6 +19,12 @@ use Rattle.record_changes.specs.declared.Spot.{Spot}
 abbrev pub place_number : Place → ℕ
 place_number FirstChild = 0
 place_number After = 1
+
+-- a fate's number in a row
+abbrev pub fate_number : Fate → ℕ
+fate_number Own = 0
+fate_number Dependent = 1
+fate_number Discarded = 2
 
 -- the paper's number of each case, target, run's end (else the target), where the elements that go in stand and how many they are, and rank
 abbrev pub numbers_of : Change → Numbers

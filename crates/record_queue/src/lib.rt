@@ -15,7 +15,7 @@ ghost use Rattle.record_queue.specs.Queueing.{place};
 ghost use Rattle.record_queue.specs.RecordedRows.{is_single, meets_single, meets_by, idle_by, change_rows, Put, RowsRecorded};
 ghost use Rattle.record_queue.specs.CallList.{calls_of, Fit, CallFits, CallPut, Stands};
 
-use record_changes::{LIST, Numbers, Spot, TARGET, WORDS};
+use record_changes::{LIST, Numbers, Operation, Spot, TARGET, WORDS};
 
 // The rows so far: where the present editor's start, and how many there are.
 #[derive(Clone, Copy)]
@@ -28,10 +28,10 @@ pub struct Queue {
 fn is_single(operation: usize) -> bool
     ensures { result ≡ is_single operation }
 {
-    if operation == 2 {
+    if operation == Operation::Replace as usize {
         return true;
     }
-    operation == 3
+    operation == Operation::Delete as usize
 }
 
 // Whether the row at place `k` and a later change of this target, whose operation merges, merge.
@@ -102,13 +102,13 @@ fn is_idle(
     ensures { result ≡ idle_by (words_of listed (drop list b.now)) operation at (row_at rows.now k) }
 {
     let earlier = words::word(rows, WORDS * k);
-    if earlier == 3 {
+    if earlier == Operation::Delete as usize {
         return true;
     }
-    if earlier != 2 {
+    if earlier != Operation::Replace as usize {
         return false;
     }
-    if operation != 2 {
+    if operation != Operation::Replace as usize {
         return false;
     }
     let element = listed_at(b, list, listed, words::word(rows, WORDS * k + LIST));

@@ -3,10 +3,10 @@
 use mathlib.Core.Bool.{Bool, true, false, cond}
 use mathlib.Core.List.{List, [], ◌∷◌, ◌++◌, append_assoc}
 use mathlib.Core.Path.{◌≡◌, refl, sym, ap, ◌∙◌}
-use Prim.Native.Nat.{ℕ, ◌+◌, ◌-◌, ◌*◌, ◌^◌, ◌≤◌, ◌<◌}
+use Prim.Native.Nat.{ℕ, ◌+◌, ◌*◌, ◌^◌, ◌≤◌, ◌<◌}
 use native.Mathlib.Omega.{arith}
-use lib.ListN.{length, get_or, take, drop, length-drop}
-use lib.Seq.{paste, take-take, take_at, drop-paste, length-take-le, length-paste}
+use lib.ListN.{length, get_or, take, drop}
+use lib.Seq.{paste, take_at, drop-paste, length-take-le, length-paste}
 use lib.Dec.{eqb}
 use Rattle.definition.specs.Elements.{Table}
 use Rattle.words.specs.Parts.{paste_paste}
@@ -91,10 +91,3 @@ pub row_written : (T : Table) (w d d₁ d₂ : List ℕ) (n i x y z : ℕ) (c : 
 unfolding row_anew
 row_written T w d d₁ d₂ n i x y z c m s e₂ e₁ em es C h =
     rw (e₂, e₁, em, es, C.change) (fate_written d i (row_at w i) (row_with (numbers_of (change_anew (row_at w i) x y)) (spot_of T (as_change (z ∷ []) (change_anew (row_at w i) x y))) 0) h)
-
--- a row passed as a part of its slice
-pub row_copied : (out w : List ℕ) (a b : ℕ) → b ≡ a + 14 → b ≤ length w → paste out a (take (b - a) (drop a w)) (length (take (b - a) (drop a w))) ≡ paste out a (drop a w) 14
-row_copied out w a b e h =
-    let k : b - a ≡ 14 = omega arith in
-    let l : length (take 14 (drop a w)) ≡ 14 = length-take-le 14 (drop a w) (omega (arith, length-drop a w)) in
-    rw (k, l, take-take 14 14 (drop a w) (omega arith))

@@ -28,9 +28,6 @@ pub record Following (tree : List ℕ) (n : ℕ) (path : List ℕ) (at j : ℕ) 
   pub bound : at ≤ n
   pub rest : (text : List ℕ) → follow (first_rows text n tree) 0 path ≡ follow (first_rows text n tree) at (drop j path)
 
-pub following_start : (tree : List ℕ) (n : ℕ) (path : List ℕ) → n ≡ length tree / 3 → Following tree n path 0 0
-following_start tree n path e = record { all = e; inside = omega arith; bound = omega arith; rest = λ text. refl }
-
 -- the rows of a tree are all that its words tell
 whole : (text tree : List ℕ) (n : ℕ) → n ≡ length tree / 3 → first_rows text n tree ≡ triples text tree
 whole text tree n e = triples_take text n tree ∙ take_all n (triples text tree) (omega (arith, length_triples text tree))

@@ -5,19 +5,17 @@ ghost use Rattle.std.specs.Prelude.{◌≡◌, ◌+◌, ◌*◌, ◌≤◌, leng
 ghost use Rattle.write_again.specs.Counted.{word_count, Worded};
 
 use read_layout::Sizes;
-use write_batch::Written;
+use refusals::Refusal;
 
 // Each call word as its operation, its count and its rule number.
 fn part_words(words: &[u32], operations: &mut [u32], counts: &mut [u32], rules: &mut [u32])
     requires { (length words.now ≤ length operations.old) × (length words.now ≤ length counts.old) × (length words.now ≤ length rules.old) }
 {
-    let mut i = 0;
-    while i < words.len() {
-        let word = words::word(words, i);
+    for (i, word) in words.iter().enumerate() {
+        let word = *word as usize;
         operations[i] = read_calls::operation_of(word) as u32;
         counts[i] = read_calls::count_of(word) as u32;
         rules[i] = read_calls::rule_of(word) as u32;
-        i += 1;
     }
 }
 
@@ -38,7 +36,7 @@ fn write_notes(
     list: &[u32],
     at: usize,
     destination: &mut [u8],
-) -> Written
+) -> Result<usize, Refusal>
     requires { (at + 2 * notes ≤ length list.now) × (length list.now ≤ 16384) }
 {
     let numbers = at + notes;
@@ -80,7 +78,7 @@ fn write_names(
     list: &[u32],
     at: usize,
     destination: &mut [u8],
-) -> Written
+) -> Result<usize, Refusal>
     requires { (at + z.listed + 2 * z.mappings + 2 * z.notes ≤ length list.now) × (length list.now ≤ 16384) }
 {
     let inputs = at + z.listed;
@@ -114,7 +112,7 @@ fn write_calls(
     list: &[u32],
     at: usize,
     destination: &mut [u8],
-) -> Written
+) -> Result<usize, Refusal>
     requires { (at + 2 * z.calls + z.listed + 2 * z.mappings + 2 * z.notes ≤ length list.now) × (length list.now ≤ 16384) }
 {
     let n = z.calls;
@@ -140,7 +138,12 @@ fn write_calls(
 }
 
 // The words of a batch without its sizes are one list, in which its arrays stand one after another.
-fn write_elements(z: Sizes, list: &[u32], text: &[u8], destination: &mut [u8]) -> Written
+fn write_elements(
+    z: Sizes,
+    list: &[u32],
+    text: &[u8],
+    destination: &mut [u8],
+) -> Result<usize, Refusal>
     requires { (word_count z ≤ length list.now) × (length list.now ≤ 16384) }
 {
     let kinds = 0;
@@ -182,7 +185,7 @@ fn word_count(z: Sizes) -> usize
 }
 
 // A batch of these sizes, with `n` words behind them.
-fn write_words(b: &[u8], z: Sizes, n: usize, destination: &mut [u8]) -> Written
+fn write_words(b: &[u8], z: Sizes, n: usize, destination: &mut [u8]) -> Result<usize, Refusal>
     requires { (n ≡ word_count z) × (28 + 4 * n ≤ length b.now) × (length b.now ≤ 65536) }
 {
     let text = read_layout::ARRAYS + 4 * n;
@@ -193,18 +196,18 @@ fn write_words(b: &[u8], z: Sizes, n: usize, destination: &mut [u8]) -> Written
 
 // A batch is written as the lists that it is laid out from. One whose length is not what its sizes give is laid out from none: 2 without all of its
 // sizes, else 4.
-pub fn write_again(b: &[u8], destination: &mut [u8]) -> Written {
+pub fn write_again(b: &[u8], destination: &mut [u8]) -> Result<usize, Refusal> {
     if b.len() < read_layout::ARRAYS {
-        return Written::Refused(2);
+        return Err(Refusal::ShortBatch);
     }
     let z = read_sizes(b);
     let n = word_count(z);
     if read_layout::ARRAYS + 4 * n + z.text != b.len() {
-        return Written::Refused(4);
+        return Err(Refusal::Length);
     }
     // A batch that is longer than the list has room for has a size beyond its limit.
     if 65536 < b.len() {
-        return Written::Refused(14);
+        return Err(Refusal::Lists);
     }
     write_words(b, z, n, destination)
 }

@@ -1,13 +1,13 @@
 -- `too_big` meets its contract.
-use Rattle.check_claim.proofs.Ways.{big_kinds, big_measures, big_text}
-use borrow.Author.Rules.{rules}
+use Rattle.std.proofs.Common.{arith}
+use Rattle.std.proofs.lemmas.Bool.Decides.{nat_tests}
+use Rattle.check_claim.specs.Judging.{big_sizes}
 use Rattle.check_claim.proofs.too_big.Goals as goal
 
-pub returns-then-kinds-gt4096 : goal.returns-then-kinds-gt4096
-returns-then-kinds-gt4096 c = search (big_kinds, rules)
-
 pub returns-then-measures-gt4096 : goal.returns-then-measures-gt4096
-returns-then-measures-gt4096 c = search (big_measures, rules)
+unfolding big_sizes
+returns-then-measures-gt4096 c = grind (arith, nat_tests)
 
-pub returns : goal.returns
-returns c = search (big_text, rules)
+pub returns-else-measures-gt4096 : goal.returns-else-measures-gt4096
+unfolding big_sizes
+returns-else-measures-gt4096 c = grind (arith, nat_tests)

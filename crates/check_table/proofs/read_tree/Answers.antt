@@ -4,7 +4,6 @@ use Rattle.check_table.proofs.Reading.{reading_start, reading_close, reading_lon
 use borrow.Author.Rules.{rules}
 use native.Mathlib.Omega.{arith}
 use mathlib.Core.Path.{sym, ◌∙◌}
-use Prim.Native.Nat.{◌-◌}
 use Rattle.check_table.proofs.read_tree.Goals as goal
 
 pub loop-d-init : goal.loop-d-init
@@ -21,17 +20,6 @@ returns-then-not-stands c = search (reading_wrong, rules)
 
 pub returns-then-bytes-end : goal.returns-then-bytes-end
 returns-then-bytes-end c = search (reading_over, rules)
-
-pub store-requires : goal.store-requires
-store-requires c =
-    let l = c.loop-d in
-    let v = l.invariant in
-    let a = c.requires in
-    let h = v.same in
-    let g = v.few in
-    let f = v.small (l.d - 1) in
-    let j = v.inside in
-    (omega arith, (omega (arith, c.word-k.ensures.1), (omega arith, (omega arith, (omega arith, tt)))))
 
 pub bounds-left-d : goal.bounds-left-d
 bounds-left-d c =

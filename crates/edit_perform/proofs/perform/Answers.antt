@@ -1,24 +1,32 @@
--- `perform` meets its contract: 17, 1, 2 to 7 with 16, or the plan and its run.
+-- `perform` meets its contract: 17, 18, 1, 2 to 7 with 16, or the plan and its run.
 use mathlib.Core.Path.{refl}
 use native.Mathlib.Omega.{arith}
+use Rattle.std.proofs.lemmas.Result.{err_from_is_err_and}
 use Rattle.promises.specs.Slices.{long_enough}
 use Rattle.edit_perform.specs.AtEnd.{early, long}
-use Rattle.edit_perform.specs.First.{stopped_early, nothing_wrong}
 use Rattle.edit_perform.specs.Beginning.{judged_laid}
-use Rattle.edit_perform.proofs.Stages.{judged_stops}
+use Rattle.edit_perform.proofs.Stages.{judged_stops, early_refused, early_passed}
 use Rattle.edit_perform.proofs.perform.Goals as goal
 
-pub returns-then-n-ne0 : goal.returns-then-n-ne0
-returns-then-n-ne0 c = early _ (stopped_early _ _ _ c.refused_first-n.ensures _ c.if-n-ne0.true) refl
+pub returns-in_err-refused_first : goal.returns-in_err-refused_first
+returns-in_err-refused_first c =
+    let p = err_from_is_err_and c.from_residual.result c.from_residual.ensures.1 in
+    rw (p.1, p.2) (early _ (early_refused _ _ c.refused_first.ensures _ c.in_err-refused_first.was) refl)
 
-pub accept-laid-requires : goal.accept-laid-requires
-accept-laid-requires c = let v = long_enough _ _ _ _ _ _ _ _ _ (nothing_wrong _ _ _ c.refused_first-n.ensures c.if-n-ne0.false).1 in (v.0.0, v.0.1)
+pub accept-requires : goal.accept-requires
+accept-requires c = let v = long_enough _ _ _ _ _ _ _ _ _ (early_passed _ _ c.refused_first.ensures c.in_ok-refused_first.was).1 in (v.0.0, v.0.1)
 
 pub plan_and_run-requires : goal.plan_and_run-requires
-plan_and_run-requires c = let v = long_enough _ _ _ _ _ _ _ _ _ (nothing_wrong _ _ _ c.refused_first-n.ensures c.if-n-ne0.false).1 in let r = v.0 in record { laid_out = judged_laid c.accept-laid.ensures _ c.in-At.is r.0 r.1; in_bounds = (omega (arith, c.accept-laid.auto.source, r.1), r.2); in_bounds_2 = v.1 }
+plan_and_run-requires c =
+    let v = long_enough _ _ _ _ _ _ _ _ _ (early_passed _ _ c.refused_first.ensures c.in_ok-refused_first.was).1 in
+    let r = v.0 in
+    record { laid_out = judged_laid c.accept.ensures _ c.in_ok-l.was r.0 r.1; in_bounds = (omega (arith, c.accept.auto.source, r.1), r.2); in_bounds_2 = v.1 }
 
-pub returns-in-Refused : goal.returns-in-Refused
-returns-in-Refused c = let w = nothing_wrong _ _ _ c.refused_first-n.ensures c.if-n-ne0.false in long w.0 w.1 (judged_stops c.accept-laid.ensures _ c.in-Refused.is)
+pub returns-in_err-l : goal.returns-in_err-l
+returns-in_err-l c =
+    let w = early_passed _ _ c.refused_first.ensures c.in_ok-refused_first.was in
+    let p = err_from_is_err_and c.from_residual-in_err-l.result c.from_residual-in_err-l.ensures.1 in
+    rw (p.1, p.2) (long w.0 w.1 (judged_stops c.accept.ensures _ c.in_err-l.was))
 
-pub returns-in-At : goal.returns-in-At
-returns-in-At c = let w = nothing_wrong _ _ _ c.refused_first-n.ensures c.if-n-ne0.false in long w.0 w.1 c.plan_and_run.ensures
+pub returns : goal.returns
+returns c = let w = early_passed _ _ c.refused_first.ensures c.in_ok-refused_first.was in long w.0 w.1 c.plan_and_run.ensures

@@ -2,6 +2,7 @@
 use mathlib.Core.Path.{sym}
 use native.Mathlib.Omega.{arith}
 use lib.Seq.{length-take-le}
+use Rattle.std.proofs.lemmas.Result.{err_from_is_err_and}
 use Rattle.edit_perform.proofs.Stages.{notes_within, list_within, runs_within, may_begin, may_list, may_run, may_record, steps_refused, steps_ended}
 use Rattle.edit_perform.proofs.run_plan.Goals as goal
 
@@ -29,11 +30,13 @@ slice_bounds-execute-end-3 c = let v = c.requires in list_within v.laid_out v.pl
 pub slice_bounds-execute-end-4 : goal.slice_bounds-execute-end-4
 slice_bounds-execute-end-4 c = let v = c.requires in sym (length-take-le _ _ (runs_within v.laid_out v.planning _ v.marks_len.0 v.in_bounds.1))
 
-pub execute-done-requires : goal.execute-done-requires
-execute-done-requires c = let v = c.requires in let r = v.in_bounds in let w = v.marks_len in record { begun = may_begin v.laid_out v.planning _ v.marks_len.0 r.0 r.2; in_bounds = (w.4, w.1, w.5, omega arith, w.2); listed_len_bound = may_list v.laid_out v.planning _ v.marks_len.0; all = may_run v.laid_out v.planning _ v.marks_len.0; running_in_bounds = may_record v.laid_out v.planning _ v.marks_len.0 _ w.3 }
+pub execute-requires : goal.execute-requires
+execute-requires c = let v = c.requires in let r = v.in_bounds in let w = v.marks_len in record { begun = may_begin v.laid_out v.planning _ v.marks_len.0 r.0 r.2; in_bounds = (w.4, w.1, w.5, omega arith, w.2); listed_len_bound = may_list v.laid_out v.planning _ v.marks_len.0; all = may_run v.laid_out v.planning _ v.marks_len.0; running_in_bounds = may_record v.laid_out v.planning _ v.marks_len.0 _ w.3 }
 
-pub returns-in-Refused : goal.returns-in-Refused
-returns-in-Refused c = let v = c.requires in steps_refused v.laid_out v.planning _ v.marks_len.0 v.in_bounds.0 v.in_bounds.2 c.execute-done.ensures _ c.in-Refused.is
+pub returns-in_err-t : goal.returns-in_err-t
+returns-in_err-t c =
+    let p = err_from_is_err_and c.from_residual.result c.from_residual.ensures.1 in
+    let v = c.requires in rw (p.1, p.2) (steps_refused v.laid_out v.planning _ v.marks_len.0 v.in_bounds.0 v.in_bounds.2 c.execute.ensures _ c.in_err-t.was)
 
-pub returns-in-Done : goal.returns-in-Done
-returns-in-Done c = let v = c.requires in steps_ended v.laid_out v.planning _ v.marks_len.0 v.in_bounds.0 v.in_bounds.2 c.execute-done.ensures _ c.in-Done.is (omega (arith, c.execute-done.auto.notes, v.marks_len.1))
+pub returns : goal.returns
+returns c = let v = c.requires in steps_ended v.laid_out v.planning _ v.marks_len.0 v.in_bounds.0 v.in_bounds.2 c.execute.ensures _ c.in_ok-t.was (omega (arith, c.execute.auto.notes, v.marks_len.1))

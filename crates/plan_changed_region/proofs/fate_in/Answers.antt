@@ -4,13 +4,13 @@ use borrow.Author.Rules.{rules}
 use Rattle.plan_changed_region.proofs.fate_in.Goals as goal
 
 pub returns-then-p-eq0 : goal.returns-then-p-eq0
-returns-then-p-eq0 c = (search (fate_none, rules), search rules)
+returns-then-p-eq0 c = search (fate_none, rules)
 
-pub returns-then-field-gt1 : goal.returns-then-field-gt1
-returns-then-field-gt1 c = (search (fate_under_discarded, rules), search rules)
+pub returns-then-field : goal.returns-then-field
+returns-then-field c = search (fate_under_discarded, rules)
 
-pub returns-then-field-eq2 : goal.returns-then-field-eq2
-returns-then-field-eq2 c = (search (fate_dependent, rules), search rules)
+pub returns-then-field-2 : goal.returns-then-field-2
+returns-then-field-2 c = search (fate_dependent, rules)
 
-pub returns-else-field-eq2 : goal.returns-else-field-eq2
-returns-else-field-eq2 c = (search (fate_discarded, rules), search rules)
+pub returns-else-field-2 : goal.returns-else-field-2
+returns-else-field-2 c = search (fate_discarded, rules)

@@ -3,8 +3,8 @@ use Rattle.plan_changed_region.proofs.Regions.{outer_none, outer_some}
 use borrow.Author.Rules.{rules}
 use Rattle.plan_changed_region.proofs.outer_region.Goals as goal
 
-pub returns-then-field-eq0 : goal.returns-then-field-eq0
-returns-then-field-eq0 c = search (outer_none, rules)
+pub returns-then-field : goal.returns-then-field
+returns-then-field c = search (outer_none, rules)
 
-pub returns-else-field-eq0 : goal.returns-else-field-eq0
-returns-else-field-eq0 c = search (outer_some, rules)
+pub returns-else-field : goal.returns-else-field
+returns-else-field c = search (outer_some, rules)

@@ -4,10 +4,10 @@ use borrow.Author.Rules.{rules}
 use Rattle.plan_edge.proofs.fate_of.Goals as goal
 
 pub returns-then-word_or_zero-eq0 : goal.returns-then-word_or_zero-eq0
-returns-then-word_or_zero-eq0 c = (search (own_fate, rules), search rules)
+returns-then-word_or_zero-eq0 c = search (own_fate, rules)
 
 pub returns-then-is_discarded : goal.returns-then-is_discarded
-returns-then-is_discarded c = (search (discarded_fate, rules), search rules)
+returns-then-is_discarded c = search (discarded_fate, rules)
 
 pub returns : goal.returns
-returns c = (search (dependent_fate, rules), search rules)
+returns c = search (dependent_fate, rules)

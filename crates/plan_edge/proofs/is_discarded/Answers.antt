@@ -9,8 +9,8 @@ loop-left-init c = search (following_start, rules)
 pub returns-then-p-eq0 : goal.returns-then-p-eq0
 returns-then-p-eq0 c = search (none_around, rules)
 
-pub returns-then-field-ne2 : goal.returns-then-field-ne2
-returns-then-field-ne2 c = search (discards, rules)
+pub returns-then-field : goal.returns-then-field
+returns-then-field c = search (discards, rules)
 
 pub loop-left-preserved : goal.loop-left-preserved
 loop-left-preserved c = search (following_next, rules)

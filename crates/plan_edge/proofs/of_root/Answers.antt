@@ -3,8 +3,8 @@ use Rattle.plan_edge.proofs.Tests.{no_replacement, replacement_of}
 use borrow.Author.Rules.{rules}
 use Rattle.plan_edge.proofs.of_root.Goals as goal
 
-pub returns-then-field-ne2 : goal.returns-then-field-ne2
-returns-then-field-ne2 c = search (no_replacement, rules)
+pub returns-then-field : goal.returns-then-field
+returns-then-field c = search (no_replacement, rules)
 
 pub returns : goal.returns
 returns c = search (replacement_of, rules)

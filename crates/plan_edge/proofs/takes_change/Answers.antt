@@ -3,8 +3,8 @@ use Rattle.plan_edge.proofs.Tests.{no_region, removes_parent, or_inside}
 use borrow.Author.Rules.{rules}
 use Rattle.plan_edge.proofs.takes_change.Goals as goal
 
-pub returns-then-field-eq0 : goal.returns-then-field-eq0
-returns-then-field-eq0 c = search (no_region, rules)
+pub returns-then-field : goal.returns-then-field
+returns-then-field c = search (no_region, rules)
 
 pub returns-then-removes_element : goal.returns-then-removes_element
 returns-then-removes_element c = search (removes_parent, rules)

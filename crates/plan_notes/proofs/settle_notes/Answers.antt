@@ -20,11 +20,11 @@ returns-in_err-e c =
 pub overflow_add-e : goal.overflow_add-e
 overflow_add-e c = omega (arith, settled_at_lem c.upmap_element.ensures.within c.in_ok-e.was)
 
-pub store3-requires : goal.store3-requires
-store3-requires c = (omega arith, omega (arith, settled_at_lem c.upmap_element.ensures.within c.in_ok-e.was), search rules, omega arith)
+pub store-requires : goal.store-requires
+store-requires c = (omega arith, (omega (arith, settled_at_lem c.upmap_element.ensures.within c.in_ok-e.was), (search rules, (omega arith, tt))))
 
 pub loop-i-preserved : goal.loop-i-preserved
-loop-i-preserved c = settling_next _ _ _ _ _ _ _ _ _ _ _ c.loop-i.invariant (search rules) _ _ c.read_word-element.ensures.0 c.read_word-number.ensures.0 _ c.upmap_element.ensures _ c.in_ok-e.was _ (omega arith) c.store3.auto.s c.store3.ensures
+loop-i-preserved c = settling_next _ _ _ _ _ _ _ _ _ _ _ c.loop-i.invariant (search rules) _ _ c.read_word-element.ensures.0 c.read_word-number.ensures.0 _ c.upmap_element.ensures _ c.in_ok-e.was _ (omega arith) c.store.auto.s c.store.ensures
 
 pub returns : goal.returns
 returns c = search (settling_done, rules)

@@ -8,9 +8,6 @@ use Rattle.read_element_table.proofs.fill_elements.Goals as goal
 pub loop-d-init : goal.loop-d-init
 loop-d-init c = writing_start _ _ _ _ _ c.requires.accepted refl
 
-pub close-requires : goal.close-requires
-close-requires c = let l = c.loop-d in omega (arith, l.invariant.owners (l.d - 1))
-
 pub loop-d-preserved-then-x-eq0 : goal.loop-d-preserved-then-x-eq0
 loop-d-preserved-then-x-eq0 c =
     let l = c.loop-d in
@@ -32,22 +29,8 @@ pub store-requires-else-x-eq0 : goal.store-requires-else-x-eq0
 store-requires-else-x-eq0 c = let more : c.loop-d.i < c.args.n = writing_more c.loop-d.invariant c.loop-d-test.true c.if-x-eq0.false in let l = c.loop-d in
     omega (arith, more, l.invariant.few, l.invariant.source_long, c.read_word-k.ensures.1, c.read_word-m.ensures.1)
 
-pub overflow_add-next : goal.overflow_add-next
-overflow_add-next c = let l = c.loop-d in omega (arith, l.invariant.nexts (l.d - 1), l.invariant.inside, c.requires.n_in_bounds.2)
-
-pub overflow_add-owner : goal.overflow_add-owner
-overflow_add-owner c = let more : c.loop-d.i < c.args.n = writing_more c.loop-d.invariant c.loop-d-test.true c.if-x-eq0.false in omega (arith, more, c.requires.n_in_bounds.2)
-
 pub bounds-stack-d : goal.bounds-stack-d
 bounds-stack-d c = let low : c.loop-d.d ≤ 64 = writing_shallow c.loop-d.invariant c.loop-d-test.true c.if-x-eq0.false c.read_word-k.ensures.0 c.read_word-m.ensures.0 in omega (arith, low)
-
-pub overflow_add-at : goal.overflow_add-at
-overflow_add-at c =
-    let l = c.loop-d in
-    omega (arith, l.invariant.few, writing_start_of l.invariant c.if_root-s.ensures, c.length_of-len.ensures.1, c.read_word-m.ensures.1)
-
-pub overflow_add-i-else-x-eq0 : goal.overflow_add-i-else-x-eq0
-overflow_add-i-else-x-eq0 c = let more : c.loop-d.i < c.args.n = writing_more c.loop-d.invariant c.loop-d-test.true c.if-x-eq0.false in omega (arith, more, c.requires.n_in_bounds.2)
 
 pub loop-d-smaller : goal.loop-d-smaller
 loop-d-smaller c = let more : c.loop-d.i < c.args.n = writing_more c.loop-d.invariant c.loop-d-test.true c.if-x-eq0.false in omega (arith, more)

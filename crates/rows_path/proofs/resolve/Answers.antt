@@ -1,10 +1,7 @@
 -- `resolve` meets its contract. The steps passed lead to the row at hand.
 use borrow.Author.Rules.{rules}
-use Rattle.rows_path.proofs.Turns.{following_start, following_out, following_none, following_next, following_done}
+use Rattle.rows_path.proofs.Turns.{following_out, following_none, following_next, following_done}
 use Rattle.rows_path.proofs.resolve.Goals as goal
-
-pub loop-step-init : goal.loop-step-init
-loop-step-init c = search (following_start, rules)
 
 pub returns-then-n-at : goal.returns-then-n-at
 returns-then-n-at c = search (following_out, rules)
