@@ -1,6 +1,6 @@
 -- The account of a batch, by how far its run comes.
 -- Assumes nothing.
-use Rattle.std.specs.Prelude.{◌≡◌, refl, ℕ, length}
+use Rattle.std.specs.Prelude.{◌≡◌, ℕ, length}
 use Rattle.std.proofs.Common.{sym, ap, ◌∙◌}
 use mathlib.Core.List.{List, map}
 use Rattle.std.proofs.Math.Option.{Option}

@@ -11,12 +11,12 @@ use Rattle.orders.specs.Lists.{All}
 use Rattle.orders.specs.ListLaws.{All-map₂}
 use Rattle.definition.specs.Basics.{Answer, refused, gives, ◌>>=◌}
 use Rattle.definition.specs.Choices.{Choices}
-use Rattle.definition.specs.Elements.{Table, table}
+use Rattle.definition.specs.Elements.{Table}
 use Rattle.definition.specs.Planning.{Fate, Planned}
 use Rattle.definition.specs.Running.{World, begin, news, records}
 use Rattle.orders.specs.Lists.{total}
-use Rattle.definition.specs.Answers.{sorted_changes, withdrawing, remaining, Plan, plan, at_first, performed, ran}
-use Rattle.definition.specs.Refusals.{most_listed, Accepted, accepted}
+use Rattle.definition.specs.Answers.{sorted_changes, withdrawing, remaining, Plan, at_first, performed, ran}
+use Rattle.definition.specs.Refusals.{most_listed, Accepted}
 use Rattle.definition.specs.Finishing.{fitting}
 use Rattle.definition.specs.Printed.{program_room}
 use Rattle.definition.specs.Withdrawing.{staying}

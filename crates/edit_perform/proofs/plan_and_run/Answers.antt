@@ -1,6 +1,6 @@
 -- `plan_and_run` meets its contract: 8 to 10, or the run.
-use mathlib.Core.Path.{◌∙◌}
 use native.Mathlib.Omega.{arith}
+use Rattle.std.proofs.lemmas.Result.{err_from_is_err_and}
 use Rattle.plan_model.specs.Ready.{leaves_ready}
 use Rattle.edit_perform.proofs.Stages.{part_long, marks_behind, plan_stops, plan_made}
 use Rattle.edit_perform.proofs.plan_and_run.Goals as goal
@@ -18,7 +18,9 @@ pub run_plan-requires : goal.run_plan-requires
 run_plan-requires c = let v = c.requires in let r = v.in_bounds in let w = v.in_bounds_2 in record { laid_out = v.laid_out; planning = plan_made c.plan.ensures _ c.in_ok-c.was; in_bounds = (r.0, omega (arith, c.plan.auto.running), omega (arith, c.plan.auto.first)); marks_len = (part_long c.args.l.sizes.elements _ (omega (arith, c.plan.auto.map, v.laid_out.leaves.within.limits.elements, w.0)), w.1, w.2, omega (arith, c.plan.auto.order, w.3), omega (arith, c.plan.auto.recorded, w.4), omega (arith, c.plan.auto.sorted, w.5)) }
 
 pub returns-in_err-c : goal.returns-in_err-c
-returns-in_err-c c = rw c.from_residual.ensures (plan_stops c.plan.ensures c.requires.laid_out _ c.in_err-c.was)
+returns-in_err-c c =
+    let p = err_from_is_err_and c.from_residual.result c.from_residual.ensures.1 in
+    rw (p.1, p.2) (plan_stops c.plan.ensures c.requires.laid_out _ c.in_err-c.was)
 
 pub returns : goal.returns
 returns c = marks_behind _ c.run_plan.ensures
