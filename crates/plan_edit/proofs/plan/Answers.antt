@@ -20,9 +20,6 @@ returns-in_err-counts c =
     let p = err_from_is_err_and c.from_residual-in_err-counts.result c.from_residual-in_err-counts.ensures.1 in
     rw (p.1, p.2) (kept_refused _ c.in_err-counts.was c.rewrite_and_settle.ensures)
 
-pub copy_in-requires : goal.copy_in-requires
-copy_in-requires c = omega (arith, c.requires.in_bounds.2)
-
 pub returns : goal.returns
 returns c =
     let J = judged_fates _ _ c.judge_changes.ensures c.in_ok-fated.was in

@@ -13,9 +13,6 @@ is_node-requires c = omega (arith, within_at _ _ _ c.descend.ensures.within c.in
 pub returns-then-is_node : goal.returns-then-is_node
 returns-then-is_node c = landing_on_node _ _ _ _ _ _ _ c.descend.ensures _ c.in_ok-to.was _ c.is_node.ensures c.requires.e_lt_n.0 c.if-is_node.true
 
-pub is_node-requires-2 : goal.is_node-requires-2
-is_node-requires-2 c = omega (arith, c.requires.e_lt_n.0, c.requires.wellformed.long)
-
 pub returns-then-is_node-2 : goal.returns-then-is_node-2
 returns-then-is_node-2 c = landing_refused _ _ _ _ _ _ _ c.descend.ensures _ c.in_ok-to.was _ c.is_node.ensures c.requires.e_lt_n.0 _ c.is_node-2.ensures c.if-is_node.false c.if-is_node-2.true
 
