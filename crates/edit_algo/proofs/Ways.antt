@@ -4,11 +4,11 @@ use Rattle.std.specs.Prelude as prelude
 use Rattle.std.specs.Prelude.{Result, Ok, Err, Some, None}
 use mathlib.Core.Path.{◌≡◌, refl, sym, ap, subst, ◌∙◌}
 use mathlib.Core.Bool.{false}
-use mathlib.Core.List.{List, [], ◌∷◌}
+use mathlib.Core.List.{List, [], ◌∷◌, map}
 use mathlib.Core.Option.{Option, none, some}
 use Prim.Native.Nat.{ℕ, ◌≤◌}
 use native.Mathlib.Omega.{arith}
-use lib.ListN.{length}
+use lib.ListN.{length, replicate}
 use Rattle.definition.specs.Basics as basics
 use Rattle.definition.specs.Basics.{refused, gives, ◌>>=◌, refuse}
 use Rattle.definition.specs.Choices.{Choices}
@@ -73,15 +73,19 @@ module _ {h : Choices} {work : List (List ℕ)} {b t s changes rows notes change
 
 -- ── Cleared ─────────────────────────────────────────────────────────────────────────────────────────────────
 
--- the lengths in between are those at entry
-abbrev pub Same : List ℕ → List ℕ → Type 0
-Same x y = length x ≡ length y
+-- slices of the same lengths are cleared to the same zeros
+pub zeroed_same : (v w : List (List ℕ)) → map length v ≡ map length w → zeroed v ≡ zeroed w
+unfolding zeroed zeros
+zeroed_same v w e = by_length v ∙ (ap (map (λ n. replicate n 0)) e ∙ sym (by_length w))
+  where
+    by_length : (l : List (List ℕ)) → map zeros l ≡ map (λ n. replicate n 0) (map length l)
+    by_length [] = refl
+    by_length (s ∷ l) = ap (λ t. replicate (length s) 0 ∷ t) (by_length l)
 
-module _ (a b c d e f g h i a' b' c' d' e' f' g' h' i' : List ℕ) where
-  pub zeroed_same : Same a' a → Same b' b → Same c' c → Same d' d → Same e' e → Same f' f → Same g' g → Same h' h → Same i' i
-      → zeroed (a' ∷ b' ∷ c' ∷ d' ∷ e' ∷ f' ∷ g' ∷ h' ∷ i' ∷ []) ≡ zeroed (a ∷ b ∷ c ∷ d ∷ e ∷ f ∷ g ∷ h ∷ i ∷ [])
-  unfolding zeroed zeros
-  zeroed_same p₁ p₂ p₃ p₄ p₅ p₆ p₇ p₈ p₉ = rw (p₁, p₂, p₃, p₄, p₅, p₆, p₇, p₈, p₉) refl
+-- and as long for a call
+pub asked_same : (v w : List (List ℕ)) → map length v ≡ map length w → lengths needed v ≡ lengths needed w
+unfolding lengths
+asked_same v w e = rw e refl
 
 -- what is told, and then cleared, is what is promised
 pub serves_cleared : (h : Choices) (j : Job) (batch held holds : List ℕ) (work mid left : List (List ℕ)) (r : Result Told Refusal) {want : basics.Answer (Told × List ℕ)} → want ≡ served h j (lengths needed work) batch (length held) → Tells want held r holds

@@ -1,8 +1,8 @@
 // The public calls: one for every job, and the edit, the found element, the account, the share and the surviving pairs, each thin over it.
 #![tactic(auto)]
 
-ghost use Rattle.std.specs.Prelude.{◌∷◌, []};
 ghost use Rattle.choices.specs.Meant.{meant};
+ghost use Rattle.promises.specs.Lent.{held, Same};
 ghost use Rattle.promises.specs.Promises.{Edits, Finds, Accounts, Shares, Keeps};
 ghost use Rattle.promises.specs.Serving.{Serves};
 ghost use Rattle.edit_algo.specs.Numbers.{answer_of, element_of, share_of, LengthTold, PlaceTold, ShareTold, TellsLength, TellsPlace, TellsShare};
@@ -10,40 +10,45 @@ ghost use Rattle.edit_algo.specs.Numbers.{answer_of, element_of, share_of, Lengt
 use choices::Choices;
 use edit_answer::Thousandths;
 use edit_perform::perform;
-use promises::{Job, Told};
+use promises::{Job, Told, Work};
 use refusals::Refusal;
 
 // ── One call for all ──
 
 // THE CALL for every job: refusals 17, 18 and 1, the run of the batch, what the job answers from what the run leaves, and every work slice cleared. What the
-// job writes stands at the front of `result`; the nine others are work slices, which end as zeros.
+// job writes stands at the front of `result`; the work slices end as zeros.
 pub fn serve(
     choices: Choices,
     job: Job,
     batch: &[u8],
     res: &mut [u8],
-    table: &mut [u32],
-    source: &mut [u32],
-    changes: &mut [u32],
-    notes: &mut [u32],
-    incoming: &mut [u32],
-    changed: &mut [u32],
-    marks: &mut [u32],
-    rows: &mut [u32],
-    prepared: &mut [u32],
+    work: &mut Work,
 ) -> Result<Told, Refusal>
-    ensures { Serves (meant choices) job batch.now res.old (table.old ∷ source.old ∷ changes.old ∷ notes.old ∷ incoming.old ∷ changed.old ∷ marks.old ∷ rows.old ∷ prepared.old ∷ []) result res.new (table.new ∷ source.new ∷ changes.new ∷ notes.new ∷ incoming.new ∷ changed.new ∷ marks.new ∷ rows.new ∷ prepared.new ∷ []) }
+    ensures same { Same work.old work.new }
+    ensures serves { Serves (meant choices) job batch.now res.old (held work.old) result res.new (held work.new) }
 {
-    let done = perform(
-        choices, batch, table, source, changes, notes, incoming, changed, marks, rows, prepared,
-    );
+    let done = perform(choices, batch, work);
+    let table = &mut *work.table;
+    let source = &mut *work.source;
+    let changes = &mut *work.changes;
+    let marks = &mut *work.marks;
+    let rows = &mut *work.rows;
     let told = edit_answer::answer(
-        choices, job, batch, done, table, source, changes, marks, rows, notes, changed, prepared,
+        choices,
+        job,
+        batch,
+        done,
+        table,
+        source,
+        changes,
+        marks,
+        rows,
+        work.notes,
+        work.changed,
+        work.prepared,
         res,
     );
-    promises::clear_all(
-        table, source, changes, notes, incoming, changed, marks, rows, prepared,
-    );
+    promises::clear_all(work);
     told
 }
 
@@ -91,56 +96,34 @@ fn share_in(told: Result<Told, Refusal>) -> Result<Thousandths, Refusal>
     }
 }
 
-// THE EDIT of a batch. The result's bytes are written to the front of `result`; the nine others are work slices, which end as zeros.
+// THE EDIT of a batch. The result's bytes are written to the front of `result`; the work slices end as zeros.
 pub fn edit(
     choices: Choices,
     batch: &[u8],
     res: &mut [u8],
-    table: &mut [u32],
-    source: &mut [u32],
-    changes: &mut [u32],
-    notes: &mut [u32],
-    incoming: &mut [u32],
-    changed: &mut [u32],
-    marks: &mut [u32],
-    rows: &mut [u32],
-    prepared: &mut [u32],
+    work: &mut Work,
 ) -> Result<usize, Refusal>
-    ensures { Edits (meant choices) batch.now res.old (table.old ∷ source.old ∷ changes.old ∷ notes.old ∷ incoming.old ∷ changed.old ∷ marks.old ∷ rows.old ∷ prepared.old ∷ []) (answer_of result) res.new (table.new ∷ source.new ∷ changes.new ∷ notes.new ∷ incoming.new ∷ changed.new ∷ marks.new ∷ rows.new ∷ prepared.new ∷ []) }
+    ensures same { Same work.old work.new }
+    ensures edits { Edits (meant choices) batch.now res.old (held work.old) (answer_of result) res.new (held work.new) }
 {
     answer_in(serve(
         choices,
         Job::Edit,
         batch,
         res,
-        table,
-        source,
-        changes,
-        notes,
-        incoming,
-        changed,
-        marks,
-        rows,
-        prepared,
+        work,
     ))
 }
 
-// The first node of the new tree with the kind and the text start of the old tree's node `number`. The nine others are work slices, which end as zeros.
+// The first node of the new tree with the kind and the text start of the old tree's node `number`. The work slices end as zeros.
 pub fn find_element(
     choices: Choices,
     batch: &[u8],
     number: usize,
-    table: &mut [u32],
-    source: &mut [u32],
-    changes: &mut [u32],
-    notes: &mut [u32],
-    incoming: &mut [u32],
-    changed: &mut [u32],
-    marks: &mut [u32],
-    rows: &mut [u32],
-    prepared: &mut [u32],
+    work: &mut Work,
 ) -> Result<Option<usize>, Refusal>
-    ensures { Finds (meant choices) batch.now number (table.old ∷ source.old ∷ changes.old ∷ notes.old ∷ incoming.old ∷ changed.old ∷ marks.old ∷ rows.old ∷ prepared.old ∷ []) (element_of result) (table.new ∷ source.new ∷ changes.new ∷ notes.new ∷ incoming.new ∷ changed.new ∷ marks.new ∷ rows.new ∷ prepared.new ∷ []) }
+    ensures same { Same work.old work.new }
+    ensures finds { Finds (meant choices) batch.now number (held work.old) (element_of result) (held work.new) }
 {
     let mut none = [0u8; 0];
     element_in(serve(
@@ -148,69 +131,39 @@ pub fn find_element(
         Job::Find(number),
         batch,
         &mut none,
-        table,
-        source,
-        changes,
-        notes,
-        incoming,
-        changed,
-        marks,
-        rows,
-        prepared,
+        work,
     ))
 }
 
 // THE ACCOUNT of a batch: what becomes of each change, a line each, in sorted order; or which two overlap. The text is written to the front of `result`; the
-// nine others are work slices, which end as zeros.
+// work slices end as zeros.
 pub fn account(
     choices: Choices,
     batch: &[u8],
     res: &mut [u8],
-    table: &mut [u32],
-    source: &mut [u32],
-    changes: &mut [u32],
-    notes: &mut [u32],
-    incoming: &mut [u32],
-    changed: &mut [u32],
-    marks: &mut [u32],
-    rows: &mut [u32],
-    prepared: &mut [u32],
+    work: &mut Work,
 ) -> Result<usize, Refusal>
-    ensures { Accounts (meant choices) batch.now res.old (table.old ∷ source.old ∷ changes.old ∷ notes.old ∷ incoming.old ∷ changed.old ∷ marks.old ∷ rows.old ∷ prepared.old ∷ []) (answer_of result) res.new (table.new ∷ source.new ∷ changes.new ∷ notes.new ∷ incoming.new ∷ changed.new ∷ marks.new ∷ rows.new ∷ prepared.new ∷ []) }
+    ensures same { Same work.old work.new }
+    ensures accounts { Accounts (meant choices) batch.now res.old (held work.old) (answer_of result) res.new (held work.new) }
 {
     answer_in(serve(
         choices,
         Job::Account,
         batch,
         res,
-        table,
-        source,
-        changes,
-        notes,
-        incoming,
-        changed,
-        marks,
-        rows,
-        prepared,
+        work,
     ))
 }
 
-// THE SHARE OF TEXT REWRITTEN by a batch: the bytes of the new tree that lie in a changed element, in thousandths of all its bytes; of an empty text 0 and 0. The nine
-// others are work slices, which end as zeros.
+// THE SHARE OF TEXT REWRITTEN by a batch: the bytes of the new tree that lie in a changed element, in thousandths of all its bytes; of an empty text 0 and 0. The work
+// slices end as zeros.
 pub fn share(
     choices: Choices,
     batch: &[u8],
-    table: &mut [u32],
-    source: &mut [u32],
-    changes: &mut [u32],
-    notes: &mut [u32],
-    incoming: &mut [u32],
-    changed: &mut [u32],
-    marks: &mut [u32],
-    rows: &mut [u32],
-    prepared: &mut [u32],
+    work: &mut Work,
 ) -> Result<Thousandths, Refusal>
-    ensures { Shares (meant choices) batch.now (table.old ∷ source.old ∷ changes.old ∷ notes.old ∷ incoming.old ∷ changed.old ∷ marks.old ∷ rows.old ∷ prepared.old ∷ []) (share_of result) (table.new ∷ source.new ∷ changes.new ∷ notes.new ∷ incoming.new ∷ changed.new ∷ marks.new ∷ rows.new ∷ prepared.new ∷ []) }
+    ensures same { Same work.old work.new }
+    ensures shares { Shares (meant choices) batch.now (held work.old) (share_of result) (held work.new) }
 {
     let mut none = [0u8; 0];
     share_in(serve(
@@ -218,49 +171,26 @@ pub fn share(
         Job::Share,
         batch,
         &mut none,
-        table,
-        source,
-        changes,
-        notes,
-        incoming,
-        changed,
-        marks,
-        rows,
-        prepared,
+        work,
     ))
 }
 
 // THE SURVIVING PAIRS of a batch's edit: each element of the old tree that is in the new tree, with its number there, by rising old numbers. All old numbers, then all
-// new ones, are written to the front of `result`, a word of four bytes each; the nine others are work slices, which end as zeros.
+// new ones, are written to the front of `result`, a word of four bytes each; the work slices end as zeros.
 pub fn kept(
     choices: Choices,
     batch: &[u8],
     res: &mut [u8],
-    table: &mut [u32],
-    source: &mut [u32],
-    changes: &mut [u32],
-    notes: &mut [u32],
-    incoming: &mut [u32],
-    changed: &mut [u32],
-    marks: &mut [u32],
-    rows: &mut [u32],
-    prepared: &mut [u32],
+    work: &mut Work,
 ) -> Result<usize, Refusal>
-    ensures { Keeps (meant choices) batch.now res.old (table.old ∷ source.old ∷ changes.old ∷ notes.old ∷ incoming.old ∷ changed.old ∷ marks.old ∷ rows.old ∷ prepared.old ∷ []) (answer_of result) res.new (table.new ∷ source.new ∷ changes.new ∷ notes.new ∷ incoming.new ∷ changed.new ∷ marks.new ∷ rows.new ∷ prepared.new ∷ []) }
+    ensures same { Same work.old work.new }
+    ensures keeps { Keeps (meant choices) batch.now res.old (held work.old) (answer_of result) res.new (held work.new) }
 {
     answer_in(serve(
         choices,
         Job::Kept,
         batch,
         res,
-        table,
-        source,
-        changes,
-        notes,
-        incoming,
-        changed,
-        marks,
-        rows,
-        prepared,
+        work,
     ))
 }

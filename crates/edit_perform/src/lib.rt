@@ -1,11 +1,12 @@
 // From a batch to what its run leaves: refusals 17 and 18, lines 1 to 7, planning, and the steps.
 #![tactic(auto)]
 
-ghost use Rattle.std.specs.Prelude.{◌≡◌, ◌∷◌, [], ◌≤◌, length};
+ghost use Rattle.std.specs.Prelude.{◌≡◌, ◌≤◌, length, map};
 ghost use Rattle.definition.specs.Basics.{gives};
 ghost use Rattle.definition.specs.Answers.{with_choices};
 ghost use Rattle.refusals.specs.Numbers.{answered};
 ghost use Rattle.choices.specs.Meant.{meant};
+ghost use Rattle.promises.specs.Lent.{held, Same};
 ghost use Rattle.promises.specs.Slices.{needed, lengths};
 ghost use Rattle.plan_edit.specs.Answers.{Planning};
 ghost use Rattle.edit_perform.specs.Beginning.{LaidOut};
@@ -14,6 +15,7 @@ ghost use Rattle.edit_perform.specs.AtEnd.{Performs, PerformsWith};
 use choices::Choices;
 pub use plan_edit::Unplanned;
 use plan_edit::{Counts, plan};
+use promises::Work;
 use read_batch::accept;
 use read_layout::Layout;
 use refusals::Refusal;
@@ -151,50 +153,38 @@ pub fn plan_and_run(
 }
 
 // 17 or 18 where there is no such choice, 1 where a work slice is too short.
-pub fn refused_first(
-    choices: Choices,
-    table: &[u32],
-    source: &[u32],
-    changes: &[u32],
-    notes: &[u32],
-    incoming: &[u32],
-    changed: &[u32],
-    marks: &[u32],
-    rows: &[u32],
-    prepared: &[u32],
-) -> Result<(), Refusal>
-    ensures { answered result ≡ with_choices (meant choices) (lengths needed (table.now ∷ source.now ∷ changes.now ∷ notes.now ∷ incoming.now ∷ changed.now ∷ marks.now ∷ rows.now ∷ prepared.now ∷ [])) (gives tt) }
+pub fn refused_first(choices: Choices, work: &Work) -> Result<(), Refusal>
+    ensures { answered result ≡ with_choices (meant choices) (lengths needed (held work.now)) (gives tt) }
 {
     choices::judge(choices)?;
-    if promises::too_short(
-        table, source, changes, notes, incoming, changed, marks, rows, prepared,
-    ) {
+    if promises::too_short(work) {
         return Err(Refusal::ShortWork);
     }
     Ok(())
 }
 
 // From a batch to what its run leaves, or the first refusal out of 17, 18, 1 to 12 and 16.
-pub fn perform(
-    choices: Choices,
-    b: &[u8],
-    table: &mut [u32],
-    source: &mut [u32],
-    changes: &mut [u32],
-    notes: &mut [u32],
-    incoming: &mut [u32],
-    changed: &mut [u32],
-    marks: &mut [u32],
-    rows: &mut [u32],
-    prepared: &mut [u32],
-) -> Result<Ended, Unplanned>
-    ensures { PerformsWith (meant choices) (table.old ∷ source.old ∷ changes.old ∷ notes.old ∷ incoming.old ∷ changed.old ∷ marks.old ∷ rows.old ∷ prepared.old ∷ []) b.now table.new source.new changes.new rows.new notes.new changed.new marks.new result }
+pub fn perform(choices: Choices, b: &[u8], work: &mut Work) -> Result<Ended, Unplanned>
+    ensures same { Same work.old work.new }
+    ensures lengths { map length (held work.new) ≡ map length (held work.old) }
+    ensures performs { PerformsWith (meant choices) (held work.old) b.now work.new.table.now work.new.source.now work.new.changes.now work.new.rows.now work.new.notes.now work.new.changed.now work.new.marks.now result }
 {
-    refused_first(
-        choices, table, source, changes, notes, incoming, changed, marks, rows, prepared,
-    )?;
+    refused_first(choices, work)?;
+    let table = &mut *work.table;
+    let source = &mut *work.source;
     let l = accept(b, table, source)?;
     plan_and_run(
-        choices, b, l, table, source, changes, notes, incoming, changed, marks, rows, prepared,
+        choices,
+        b,
+        l,
+        table,
+        source,
+        work.changes,
+        work.notes,
+        work.incoming,
+        work.changed,
+        work.marks,
+        work.rows,
+        work.prepared,
     )
 }

@@ -3,6 +3,7 @@
 
 ghost use Rattle.std.specs.Prelude.{◌≡◌, ◌∷◌, [], length, ltb};
 ghost use Rattle.definition.specs.Answers.{too_short};
+ghost use Rattle.promises.specs.Lent.{held, Same};
 ghost use Rattle.promises.specs.Slices.{asked, needed, lengths, zeros, zeroed};
 
 // What is asked of a batch: its edit, where a node of tree 0 stands then, what becomes of each change, how much of the text is rewritten, or which elements of
@@ -23,6 +24,20 @@ pub enum Told {
     Nothing,
     At(usize),
     Of(usize, usize),
+}
+
+// The work slices that a public call is lent, in the order of docs/WORK.md.
+#[derive(Drop)]
+pub struct Work<'a> {
+    pub table: &'a mut [u32],
+    pub source: &'a mut [u32],
+    pub changes: &'a mut [u32],
+    pub notes: &'a mut [u32],
+    pub incoming: &'a mut [u32],
+    pub changed: &'a mut [u32],
+    pub marks: &'a mut [u32],
+    pub rows: &'a mut [u32],
+    pub prepared: &'a mut [u32],
 }
 
 // Whether a slice has less than `n` words.
@@ -46,26 +61,16 @@ fn short_of_three(a: &[u32], i: usize, b: &[u32], j: usize, c: &[u32], k: usize)
 }
 
 // Whether a work slice is shorter than its length in docs/WORK.md.
-pub fn too_short(
-    table: &[u32],
-    source: &[u32],
-    changes: &[u32],
-    notes: &[u32],
-    incoming: &[u32],
-    changed: &[u32],
-    marks: &[u32],
-    rows: &[u32],
-    prepared: &[u32],
-) -> bool
-    ensures { result ≡ too_short (lengths needed (table.now ∷ source.now ∷ changes.now ∷ notes.now ∷ incoming.now ∷ changed.now ∷ marks.now ∷ rows.now ∷ prepared.now ∷ [])) }
+pub fn too_short(work: &Work) -> bool
+    ensures { result ≡ too_short (lengths needed (held work.now)) }
 {
-    if short_of_three(table, 16384, source, 6147, changes, 3840) {
+    if short_of_three(work.table, 16384, work.source, 6147, work.changes, 3840) {
         return true;
     }
-    if short_of_three(notes, 3072, incoming, 3072, changed, 1024) {
+    if short_of_three(work.notes, 3072, work.incoming, 3072, work.changed, 1024) {
         return true;
     }
-    short_of_three(marks, 2048, rows, 12291, prepared, 12288)
+    short_of_three(work.marks, 2048, work.rows, 12291, work.prepared, 12288)
 }
 
 // Three slices become zeros.
@@ -78,20 +83,11 @@ fn clear_three(a: &mut [u32], b: &mut [u32], c: &mut [u32])
 }
 
 // Every work slice becomes zeros.
-pub fn clear_all(
-    table: &mut [u32],
-    source: &mut [u32],
-    changes: &mut [u32],
-    notes: &mut [u32],
-    incoming: &mut [u32],
-    changed: &mut [u32],
-    marks: &mut [u32],
-    rows: &mut [u32],
-    prepared: &mut [u32],
-)
-    ensures { (table.new ∷ source.new ∷ changes.new ∷ notes.new ∷ incoming.new ∷ changed.new ∷ marks.new ∷ rows.new ∷ prepared.new ∷ []) ≡ zeroed (table.old ∷ source.old ∷ changes.old ∷ notes.old ∷ incoming.old ∷ changed.old ∷ marks.old ∷ rows.old ∷ prepared.old ∷ []) }
+pub fn clear_all(work: &mut Work)
+    ensures same { Same work.old work.new }
+    ensures zeros { held work.new ≡ zeroed (held work.old) }
 {
-    clear_three(table, source, changes);
-    clear_three(notes, incoming, changed);
-    clear_three(marks, rows, prepared);
+    clear_three(work.table, work.source, work.changes);
+    clear_three(work.notes, work.incoming, work.changed);
+    clear_three(work.marks, work.rows, work.prepared);
 }

@@ -3,7 +3,7 @@ use Rattle.edit_algo.proofs.Ways.{accounts_told, account_length}
 use Rattle.edit_algo.proofs.account.Goals as goal
 
 pub answer_in-requires : goal.answer_in-requires
-answer_in-requires c = account_length _ c.serve.ensures
+answer_in-requires c = account_length _ c.serve.ensures.serves
 
-pub returns : goal.returns
-returns c = accounts_told _ _ _ _ _ _ _ _ c.serve.ensures c.answer_in.ensures
+pub returns-clause-accounts : goal.returns-clause-accounts
+returns-clause-accounts c = accounts_told _ _ _ _ _ _ _ _ c.serve.ensures.serves c.answer_in.ensures

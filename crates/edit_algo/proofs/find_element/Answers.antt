@@ -3,7 +3,7 @@ use Rattle.edit_algo.proofs.Ways.{finds_told, find_place}
 use Rattle.edit_algo.proofs.find_element.Goals as goal
 
 pub element_in-requires : goal.element_in-requires
-element_in-requires c = find_place _ c.serve.ensures
+element_in-requires c = find_place _ c.serve.ensures.serves
 
-pub returns : goal.returns
-returns c = finds_told _ _ _ _ _ _ _ _ _ c.serve.ensures c.element_in.ensures
+pub returns-clause-finds : goal.returns-clause-finds
+returns-clause-finds c = finds_told _ _ _ _ _ _ _ _ _ c.serve.ensures.serves c.element_in.ensures

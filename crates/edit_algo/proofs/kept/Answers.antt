@@ -3,7 +3,7 @@ use Rattle.edit_algo.proofs.Ways.{keeps_told, kept_length}
 use Rattle.edit_algo.proofs.kept.Goals as goal
 
 pub answer_in-requires : goal.answer_in-requires
-answer_in-requires c = kept_length _ c.serve.ensures
+answer_in-requires c = kept_length _ c.serve.ensures.serves
 
-pub returns : goal.returns
-returns c = keeps_told _ _ _ _ _ _ _ _ c.serve.ensures c.answer_in.ensures
+pub returns-clause-keeps : goal.returns-clause-keeps
+returns-clause-keeps c = keeps_told _ _ _ _ _ _ _ _ c.serve.ensures.serves c.answer_in.ensures

@@ -3,7 +3,7 @@ use Rattle.edit_algo.proofs.Ways.{shares_told, share_parts}
 use Rattle.edit_algo.proofs.share.Goals as goal
 
 pub share_in-requires : goal.share_in-requires
-share_in-requires c = share_parts _ c.serve.ensures
+share_in-requires c = share_parts _ c.serve.ensures.serves
 
-pub returns : goal.returns
-returns c = shares_told _ _ _ _ _ _ _ _ c.serve.ensures c.share_in.ensures
+pub returns-clause-shares : goal.returns-clause-shares
+returns-clause-shares c = shares_told _ _ _ _ _ _ _ _ c.serve.ensures.serves c.share_in.ensures

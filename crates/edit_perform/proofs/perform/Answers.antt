@@ -8,25 +8,32 @@ use Rattle.edit_perform.specs.Beginning.{judged_laid}
 use Rattle.edit_perform.proofs.Stages.{judged_stops, early_refused, early_passed}
 use Rattle.edit_perform.proofs.perform.Goals as goal
 
-pub returns-in_err-refused_first : goal.returns-in_err-refused_first
-returns-in_err-refused_first c =
+pub returns-in_err-refused_first-clause-performs : goal.returns-in_err-refused_first-clause-performs
+returns-in_err-refused_first-clause-performs c =
     let p = err_from_is_err_and c.from_residual.result c.from_residual.ensures.1 in
     rw (p.1, p.2) (early _ (early_refused _ _ c.refused_first.ensures _ c.in_err-refused_first.was) refl)
 
 pub accept-requires : goal.accept-requires
 accept-requires c = let v = long_enough _ _ _ _ _ _ _ _ _ (early_passed _ _ c.refused_first.ensures c.in_ok-refused_first.was).1 in (v.0.0, v.0.1)
 
-pub plan_and_run-requires : goal.plan_and_run-requires
-plan_and_run-requires c =
-    let v = long_enough _ _ _ _ _ _ _ _ _ (early_passed _ _ c.refused_first.ensures c.in_ok-refused_first.was).1 in
-    let r = v.0 in
-    record { laid_out = judged_laid c.accept.ensures _ c.in_ok-l.was r.0 r.1; in_bounds = (omega (arith, c.accept.auto.source, r.1), r.2); in_bounds_2 = v.1 }
+pub plan_and_run-requires-clause-laid_out : goal.plan_and_run-requires-clause-laid_out
+plan_and_run-requires-clause-laid_out c =
+    let r = (long_enough _ _ _ _ _ _ _ _ _ (early_passed _ _ c.refused_first.ensures c.in_ok-refused_first.was).1).0 in
+    judged_laid c.accept.ensures _ c.in_ok-l.was r.0 r.1
 
-pub returns-in_err-l : goal.returns-in_err-l
-returns-in_err-l c =
+pub plan_and_run-requires-clause-in_bounds : goal.plan_and_run-requires-clause-in_bounds
+plan_and_run-requires-clause-in_bounds c =
+    let r = (long_enough _ _ _ _ _ _ _ _ _ (early_passed _ _ c.refused_first.ensures c.in_ok-refused_first.was).1).0 in
+    (omega (arith, c.accept.auto.source, r.1), r.2)
+
+pub plan_and_run-requires-clause-in_bounds_2 : goal.plan_and_run-requires-clause-in_bounds_2
+plan_and_run-requires-clause-in_bounds_2 c = (long_enough _ _ _ _ _ _ _ _ _ (early_passed _ _ c.refused_first.ensures c.in_ok-refused_first.was).1).1
+
+pub returns-in_err-l-clause-performs : goal.returns-in_err-l-clause-performs
+returns-in_err-l-clause-performs c =
     let w = early_passed _ _ c.refused_first.ensures c.in_ok-refused_first.was in
     let p = err_from_is_err_and c.from_residual-in_err-l.result c.from_residual-in_err-l.ensures.1 in
     rw (p.1, p.2) (long w.0 w.1 (judged_stops c.accept.ensures _ c.in_err-l.was))
 
-pub returns : goal.returns
-returns c = let w = early_passed _ _ c.refused_first.ensures c.in_ok-refused_first.was in long w.0 w.1 c.plan_and_run.ensures
+pub returns-clause-performs : goal.returns-clause-performs
+returns-clause-performs c = let w = early_passed _ _ c.refused_first.ensures c.in_ok-refused_first.was in long w.0 w.1 c.plan_and_run.ensures
