@@ -9,7 +9,7 @@ use native.Mathlib.Omega.{arith}
 use lib.Dec.{leb, ltb, eqb}
 use lib.ListN.{length, replicate, length-replicate}
 use borrow.Author.Tests.{lt-ltb, le-ltb, ltb-true, ltb-false, eq-eqb, ne_eqb, eqb-true, not-false}
-use Rattle.orders.specs.ListLaws.{bool_absurd, either_false, All-map}
+use Rattle.orders.specs.ListLaws.{either_false, All-map}
 use Rattle.definition.specs.Basics.{Answer, gives, refused, ◌>>=◌, refuse, any}
 use Rattle.definition.specs.Answers.{too_short, with_work}
 use Rattle.definition.specs.Writing.{differ}
@@ -114,17 +114,6 @@ module _ (k m t k' m' t' o n : ℕ) {x : Bool} (ex : x ≡ big_sizes k m t) wher
           pub none_wrong : o ≡ n → Size (Ok tt)
           unfolding sizes_refusal answered refuse
           none_wrong i = rw (← ex, qx, ← ey, qy, eq-eqb k m h, eq-eqb k' m' j, eq-eqb o n i)
-
--- ── Both trees ──────────────────────────────────────────────────────────────────────────────────────────────
-
-module _ {es es' : List (ℕ × ℕ)} {bytes bytes' : ℕ} {r : Bool} {old w : List ℕ} (e : Reads es bytes r w) where
-  pub old_wrong : {new : List ℕ} → r ≡ false → ReadsBoth es bytes es' bytes' false old new
-  old_wrong q = record { yes = λ p. bool_absurd p refl; no = λ p. inl (w, rw q at e) }
-
-pub both_read : {es es' : List (ℕ × ℕ)} {bytes bytes' : ℕ} {r r' : Bool} {old new : List ℕ} → Reads es bytes r old → r ≡ true → Reads es' bytes' r' new → ReadsBoth es bytes es' bytes' r' old new
-both_read {r = r} {new = new} e q f =
-    let e' = rw q at e in
-    record { yes = λ p. (e', rw p at f); no = λ p. inr (new, e', rw p at f) }
 
 -- ── 19 ──────────────────────────────────────────────────────────────────────────────────────────────────────
 

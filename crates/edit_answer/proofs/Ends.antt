@@ -1,8 +1,10 @@
 -- The ways out of the functions on what a run leaves.
 -- Assumes nothing.
+use Rattle.std.specs.Prelude.{Result, Ok, Err, Some, None}
+use Rattle.std.specs.Prelude as prelude
 use mathlib.Core.Path.{◌≡◌, refl, sym, ap, subst, ◌∙◌}
-use mathlib.Core.Bool.{Bool, true, false, not}
-use mathlib.Core.List.{List, map}
+use mathlib.Core.Bool.{Bool, true, false}
+use mathlib.Core.List.{List}
 use mathlib.Core.Option.{Option, none, some}
 use Prim.Native.Nat.{ℕ, suc, ◌+◌, ◌-◌, ◌*◌, ◌^◌, ◌≤◌, ◌<◌}
 use native.Mathlib.Nat.{add-zero}
@@ -10,7 +12,6 @@ use native.Mathlib.Omega.{arith}
 use lib.ListN.{length, get_or, drop, take, length-drop}
 use lib.Seq.{take_all, length-take-le}
 use lib.Dec.{eqb}
-use borrow.Author.Tests.{not-true, not-false}
 use Rattle.definition.specs.Basics as basics
 use Rattle.definition.specs.Basics.{gives, ◌>>=◌}
 use Rattle.definition.specs.Choices.{Choices}
@@ -26,16 +27,15 @@ use Rattle.run_tree_store.specs.Stored.{stored}
 use Rattle.finish_model.specs.Finished.{result_of, first_tree}
 use Rattle.finish_model.specs.Alike.{find_row}
 use Rattle.finish_find.specs.Found.{found as found_by}
-use Rattle.finish_find.specs.declared.Found.{Found}
-use Rattle.finish_find.specs.declared.Found.TheVariants.{At, Nothing}
 use Rattle.finish_result.specs.Weighed.{Weighs}
-use Rattle.finish_result.specs.Answered.{length_of, Answered}
-use Rattle.finish_result.specs.declared.Finished.{Finished}
-use Rattle.finish_result.specs.declared.Finished.TheVariants.{Short, Bytes}
-use Rattle.edit_perform.specs.AtEnd.{AtEnd, Told, withdrawn_in, Recounted}
+use Rattle.finish_result.specs.Answered.{Answered}
+use Rattle.edit_perform.specs.AtEnd.{AtEnd, Told as ElementsTold, withdrawn_in, Recounted}
 use Rattle.edit_perform.specs.declared.Ended.{Ended}
-use Rattle.edit_perform.specs.declared.Performed.{Performed}
-use Rattle.edit_perform.specs.declared.Performed.TheVariants.{Refused as Stopped, Overlap, Done}
+use Rattle.plan_edit.specs.declared.Unplanned.{Unplanned}
+use Rattle.plan_edit.specs.declared.Unplanned.TheVariants.{Refused, Overlap}
+use Rattle.refusals.specs.Numbers.{number, answered as answer_told}
+use Rattle.refusals.specs.declared.Refusal.{Refusal}
+use Rattle.refusals.specs.declared.Refusal.TheVariants.{ShortResult, Overlap as Overlaps}
 use Rattle.share_laws.specs.Share.{share}
 use Rattle.share_rows.specs.Promises.{Shares}
 use Rattle.kept_rows.specs.Pairs.{kept_rows}
@@ -45,8 +45,8 @@ use Rattle.promises.specs.Promises.{left_in, found}
 use Rattle.promises.specs.Serving.{reached, place, of_length, of_place, of_share, outcome, written, Tells, find_outcome, find_written, share_outcome, share_written}
 use Rattle.promises.specs.declared.Job.{Job}
 use Rattle.promises.specs.declared.Job.TheVariants.{Edit, Find, Account, Share, Kept}
-use Rattle.promises.specs.declared.Outcome.{Outcome}
-use Rattle.promises.specs.declared.Outcome.TheVariants.{Refused, Bytes as Written, Nothing as NoElement, At as Stands, Of}
+use Rattle.promises.specs.declared.Told.{Told}
+use Rattle.promises.specs.declared.Told.TheVariants.{Bytes, Nothing, At, Of}
 use Rattle.edit_answer.specs.AtEnd.{RowsAtEnd, answered_edit, old_node, none_there, no_node, node_there, old_tree, no_old_node, old_node_lem, unless, unless_refused, unless_done, unless_overlap, overlap_told, overlap_answers, account_13, account_answer, share_told, ToKeep, pairs_answer, ToAnswer}
 
 -- what is behind a place, as a part is told
@@ -59,33 +59,33 @@ behind_cut n changes = let e : 3584 + n - 3584 ≡ n = omega arith in rw e refl
 
 -- ── The result's bytes ──────────────────────────────────────────────────────────────────────────────────────
 
-module _ {h : Choices} {b rows notes changed : List ℕ} {d : Ended} (v : AtEnd h b rows notes changed d) (held out : List ℕ) (a : Finished) (text : List ℕ) (t : text ≡ drop d.text b)
+module _ {h : Choices} {b rows notes changed : List ℕ} {d : Ended} (v : AtEnd h b rows notes changed d) (held out : List ℕ) (a : Result ℕ Refusal) (text : List ℕ) (t : text ≡ drop d.text b)
     (f : (marks : List ℕ) → Answered held (result_of d.discarded d.climbs (stored text d.rows rows marks (notes_of d.notes notes) (changed_in d.changed changed))) out a) where
-  answered : Tells (reached h Edit b (length held)) held (of_length (length_of a)) out
+  answered : (r : Result Told Refusal) → answer_told r ≡ of_length (answer_told a) → Tells (reached h Edit b (length held)) held r out
   answered = answered_edit v a (λ marks. rw (← t) (f marks))
 
-  pub answered_13 : a ≡ Short → Tells (reached h Edit b (length held)) held (Refused 13) out
-  unfolding of_length length_of
-  answered_13 e = subst (λ (x : Finished). Tells (reached h Edit b (length held)) held (of_length (length_of x)) out) e answered
+  pub answered_13 : (e : Refusal) → a ≡ Err e → Tells (reached h Edit b (length held)) held (Err e) out
+  unfolding of_length answer_told
+  answered_13 e i = answered (Err e) (rw i refl)
 
-  pub answered_bytes : (n : ℕ) → a ≡ Bytes n → Tells (reached h Edit b (length held)) held (Written n) out
-  unfolding of_length length_of
-  answered_bytes n e = subst (λ (x : Finished). Tells (reached h Edit b (length held)) held (of_length (length_of x)) out) e answered
+  pub answered_bytes : (n : ℕ) → a ≡ Ok n → Tells (reached h Edit b (length held)) held (Ok (Bytes n)) out
+  unfolding of_length answer_told
+  answered_bytes n i = answered (Ok (Bytes n)) (rw i refl)
 
 -- ── Job by job ──────────────────────────────────────────────────────────────────────────────────────────────
 
 -- a refusal leaves the result slice as it was
-pub tells_refused : {p : Performed} {k : ℕ} → p ≡ Stopped k → (want : basics.Answer (Outcome × List ℕ)) (held : List ℕ) → Tells (unless p want) held (Refused k) held
-unfolding outcome written left_in
-tells_refused e want held = rw (unless_refused e want) (record { answer = refl; result = refl })
+pub tells_refused : {p : Result Ended Unplanned} {u : Unplanned} {e : Refusal} → p ≡ Err u → u ≡ Refused e → (want : basics.Answer (Told × List ℕ)) (held : List ℕ) → Tells (unless p want) held (Err e) held
+unfolding outcome written left_in answer_told
+tells_refused q i want held = rw (unless_refused (q ∙ ap Err i) want) (record { answer = refl; result = refl })
 
 -- at the end of the run, what is told is the answer
-pub tells_done : {p : Performed} {d : Ended} {held out : List ℕ} {r : Outcome} → p ≡ Done d → (want : basics.Answer (Outcome × List ℕ)) → Tells want held r out → Tells (unless p want) held r out
+pub tells_done : {p : Result Ended Unplanned} {d : Ended} {held out : List ℕ} {r : Result Told Refusal} → p ≡ Ok d → (want : basics.Answer (Told × List ℕ)) → Tells want held r out → Tells (unless p want) held r out
 tells_done e want h = rw (unless_done e want) h
 
 -- who finds leaves the result slice as it was
-pub tells_found : (h : Choices) (b held : List ℕ) (room n : ℕ) {r : Outcome} → r ≡ of_place (found h b n) → Tells (reached h (Find n) b room) held r held
-unfolding reached
+pub tells_found : (h : Choices) (b held : List ℕ) (room n : ℕ) {r : Told} → gives r ≡ of_place (found h b n) → Tells (reached h (Find n) b room) held (Ok r) held
+unfolding reached answer_told
 tells_found h b held room n e = record { answer = e ∙ sym (find_outcome (found h b n)); result = find_written held (found h b n) }
 
 -- the changed elements in use are few
@@ -93,59 +93,60 @@ pub few_used : {h : Choices} {b rows notes changed : List ℕ} {d : Ended} → A
 few_used {changed = changed} {d = d} v = omega (arith, length-take-le d.changed changed v.changed_within, v.few_changed)
 
 -- what `share_rows` promises of the end of the run is the batch's share
-pub share_answers : {h : Choices} {b rows notes changed : List ℕ} {d : Ended} {r : Thousandths} → AtEnd h b rows notes changed d → Shares rows d.rows (take d.changed changed) r → Of r.quotient r.remainder ≡ of_share (share h b)
+pub share_answers : {h : Choices} {b rows notes changed : List ℕ} {d : Ended} {r : Thousandths} → AtEnd h b rows notes changed d → Shares rows d.rows (take d.changed changed) r → gives (Of r.quotient r.remainder) ≡ of_share (share h b)
 unfolding changed_in
 share_answers {b = b} {d = d} v f = share_told v (f (drop d.text b))
 
 -- nor does the share write
-pub tells_share : (h : Choices) (b held : List ℕ) (room : ℕ) {r : Outcome} → r ≡ of_share (share h b) → Tells (reached h Share b room) held r held
-unfolding reached
+pub tells_share : (h : Choices) (b held : List ℕ) (room : ℕ) {r : Told} → gives r ≡ of_share (share h b) → Tells (reached h Share b room) held (Ok r) held
+unfolding reached answer_told
 tells_share h b held room e = record { answer = e ∙ sym (share_outcome (share h b)); result = share_written held (share h b) }
 
 -- what `kept_rows` tells of the end of the run is the batch's pairs
-pub kept_answers : {h : Choices} {b source marks rows held out : List ℕ} {d : Ended} {r : Outcome} → ToKeep h b source marks rows d
+pub kept_answers : {h : Choices} {b source marks rows held out : List ℕ} {d : Ended} {r : Result Told Refusal} → ToKeep h b source marks rows d
     → ((before after : List ℕ) → Tells (tell_pairs (length held) (kept_rows (first_rows before (d.elements + 1) source) (first_rows after d.rows rows) marks)) held r out) → Tells (reached h Kept b (length held)) held r out
-kept_answers {b = b} {held = held} {out} {d} {r} v f = subst (λ (x : basics.Answer (Outcome × List ℕ)). Tells x held r out) (pairs_answer v (length held)) (f v.old.text (drop d.text b))
+kept_answers {b = b} {held = held} {out} {d} {r} v f = subst (λ (x : basics.Answer (Told × List ℕ)). Tells x held r out) (pairs_answer v (length held)) (f v.old.text (drop d.text b))
 
 -- two changes overlap
-pub tells_overlap : {h : Choices} {b t s changes marks rows notes changed starts : List ℕ} {p : Performed} {j k : ℕ} {held out : List ℕ} {r : Outcome} (job : Job) → ToAnswer h b t s changes marks rows notes changed starts p → p ≡ Overlap j k
+pub tells_overlap : {h : Choices} {b t s changes marks rows notes changed starts : List ℕ} {p : Result Ended Unplanned} {u : Unplanned} {j k : ℕ} {held out : List ℕ} {r : Result Told Refusal} (job : Job) → ToAnswer h b t s changes marks rows notes changed starts p → p ≡ Err u → u ≡ Overlap (record { earlier = j; later = k })
     → Tells (overlap_told job j k (length held)) held r out → Tells (unless p (reached h job b (length held))) held r out
-tells_overlap {h} {b} {j = j} {k = k} {held = held} {out = out} {r = r} job v e q =
-    rw (unless_overlap e (reached h job b (length held))) (subst (λ (w : basics.Answer (Outcome × List ℕ)). Tells w held r out) (overlap_answers h job b j k (length held) (v.overlaps j k e)) q)
+tells_overlap {h} {b} {p = p} {j = j} {k = k} {held = held} {out = out} {r = r} job v f i q =
+    let e : p ≡ Err (Overlap (record { earlier = j; later = k })) = f ∙ ap Err i in
+    rw (unless_overlap e (reached h job b (length held))) (subst (λ (w : basics.Answer (Told × List ℕ)). Tells w held r out) (overlap_answers h job b j k (length held) (v.overlaps j k e)) q)
 
 -- the account: 13 where the edit program's buffer could not hold the result, or the fates
 module _ {h : Choices} {b changes rows notes changed : List ℕ} {d : Ended} (v : AtEnd h b rows notes changed d × Recounted h b changes d) (held text : List ℕ) (t : text ≡ drop d.text b) {size : ℕ}
     (w : Weighs text d.rows rows (notes_of d.notes notes) (changed_in d.changed changed) size) where
-  pub account_refused : 65536 < size → Tells (reached h Account b (length held)) held (Refused 13) held
-  unfolding outcome written left_in
+  pub account_refused : 65536 < size → Tells (reached h Account b (length held)) held (Err ShortResult) held
+  unfolding outcome written left_in answer_told number
   account_refused l = rw (account_13 v.0 v.1 (rw t at w) (length held) l) (record { answer = refl; result = refl })
 
   -- the words that tell which changes are withdrawn are cut out behind the rows
-  pub account_told : {part out : List ℕ} {r : Outcome} → part ≡ withdrawn_in d.recorded changes → size ≤ 65536 → Tells (tell_in (length held) (said_lines (said_rows changes part))) held r out → Tells (reached h Account b (length held)) held r out
-  account_told {part} {out} {r} e l q = subst (λ (x : basics.Answer (Outcome × List ℕ)). Tells x held r out) (ap (λ (ps : List ℕ). tell_in (length held) (said_lines (said_rows changes ps))) e ∙ account_answer v.0 v.1 (rw t at w) (length held) l) q
+  pub account_told : {part out : List ℕ} {r : Result Told Refusal} → part ≡ withdrawn_in d.recorded changes → size ≤ 65536 → Tells (tell_in (length held) (said_lines (said_rows changes part))) held r out → Tells (reached h Account b (length held)) held r out
+  account_told {part} {out} {r} e l q = subst (λ (x : basics.Answer (Told × List ℕ)). Tells x held r out) (ap (λ (ps : List ℕ). tell_in (length held) (said_lines (said_rows changes ps))) e ∙ account_answer v.0 v.1 (rw t at w) (length held) l) q
 
 -- a job that is refused by 8 leaves the result slice as it was
-tells_8 : (job : Job) (j k room : ℕ) (held : List ℕ) → overlap_told job j k room ≡ basics.refused 8 → Tells (overlap_told job j k room) held (Refused 8) held
-unfolding outcome written left_in
+tells_8 : (job : Job) (j k room : ℕ) (held : List ℕ) → overlap_told job j k room ≡ basics.refused 8 → Tells (overlap_told job j k room) held (Err Overlaps) held
+unfolding outcome written left_in answer_told number
 tells_8 job j k room held e = rw e (record { answer = refl; result = refl })
 
-pub edit_8 : {job : Job} (j k : ℕ) (held : List ℕ) → job ≡ Edit → Tells (overlap_told job j k (length held)) held (Refused 8) held
+pub edit_8 : {job : Job} (j k : ℕ) (held : List ℕ) → job ≡ Edit → Tells (overlap_told job j k (length held)) held (Err Overlaps) held
 unfolding overlap_told
 edit_8 {job} j k held e = tells_8 job j k (length held) held (rw e refl)
 
-pub find_8 : {job : Job} {n : ℕ} (j k : ℕ) (held : List ℕ) → job ≡ Find n → Tells (overlap_told job j k (length held)) held (Refused 8) held
+pub find_8 : {job : Job} {n : ℕ} (j k : ℕ) (held : List ℕ) → job ≡ Find n → Tells (overlap_told job j k (length held)) held (Err Overlaps) held
 unfolding overlap_told
 find_8 {job} j k held e = tells_8 job j k (length held) held (rw e refl)
 
-pub share_8 : {job : Job} (j k : ℕ) (held : List ℕ) → job ≡ Share → Tells (overlap_told job j k (length held)) held (Refused 8) held
+pub share_8 : {job : Job} (j k : ℕ) (held : List ℕ) → job ≡ Share → Tells (overlap_told job j k (length held)) held (Err Overlaps) held
 unfolding overlap_told
 share_8 {job} j k held e = tells_8 job j k (length held) held (rw e refl)
 
-pub kept_8 : {job : Job} (j k : ℕ) (held : List ℕ) → job ≡ Kept → Tells (overlap_told job j k (length held)) held (Refused 8) held
+pub kept_8 : {job : Job} (j k : ℕ) (held : List ℕ) → job ≡ Kept → Tells (overlap_told job j k (length held)) held (Err Overlaps) held
 unfolding overlap_told
 kept_8 {job} j k held e = tells_8 job j k (length held) held (rw e refl)
 
-pub account_8 : {job : Job} (j k : ℕ) {held out : List ℕ} {r : Outcome} → job ≡ Account → Tells (tell_in (length held) (overlap_line j k)) held r out → Tells (overlap_told job j k (length held)) held r out
+pub account_8 : {job : Job} (j k : ℕ) {held out : List ℕ} {r : Result Told Refusal} → job ≡ Account → Tells (tell_in (length held) (overlap_line j k)) held r out → Tells (overlap_told job j k (length held)) held r out
 unfolding overlap_told
 account_8 j k e h = rw e h
 
@@ -160,30 +161,30 @@ module _ (n : ℕ) (t s : List ℕ) (k : ℕ) (h : k < n) (b : Bool) (e : b ≡ 
 
 -- ── Where it stands ─────────────────────────────────────────────────────────────────────────────────────────
 
-pub none_numbered : {h : Choices} {b rows t s : List ℕ} {d : Ended} → RowsAtEnd h b rows d → Told b t s d.elements → (k : ℕ) → d.elements ≤ k → NoElement ≡ of_place (found h b k)
+pub none_numbered : {h : Choices} {b rows t s : List ℕ} {d : Ended} → RowsAtEnd h b rows d → ElementsTold b t s d.elements → (k : ℕ) → d.elements ≤ k → gives Nothing ≡ of_place (found h b k)
 unfolding of_place place
 none_numbered {h} {b} {rows} {t} {s} {d} v w k q = ap of_place (no_old_node v w k (sym (none_there d.elements t s k q)))
 
-module _ {h : Choices} {b rows t s : List ℕ} {d : Ended} (v : RowsAtEnd h b rows d) (w : Told b t s d.elements) (k : ℕ) (o : Bool) (p : o ≡ old_node (view d.elements t s) k) where
-  pub none_asked : o ≡ false → NoElement ≡ of_place (found h b k)
+module _ {h : Choices} {b rows t s : List ℕ} {d : Ended} (v : RowsAtEnd h b rows d) (w : ElementsTold b t s d.elements) (k : ℕ) (o : Bool) (p : o ≡ old_node (view d.elements t s) k) where
+  pub none_asked : o ≡ false → gives Nothing ≡ of_place (found h b k)
   unfolding of_place place
   none_asked q = ap of_place (no_old_node v w k (sym p ∙ q))
 
   pub asked_old : o ≡ true → tree (view d.elements t s) k ≡ 0
   asked_old q = old_tree (view d.elements t s) k (sym p ∙ q)
 
-  module _ (q : o ≡ true) (low : k < d.elements) (kind start : ℕ) (e : kind ≡ get_or s (3 * suc k + 0) 0) (f : start ≡ (row (view d.elements t s) k).start) (r : Found)
+  module _ (q : o ≡ true) (low : k < d.elements) (kind start : ℕ) (e : kind ≡ get_or s (3 * suc k + 0) 0) (f : start ≡ (row (view d.elements t s) k).start) (r : prelude.Option ℕ)
       (g : (text : List ℕ) → r ≡ found_by (find_row (first_tree (first_rows text d.rows rows)) kind start)) where
-    meant : (o : Option ℕ) → r ≡ found_by o → gives o ≡ found h b k → (r ≡ Nothing → NoElement ≡ of_place (found h b k)) × ((x : ℕ) → r ≡ At x → Stands x ≡ of_place (found h b k))
+    meant : (o : Option ℕ) → r ≡ found_by o → gives o ≡ found h b k → (r ≡ None → gives Nothing ≡ of_place (found h b k)) × ((x : ℕ) → r ≡ Some x → gives (At x) ≡ of_place (found h b k))
     unfolding found_by of_place place
     meant none i j = ((λ z. ap of_place j), λ x z. absurd (let y : ◌≡◌ {A = ℕ} 0 1 = cc in omega arith))
     meant (some y) i j = ((λ z. absurd (let y : ◌≡◌ {A = ℕ} 0 1 = cc in omega arith)), λ x z. let m : x ≡ y = cc in rw m (ap of_place j))
 
-    told : (r ≡ Nothing → NoElement ≡ of_place (found h b k)) × ((x : ℕ) → r ≡ At x → Stands x ≡ of_place (found h b k))
+    told : (r ≡ None → gives Nothing ≡ of_place (found h b k)) × ((x : ℕ) → r ≡ Some x → gives (At x) ≡ of_place (found h b k))
     told = meant (find_row (first_tree (first_rows (drop d.text b) d.rows rows)) kind start) (g (drop d.text b)) (old_node_lem v w k (sym p ∙ q) low kind start (e ∙ ap (λ (i : ℕ). get_or s i 0) (add-zero (3 * suc k))) f)
 
-    pub found_none : r ≡ Nothing → NoElement ≡ of_place (found h b k)
+    pub found_none : r ≡ None → gives Nothing ≡ of_place (found h b k)
     found_none = told.0
 
-    pub found_there : (x : ℕ) → r ≡ At x → Stands x ≡ of_place (found h b k)
+    pub found_there : (x : ℕ) → r ≡ Some x → gives (At x) ≡ of_place (found h b k)
     found_there = told.1

@@ -1,10 +1,10 @@
 -- From what a run leaves to what each job answers.
 -- Assumes nothing.
-use Rattle.std.specs.Prelude.{◌≡◌, Bool, true, false, cond, ◌&&◌, ℕ, zero, suc, ◌+◌, ◌*◌, ◌^◌, ◌≤◌, ◌<◌, drop, get_or, eqb}
+use Rattle.std.specs.Prelude.{◌≡◌, Result, Ok, Err, Bool, true, false, cond, ◌&&◌, ℕ, zero, suc, ◌+◌, ◌*◌, ◌^◌, ◌≤◌, ◌<◌, drop, get_or, eqb}
 use Rattle.std.proofs.Math.Path.{refl, sym, ap}
 use Rattle.std.proofs.Common.{◌∙◌, zero-add, arith, take_all}
 use mathlib.Core.List.{List, [], ◌∷◌, map, flat_map}
-use Rattle.std.proofs.Math.Option.{none, some}
+use Rattle.std.proofs.Math.Option.{none}
 use Rattle.std.proofs.Math.ListN.{length, take}
 use Rattle.std.proofs.lemmas.List.{length-map}
 use borrow.Author.Tests.{eqb-true, lt-ltb, le-ltb}
@@ -47,19 +47,20 @@ use Rattle.finish_find.specs.OldStart.{TreesTold}
 use Rattle.finish_model.proofs.Result.{result_rows}
 use Rattle.finish_result.specs.Weighed.{Weighs}
 use Rattle.finish_result.specs.Answered.{length_of, fitted, over_front, Answered, answered_result}
-use Rattle.finish_result.specs.declared.Finished.{Finished}
 use Rattle.edit_perform.specs.Ending.{End, ending, result_at, edit_ending, found_at, found_ending}
-use Rattle.edit_perform.specs.AtEnd.{AtEnd, Told, Marked, Overlapped, withdrawn_in, Recounted}
+use Rattle.edit_perform.specs.AtEnd.{AtEnd, Told as ElementsTold, Marked, Overlapped, withdrawn_in, Recounted}
 use Rattle.edit_perform.specs.declared.Ended.{Ended}
-use Rattle.edit_perform.specs.declared.Performed.{Performed}
-use Rattle.edit_perform.specs.declared.Performed.TheVariants.{Refused, Overlap, Done}
+use Rattle.plan_edit.specs.declared.Unplanned.{Unplanned}
+use Rattle.plan_edit.specs.declared.Unplanned.TheVariants.{Refused, Overlap}
+use Rattle.refusals.specs.Numbers.{number, answered}
+use Rattle.refusals.specs.declared.Refusal.{Refusal}
 use Rattle.promises.specs.Keeping.{kept_pairs, paired}
 use Rattle.promises.specs.Promises.{left_in, applied, found, recounted}
-use Rattle.promises.specs.Serving.{reached, of_length, of_share, outcome, written, Tells, edit_outcome, edit_written}
+use Rattle.promises.specs.Serving.{reached, of_length, of_share, Tells, edit_outcome, edit_written}
 use Rattle.promises.specs.declared.Job.{Job}
 use Rattle.promises.specs.declared.Job.TheVariants.{Edit, Find, Account, Share, Kept}
-use Rattle.promises.specs.declared.Outcome.{Outcome}
-use Rattle.promises.specs.declared.Outcome.TheVariants.{Of}
+use Rattle.promises.specs.declared.Told.{Told}
+use Rattle.promises.specs.declared.Told.TheVariants.{Of}
 
 -- ── The edit ────────────────────────────────────────────────────────────────────────────────────────────────
 
@@ -72,18 +73,18 @@ unfolding over_front left_in
 left_over held (refused n) = refl
 left_over held (gives bytes) = rw (take_all (length bytes) bytes (omega arith), zero-add (length bytes)) refl
 
-module _ {h : Choices} {b rows notes changed held out : List ℕ} {d : Ended} (v : AtEnd h b rows notes changed d) (a : Finished) where
+module _ {h : Choices} {b rows notes changed held out : List ℕ} {d : Ended} (v : AtEnd h b rows notes changed d) (a : Result ℕ Refusal) where
   -- what is answered from what the run leaves is the edit's answer
   pub answered_edit : ((marks : List ℕ) → Answered held (result_of d.discarded d.climbs (stored (drop d.text b) d.rows rows marks (notes_of d.notes notes) (changed_in d.changed changed))) out a)
-      → Tells (reached h Edit b (length held)) held (of_length (length_of a)) out
+      → (r : Result Told Refusal) → answered r ≡ of_length (length_of a) → Tells (reached h Edit b (length held)) held r out
   unfolding result_at reached
-  answered_edit f =
+  answered_edit f t i =
       let e = v.end in
       let g = f v.marks in
       let q : Answered held (result_of _ e.planned.climbs _) out a = rw (v.discarded, v.climbs) at g in
       let r = answered_result e.planned.changes e.planned.climbs e.world v.holds v.held q in
       let x = fitted (length held) (result_at e) in
-      rw (applied_fitted h b (length held) e v.ends) (record { answer = ap of_length r.answer ∙ sym (edit_outcome x); result = r.result ∙ (left_over held x ∙ ap (left_in held) (sym (edit_written x))) })
+      rw (applied_fitted h b (length held) e v.ends) (record { answer = i ∙ (ap of_length r.answer ∙ sym (edit_outcome x)); result = r.result ∙ (left_over held x ∙ ap (left_in held) (sym (edit_written x))) })
 
 -- ── find_element ────────────────────────────────────────────────────────────────────────────────────────────
 
@@ -140,7 +141,7 @@ old_tree T k h = go (node? T k) (eqb (tree T k) 0) refl h
     go false b e h = bool_absurd h refl
 
 -- and the words tell of the batch's own trees
-pub trees_told : {b t s : List ℕ} {n : ℕ} → Told b t s n → TreesTold n t s
+pub trees_told : {b t s : List ℕ} {n : ℕ} → ElementsTold b t s n → TreesTold n t s
 trees_told {b} w = record {
   trees = w.batch.trees;
   table = w.table ∙ (accepts b w.batch w.accepts).table;
@@ -150,7 +151,7 @@ trees_told {b} w = record {
 }
 
 -- where it is found, by the rows of the new tree
-module _ {h : Choices} {b rows t s : List ℕ} {d : Ended} (v : RowsAtEnd h b rows d) (w : Told b t s d.elements) (k : ℕ) where
+module _ {h : Choices} {b rows t s : List ℕ} {d : Ended} (v : RowsAtEnd h b rows d) (w : ElementsTold b t s d.elements) (k : ℕ) where
   old_table : v.end.batch.table ≡ view d.elements t s
   unfolding ending
   old_table = given (accepted b) _ v.ends λ a x e. given (plan h a) _ e λ p y e. given (ran a p) _ e λ u z e.
@@ -197,7 +198,7 @@ unfolding share
 share_ending h b = given_ending h b (λ a w. share_in w)
 
 -- what the rows and the changed elements at the end tell is the batch's share
-pub share_told : {h : Choices} {b rows notes changed : List ℕ} {d : Ended} → AtEnd h b rows notes changed d → {q m : ℕ} → (q, m) ≡ share_of (first_rows (drop d.text b) d.rows rows) (changed_in d.changed changed) → Of q m ≡ of_share (share h b)
+pub share_told : {h : Choices} {b rows notes changed : List ℕ} {d : Ended} → AtEnd h b rows notes changed d → {q m : ℕ} → (q, m) ≡ share_of (first_rows (drop d.text b) d.rows rows) (changed_in d.changed changed) → gives (Of q m) ≡ of_share (share h b)
 unfolding ending of_share store stored ◌>>=◌
 share_told {h} {b} {rows} {notes} {changed} {d} v {q} {m} e =
     given (accepted b) _ v.ends λ a x f.
@@ -227,7 +228,7 @@ pub record OldRows (b s : List ℕ) (n : ℕ) : Type 0 where
   pub long : 3 * (n + 1) ≤ length s
   pub few : n < 2 ^ 12
 
-pub old_rows : {b t s : List ℕ} {n : ℕ} → Told b t s n → OldRows b s n
+pub old_rows : {b t s : List ℕ} {n : ℕ} → ElementsTold b t s n → OldRows b s n
 old_rows {b} {t} {s} {n} w =
     let k = accepts b w.batch w.accepts in
     let ts = w.batch.trees in
@@ -271,28 +272,28 @@ module _ {h : Choices} {b source marks rows : List ℕ} {d : Ended} (v : ToKeep 
 -- ── Refused, or at the end of the run ───────────────────────────────────────────────────────────────────────
 
 -- the answer `a`, unless what is performed is refused
-unfoldable pub unless : {A : Type 0} → Performed → Answer A → Answer A
-unless (Refused k) a = refused k
-unless (Overlap j k) a = a
-unless (Done d) a = a
+unfoldable pub unless : {A : Type 0} → Result Ended Unplanned → Answer A → Answer A
+unless (Err (Refused e)) a = refused (number e)
+unless (Err (Overlap o)) a = a
+unless (Ok d) a = a
 
 -- which is the refusal
-pub unless_refused : {A : Type 0} {p : Performed} {k : ℕ} → p ≡ Refused k → (a : Answer A) → unless p a ≡ refused k
+pub unless_refused : {A : Type 0} {p : Result Ended Unplanned} {e : Refusal} → p ≡ Err (Refused e) → (a : Answer A) → unless p a ≡ refused (number e)
 unfolding unless
 unless_refused e a = rw e refl
 
 -- or the answer
-pub unless_done : {A : Type 0} {p : Performed} {d : Ended} → p ≡ Done d → (a : Answer A) → unless p a ≡ a
+pub unless_done : {A : Type 0} {p : Result Ended Unplanned} {d : Ended} → p ≡ Ok d → (a : Answer A) → unless p a ≡ a
 unfolding unless
 unless_done e a = rw e refl
 
 -- also where two changes overlap
-pub unless_overlap : {A : Type 0} {p : Performed} {j k : ℕ} → p ≡ Overlap j k → (a : Answer A) → unless p a ≡ a
+pub unless_overlap : {A : Type 0} {p : Result Ended Unplanned} {j k : ℕ} → p ≡ Err (Overlap (record { earlier = j; later = k })) → (a : Answer A) → unless p a ≡ a
 unfolding unless
 unless_overlap e a = rw e refl
 
 -- what is told then
-unfoldable pub overlap_told : Job → ℕ → ℕ → ℕ → Answer (Outcome × List ℕ)
+unfoldable pub overlap_told : Job → ℕ → ℕ → ℕ → Answer (Told × List ℕ)
 overlap_told Edit j k room = refused 8
 overlap_told (Find n) j k room = refused 8
 overlap_told Account j k room = tell_in room (overlap_line j k)
@@ -332,10 +333,10 @@ module _ {h : Choices} {b changes rows notes changed : List ℕ} {d : Ended} (v 
       sym (rw (w.text v.end v.ends, le-ltb program_room (length (encoded (result_at v.end))) (omega (arith, result_weighs)), said_rows_lem changes (withdrawn_in d.recorded changes) w.rows w.stay) refl)
 
 -- where the run has ended, every job can be answered
-pub record ToAnswer (h : Choices) (b t s changes marks rows notes changed starts : List ℕ) (p : Performed) : Type 0 where
-  pub overlaps : (j k : ℕ) → p ≡ Overlap j k → Overlapped h b j k
-  pub recounts : (d : Ended) → p ≡ Done d → Recounted h b changes d
-  pub ends : (d : Ended) → p ≡ Done d → AtEnd h b rows notes changed d
-  pub tells : (d : Ended) → p ≡ Done d → Told b t s d.elements
-  pub marked : (d : Ended) → p ≡ Done d → Marked h b marks d
-  pub room : (d : Ended) → p ≡ Done d → 4096 ≤ length starts
+pub record ToAnswer (h : Choices) (b t s changes marks rows notes changed starts : List ℕ) (p : Result Ended Unplanned) : Type 0 where
+  pub overlaps : (j k : ℕ) → p ≡ Err (Overlap (record { earlier = j; later = k })) → Overlapped h b j k
+  pub recounts : (d : Ended) → p ≡ Ok d → Recounted h b changes d
+  pub ends : (d : Ended) → p ≡ Ok d → AtEnd h b rows notes changed d
+  pub tells : (d : Ended) → p ≡ Ok d → ElementsTold b t s d.elements
+  pub marked : (d : Ended) → p ≡ Ok d → Marked h b marks d
+  pub room : (d : Ended) → p ≡ Ok d → 4096 ≤ length starts

@@ -5,7 +5,8 @@ ghost use Rattle.std.specs.Prelude.{◌≡◌, ◌≤◌, ◌<◌, length};
 ghost use Rattle.choices.specs.Meant.{meant};
 ghost use Rattle.read_element_table.specs.View.{view};
 ghost use Rattle.read_element_table.specs.Wellformed.{Wellformed};
-ghost use Rattle.edit_perform.specs.AtEnd.{AtEnd, Told, Recounted};
+ghost use Rattle.definition.specs.Basics.{gives};
+ghost use Rattle.edit_perform.specs.AtEnd.{AtEnd, Told as ElementsTold, Recounted};
 ghost use Rattle.promises.specs.Promises.{found};
 ghost use Rattle.promises.specs.Serving.{reached, of_place, of_share, Tells};
 ghost use Rattle.share_laws.specs.Share.{share};
@@ -13,10 +14,10 @@ ghost use Rattle.promises.specs.declared.Job.TheVariants as asked;
 ghost use Rattle.edit_answer.specs.AtEnd.{RowsAtEnd, ToKeep, old_node, overlap_told, unless, ToAnswer};
 
 use choices::Choices;
-use edit_perform::{Ended, Performed};
-use finish_find::Found;
-use finish_result::Finished;
-use promises::{Job, Outcome};
+use edit_perform::Ended;
+use plan_edit::Unplanned;
+use promises::{Job, Told};
+use refusals::Refusal;
 
 // How many bytes the edit program's result buffer has.
 const PROGRAM_ROOM: usize = 65536;
@@ -31,14 +32,14 @@ fn write_answer(
     changed: &mut [u32],
     starts: &mut [u32],
     res: &mut [u8],
-) -> Outcome
+) -> Result<Told, Refusal>
     requires at_end { AtEnd (meant choices) batch.now rows.now notes.old changed.old d }
     requires in_bounds { 4096 ≤ length starts.old }
     ensures { Tells (reached (meant choices) asked.Edit batch.now (length res.old)) res.old result res.new }
 {
     let from = d.text;
     let text = &batch[from..];
-    let end = finish_result::finish(
+    let n = finish_result::finish(
         rows,
         d.rows,
         d.root,
@@ -51,11 +52,8 @@ fn write_answer(
         d.discarded,
         d.climbs,
         res,
-    );
-    match end {
-        Finished::Short => Outcome::Refused(13),
-        Finished::Bytes(n) => Outcome::Bytes(n),
-    }
+    )?;
+    Ok(Told::Bytes(n))
 }
 
 // Whether element `k` of `n` is a node of tree 0.
@@ -78,23 +76,23 @@ fn find_from(
     source: &[u32],
     rows: &[u32],
     k: usize,
-) -> Outcome
+) -> Told
     requires rows_at_end { RowsAtEnd (meant choices) batch.now rows.now d }
-    requires told { Told batch.now table.now source.now d.elements }
-    ensures { result ≡ of_place (found (meant choices) batch.now k) }
+    requires told { ElementsTold batch.now table.now source.now d.elements }
+    ensures { gives result ≡ of_place (found (meant choices) batch.now k) }
 {
     let n = d.elements;
     if n <= k {
-        return Outcome::Nothing;
+        return Told::Nothing;
     }
     if !is_old_node(table, source, n, k) {
-        return Outcome::Nothing;
+        return Told::Nothing;
     }
     let kind = read_element_table::row_word(source, k, rows_syntax_node::KIND);
     let start = finish_find::old_start(table, source, n, k);
     match finish_find::find_in_tree(rows, d.rows, d.root, kind, start) {
-        Found::Nothing => Outcome::Nothing,
-        Found::At(e) => Outcome::At(e),
+        None => Told::Nothing,
+        Some(e) => Told::At(e),
     }
 }
 
@@ -108,7 +106,7 @@ fn account_from(
     notes: &[u32],
     changed: &[u32],
     res: &mut [u8],
-) -> Outcome
+) -> Result<Told, Refusal>
     requires { AtEnd (meant choices) batch.now rows.now notes.now changed.now d × Recounted (meant choices) batch.now changes.now d }
     ensures { Tells (reached (meant choices) asked.Account batch.now (length res.old)) res.old result res.new }
 {
@@ -118,7 +116,7 @@ fn account_from(
         rows, d.rows, d.root, notes, d.notes, changed, d.changed, text,
     );
     if PROGRAM_ROOM < size {
-        return Outcome::Refused(13);
+        return Err(Refusal::ShortResult);
     }
     let behind = plan_edit::WITHDRAWN;
     let end = behind + d.recorded;
@@ -133,13 +131,13 @@ fn share_from(
     rows: &[u32],
     notes: &[u32],
     changed: &[u32],
-) -> Outcome
+) -> Told
     requires { AtEnd (meant choices) batch.now rows.now notes.now changed.now d }
-    ensures { result ≡ of_share (share (meant choices) batch.now) }
+    ensures { gives result ≡ of_share (share (meant choices) batch.now) }
 {
     let c = d.changed;
     let s = share_rows::share(rows, d.rows, d.root, &changed[..c]);
-    Outcome::Of(s.quotient, s.remainder)
+    Told::Of(s.quotient, s.remainder)
 }
 
 // The surviving elements of tree 0 as pairs, from what the run of the batch leaves, or 13.
@@ -151,7 +149,7 @@ fn kept_from(
     marks: &[u32],
     rows: &[u32],
     res: &mut [u8],
-) -> Outcome
+) -> Result<Told, Refusal>
     requires { ToKeep (meant choices) batch.now source.now marks.now rows.now d }
     ensures { Tells (reached (meant choices) asked.Kept batch.now (length res.old)) res.old result res.new }
 {
@@ -159,15 +157,15 @@ fn kept_from(
 }
 
 // What the job answers where the changes at the places `j` and `k` overlap: the account tells them, every other job is refused by 8.
-fn overlapping(job: Job, j: usize, k: usize, res: &mut [u8]) -> Outcome
+fn overlapping(job: Job, j: usize, k: usize, res: &mut [u8]) -> Result<Told, Refusal>
     ensures { Tells (overlap_told job j k (length res.old)) res.old result res.new }
 {
     match job {
-        Job::Edit => Outcome::Refused(8),
-        Job::Find(_) => Outcome::Refused(8),
+        Job::Edit => Err(Refusal::Overlap),
+        Job::Find(_) => Err(Refusal::Overlap),
         Job::Account => account_lines::tell_overlap(j, k, res),
-        Job::Share => Outcome::Refused(8),
-        Job::Kept => Outcome::Refused(8),
+        Job::Share => Err(Refusal::Overlap),
+        Job::Kept => Err(Refusal::Overlap),
     }
 }
 
@@ -176,7 +174,7 @@ pub fn answer(
     choices: Choices,
     job: Job,
     batch: &[u8],
-    done: Performed,
+    done: Result<Ended, Unplanned>,
     table: &[u32],
     source: &[u32],
     changes: &[u32],
@@ -186,18 +184,20 @@ pub fn answer(
     changed: &mut [u32],
     starts: &mut [u32],
     res: &mut [u8],
-) -> Outcome
+) -> Result<Told, Refusal>
     requires { ToAnswer (meant choices) batch.now table.now source.now changes.now marks.now rows.now notes.old changed.old starts.old done }
     ensures { Tells (unless done (reached (meant choices) job batch.now (length res.old))) res.old result res.new }
 {
     match done {
-        Performed::Refused(n) => Outcome::Refused(n),
-        Performed::Overlap(j, k) => overlapping(job, j, k, res),
-        Performed::Done(d) => match job {
+        Err(unplanned) => match unplanned {
+            Unplanned::Refused(refusal) => Err(refusal),
+            Unplanned::Overlap(o) => overlapping(job, o.earlier, o.later, res),
+        },
+        Ok(d) => match job {
             Job::Edit => write_answer(choices, batch, d, rows, notes, changed, starts, res),
-            Job::Find(k) => find_from(choices, batch, d, table, source, rows, k),
+            Job::Find(k) => Ok(find_from(choices, batch, d, table, source, rows, k)),
             Job::Account => { account_from(choices, batch, d, changes, rows, notes, changed, res) }
-            Job::Share => share_from(choices, batch, d, rows, notes, changed),
+            Job::Share => Ok(share_from(choices, batch, d, rows, notes, changed)),
             Job::Kept => kept_from(choices, batch, d, source, marks, rows, res),
         },
     }

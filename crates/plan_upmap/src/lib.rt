@@ -177,6 +177,7 @@ pub fn upmap_element(
     ensures { SettledAt n table.now source.now map.now e result }
 {
     let mut at = e;
+    // No plainer as a range of moves: what is mapped would be asked once more behind it.
     let mut left = n;
     loop {
         let Some(a) = nearest_mapped(table, map, n, at) else {

@@ -1,7 +1,7 @@
 -- The number of an argument, by the tests that led there; and which arguments are refused.
 -- Assumes nothing.
-use Rattle.std.specs.Prelude.{◌⊎◌, true, false, List, [], ◌∷◌, ◌≡◌, refl, ℕ, zero, suc, ◌-◌, ◌≤◌, ◌<◌, length, get_or, ltb}
-use Rattle.std.proofs.Common.{inl, inr, ap, arith, lt-ltb, le-ltb}
+use Rattle.std.specs.Prelude.{◌⊎◌, List, [], ◌∷◌, ◌≡◌, refl, ℕ, zero, suc, ◌-◌, ◌≤◌, ◌<◌, length, get_or}
+use Rattle.std.proofs.Common.{inl, inr, arith, lt-ltb, le-ltb}
 use Rattle.orders.specs.ListLaws.{lt_or_le}
 use Rattle.definition.specs.Basics.{refused, ◌>>=◌, refuse}
 use Rattle.definition.specs.Choices.{no_choice, by_default, digit, given, chosen}

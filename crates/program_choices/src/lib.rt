@@ -20,13 +20,11 @@ fn digit_of(argument: &[u8]) -> usize
         return NO_CHOICE;
     }
     let byte = argument[0];
-    if byte < b'0' {
-        return NO_CHOICE;
+    if byte.is_ascii_digit() {
+        usize::from(byte - b'0')
+    } else {
+        NO_CHOICE
     }
-    if b'9' < byte {
-        return NO_CHOICE;
-    }
-    (byte - b'0') as usize
 }
 
 // The choices that `count` arguments give, the program's name among them, `first` and `second` being those after the name. The count tells whether they are

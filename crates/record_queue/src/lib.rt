@@ -167,6 +167,7 @@ fn record_call(
     let start = q.start;
     let count = q.count;
     let operation = read_calls::operation_of(word);
+    // A call 6 starts a further editor: it is no change, so no `Operation`.
     if operation == 6 {
         return Queue {
             start: count,

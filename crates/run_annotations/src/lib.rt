@@ -120,7 +120,8 @@ fn move_note(notes: &mut [u32], i: usize, r: usize, p: usize, q: usize, m: usize
     r + 1
 }
 
-// Rust: `annotations.retain_mut` in TreeState::splice. The first `k` notes where the rows `p` up to `q` give way to `m` others; what is left comes to the
+// Rust: `annotations.retain_mut` in TreeState::splice. As `move_changed`, but three words a note: a trait for what is moved would be longer than the two loops.
+// The first `k` notes where the rows `p` up to `q` give way to `m` others; what is left comes to the
 // front.
 pub fn move_notes(notes: &mut [u32], k: usize, p: usize, q: usize, m: usize) -> usize
     requires { (3 * k ≤ length notes.old) × (p ≤ q) × (q < 2 ^ 16) × (m < 2 ^ 16) × All (λ n. n.row < 2 ^ 16) (notes_of k notes.old) }
@@ -135,7 +136,7 @@ pub fn move_notes(notes: &mut [u32], k: usize, p: usize, q: usize, m: usize) -> 
 
 // ── The notes that come in with a part ──
 
-// The note at `i` is written to `out` at place `r`, with another row.
+// The note at `i` is written to `out` at place `r`, with another row. Beside `keep_note`, since one slice cannot be lent to read and to write at once.
 fn copy_note(notes: &[u32], i: usize, out: &mut [u32], r: usize, row: usize)
     requires { (3 * i + 3 ≤ length notes.now) × (3 * r + 3 ≤ length out.old) × (row < 2 ^ 32) }
     ensures { out.new ≡ paste out.old (3 * r) (note_words (with_row (note_at notes.now i) row)) 3 }

@@ -9,8 +9,8 @@ use mathlib.Core.Option.{Option, none, some, map}
 use Prim.Native.Nat.{ℕ, zero, suc, ◌+◌, ◌-◌, ◌*◌, ◌^◌, ◌≤◌, ◌<◌}
 use native.Mathlib.Omega.{arith}
 use lib.ListN.{length, get_or}
-use lib.Dec.{eqb, ltb}
-use borrow.Author.Tests.{lt-ltb, le-ltb, ne_eqb}
+use lib.Dec.{eqb}
+use borrow.Author.Tests.{ne_eqb}
 use Rattle.orders.specs.Lists.{All}
 use Rattle.orders.specs.ListLaws.{All-at}
 use Rattle.definition_laws.specs.Basics.{up_from, up_at}
@@ -21,7 +21,6 @@ use Rattle.definition.specs.Elements.{Table, root?, tree}
 use Rattle.rows_model.specs.Row.{Row, first_rows, trees_in}
 use Rattle.rows_model.specs.Place.{child_row, between, subtree}
 use Rattle.run_model.specs.Store.{HeldNote, HeldChanged, Store, there, marked, parent_row, end_row, gap_of, gap_after, gap_run, Part, part_at, part_of}
-use Rattle.run_model.specs.Sums.{too_large_by}
 use Rattle.rows_syntax_node.specs.Promises as node
 use Rattle.run_tree_store.specs.Stored.{stored, stored_first}
 use Rattle.run_tree_store.specs.Gaps.{mark_or_top, parent_mark, parent_mark_lem, gap_marked, gap_by, held, site_of}
@@ -216,22 +215,3 @@ module _ (rows : List ℕ) (n : ℕ) (table marks : List ℕ) (op x y m : ℕ) (
         one : (text source : List ℕ) (notes : List HeldNote) (changed : List HeldChanged)
             → gap_marked (view (length marks) table source) (stored text n rows marks notes changed) op x y (some m) ≡ some (gap_of (view (length marks) table source) (stored text n rows marks notes changed) x m)
         one text source notes changed = rw (ne_eqb op 0 a, ne_eqb op 1 b, ne_eqb op 5 c)
-
--- ── Refusal 12 ──────────────────────────────────────────────────────────────────────────────────────────────
-
-module _ (rows bytes notes depth : ℕ) where
-  pub large_rows : 4097 < rows → true ≡ too_large_by rows bytes notes depth
-  unfolding too_large_by
-  large_rows h = rw (lt-ltb 4097 rows h)
-
-  pub large_bytes : rows ≤ 4097 → 16384 < bytes → true ≡ too_large_by rows bytes notes depth
-  unfolding too_large_by
-  large_bytes a h = rw (le-ltb 4097 rows a, lt-ltb 16384 bytes h)
-
-  pub large_notes : rows ≤ 4097 → bytes ≤ 16384 → 1024 < notes → true ≡ too_large_by rows bytes notes depth
-  unfolding too_large_by
-  large_notes a b h = rw (le-ltb 4097 rows a, le-ltb 16384 bytes b, lt-ltb 1024 notes h)
-
-  pub large_depth : rows ≤ 4097 → bytes ≤ 16384 → notes ≤ 1024 → ltb 64 depth ≡ too_large_by rows bytes notes depth
-  unfolding too_large_by
-  large_depth a b c = rw (le-ltb 4097 rows a, le-ltb 16384 bytes b, le-ltb 1024 notes c)

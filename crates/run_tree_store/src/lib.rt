@@ -176,6 +176,7 @@ fn replaced_site(rows: &[u32], n: usize, table: &[u32], marks: &[u32], x: usize)
 
 // Rust: TreeState::apply, what it finds before it splices (TreeState::map_original_element). Where a change goes, by its operation, its target `x` and its end
 // `y`: none if a mark that it needs is gone, where the Rust panics.
+// The operation stays a number: any may come, and all but four are one gap.
 pub fn find_gap(
     rows: &[u32],
     n: usize,
@@ -217,17 +218,9 @@ pub fn find_gap(
 // ── Refusal 12 ──
 
 // Whether a step makes too much, by the rows, text bytes and notes that there would be, and by the depth of what comes in.
+#[tactic(auto, unfolding(run_model::specs::Sums::too_large_by))]
 pub fn too_large(rows: usize, bytes: usize, notes: usize, depth: usize) -> bool
     ensures { result ≡ too_large_by rows bytes notes depth }
 {
-    if 4097 < rows {
-        return true;
-    }
-    if 16384 < bytes {
-        return true;
-    }
-    if 1024 < notes {
-        return true;
-    }
-    64 < depth
+    4097 < rows || 16384 < bytes || 1024 < notes || 64 < depth
 }

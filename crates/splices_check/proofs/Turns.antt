@@ -8,16 +8,16 @@ use Prim.Native.Nat.{ℕ, zero, suc, ◌+◌, ◌-◌, ◌*◌, ◌/◌, ◌^◌
 use native.Mathlib.Omega.{arith}
 use native.Mathlib.Nat.{sub-zero, zero-add}
 use native.Mathlib.Numerals.{add-one}
-use lib.Dec.{leb, ltb, eqb}
+use lib.Dec.{eqb}
 use lib.ListN.{length, get_or, take, drop}
-use borrow.Author.Tests.{ltb-true, lt-ltb, le-ltb, le-leb, lt-leb, eq-eqb, ne_eqb}
+use borrow.Author.Tests.{ltb-true}
 use Rattle.orders.specs.ListLaws.{both_true, lt_or_le}
-use Rattle.rows_syntax_node.specs.Promises.{Counted, TreesIn}
+use Rattle.rows_syntax_node.specs.Promises.{Counted}
 use Rattle.rows_model.specs.Row.{Row, owes, row_in, triples}
 use Rattle.rows_model.proofs.Words.{triples_at, triples_end}
 use Rattle.splices_model.specs.Cuts.{part_at}
 use Rattle.splices_model.specs.Bounds.{rows_to, rows_to_more, part_is}
-use Rattle.splices_model.specs.Verdict.{owed, closed, bounded_at, has_run_at, fit_at, tree_rows, fits_to, limited, roomy, judged_by, and-false, fits_each}
+use Rattle.splices_model.specs.Verdict.{owed, closed, bounded_at, fit_at, fits_to, limited, roomy, judged_by, and-false, fits_each}
 use Rattle.splices_apart.specs.Promises.{RowsTo, ApartAll}
 use Rattle.splices_check.specs.Promises.{Closes, FitsAt, FitsAll, OneTree, Fitted, Judged}
 
@@ -55,51 +55,8 @@ module _ {run : List ℕ} {o i : ℕ} (v : Owing run o i) where
 
 -- ── One splice ──────────────────────────────────────────────────────────────────────────────────────────────
 
-module _ (e : ℕ) (s p : List ℕ) (j : ℕ) {x : ℕ} (P : Read x (get_or s (6 * j + 1) 0)) where
-  pub no_row : e ≤ x → false ≡ bounded_at e s p j
-  unfolding bounded_at
-  no_row h = rw (le-ltb (get_or s (6 * j + 1) 0) e (rw P.0 at h))
-
-  module _ {a b : ℕ} (A : Read a (get_or s (6 * j + 2) 0)) (B : Read b (get_or s (6 * j + 3) 0)) (h : x < e) where
-    pub reversed : b < a → false ≡ bounded_at e s p j
-    unfolding bounded_at
-    reversed k = rw (lt-ltb (get_or s (6 * j + 1) 0) e (rw P.0 at h), lt-leb (get_or s (6 * j + 2) 0) (get_or s (6 * j + 3) 0) (omega (arith, A.0, B.0)))
-
-    pub too_far : a ≤ b → e < b → false ≡ bounded_at e s p j
-    unfolding bounded_at
-    too_far k l =
-        rw (lt-ltb (get_or s (6 * j + 1) 0) e (rw P.0 at h), le-leb (get_or s (6 * j + 2) 0) (get_or s (6 * j + 3) 0) (omega (arith, A.0, B.0)), lt-leb (get_or s (6 * j + 3) 0) e (rw B.0 at l))
-
-    pub part_there : a ≤ b → b ≤ e → {c d : ℕ} → Read c (get_or s (6 * j + 4) 0) → Read d (get_or s (6 * j + 5) 0) → leb (3 * c + 3 * d) (length p) ≡ bounded_at e s p j
-    unfolding bounded_at
-    part_there k l C D =
-        rw (lt-ltb (get_or s (6 * j + 1) 0) e (rw P.0 at h), le-leb (get_or s (6 * j + 2) 0) (get_or s (6 * j + 3) 0) (omega (arith, A.0, B.0)), le-leb (get_or s (6 * j + 3) 0) e (rw B.0 at l), C.0, D.0)
-
-module _ (rows s : List ℕ) (j : ℕ) {x k : ℕ} (P : Read x (get_or s (6 * j + 1) 0)) (K : Read k (get_or rows (3 * x) 0)) where
-  pub no_node : k < 2147483648 → false ≡ has_run_at rows s j
-  unfolding has_run_at
-  no_node h = rw (lt-leb 2147483648 (get_or rows (3 * get_or s (6 * j + 1) 0) 0) (rw (← P.0, ← K.0) h))
-
-  pub node_with : 2147483648 ≤ k → {b m : ℕ} → Read b (get_or s (6 * j + 3) 0) → Read m (get_or rows (3 * x + 1) 0) → leb b m ≡ has_run_at rows s j
-  unfolding has_run_at
-  node_with h B M = rw (le-leb 2147483648 (get_or rows (3 * get_or s (6 * j + 1) 0) 0) (rw (← P.0, ← K.0) h), B.0, M.0, P.0)
-
 pub part_closes : (s p : List ℕ) (j : ℕ) {a m : ℕ} {r : Bool} → Read a (get_or s (6 * j + 4) 0) → Read m (get_or s (6 * j + 5) 0) → Closes (take (3 * a + 3 * m - 3 * a) (drop (3 * a) p)) r → Closes (part_at s p j) r
 part_closes s p j h k t = rw (part_is s p j h.0 k.0) at t
-
-module _ {rows : List ℕ} {e : ℕ} {s p : List ℕ} {j : ℕ} {b : Bool} (B : b ≡ bounded_at e s p j) where
-  pub unbounded : b ≡ false → FitsAt rows e s p j false
-  unfolding fit_at
-  unbounded z = record { says = λ text. rw (← B, z) }
-
-  module _ {c : Bool} (C : c ≡ has_run_at rows s j) (y : b ≡ true) where
-    pub runless : c ≡ false → FitsAt rows e s p j false
-    unfolding fit_at
-    runless z = record { says = λ text. rw (← B, y, ← C, z) }
-
-    pub fit : {r : Bool} → c ≡ true → Closes (part_at s p j) r → FitsAt rows e s p j r
-    unfolding fit_at
-    fit z w = record { says = λ text. w.says text ∙ rw (← B, y, ← C, z) }
 
 -- ── Every splice ────────────────────────────────────────────────────────────────────────────────────────────
 
@@ -133,15 +90,6 @@ module _ {rows : List ℕ} {e : ℕ} {s p : List ℕ} {c k : ℕ} (v : Fitting r
 
 -- ── One tree ────────────────────────────────────────────────────────────────────────────────────────────────
 
-module _ (run : List ℕ) {b : Bool} (B : Closes run b) where
-  pub not_closed : b ≡ false → OneTree run false
-  unfolding tree_rows
-  not_closed z = record { says = λ text. rw (← B.says text, z) }
-
-  pub tree_counted : {n : ℕ} → b ≡ true → TreesIn run n → OneTree run (eqb n 1)
-  unfolding tree_rows
-  tree_counted z t = record { says = λ text. rw (← B.says text, z, t.count text) }
-
 pub from_the_first : (rows : List ℕ) (e : ℕ) {r : Bool} → OneTree (take (3 * e - 0) rows) r → OneTree (take (3 * e) rows) r
 from_the_first rows e t = rw (sub-zero (3 * e)) at t
 
@@ -162,33 +110,6 @@ module _ {s : List ℕ} {c sum k : ℕ} (v : Summed s c sum k) where
 
   pub summed_done : c ≤ k → c < 2 ^ 15 → (sum ≡ rows_to s c) × (sum < 2 ^ 48)
   summed_done h l = let q : k ≡ c = omega (arith, v.inside) in (v.is ∙ ap (rows_to s) q, omega (arith, v.small))
-
-module _ (e : ℕ) (s p : List ℕ) (c : ℕ) where
-  pub too_many : 32768 ≤ c → false ≡ limited e s p c
-  unfolding limited
-  too_many h = rw (le-ltb c (2 ^ 15) h) (sym (and-false (eqb (length s) (6 * c))))
-
-  pub odd : (length s ≡ 6 * c → ⊥) → false ≡ limited e s p c
-  unfolding limited
-  odd h = rw (ne_eqb (length s) (6 * c) h)
-
-  module _ (k : c < 32768) (l : length s ≡ 6 * c) where
-    pub too_tall : 65536 ≤ e → false ≡ limited e s p c
-    unfolding limited
-    too_tall h = rw (eq-eqb (length s) (6 * c) l, lt-ltb c (2 ^ 15) k, le-ltb e (2 ^ 16) h)
-
-    pub limits : e < 65536 → ltb (length p) 196608 ≡ limited e s p c
-    unfolding limited
-    limits h = rw (eq-eqb (length s) (6 * c) l, lt-ltb c (2 ^ 15) k, lt-ltb e (2 ^ 16) h)
-
-module _ (long e : ℕ) (s : List ℕ) (c : ℕ) {sum : ℕ} (S : (sum ≡ rows_to s c) × (sum < 2 ^ 48)) where
-  pub no_room : long < 3 * e + 3 * sum → false ≡ roomy long e s c
-  unfolding roomy
-  no_room h = rw (← S.0, lt-leb (3 * e + 3 * sum) long h)
-
-  pub some_room : 3 * e + 3 * sum ≤ long → ltb (e + sum) 65536 ≡ roomy long e s c
-  unfolding roomy
-  some_room h = rw (← S.0, le-leb (3 * e + 3 * sum) long h)
 
 -- ── The verdict ─────────────────────────────────────────────────────────────────────────────────────────────
 

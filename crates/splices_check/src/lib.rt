@@ -29,35 +29,29 @@ fn closes(run: &[u32]) -> bool
 }
 
 // Whether the words of splice `j` are in bounds, where the old tree has `e` rows.
+#[tactic(auto, unfolding(splices_model::specs::Verdict::bounded_at))]
 fn bounded(e: usize, splices: &[u32], prepared: &[u32], j: usize) -> bool
     requires { 6 * j + 5 < length splices.now }
     ensures { result ≡ bounded_at e splices.now prepared.now j }
 {
     let to = word(splices, SPLICE_WORDS * j + TO);
-    if e <= word(splices, SPLICE_WORDS * j + PARENT) {
-        return false;
-    }
-    if to < word(splices, SPLICE_WORDS * j + FROM) {
-        return false;
-    }
-    if e < to {
-        return false;
-    }
-    ROW_WORDS * word(splices, SPLICE_WORDS * j + START)
-        + ROW_WORDS * word(splices, SPLICE_WORDS * j + ROWS)
-        <= prepared.len()
+    let start = word(splices, SPLICE_WORDS * j + START);
+    let many = word(splices, SPLICE_WORDS * j + ROWS);
+    word(splices, SPLICE_WORDS * j + PARENT) < e
+        && word(splices, SPLICE_WORDS * j + FROM) <= to
+        && to <= e
+        && ROW_WORDS * start + ROW_WORDS * many <= prepared.len()
 }
 
 // Whether the parent of splice `j` is a node with so many children.
+#[tactic(auto, unfolding(splices_model::specs::Verdict::has_run_at))]
 fn has_run(rows: &[u32], splices: &[u32], j: usize) -> bool
     requires { (6 * j + 5 < length splices.now) × (3 * get_or splices.now (6 * j + 1) 0 + 2 < length rows.now) }
     ensures { result ≡ has_run_at rows.now splices.now j }
 {
     let p = word(splices, SPLICE_WORDS * j + PARENT);
-    if word(rows, ROW_WORDS * p) < 0x8000_0000 {
-        return false;
-    }
-    word(splices, SPLICE_WORDS * j + TO) <= word(rows, ROW_WORDS * p + MEASURE)
+    0x8000_0000 <= word(rows, ROW_WORDS * p)
+        && word(splices, SPLICE_WORDS * j + TO) <= word(rows, ROW_WORDS * p + MEASURE)
 }
 
 // Whether the prepared rows of splice `j` spell trees.
@@ -72,17 +66,12 @@ fn spelt(splices: &[u32], prepared: &[u32], j: usize) -> bool
 }
 
 // Whether splice `j` fits the old tree.
+#[tactic(auto, unfolding(splices_model::specs::Verdict::fit_at))]
 fn fits(rows: &[u32], e: usize, splices: &[u32], prepared: &[u32], j: usize) -> bool
     requires { (6 * j + 5 < length splices.now) × (length prepared.now < 3 * 2 ^ 16) × (3 * e ≤ length rows.now) }
     ensures { FitsAt rows.now e splices.now prepared.now j result }
 {
-    if bounded(e, splices, prepared, j) {
-        if has_run(rows, splices, j) {
-            return spelt(splices, prepared, j);
-        }
-        return false;
-    }
-    false
+    bounded(e, splices, prepared, j) && has_run(rows, splices, j) && spelt(splices, prepared, j)
 }
 
 // Whether each of the first `c` splices does.
@@ -99,14 +88,12 @@ fn all_fit(rows: &[u32], e: usize, splices: &[u32], prepared: &[u32], c: usize) 
 }
 
 // Whether a run is one whole tree.
+#[tactic(auto, unfolding(splices_model::specs::Verdict::tree_rows))]
 fn one_tree(run: &[u32]) -> bool
     requires { length run.now < 3 * 2 ^ 16 }
     ensures { OneTree run.now result }
 {
-    if closes(run) {
-        return trees_in(run) == 1;
-    }
-    false
+    closes(run) && trees_in(run) == 1
 }
 
 // Whether the first `e` rows are those of one tree.
@@ -133,31 +120,21 @@ pub fn rows_to(splices: &[u32], c: usize) -> usize
 }
 
 // Whether the slices are within the limits, where the old tree has `e` rows and the list `c` splices.
+#[tactic(auto, unfolding(splices_model::specs::Verdict::limited))]
 fn within(e: usize, splices: &[u32], prepared: &[u32], c: usize) -> bool
     ensures { result ≡ limited e splices.now prepared.now c }
 {
-    if 32768 <= c {
-        return false;
-    }
-    if splices.len() == SPLICE_WORDS * c {
-        if 65536 <= e {
-            return false;
-        }
-        return prepared.len() < 196608;
-    }
-    false
+    c < 32768 && splices.len() == SPLICE_WORDS * c && e < 65536 && prepared.len() < 196608
 }
 
 // Whether there is room for `e` rows with all that come in: `long` words, and no more than 65,535 rows.
+#[tactic(auto, unfolding(splices_model::specs::Verdict::roomy))]
 fn room(long: usize, e: usize, splices: &[u32], c: usize) -> bool
     requires { (e < 2 ^ 16) × (6 * c ≤ length splices.now) × (c < 2 ^ 15) }
     ensures { result ≡ roomy long e splices.now c }
 {
     let sum = rows_to(splices, c);
-    if long < ROW_WORDS * e + ROW_WORDS * sum {
-        return false;
-    }
-    e + sum < 65536
+    ROW_WORDS * e + ROW_WORDS * sum <= long && e + sum < 65536
 }
 
 // ── The verdict ──

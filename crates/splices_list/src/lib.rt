@@ -51,13 +51,11 @@ fn splice_list(
 }
 
 // The third word of a row, 0 where it tells nothing: in a node's row, and in that of a token without text.
+#[tactic(auto, unfolding(crate::specs::Plain::plain_word))]
 fn plain_word(k: u32, m: u32, o: u32) -> u32
     ensures { result ≡ plain_word k m o }
 {
-    if 2147483648 <= k {
-        return 0;
-    }
-    if m == 0 {
+    if 0x8000_0000 <= k || m == 0 {
         return 0;
     }
     o

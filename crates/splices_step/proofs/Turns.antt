@@ -9,7 +9,7 @@ use native.Mathlib.Nat.{zero-add}
 use native.Mathlib.Numerals.{add-one}
 use lib.Dec.{leb, ltb}
 use lib.ListN.{length, get_or, take, drop}
-use borrow.Author.Tests.{leb-true, ltb-true, lt-ltb, le-ltb, le-leb, lt-leb, eq-eqb, ne_eqb}
+use borrow.Author.Tests.{leb-true, ltb-true, lt-ltb, le-leb}
 use Rattle.orders.specs.Lists.{All, total}
 use Rattle.orders.specs.ListLaws.{both_true, bool_absurd, All-at}
 use Rattle.orders.specs.Tree.{Tree, node, list, Run}
@@ -30,31 +30,6 @@ use Rattle.splices_step.specs.Promises.{left_run, left_at, TreesOf, Deletes, Shi
 abbrev Read : ℕ → ℕ → Type 0
 Read x y = (x ≡ y) × (x < 2 ^ 32)
 
--- ── Left ────────────────────────────────────────────────────────────────────────────────────────────────────
-
-module _ (number from to number' from' to' : ℕ) where
-  pub left_no : from' < to → false ≡ left_run number from to number' from' to'
-  unfolding left_run
-  left_no h = rw (lt-leb to from' h)
-
-  pub left_yes : to ≤ from' → from < to' → true ≡ left_run number from to number' from' to'
-  unfolding left_run
-  left_yes h k = rw (le-leb to from' h, lt-ltb from to' k)
-
-  pub left_tie : to ≤ from' → to' ≤ from → ltb number' number ≡ left_run number from to number' from' to'
-  unfolding left_run
-  left_tie h k = rw (le-leb to from' h, le-ltb from to' k)
-
-module _ (s : List ℕ) (i j : ℕ) {x y : ℕ} (a : Read x (get_or s (6 * j + 1) 0)) (b : Read y (get_or s (6 * i + 1) 0)) where
-  pub other_parent : (x ≡ y → ⊥) → false ≡ left_at s i j
-  unfolding left_at
-  other_parent h = rw (ne_eqb (get_or s (6 * j + 1) 0) (get_or s (6 * i + 1) 0) (λ z. h (a.0 ∙ (z ∙ sym b.0))))
-
-  pub same_parent_lem : x ≡ y → {n f t n' f' t' : ℕ} {r : Bool} → Read n (get_or s (6 * j) 0) → Read f (get_or s (6 * j + 2) 0) → Read t (get_or s (6 * j + 3) 0)
-      → Read n' (get_or s (6 * i) 0) → Read f' (get_or s (6 * i + 2) 0) → Read t' (get_or s (6 * i + 3) 0) → r ≡ left_run n f t n' f' t' → r ≡ left_at s i j
-  unfolding left_at
-  same_parent_lem h p q u p' q' u' e = e ∙ rw (eq-eqb (get_or s (6 * j + 1) 0) (get_or s (6 * i + 1) 0) (sym a.0 ∙ (h ∙ b.0)), p.0, q.0, u.0, p'.0, q'.0, u'.0)
-
 -- ── The prepared rows ───────────────────────────────────────────────────────────────────────────────────────
 
 pub part_trees : (s p : List ℕ) (j : ℕ) {a m r : ℕ} → 3 * get_or s (6 * j + 4) 0 + 3 * get_or s (6 * j + 5) 0 ≤ length p → length p < 3 * 2 ^ 16 → Read a (get_or s (6 * j + 4) 0) → Read m (get_or s (6 * j + 5) 0)
@@ -62,22 +37,6 @@ pub part_trees : (s p : List ℕ) (j : ℕ) {a m r : ℕ} → 3 * get_or s (6 * 
 part_trees s p j w l h k t =
     let u : TreesIn (part_at s p j) _ = rw (part_is s p j h.0 k.0) at t in
     record { count = λ text. u.count text; few = omega (arith, u.few, part_long s p j w) }
-
--- ── A parent that can lose and gain ─────────────────────────────────────────────────────────────────────────
-
-module _ (rows : List ℕ) (parent lost gained : ℕ) {k : ℕ} (a : Read k (get_or rows (3 * parent) 0)) where
-  pub no_node : k < 2147483648 → false ≡ takes_by rows parent lost gained
-  unfolding takes_by
-  no_node h = rw (lt-leb 2147483648 (get_or rows (3 * parent) 0) (rw a.0 at h))
-
-  module _ {m : ℕ} (h : 2147483648 ≤ k) (b : Read m (get_or rows (3 * parent + 1) 0)) where
-    pub too_few : m < lost → false ≡ takes_by rows parent lost gained
-    unfolding takes_by
-    too_few l = rw (le-leb 2147483648 (get_or rows (3 * parent) 0) (rw a.0 at h), lt-leb lost (get_or rows (3 * parent + 1) 0) (rw b.0 at l))
-
-    pub not_many : lost ≤ m → ltb (m + gained) 4294967296 ≡ takes_by rows parent lost gained
-    unfolding takes_by
-    not_many l = rw (le-leb 2147483648 (get_or rows (3 * parent) 0) (rw a.0 at h), le-leb lost (get_or rows (3 * parent + 1) 0) (rw b.0 at l), b.0)
 
 -- ── What is done to the left ────────────────────────────────────────────────────────────────────────────────
 

@@ -15,34 +15,28 @@ use words::word;
 // ── To the left ──
 
 // Whether the first of two runs in one parent is left of the second.
+#[tactic(auto, unfolding(crate::specs::Promises::left_run))]
 fn left_run(number: usize, from: usize, to: usize, number2: usize, from2: usize, to2: usize) -> bool
     ensures { result ≡ left_run number from to number2 from2 to2 }
 {
-    if from2 < to {
-        return false;
-    }
-    if from < to2 {
-        return true;
-    }
-    number2 < number
+    to <= from2 && (from < to2 || number2 < number)
 }
 
 // Whether splice `j` is in the parent of splice `i` and left of it.
+#[tactic(auto, unfolding(crate::specs::Promises::left_at))]
 fn left_of(splices: &[u32], i: usize, j: usize) -> bool
     requires { (6 * i + 5 < length splices.now) × (6 * j + 5 < length splices.now) }
     ensures { result ≡ left_at splices.now i j }
 {
-    if word(splices, SPLICE_WORDS * j + PARENT) == word(splices, SPLICE_WORDS * i + PARENT) {
-        return left_run(
+    word(splices, SPLICE_WORDS * j + PARENT) == word(splices, SPLICE_WORDS * i + PARENT)
+        && left_run(
             word(splices, SPLICE_WORDS * j),
             word(splices, SPLICE_WORDS * j + FROM),
             word(splices, SPLICE_WORDS * j + TO),
             word(splices, SPLICE_WORDS * i),
             word(splices, SPLICE_WORDS * i + FROM),
             word(splices, SPLICE_WORDS * i + TO),
-        );
-    }
-    false
+        )
 }
 
 // The number of trees that splice `j` brings.
@@ -148,18 +142,13 @@ fn gap_now(
 }
 
 // Whether the row `parent` is a node's, which can lose and gain so many children.
+#[tactic(auto, unfolding(crate::specs::Promises::takes_by))]
 fn takes(rows: &[u32], parent: usize, lost: usize, gain: usize) -> bool
     requires { (3 * parent + 2 < length rows.now) × (gain < 2 ^ 16) }
     ensures { result ≡ takes_by rows.now parent lost gain }
 {
-    if word(rows, ROW_WORDS * parent) < 0x8000_0000 {
-        return false;
-    }
     let m = word(rows, ROW_WORDS * parent + MEASURE);
-    if m < lost {
-        return false;
-    }
-    m + gain < 0x1_0000_0000
+    0x8000_0000 <= word(rows, ROW_WORDS * parent) && lost <= m && m + gain < 0x1_0000_0000
 }
 
 // Splice `i` of the list is done where it goes. The new number of rows.

@@ -14,8 +14,8 @@ returns-then-not-is_old_node c = search (none_asked, rules)
 pub old_start-start-requires : goal.old_start-start-requires
 old_start-start-requires c = search (trees_told, asked_old, rules)
 
-pub returns-in-Nothing : goal.returns-in-Nothing
-returns-in-Nothing c = found_none c.requires.rows_at_end c.requires.told _ _ c.is_old_node.ensures c.if-not-is_old_node.false (omega (arith, c.if-n-k.false)) _ _ c.row_word-kind.ensures.0 c.old_start-start.ensures _ c.find_in_tree.ensures c.in-Nothing.is
+pub returns-in-None : goal.returns-in-None
+returns-in-None c = found_none c.requires.rows_at_end c.requires.told _ _ c.is_old_node.ensures c.if-not-is_old_node.false (omega (arith, c.if-n-k.false)) _ _ c.row_word-kind.ensures.0 c.old_start-start.ensures _ c.find_in_tree.ensures c.in-None.is
 
-pub returns-in-At : goal.returns-in-At
-returns-in-At c = found_there c.requires.rows_at_end c.requires.told _ _ c.is_old_node.ensures c.if-not-is_old_node.false (omega (arith, c.if-n-k.false)) _ _ c.row_word-kind.ensures.0 c.old_start-start.ensures _ c.find_in_tree.ensures _ c.in-At.is
+pub returns-in-Some : goal.returns-in-Some
+returns-in-Some c = found_there c.requires.rows_at_end c.requires.told _ _ c.is_old_node.ensures c.if-not-is_old_node.false (omega (arith, c.if-n-k.false)) _ _ c.row_word-kind.ensures.0 c.old_start-start.ensures _ c.find_in_tree.ensures _ c.in-Some.is

@@ -1,16 +1,26 @@
 -- `digit_of` meets its contract. One law for each answer.
 use native.Mathlib.Omega.{arith}
+use mathlib.Core.Logic.{◌⊎◌, inl, inr}
+use mathlib.Core.Path.{◌≡◌, ◌∙◌}
+use mathlib.Core.List.{List}
+use Prim.Native.Nat.{ℕ, ◌<◌}
+use lib.ListN.{get_or}
+use Rattle.definition.specs.Choices.{no_choice, digit}
 use Rattle.program_choices.specs.Digits.{digit_long, digit_low, digit_high, digit_value}
 use Rattle.program_choices.proofs.digit_of.Goals as goal
 
 pub returns-then-argument-ne1 : goal.returns-then-argument-ne1
 returns-then-argument-ne1 c = digit_long _ (λ e. omega arith)
 
-pub returns-then-byte-lt48 : goal.returns-then-byte-lt48
-returns-then-byte-lt48 c = digit_low _ (omega arith)
+pub returns-then-is_ascii_digit : goal.returns-then-is_ascii_digit
+returns-then-is_ascii_digit c =
+    let d = rw c.if-is_ascii_digit.true at c.is_ascii_digit.ensures.cases in
+    c.from.ensures ∙ digit_value _ (omega arith) d.0 d.1
 
-pub returns-then-byte-gt57 : goal.returns-then-byte-gt57
-returns-then-byte-gt57 c = digit_high _ (omega arith)
+-- a byte that is no digit
+other : (a : List ℕ) → (get_or a 0 0 < 48) ⊎ (57 < get_or a 0 0) → no_choice ≡ digit a
+other a (inl l) = digit_low a l
+other a (inr l) = digit_high a l
 
-pub returns : goal.returns
-returns c = digit_value _ (omega arith) (omega arith) (omega arith)
+pub returns-else-is_ascii_digit : goal.returns-else-is_ascii_digit
+returns-else-is_ascii_digit c = other _ (rw c.if-is_ascii_digit.false at c.is_ascii_digit.ensures.cases)

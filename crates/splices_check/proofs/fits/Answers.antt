@@ -1,9 +1,10 @@
 -- `fits` meets its contract.
-use mathlib.Core.Path.{sym, ◌∙◌}
+use mathlib.Core.Path.{◌≡◌, sym, ◌∙◌}
+use mathlib.Core.Bool.{true}
 use borrow.Author.Rules.{rules}
 use Rattle.splices_model.specs.Verdict.{bounded_is}
-use Rattle.splices_check.proofs.Turns.{unbounded, runless, fit}
 use Rattle.splices_check.proofs.fits.Goals as goal
+use Rattle.splices_check.proofs.fits.Goals.{then-bounded, else-bounded}
 
 pub has_run-requires : goal.has_run-requires
 has_run-requires c =
@@ -12,14 +13,6 @@ has_run-requires c =
 
 pub spelt-requires : goal.spelt-requires
 spelt-requires c =
-    let w = bounded_is _ _ _ _ (sym c.bounded.ensures ∙ c.if-bounded.true) c.requires.0 in
+    let t : c.bounded.result ≡ true = elim c.if-bounded.branch [ then-bounded w ↦ w.if-bounded.true | else-bounded w ↦ sym w.value-is ∙ c.if-has_run.true ] in
+    let w = bounded_is _ _ _ _ (sym c.bounded.ensures ∙ t) c.requires.0 in
     search rules
-
-pub returns-then-has_run : goal.returns-then-has_run
-returns-then-has_run c = search (fit, rules)
-
-pub returns-then-bounded : goal.returns-then-bounded
-returns-then-bounded c = search (runless, rules)
-
-pub returns : goal.returns
-returns c = search (unbounded, rules)

@@ -1,0 +1,14 @@
+-- `answer` meets its contract.
+-- Assumes nothing.
+use borrow.Author.Rules.{rules}
+use Rattle.share_program.specs.Responds.{front_long, refused_responds, told_responds}
+use Rattle.share_program.proofs.SharingProgram6553664.answer.Goals as goal
+
+pub print_refusal-requires : goal.print_refusal-requires
+print_refusal-requires c = search rules
+
+pub returns-in-Err : goal.returns-in-Err
+returns-in-Err c = search (refused_responds, rules)
+
+pub returns-in-Ok : goal.returns-in-Ok
+returns-in-Ok c = search (told_responds, rules)
