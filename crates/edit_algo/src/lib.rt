@@ -5,33 +5,13 @@ ghost use Rattle.std.specs.Prelude.{◌∷◌, []};
 ghost use Rattle.choices.specs.Meant.{meant};
 ghost use Rattle.promises.specs.Promises.{Edits, Finds, Accounts, Shares, Keeps};
 ghost use Rattle.promises.specs.Serving.{Serves};
-ghost use Rattle.edit_algo.specs.Numbers.{answer_of, element_of, share_of, TellsLength, TellsPlace, TellsShare};
+ghost use Rattle.edit_algo.specs.Numbers.{answer_of, element_of, share_of, LengthTold, PlaceTold, ShareTold, TellsLength, TellsPlace, TellsShare};
 
 use choices::Choices;
+use edit_answer::Thousandths;
 use edit_perform::perform;
-use promises::{Job, Outcome};
-
-// How many bytes the result, the account or the pairs have, or a refusal's number.
-#[derive(Clone, Copy)]
-pub enum Answer {
-    Refused(usize),
-    Edited(usize),
-}
-
-// Where an element of the old tree stands in the new one, or a refusal's number.
-#[derive(Clone, Copy)]
-pub enum Element {
-    Refused(usize),
-    Nothing,
-    At(usize),
-}
-
-// How much of the text is rewritten, in thousandths: a whole quotient and an exact remainder; or a refusal's number.
-#[derive(Clone, Copy)]
-pub enum Shared {
-    Refused(usize),
-    Of(usize, usize),
-}
+use promises::{Job, Told};
+use refusals::Refusal;
 
 // ── One call for all ──
 
@@ -51,7 +31,7 @@ pub fn serve(
     marks: &mut [u32],
     rows: &mut [u32],
     prepared: &mut [u32],
-) -> Outcome
+) -> Result<Told, Refusal>
     ensures { Serves (meant choices) job batch.now res.old (table.old ∷ source.old ∷ changes.old ∷ notes.old ∷ incoming.old ∷ changed.old ∷ marks.old ∷ rows.old ∷ prepared.old ∷ []) result res.new (table.new ∷ source.new ∷ changes.new ∷ notes.new ∷ incoming.new ∷ changed.new ∷ marks.new ∷ rows.new ∷ prepared.new ∷ []) }
 {
     let done = perform(
@@ -70,41 +50,44 @@ pub fn serve(
 // ── The public calls ──
 
 // What is told of an edit, an account or pairs. (None finds an element or tells a share.)
-fn answer_in(told: Outcome) -> Answer
+fn answer_in(told: Result<Told, Refusal>) -> Result<usize, Refusal>
+    requires { LengthTold told }
     ensures { TellsLength told result }
 {
-    match told {
-        Outcome::Refused(n) => Answer::Refused(n),
-        Outcome::Bytes(n) => Answer::Edited(n),
-        Outcome::Nothing => Answer::Refused(0),
-        Outcome::At(n) => Answer::Refused(0),
-        Outcome::Of(q, m) => Answer::Refused(0),
+    match told? {
+        Told::Bytes(n) => Ok(n),
+        Told::Nothing => unreachable!(),
+        Told::At(_) => unreachable!(),
+        Told::Of(_, _) => unreachable!(),
     }
 }
 
 // What is told of an element. (Who finds writes no bytes.)
-fn element_in(told: Outcome) -> Element
+fn element_in(told: Result<Told, Refusal>) -> Result<Option<usize>, Refusal>
+    requires { PlaceTold told }
     ensures { TellsPlace told result }
 {
-    match told {
-        Outcome::Refused(n) => Element::Refused(n),
-        Outcome::Bytes(n) => Element::Refused(0),
-        Outcome::Nothing => Element::Nothing,
-        Outcome::At(e) => Element::At(e),
-        Outcome::Of(q, m) => Element::Refused(0),
+    match told? {
+        Told::Bytes(_) => unreachable!(),
+        Told::Nothing => Ok(None),
+        Told::At(e) => Ok(Some(e)),
+        Told::Of(_, _) => unreachable!(),
     }
 }
 
 // What is told of a share. (It writes no bytes and finds no element.)
-fn share_in(told: Outcome) -> Shared
+fn share_in(told: Result<Told, Refusal>) -> Result<Thousandths, Refusal>
+    requires { ShareTold told }
     ensures { TellsShare told result }
 {
-    match told {
-        Outcome::Refused(n) => Shared::Refused(n),
-        Outcome::Bytes(n) => Shared::Refused(0),
-        Outcome::Nothing => Shared::Refused(0),
-        Outcome::At(e) => Shared::Refused(0),
-        Outcome::Of(q, m) => Shared::Of(q, m),
+    match told? {
+        Told::Bytes(_) => unreachable!(),
+        Told::Nothing => unreachable!(),
+        Told::At(_) => unreachable!(),
+        Told::Of(quotient, remainder) => Ok(Thousandths {
+            quotient,
+            remainder,
+        }),
     }
 }
 
@@ -122,7 +105,7 @@ pub fn edit(
     marks: &mut [u32],
     rows: &mut [u32],
     prepared: &mut [u32],
-) -> Answer
+) -> Result<usize, Refusal>
     ensures { Edits (meant choices) batch.now res.old (table.old ∷ source.old ∷ changes.old ∷ notes.old ∷ incoming.old ∷ changed.old ∷ marks.old ∷ rows.old ∷ prepared.old ∷ []) (answer_of result) res.new (table.new ∷ source.new ∷ changes.new ∷ notes.new ∷ incoming.new ∷ changed.new ∷ marks.new ∷ rows.new ∷ prepared.new ∷ []) }
 {
     answer_in(serve(
@@ -156,7 +139,7 @@ pub fn find_element(
     marks: &mut [u32],
     rows: &mut [u32],
     prepared: &mut [u32],
-) -> Element
+) -> Result<Option<usize>, Refusal>
     ensures { Finds (meant choices) batch.now number (table.old ∷ source.old ∷ changes.old ∷ notes.old ∷ incoming.old ∷ changed.old ∷ marks.old ∷ rows.old ∷ prepared.old ∷ []) (element_of result) (table.new ∷ source.new ∷ changes.new ∷ notes.new ∷ incoming.new ∷ changed.new ∷ marks.new ∷ rows.new ∷ prepared.new ∷ []) }
 {
     let mut none = [0u8; 0];
@@ -192,7 +175,7 @@ pub fn account(
     marks: &mut [u32],
     rows: &mut [u32],
     prepared: &mut [u32],
-) -> Answer
+) -> Result<usize, Refusal>
     ensures { Accounts (meant choices) batch.now res.old (table.old ∷ source.old ∷ changes.old ∷ notes.old ∷ incoming.old ∷ changed.old ∷ marks.old ∷ rows.old ∷ prepared.old ∷ []) (answer_of result) res.new (table.new ∷ source.new ∷ changes.new ∷ notes.new ∷ incoming.new ∷ changed.new ∷ marks.new ∷ rows.new ∷ prepared.new ∷ []) }
 {
     answer_in(serve(
@@ -226,7 +209,7 @@ pub fn share(
     marks: &mut [u32],
     rows: &mut [u32],
     prepared: &mut [u32],
-) -> Shared
+) -> Result<Thousandths, Refusal>
     ensures { Shares (meant choices) batch.now (table.old ∷ source.old ∷ changes.old ∷ notes.old ∷ incoming.old ∷ changed.old ∷ marks.old ∷ rows.old ∷ prepared.old ∷ []) (share_of result) (table.new ∷ source.new ∷ changes.new ∷ notes.new ∷ incoming.new ∷ changed.new ∷ marks.new ∷ rows.new ∷ prepared.new ∷ []) }
 {
     let mut none = [0u8; 0];
@@ -262,7 +245,7 @@ pub fn kept(
     marks: &mut [u32],
     rows: &mut [u32],
     prepared: &mut [u32],
-) -> Answer
+) -> Result<usize, Refusal>
     ensures { Keeps (meant choices) batch.now res.old (table.old ∷ source.old ∷ changes.old ∷ notes.old ∷ incoming.old ∷ changed.old ∷ marks.old ∷ rows.old ∷ prepared.old ∷ []) (answer_of result) res.new (table.new ∷ source.new ∷ changes.new ∷ notes.new ∷ incoming.new ∷ changed.new ∷ marks.new ∷ rows.new ∷ prepared.new ∷ []) }
 {
     answer_in(serve(

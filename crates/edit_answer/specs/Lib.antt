@@ -1,2 +1,3 @@
 -- From what a run leaves to the answers.
+pub mod Share
 pub mod AtEnd

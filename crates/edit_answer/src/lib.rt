@@ -18,6 +18,7 @@ use edit_perform::Ended;
 use plan_edit::Unplanned;
 use promises::{Job, Told};
 use refusals::Refusal;
+pub use share_rows::Thousandths;
 
 // How many bytes the edit program's result buffer has.
 const PROGRAM_ROOM: usize = 65536;

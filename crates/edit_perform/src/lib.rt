@@ -12,7 +12,8 @@ ghost use Rattle.edit_perform.specs.Beginning.{LaidOut};
 ghost use Rattle.edit_perform.specs.AtEnd.{Performs, PerformsWith};
 
 use choices::Choices;
-use plan_edit::{Counts, Unplanned, plan};
+pub use plan_edit::Unplanned;
+use plan_edit::{Counts, plan};
 use read_batch::accept;
 use read_layout::Layout;
 use refusals::Refusal;

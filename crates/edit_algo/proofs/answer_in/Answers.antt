@@ -1,18 +1,21 @@
--- `answer_in` meets its contract: case by case.
-use Rattle.edit_algo.proofs.Ways.{length_refused, length_told, no_element, no_place, no_share}
+-- `answer_in` meets its contract: case by case; no edit finds an element or tells a share.
+use Rattle.std.proofs.lemmas.Result.{err_from_is_err_and}
+use Rattle.edit_algo.proofs.Ways.{length_refused, no_element, no_place, no_share, length_told}
 use Rattle.edit_algo.proofs.answer_in.Goals as goal
 
-pub returns-in-Refused : goal.returns-in-Refused
-returns-in-Refused c = length_refused c.in-Refused.is
+pub returns-in_err-n : goal.returns-in_err-n
+returns-in_err-n c =
+    let p = err_from_is_err_and c.from_residual.result c.from_residual.ensures.1 in
+    rw (p.1, p.2) (length_refused c.in_err-n.was)
 
-pub returns-in-Bytes : goal.returns-in-Bytes
-returns-in-Bytes c = length_told c.in-Bytes.is
+pub unreachable-requires : goal.unreachable-requires
+unreachable-requires c = no_element c.in_ok-n.was c.in-Nothing.is c.requires
 
-pub returns-in-Nothing : goal.returns-in-Nothing
-returns-in-Nothing c = no_element c.in-Nothing.is
+pub unreachable-requires-in-At : goal.unreachable-requires-in-At
+unreachable-requires-in-At c = no_place c.in_ok-n.was c.in-At.is c.requires
 
-pub returns-in-At : goal.returns-in-At
-returns-in-At c = no_place c.in-At.is
+pub unreachable-requires-in-Of : goal.unreachable-requires-in-Of
+unreachable-requires-in-Of c = no_share c.in_ok-n.was c.in-Of.is c.requires
 
-pub returns-in-Of : goal.returns-in-Of
-returns-in-Of c = no_share c.in-Of.is
+pub returns : goal.returns
+returns c = length_told c.in_ok-n.was c.in-Bytes.is

@@ -1,18 +1,21 @@
--- `share_in` meets its contract: case by case.
+-- `share_in` meets its contract: case by case; a share is no length and no place.
+use Rattle.std.proofs.lemmas.Result.{err_from_is_err_and}
 use Rattle.edit_algo.proofs.Ways.{share_refused, share_no_bytes, share_nowhere, share_no_place, share_told}
 use Rattle.edit_algo.proofs.share_in.Goals as goal
 
-pub returns-in-Refused : goal.returns-in-Refused
-returns-in-Refused c = share_refused c.in-Refused.is
+pub returns-in_err-told : goal.returns-in_err-told
+returns-in_err-told c =
+    let p = err_from_is_err_and c.from_residual.result c.from_residual.ensures.1 in
+    rw (p.1, p.2) (share_refused c.in_err-told.was)
 
-pub returns-in-Bytes : goal.returns-in-Bytes
-returns-in-Bytes c = share_no_bytes c.in-Bytes.is
+pub unreachable-requires : goal.unreachable-requires
+unreachable-requires c = share_no_bytes c.in_ok-told.was c.in-Bytes.is c.requires
 
-pub returns-in-Nothing : goal.returns-in-Nothing
-returns-in-Nothing c = share_nowhere c.in-Nothing.is
+pub unreachable-requires-in-Nothing : goal.unreachable-requires-in-Nothing
+unreachable-requires-in-Nothing c = share_nowhere c.in_ok-told.was c.in-Nothing.is c.requires
 
-pub returns-in-At : goal.returns-in-At
-returns-in-At c = share_no_place c.in-At.is
+pub unreachable-requires-in-At : goal.unreachable-requires-in-At
+unreachable-requires-in-At c = share_no_place c.in_ok-told.was c.in-At.is c.requires
 
-pub returns-in-Of : goal.returns-in-Of
-returns-in-Of c = share_told c.in-Of.is
+pub returns : goal.returns
+returns c = share_told c.in_ok-told.was c.in-Of.is
