@@ -13,7 +13,7 @@ use Rattle.promises.specs.Promises as promises
 use Rattle.refusals.specs.Numbers.{number, answered}
 use Rattle.refusals.specs.declared.Refusal.{Refusal}
 use Rattle.refusals.specs.declared.Refusal.TheVariants.{ShortWork}
-use Rattle.plan_edit.specs.declared.Unplanned.{Unplanned}
+use Rattle.edit_perform.specs.Stops.{Unplanned}
 use Rattle.edit_perform.specs.declared.Ended.{Ended}
 use Rattle.series_check.specs.Judged.{judged}
 use Rattle.series_laws.specs.Memory.{most_at_start}

@@ -24,8 +24,7 @@ use Rattle.finish_result.specs.Answered.{fitted, over_front, Answered, answered_
 use Rattle.refusals.specs.Numbers.{number, answered}
 use Rattle.refusals.specs.declared.Refusal.{Refusal}
 use Rattle.refusals.specs.declared.Refusal.TheVariants.{ShortResult, Overlap as Overlaps}
-use Rattle.plan_edit.specs.declared.Unplanned.{Unplanned}
-use Rattle.plan_edit.specs.declared.Unplanned.TheVariants.{Refused, Overlap}
+use Rattle.edit_perform.specs.Stops.{Unplanned, Refused, Overlap}
 use Rattle.promises.specs.Promises as promises
 use Rattle.promises.specs.Promises.{applied}
 use Rattle.edit_perform.specs.Ending.{End, result_at, edit_ending}

@@ -9,9 +9,8 @@ ghost use Rattle.series_answer.specs.Telling.{TellsOn};
 ghost use Rattle.series_answer.specs.Ends.{ToLeave, ToAnswer};
 
 use choices::Choices;
-use edit_perform::Ended;
+use edit_perform::{Ended, Unplanned};
 use finish_result::finish;
-use plan_edit::Unplanned;
 use refusals::Refusal;
 use series_leave::leave;
 use series_tree::lacks_room;

@@ -29,8 +29,7 @@ use Rattle.edit_perform.specs.Beginning.{LaidOut}
 use Rattle.edit_perform.specs.Ending.{End, ending}
 use Rattle.edit_perform.specs.AtEnd.{AtEnd, Told, Marked, Performs}
 use Rattle.edit_perform.specs.declared.Ended.{Ended}
-use Rattle.plan_edit.specs.declared.Unplanned.{Unplanned}
-use Rattle.plan_edit.specs.declared.Unplanned.TheVariants.{Refused, Overlap}
+use Rattle.edit_perform.specs.Stops.{Unplanned, Refused, Overlap}
 use Rattle.series_follow.specs.Accepting.{same_as, accepted_on, held_in}
 
 refused_inj : {A : Type 0} {j k : ℕ} → ◌≡◌ {A = Answer A} (refused j) (refused k) → j ≡ k

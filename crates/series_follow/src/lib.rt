@@ -15,8 +15,7 @@ ghost use Rattle.series_follow.specs.Accepting.{AcceptsOn};
 ghost use Rattle.series_follow.specs.Performing.{PerformsOn};
 
 use choices::Choices;
-use edit_perform::{Ended, plan_and_run, refused_first};
-use plan_edit::Unplanned;
+use edit_perform::{Ended, Unplanned, plan_and_run, refused_first};
 use read_batch::accept;
 use read_layout::Layout;
 use refusals::Refusal;
