@@ -1,9 +1,10 @@
 -- What stands at the front of the output, of the bytes at the front of a batch's buffer.
 -- Assumes nothing.
-use Rattle.std.specs.Prelude.{◌≡◌, false, List, ◌++◌, ℕ, ◌≤◌, length, take, drop}
+use Rattle.std.specs.Prelude.{◌≡◌, Result, Ok, Err, false, List, ◌++◌, ℕ, ◌≤◌, length, take, drop}
 use Rattle.std.proofs.Math.Path.{refl, sym}
 use Rattle.std.proofs.Common.{ap, ◌∙◌, arith, length-append, take_at, take_all, length-take-le}
-use Rattle.program_input.specs.Counts.{IsPrefixLen}
+use Rattle.std.proofs.lemmas.List.{take-take}
+use Rattle.program_input.specs.Told as frame
 use Rattle.definition.specs.Basics as basics
 use Rattle.definition.specs.Basics.{gives, refused, ◌>>=◌}
 use Rattle.definition.specs.Choices.{Choices, chosen}
@@ -15,29 +16,32 @@ use Rattle.promises.specs.Slices.{needed, lengths}
 use Rattle.promises.specs.Promises.{left_in, Accounts, wrongly_chosen, with_long}
 use Rattle.edit_print.specs.Lines.{Put, put_fits, put_front}
 use Rattle.account_lines.specs.Short.{most_text, account_short, room_enough}
-use Rattle.edit_algo.specs.declared.Answer.{Answer}
-use Rattle.edit_algo.specs.declared.Answer.TheVariants.{Refused, Edited}
 use Rattle.edit_algo.specs.Numbers.{answer_of}
+use Rattle.refusals.specs.Numbers.{number}
+use Rattle.refusals.specs.declared.Refusal.{Refusal}
 
 -- the account of the batch b, which a wrong choice refuses first
 abbrev pub recount : Choices → List ℕ → basics.Answer (List ℕ)
 recount h b = chosen h >>= λ u. account h b
 
 -- it is refused by this number, or is the text at the front of the output
-abbrev pub Says : Choices → List ℕ → Answer → List ℕ → Type 0
-Says h b (Refused k) out = recount h b ≡ refused k
-Says h b (Edited n) out = (n ≤ length out) × (recount h b ≡ gives (take n out))
+abbrev pub Says : Choices → List ℕ → Result ℕ Refusal → List ℕ → Type 0
+Says h b (Err k) out = recount h b ≡ refused (number k)
+Says h b (Ok n) out = (n ≤ length out) × (recount h b ≡ gives (take n out))
 
 -- so of an answer, and the output keeps its length
-pub record Tells (h : Choices) (b : List ℕ) (r : Answer) (out : List ℕ) : Type 0 where
+pub record Tells (h : Choices) (b : List ℕ) (r : Result ℕ Refusal) (out : List ℕ) : Type 0 where
   pub says : Says h b r out
   pub long : length out ≡ most_text
 
 -- the first `written` bytes of the output are what document 02 prints by the choices h of the first `read` bytes of the batch's buffer
-pub record Responds (h : Choices) (batch : List ℕ) (read : ℕ) (out : List ℕ) (written : ℕ) : Type 0 where
-  pub judged : read ≤ length batch
-  pub fits : IsPrefixLen written out
-  pub says : take written out ≡ account_printed h (take read batch)
+abbrev pub Responds : Choices → List ℕ → ℕ → List ℕ → ℕ → Type 0
+Responds h = frame.Responds (account_printed h)
+
+-- no more of the input is judged than the buffer has room for
+pub judged_in_room : (h : Choices) (bs : List ℕ) → account_printed h (take 65536 bs) ≡ account_printed h bs
+unfolding account_printed
+judged_in_room h bs = rw (take-take 65536 65536 bs (omega arith)) refl
 
 -- the bytes that are judged are no more than the buffer has
 pub front_within : (read : ℕ) (b : List ℕ) → 65536 ≡ length b → read ≤ length b → length (take read b) ≤ 65536
@@ -62,7 +66,7 @@ accounted_whole h work b room s m = go (chosen h) refl
     go (gives u) c = with_long h work (account h b >>= in_room room) c s ∙ roomy (account h b) refl
 
 -- an answer that keeps its promise tells the account
-pub account_tells : {h : Choices} {b held : List ℕ} {work : List (List ℕ)} {holds : List ℕ} {left : List (List ℕ)} {r : Answer} → Accounts h b held work (answer_of r) holds left → 8192 ≡ length held → length holds ≡ length held
+pub account_tells : {h : Choices} {b held : List ℕ} {work : List (List ℕ)} {holds : List ℕ} {left : List (List ℕ)} {r : Result ℕ Refusal} → Accounts h b held work (answer_of r) holds left → 8192 ≡ length held → length holds ≡ length held
     → too_short (lengths needed work) ≡ false → Tells h b r holds
 unfolding answer_of left_in ◌>>=◌
 account_tells {h} {b} {held} {work} {holds} {left} {r} p e l s = record { says = go r (recount h b) refl (p.answer ∙ ap (λ (x : basics.Answer (List ℕ)). x >>= λ text. gives (length text)) same) (p.result ∙ ap (left_in held) same); long = omega arith }
@@ -70,14 +74,14 @@ account_tells {h} {b} {held} {work} {holds} {left} {r} p e l s = record { says =
     same : accounted h (lengths needed work) b (length held) ≡ recount h b
     same = accounted_whole h (lengths needed work) b (length held) s (omega arith)
 
-    go : (r : Answer) (o : basics.Answer (List ℕ)) → recount h b ≡ o → answer_of r ≡ (recount h b >>= λ text. gives (length text)) → holds ≡ left_in held (recount h b) → Says h b r holds
-    go (Refused k) (refused n) i m q =
-        let z : ◌≡◌ {A = basics.Answer ℕ} (refused k) (refused n) = rw i at m in
-        let y : n ≡ k = cc in
+    go : (r : Result ℕ Refusal) (o : basics.Answer (List ℕ)) → recount h b ≡ o → answer_of r ≡ (recount h b >>= λ text. gives (length text)) → holds ≡ left_in held (recount h b) → Says h b r holds
+    go (Err k) (refused n) i m q =
+        let z : ◌≡◌ {A = basics.Answer ℕ} (refused (number k)) (refused n) = rw i at m in
+        let y : n ≡ number k = cc in
         i ∙ ap refused y
-    go (Refused k) (gives text) i m q = let z : ◌≡◌ {A = basics.Answer ℕ} (refused k) (gives (length text)) = rw i at m in refused_gives z
-    go (Edited k) (refused n) i m q = let z : ◌≡◌ {A = basics.Answer ℕ} (gives k) (refused n) = rw i at m in refused_gives (sym z)
-    go (Edited k) (gives text) i m q =
+    go (Err k) (gives text) i m q = let z : ◌≡◌ {A = basics.Answer ℕ} (refused (number k)) (gives (length text)) = rw i at m in refused_gives z
+    go (Ok k) (refused n) i m q = let z : ◌≡◌ {A = basics.Answer ℕ} (gives k) (refused n) = rw i at m in refused_gives (sym z)
+    go (Ok k) (gives text) i m q =
         let y : ◌≡◌ {A = basics.Answer ℕ} (gives k) (gives (length text)) = rw i at m in
         let n : k ≡ length text = gives_inj y in
         let z : holds ≡ text ++ drop (length text) held = rw i at q in
@@ -85,18 +89,18 @@ account_tells {h} {b} {held} {work} {holds} {left} {r} p e l s = record { says =
 
 -- ── Printed ─────────────────────────────────────────────────────────────────────────────────────────────────
 
-module _ {h : Choices} (b : List ℕ) (read : ℕ) {r : Answer} {out : List ℕ} (n : 65536 ≡ length b) (c : read ≤ length b) (t : Tells h (take read b) r out) where
+module _ {h : Choices} (b : List ℕ) (read : ℕ) {r : Result ℕ Refusal} {out : List ℕ} (n : 65536 ≡ length b) (c : read ≤ length b) (t : Tells h (take read b) r out) where
   whole : take program_room (take read b) ≡ take read b
   whole = take_all 65536 (take read b) (omega (arith, length-take-le read b c))
 
-  pub refused_responds : {k : ℕ} {l : List ℕ} {to : ℕ} → r ≡ Refused k → Put out 0 (tell (refused k)) l to → length l ≡ length out → Responds h b read l to
+  pub refused_responds : {e : Refusal} {k : ℕ} {l : List ℕ} {to : ℕ} → r ≡ Err e → k ≡ number e → Put out 0 (tell (refused k)) l to → length l ≡ length out → Responds h b read l to
   unfolding account_printed
-  refused_responds {k} {l} {to} e p m =
-      let s : Says h (take read b) (Refused k) out = rw e at t.says in
+  refused_responds {k = k} {l} {to} e q p m =
+      let s : recount h (take read b) ≡ refused k = rw (e, ← q) at t.says in
       record { judged = c; fits = (put_fits p m, sym (length-take-le to l (put_fits p m))); says = put_front p m ∙ rw (whole, s) refl }
 
-  pub told_responds : {n : ℕ} → r ≡ Edited n → Responds h b read out n
+  pub told_responds : {n : ℕ} → r ≡ Ok n → Responds h b read out n
   unfolding account_printed tell
   told_responds {n} e =
-      let s : Says h (take read b) (Edited n) out = rw e at t.says in
+      let s : Says h (take read b) (Ok n) out = rw e at t.says in
       record { judged = c; fits = (s.0, sym (length-take-le n out s.0)); says = rw (whole, s.1) refl }

@@ -1,21 +1,21 @@
 // The account program: reads its choices, the first two arguments, and a batch on standard input, and prints what becomes of each change.
 #![tactic(auto)]
 
-ghost use Rattle.std.specs.Prelude.{◌≡◌, ◌<◌, ◌≤◌, length, take, OnOk};
-ghost use Rattle.std.specs.Io.KnownBytes.{Consumes, IsAtEnd};
+ghost use Rattle.std.specs.Prelude.{◌≡◌, ◌≤◌, length, OnOk};
 ghost use Rattle.choices.specs.Meant.{meant};
 ghost use Rattle.definition.specs.Account.{account_printed};
 ghost use Rattle.program_input.specs.Told.{Writes};
-ghost use Rattle.account_program.specs.Responds.{Tells, Responds};
+ghost use Rattle.account_program.specs.Responds.{Tells, judged_in_room};
 
 use choices::Choices;
-use edit_algo::Answer;
+use program_input::Program;
+use refusals::Refusal;
 use std::io;
 use std::io::{Read, Write};
 use std::rt::Env;
 
 // The account of a batch, its text at the front of `out`. The work slices are made here, of the lengths of docs/WORK.md.
-fn account_batch(choices: Choices, batch: &[u8], out: &mut [u8]) -> Answer
+fn account_batch(choices: Choices, batch: &[u8], out: &mut [u8]) -> Result<usize, Refusal>
     requires { (length batch.now ≤ 65536) × (8192 ≡ length out.old) }
     ensures { Tells (meant choices) batch.now result out.new }
 {
@@ -44,58 +44,36 @@ fn account_batch(choices: Choices, batch: &[u8], out: &mut [u8]) -> Answer
     )
 }
 
-// What is printed of the batch in the first `read` bytes is written at the front of `out`: the text, or a refusal's number alone.
-fn answer(choices: Choices, batch: &[u8], read: usize, out: &mut [u8]) -> usize
-    requires { (65536 ≡ length batch.now) × (read ≤ length batch.now) × (8192 ≡ length out.old) }
-    ensures { Responds (meant choices) batch.now read out.new result }
-{
-    let told = account_batch(choices, &batch[..read], out);
-    match told {
-        Answer::Refused(number) => account_lines::print_refusal(out, number),
-        Answer::Edited(n) => n,
-    }
-}
-
-// How many bytes of the batch were read, and how many of the output are to be printed.
+// The program by its choices.
 #[derive(Clone, Copy)]
-pub struct Response {
-    pub read: usize,
-    pub written: usize,
+struct Accounting {
+    choices: Choices,
 }
 
-// Reads a batch and writes what is printed of it at the front of `out`, and answers besides whether reading ended well. The bytes judged are the first `read` of the batch's buffer, as reading left it: where it is
-// known what bytes the input has left, the next of them. That they are the bytes that came on standard input is not promised (`program_input::read_batch`).
-pub fn respond<R: Read>(
-    choices: Choices,
-    from: &mut R,
-    batch: &mut [u8],
-    out: &mut [u8],
-) -> (Response, io::Result<()>)
-    requires { (65536 ≡ length batch.old) × (8192 ≡ length out.old) }
-    ensures responds { Responds (meant choices) batch.new result.0.read out.new result.0.written }
-    ensures bytes { Consumes (R.remaining from.old) (R.remaining from.new) (take result.0.read batch.new) }
-    ensures end { OnOk result.1 (result.0.read < length batch.new → IsAtEnd (R.remaining from.new)) }
-{
-    let filled = program_input::read_batch(from, batch);
-    let read = filled.count;
-    let written = answer(choices, batch, read, out);
-    (Response { read, written }, filled.ended)
+impl Program<65536, 8192> for Accounting {
+    ghost says = { λ p. account_printed (meant p.choices) };
+
+    // The text, or a refusal's number alone.
+    fn answer(&self, batch: &[u8], read: usize, out: &mut [u8]) -> usize {
+        let told = account_batch(self.choices, &batch[..read], out);
+        match told {
+            Err(refusal) => account_lines::print_refusal(out, refusal.number()),
+            Ok(n) => n,
+        }
+    }
+
+    ghost cut = { λ p bs. judged_in_room (meant p.choices) bs };
 }
 
 // Reads a batch and prints what is printed of it. Where a read fails, of what was read before, and then ends with that error. Where it is known what bytes the input has left and the output holds, what is printed of those comes behind these.
 pub fn serve<R: Read, W: Write>(choices: Choices, from: &mut R, to: &mut W) -> io::Result<()>
     ensures { OnOk result (Writes (account_printed (meant choices)) (R.remaining from.old) (W.contents to.old) (W.contents to.new)) }
 {
-    let mut batch = [0u8; 65536];
-    let mut out = [0u8; 8192];
-    let (response, ended) = respond(choices, from, &mut batch, &mut out);
-    let written = response.written;
-    to.write_all(&out[..written])?;
-    ended
+    program_input::serve(&Accounting { choices }, from, to)
 }
 
 // The whole program, on standard input and output. Which bytes the operating system gives, and how many of those printed it takes, is not promised.
 pub fn run<R: Env + Input + Print>(rt: &R) -> io::Result<()> {
     let choices = program_choices::choices(rt);
-    serve(choices, &mut rt.reader(), &mut io::writer(rt))
+    program_input::run(&Accounting { choices }, rt)
 }

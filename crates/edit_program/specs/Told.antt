@@ -1,6 +1,6 @@
 -- What is printed of an answer and the slice that holds its result, and that it is what is printed of the edit.
 -- Assumes nothing.
-use Rattle.std.specs.Prelude.{◌≡◌, false, ℕ, ◌≤◌, length, take}
+use Rattle.std.specs.Prelude.{◌≡◌, Result, Ok, Err, false, ℕ, ◌≤◌, length, take}
 use Rattle.std.proofs.Math.Path.{refl, sym, ap}
 use Rattle.std.proofs.Common.{◌∙◌, take_all}
 use mathlib.Core.List.{List, [], append-nil}
@@ -14,10 +14,10 @@ use Rattle.definition.specs.Printed.{print, printed}
 use Rattle.definition_laws.specs.Answers.{refused_gives}
 use Rattle.definition_laws.proofs.Limits.{edit_within}
 use Rattle.promises.specs.Slices.{needed, lengths}
-use Rattle.edit_algo.specs.declared.Answer.{Answer}
-use Rattle.edit_algo.specs.declared.Answer.TheVariants.{Refused, Edited}
-use Rattle.promises.specs.Promises.{Edits, applied, wrongly_chosen}
 use Rattle.edit_algo.specs.Numbers.{answer_of}
+use Rattle.refusals.specs.Numbers.{number}
+use Rattle.refusals.specs.declared.Refusal.{Refusal}
+use Rattle.promises.specs.Promises.{Edits, applied, wrongly_chosen}
 use Rattle.result_laws.proofs.Worded.{Bytes, edit_worded}
 use Rattle.result_laws.specs.Decoded.{decoded}
 use Rattle.result_laws.proofs.Encoded.{decoded_encoded}
@@ -35,20 +35,20 @@ pub record Holds (n : ℕ) (result : List ℕ) (room : ℕ) : Type 0 where
   pub printable : Printable (take n result) room
 
 -- an answer can be printed into so much room
-abbrev pub Showable : Answer → List ℕ → ℕ → Type 0
-Showable (Refused k) result room = 19 ≤ room
-Showable (Edited n) result room = Holds n result room
+abbrev pub Showable : Result ℕ Refusal → List ℕ → ℕ → Type 0
+Showable (Err k) result room = 19 ≤ room
+Showable (Ok n) result room = Holds n result room
 
 -- what is printed of an answer, whose result stands at the front of the slice
-abbrev pub told : Answer → List ℕ → List ℕ
-told (Refused k) result = print (refused k)
-told (Edited n) result = print (gives (decoded (take n result)))
+abbrev pub told : Result ℕ Refusal → List ℕ → List ℕ
+told (Err k) result = print (refused (number k))
+told (Ok n) result = print (gives (decoded (take n result)))
 
 module _ (h : Choices) (b held : List ℕ) (work : List (List ℕ)) (holds : List ℕ) (left : List (List ℕ)) where
-  pub edit_showable : (r : Answer) (room : ℕ) → 190000 ≤ room → Edits h b held work (answer_of r) holds left → Showable r holds room
+  pub edit_showable : (r : Result ℕ Refusal) (room : ℕ) → 190000 ≤ room → Edits h b held work (answer_of r) holds left → Showable r holds room
   unfolding answer_of
-  edit_showable (Refused k) room m p = omega arith
-  edit_showable (Edited n) room m p =
+  edit_showable (Err k) room m p = omega arith
+  edit_showable (Ok n) room m p =
       let d = demand_1 h b held work (gives n) holds left p in
       let f = d.finished n refl in
       record {
@@ -58,10 +58,10 @@ module _ (h : Choices) (b held : List ℕ) (work : List (List ℕ)) (holds : Lis
       }
 
   -- the bytes of the result alone are read as the whole slice is
-  edit_told : (r : Answer) → Bytes b → Edits h b held work (answer_of r) holds left → told r holds ≡ print (answer_in (answer_of r) holds)
+  edit_told : (r : Result ℕ Refusal) → Bytes b → Edits h b held work (answer_of r) holds left → told r holds ≡ print (answer_in (answer_of r) holds)
   unfolding answer_of answer_in
-  edit_told (Refused k) v p = refl
-  edit_told (Edited n) v p =
+  edit_told (Err k) v p = refl
+  edit_told (Ok n) v p =
       let f = (demand_1 h b held work (gives n) holds left p).finished n refl in
       let R = f.result in
       let alone : decoded (take n holds) ≡ R = decoded_encoded R (take n holds) [] (f.front ∙ sym (append-nil (encoded R))) (edit_within h b R f.edits) (edit_worded h b R v f.edits) in
@@ -69,41 +69,41 @@ module _ (h : Choices) (b held : List ℕ) (work : List (List ℕ)) (holds : Lis
 
 -- ── By the answer ───────────────────────────────────────────────────────────────────────────────────────────
 
-module _ {r : Answer} (result : List ℕ) where
-  pub refused_room : {k : ℕ} (room : ℕ) → r ≡ Refused k → Showable r result room → 19 ≤ room
+module _ {r : Result ℕ Refusal} (result : List ℕ) where
+  pub refused_room : {k : Refusal} (room : ℕ) → r ≡ Err k → Showable r result room → 19 ≤ room
   refused_room {k} room e h = rw e at h
 
-  pub edited_holds : {n : ℕ} (room : ℕ) → r ≡ Edited n → Showable r result room → Holds n result room
+  pub edited_holds : {n : ℕ} (room : ℕ) → r ≡ Ok n → Showable r result room → Holds n result room
   edited_holds {n} room e h = rw e at h
 
-  pub edited_counted : {n : ℕ} (room : ℕ) → r ≡ Edited n → Showable r result room → n ≡ length (take n result)
+  pub edited_counted : {n : ℕ} (room : ℕ) → r ≡ Ok n → Showable r result room → n ≡ length (take n result)
   edited_counted room e h = (edited_holds room e h).counted
 
-  pub edited_printable : {n : ℕ} (room : ℕ) → r ≡ Edited n → Showable r result room → Printable (take n result) room
+  pub edited_printable : {n : ℕ} (room : ℕ) → r ≡ Ok n → Showable r result room → Printable (take n result) room
   edited_printable room e h = (edited_holds room e h).printable
 
-  pub refused_told : {k : ℕ} {d l : List ℕ} {to : ℕ} → r ≡ Refused k → Put d 0 (print (refused k)) l to → Put d 0 (told r result) l to
-  refused_told e p = rw e p
+  pub refused_told : {k : Refusal} {n : ℕ} {d l : List ℕ} {to : ℕ} → r ≡ Err k → n ≡ number k → Put d 0 (print (refused n)) l to → Put d 0 (told r result) l to
+  refused_told e q p = rw (e, ← q) p
 
-  pub edited_told : {n : ℕ} {d l : List ℕ} {to : ℕ} → r ≡ Edited n → Put d 0 (print (gives (decoded (take n result)))) l to → Put d 0 (told r result) l to
+  pub edited_told : {n : ℕ} {d l : List ℕ} {to : ℕ} → r ≡ Ok n → Put d 0 (print (gives (decoded (take n result)))) l to → Put d 0 (told r result) l to
   edited_told e p = rw e p
 
 -- an answer, with its result at the front of the slice, tells what the definition prints of the batch by these choices
-pub record Tells (h : Choices) (b : List ℕ) (r : Answer) (result : List ℕ) : Type 0 where
+pub record Tells (h : Choices) (b : List ℕ) (r : Result ℕ Refusal) (result : List ℕ) : Type 0 where
   pub showable : (room : ℕ) → 190000 ≤ room → Showable r result room
   pub tells : told r result ≡ printed h b
 
 -- a wrong choice refuses the edit, and that is what is printed
-wrong_tells : {h : Choices} {b held : List ℕ} {work : List (List ℕ)} {holds : List ℕ} {left : List (List ℕ)} (r : Answer) (k : ℕ) → chosen h ≡ refused k → Edits h b held work (answer_of r) holds left → told r holds ≡ printed h b
+wrong_tells : {h : Choices} {b held : List ℕ} {work : List (List ℕ)} {holds : List ℕ} {left : List (List ℕ)} (r : Result ℕ Refusal) (k : ℕ) → chosen h ≡ refused k → Edits h b held work (answer_of r) holds left → told r holds ≡ printed h b
 unfolding printed answer_of edited applied ◌>>=◌
 wrong_tells {h} {b} {held} {work} {holds} {left} r k c p = go r (p.answer ∙ rw (wrongly_chosen h (lengths needed work) (applied h b (length held)) k c) refl)
   where
-    go : (r : Answer) → answer_of r ≡ refused k → told r holds ≡ printed h b
-    go (Refused n) e = let y : n ≡ k = cc in rw (c, y) refl
-    go (Edited n) e = refused_gives (sym e)
+    go : (r : Result ℕ Refusal) → answer_of r ≡ refused k → told r holds ≡ printed h b
+    go (Err n) e = let y : number n ≡ k = cc in rw (c, y) refl
+    go (Ok n) e = refused_gives (sym e)
 
 -- where the slices are long enough, so does every answer that keeps its promise
-pub edit_tells : {h : Choices} {b held : List ℕ} {work : List (List ℕ)} {holds : List ℕ} {left : List (List ℕ)} {r : Answer} → Edits h b held work (answer_of r) holds left → 65536 ≡ length held → too_short (lengths needed work) ≡ false
+pub edit_tells : {h : Choices} {b held : List ℕ} {work : List (List ℕ)} {holds : List ℕ} {left : List (List ℕ)} {r : Result ℕ Refusal} → Edits h b held work (answer_of r) holds left → 65536 ≡ length held → too_short (lengths needed work) ≡ false
     → length b ≤ 65536 → Bytes b → Tells h b r holds
 edit_tells {h} {b} {held} {work} {holds} {left} {r} p e s n v =
     record { showable = λ room m. edit_showable h b held work holds left r room m p; tells = go (chosen h) refl }

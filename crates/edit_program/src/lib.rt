@@ -1,23 +1,23 @@
 // The edit program: reads its choices, the first two arguments, and a batch on standard input, and prints the batch's answer.
 #![tactic(auto)]
 
-ghost use Rattle.std.specs.Prelude.{◌≡◌, ◌<◌, ◌≤◌, length, take, OnOk};
-ghost use Rattle.std.specs.Io.KnownBytes.{Consumes, IsAtEnd};
+ghost use Rattle.std.specs.Prelude.{◌≡◌, ◌≤◌, length, OnOk};
 ghost use Rattle.choices.specs.Meant.{meant};
 ghost use Rattle.definition.specs.Printed.{printed};
 ghost use Rattle.program_input.specs.Told.{Writes};
 ghost use Rattle.edit_print.specs.Lines.{Put};
 ghost use Rattle.edit_program.specs.Told.{Showable, told, Tells};
-ghost use Rattle.edit_program.specs.Responds.{Responds};
+ghost use Rattle.edit_program.specs.Responds.{judged_in_room};
 
 use choices::Choices;
-use edit_algo::Answer;
+use program_input::Program;
+use refusals::Refusal;
 use std::io;
 use std::io::{Read, Write};
 use std::rt::Env;
 
 // The answer to a batch, its result at the front of `result`. The work slices are made here, of the lengths of docs/WORK.md.
-fn edit_batch(choices: Choices, batch: &[u8], res: &mut [u8]) -> Answer
+fn edit_batch(choices: Choices, batch: &[u8], res: &mut [u8]) -> Result<usize, Refusal>
     requires { (length batch.now ≤ 65536) × (65536 ≡ length res.old) }
     ensures { Tells (meant choices) batch.now result res.new }
 {
@@ -47,66 +47,43 @@ fn edit_batch(choices: Choices, batch: &[u8], res: &mut [u8]) -> Answer
 }
 
 // What is printed of an answer is written at the front of `out`.
-fn show(answer: Answer, res: &[u8], out: &mut [u8]) -> usize
+fn show(answer: Result<usize, Refusal>, res: &[u8], out: &mut [u8]) -> usize
     requires { Showable answer res.now (length out.old) }
     ensures { Put out.old 0 (told answer res.now) out.new result }
 {
     match answer {
-        Answer::Refused(number) => edit_print::print_refusal(out, number),
-        Answer::Edited(n) => edit_print::print_result(out, &res[..n]),
+        Err(refusal) => edit_print::print_refusal(out, refusal.number()),
+        Ok(n) => edit_print::print_result(out, &res[..n]),
     }
 }
 
-// What is printed of the batch in the first `read` bytes is written at the front of `out`.
-fn answer(choices: Choices, batch: &[u8], read: usize, out: &mut [u8]) -> usize
-    requires { (65536 ≡ length batch.now) × (read ≤ length batch.now) × (190000 ≤ length out.old) }
-    ensures { Responds (meant choices) batch.now read out.new result }
-{
-    let mut result = [0u8; 65536];
-    let answer = edit_batch(choices, &batch[..read], &mut result);
-    show(answer, &result, out)
-}
-
-// How many bytes of the batch were read, and how many of the output are to be printed.
+// The program by its choices.
 #[derive(Clone, Copy)]
-pub struct Response {
-    pub read: usize,
-    pub written: usize,
+struct Editing {
+    choices: Choices,
 }
 
-// Reads a batch and writes what is printed of it at the front of `out`, and answers besides whether reading ended well. The bytes judged are the first `read` of the batch's buffer, as reading left it: where it is
-// known what bytes the input has left, the next of them. That they are the bytes that came on standard input is not promised (`program_input::read_batch`).
-pub fn respond<R: Read>(
-    choices: Choices,
-    from: &mut R,
-    batch: &mut [u8],
-    out: &mut [u8],
-) -> (Response, io::Result<()>)
-    requires { (65536 ≡ length batch.old) × (190000 ≤ length out.old) }
-    ensures responds { Responds (meant choices) batch.new result.0.read out.new result.0.written }
-    ensures bytes { Consumes (R.remaining from.old) (R.remaining from.new) (take result.0.read batch.new) }
-    ensures end { OnOk result.1 (result.0.read < length batch.new → IsAtEnd (R.remaining from.new)) }
-{
-    let filled = program_input::read_batch(from, batch);
-    let read = filled.count;
-    let written = answer(choices, batch, read, out);
-    (Response { read, written }, filled.ended)
+impl Program<65536, 190000> for Editing {
+    ghost says = { λ p. printed (meant p.choices) };
+
+    fn answer(&self, batch: &[u8], read: usize, out: &mut [u8]) -> usize {
+        let mut result = [0u8; 65536];
+        let answer = edit_batch(self.choices, &batch[..read], &mut result);
+        show(answer, &result, out)
+    }
+
+    ghost cut = { λ p bs. judged_in_room (meant p.choices) bs };
 }
 
 // Reads a batch and prints what is printed of it. Where a read fails, of what was read before, and then ends with that error. Where it is known what bytes the input has left and the output holds, what is printed of those comes behind these.
 pub fn serve<R: Read, W: Write>(choices: Choices, from: &mut R, to: &mut W) -> io::Result<()>
     ensures { OnOk result (Writes (printed (meant choices)) (R.remaining from.old) (W.contents to.old) (W.contents to.new)) }
 {
-    let mut batch = [0u8; 65536];
-    let mut out = [0u8; 190000];
-    let (response, ended) = respond(choices, from, &mut batch, &mut out);
-    let written = response.written;
-    to.write_all(&out[..written])?;
-    ended
+    program_input::serve(&Editing { choices }, from, to)
 }
 
 // The whole program, on standard input and output. Which bytes the operating system gives, and how many of those printed it takes, is not promised.
 pub fn run<R: Env + Input + Print>(rt: &R) -> io::Result<()> {
     let choices = program_choices::choices(rt);
-    serve(choices, &mut rt.reader(), &mut io::writer(rt))
+    program_input::run(&Editing { choices }, rt)
 }

@@ -4,13 +4,14 @@
 ghost use Rattle.std.specs.Prelude.{◌≡◌, ◌∷◌, []};
 ghost use Rattle.choices.specs.Meant.{meant};
 ghost use Rattle.promises.specs.Slices.{lengths};
-ghost use Rattle.series_check.specs.Judged.{number_of};
+ghost use Rattle.refusals.specs.Numbers.{answered};
+ghost use Rattle.series_check.specs.Judged.{judged};
 ghost use Rattle.series_laws.specs.Lent.{started};
 ghost use Rattle.series_leave.specs.Leaving.{lent_of};
 ghost use Rattle.series.specs.Promises.{start_needs, Starts, Follows};
 
 use choices::Choices;
-use promises::Outcome;
+use refusals::Refusal;
 
 // How many words the rows of 4,096 elements have.
 pub const ROWS: usize = 12288;
@@ -18,23 +19,23 @@ pub const ROWS: usize = 12288;
 // As many as a batch may have.
 pub const MOST_AT_START: usize = 2048;
 
-// What is told of a starting tree and its bookmarks: 0 where a series may begin with them, or the refusal.
-fn judge_start(tree: &[u8], bookmarks: &[u32], rows: &mut [u32]) -> usize
-    ensures { result ≡ number_of (started (lengths start_needs (rows.old ∷ [])) (record { tree = tree.entry.now; bookmarks = bookmarks.now })) }
+// Whether a series may begin with this tree and its bookmarks.
+fn judge_start(tree: &[u8], bookmarks: &[u32], rows: &mut [u32]) -> Result<(), Refusal>
+    ensures { answered result ≡ judged (started (lengths start_needs (rows.old ∷ [])) (record { tree = tree.entry.now; bookmarks = bookmarks.now })) }
 {
     if rows.len() < ROWS {
-        return 1;
+        return Err(Refusal::ShortWork);
     }
     series_check::judge(MOST_AT_START, tree, bookmarks, rows)
 }
 
-// THE FIRST CALL of a series: whether it may begin with this tree and these bookmarks. 0, or the refusal out of 1, 3, 4, 5, 20 and 21. Nothing is written but the work slice `rows`, which ends as zeros.
-pub fn start(tree: &[u8], bookmarks: &[u32], rows: &mut [u32]) -> usize
+// THE FIRST CALL of a series: whether it may begin with this tree and these bookmarks, or the refusal out of 1, 3, 4, 5, 20 and 21. Nothing is written but the work slice `rows`, which ends as zeros.
+pub fn start(tree: &[u8], bookmarks: &[u32], rows: &mut [u32]) -> Result<(), Refusal>
     ensures { Starts (record { tree = tree.entry.now; bookmarks = bookmarks.now }) rows.old result rows.new }
 {
-    let n = judge_start(tree, bookmarks, rows);
+    let told = judge_start(tree, bookmarks, rows);
     words::clear(rows);
-    n
+    told
 }
 
 // A LATER CALL of a series: the batch is edited, its result written to the front of `result`, and the memory then holds the new tree and the bookmarks that survive, each with its
@@ -55,7 +56,7 @@ pub fn follow(
     marks: &mut [u32],
     rows: &mut [u32],
     prepared: &mut [u32],
-) -> Outcome
+) -> Result<usize, Refusal>
     ensures { Follows (meant choices) batch.now (lent_of tree.old bookmarks.old) res.old (table.old ∷ source.old ∷ changes.old ∷ notes.old ∷ incoming.old ∷ changed.old ∷ marks.old ∷ rows.old ∷ prepared.old ∷ []) result res.new (lent_of tree.new bookmarks.new) (table.new ∷ source.new ∷ changes.new ∷ notes.new ∷ incoming.new ∷ changed.new ∷ marks.new ∷ rows.new ∷ prepared.new ∷ []) }
 {
     let done = series_follow::perform(

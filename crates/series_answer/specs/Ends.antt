@@ -1,8 +1,8 @@
 -- Where the run of a batch on a memory has ended: 13, or what is written.
 -- Assumes nothing.
 use Rattle.std.proofs.Math.Path.{◌≡◌, refl, sym, ap, subst}
-use Rattle.std.proofs.Common.{◌∙◌, arith, length-drop, take_all}
-use Rattle.std.specs.Prelude.{Bool, ℕ, ◌-◌, ◌≤◌, take, drop}
+use Rattle.std.proofs.Common.{◌∙◌, zero-add, arith, length-drop, take_all}
+use Rattle.std.specs.Prelude.{Result, Ok, Err, Bool, ℕ, ◌-◌, ◌≤◌, take, drop}
 use Rattle.std.proofs.Math.Bool.{true, false}
 use mathlib.Core.List.{List, map}
 use Rattle.std.proofs.Math.Dec.{ltb}
@@ -11,7 +11,7 @@ use Rattle.definition.specs.Basics.{Answer, refused, gives, ◌>>=◌, refuse}
 use Rattle.definition.specs.Choices.{Choices}
 use Rattle.definition.specs.Refusals.{Accepted}
 use Rattle.definition.specs.Finishing.{fitting, encoded}
-use Rattle.definition_laws.specs.Answers.{gives_inj}
+use Rattle.definition_laws.specs.Answers.{gives_inj, refused_gives}
 use Rattle.definition_laws.specs.Running.{top}
 use Rattle.rows_model.specs.Row.{first_rows, rows_of}
 use Rattle.rows_model.specs.Place.{mark_of}
@@ -20,20 +20,16 @@ use Rattle.run_annotations.specs.Changed.{changed_in}
 use Rattle.run_model.specs.Store.{Store, store}
 use Rattle.run_tree_store.specs.Stored.{stored}
 use Rattle.finish_model.specs.Finished.{result_of}
-use Rattle.finish_result.specs.Answered.{length_of, Answered}
-use Rattle.finish_result.specs.declared.Finished.{Finished}
-use Rattle.finish_result.specs.declared.Finished.TheVariants.{Short, Bytes as Wrote}
+use Rattle.finish_result.specs.Answered.{fitted, over_front, Answered, answered_result}
+use Rattle.refusals.specs.Numbers.{number, answered}
+use Rattle.refusals.specs.declared.Refusal.{Refusal}
+use Rattle.refusals.specs.declared.Refusal.TheVariants.{ShortResult, Overlap as Overlaps}
+use Rattle.edit_perform.specs.Stops.{Unplanned, Refused, Overlap}
 use Rattle.promises.specs.Promises as promises
 use Rattle.promises.specs.Promises.{applied}
-use Rattle.promises.specs.Serving.{reached, of_length, outcome, written, Tells}
-use Rattle.promises.specs.declared.Job.TheVariants.{Edit}
-use Rattle.promises.specs.declared.Outcome.TheVariants.{Refused, Bytes}
 use Rattle.edit_perform.specs.Ending.{End, result_at, edit_ending}
 use Rattle.edit_perform.specs.declared.Ended.{Ended}
-use Rattle.edit_perform.specs.declared.Performed.{Performed}
-use Rattle.edit_perform.specs.declared.Performed.TheVariants.{Refused as Stopped, Overlap, Done as Ran-through}
-use Rattle.edit_answer.specs.AtEnd.{answered_edit}
-use Rattle.series_laws.specs.Follow.{Step, step}
+use Rattle.series_laws.specs.Follow.{Step}
 use Rattle.series_laws.specs.Lent.{tree_bytes, fits, left_in}
 use Rattle.series_laws.proofs.Passing.{Done}
 use Rattle.series_move.specs.Ready.{LeftBy, step_of, done_of, step_of_lem}
@@ -46,6 +42,12 @@ use Rattle.series_answer.specs.Telling.{TellsOn, tells_refused, tells_gives}
 pub rest_told : (k : ℕ) (b : List ℕ) → take (length b - k) (drop k b) ≡ drop k b
 rest_told k b = take_all (length b - k) (drop k b) (omega (arith, length-drop k b))
 
+-- an answer's bytes over the front of a buffer, and beyond them what it held
+left_over : (held : List ℕ) (a : Answer (List ℕ)) → over_front held a ≡ promises.left_in held a
+unfolding over_front promises.left_in
+left_over held (refused n) = refl
+left_over held (gives bytes) = rw (take_all (length bytes) bytes (omega arith), zero-add (length bytes)) refl
+
 -- the run has ended, so that the call can be answered
 pub record ToLeave (h : Choices) (tree bookmarks b s rows notes changed marks starts : List ℕ) (d : Ended) : Type 0 where
   pub table : List ℕ
@@ -53,8 +55,8 @@ pub record ToLeave (h : Choices) (tree bookmarks b s rows notes changed marks st
   pub room : 4096 ≤ length starts
 
 -- if it has
-pub record ToAnswer (h : Choices) (tree bookmarks b s rows notes changed marks starts : List ℕ) (p : Performed) : Type 0 where
-  pub leaves : (d : Ended) → p ≡ Ran-through d → ToLeave h tree bookmarks b s rows notes changed marks starts d
+pub record ToAnswer (h : Choices) (tree bookmarks b s rows notes changed marks starts : List ℕ) (p : Result Ended Unplanned) : Type 0 where
+  pub leaves : (d : Ended) → p ≡ Ok d → ToLeave h tree bookmarks b s rows notes changed marks starts d
 
 module _ {h : Choices} {tree bookmarks b s rows notes changed marks starts : List ℕ} {d : Ended} (v : ToLeave h tree bookmarks b s rows notes changed marks starts d) where
   way : Ran h b v.ends.ends.end
@@ -112,9 +114,9 @@ module _ {h : Choices} {tree bookmarks b s rows notes changed marks starts : Lis
       lacks = room_left done text d.rows rows new_rows_lem (length tree) r
 
       -- the memory cannot hold the new tree
-      pub ends_full : q ≡ true → (held : List ℕ) → TellsOn (reached_on h (lent_of tree bookmarks) b (length held)) (lent_of tree bookmarks) held (Refused 13) held (lent_of tree bookmarks)
-      unfolding fits fitting refuse ◌>>=◌
-      ends_full z held = tells_refused 13 (reached_fits (length held) ∙ go (ltb (length held) (length (encoded step_at.result))) refl)
+      pub ends_full : q ≡ true → (held : List ℕ) → TellsOn (reached_on h (lent_of tree bookmarks) b (length held)) (lent_of tree bookmarks) held (Err ShortResult) held (lent_of tree bookmarks)
+      unfolding number fits fitting refuse ◌>>=◌
+      ends_full z held = tells_refused ShortResult (reached_fits (length held) ∙ go (ltb (length held) (length (encoded step_at.result))) refl)
         where
           go : (x : Bool) → ltb (length held) (length (encoded step_at.result)) ≡ x → fits (length held) (length tree) step_at ≡ refused 13
           go true e = rw e refl
@@ -139,66 +141,70 @@ module _ {h : Choices} {tree bookmarks b s rows notes changed marks starts : Lis
       pub ends_leaving : q ≡ false → Leaving s d.elements marks rows d.rows text tree bookmarks
       ends_leaving = leaving
 
-      module _ (z : q ≡ false) {held out : List ℕ} (a : Finished)
+      module _ (z : q ≡ false) {held out : List ℕ} (a : Result ℕ Refusal)
           (f : (marks : List ℕ) → Answered held (result_of d.discarded d.climbs (stored text d.rows rows marks (notes_of d.notes notes) (changed_in d.changed changed))) out a) where
-        answered : Tells (reached h Edit b (length held)) held (of_length (length_of a)) out
-        answered = answered_edit v.ends.ends a (λ marks. rw (← t) (f marks))
+        -- what is answered is the answer of the definition's result
+        finished : Answered held step_at.result out a
+        finished =
+            let A = v.ends.ends in
+            let E = A.end in
+            let g : Answered held (result_of d.discarded d.climbs (stored (drop d.text b) d.rows rows A.marks (notes_of d.notes notes) (changed_in d.changed changed))) out a = rw (← t) (f A.marks) in
+            let k : Answered held (result_of _ E.planned.climbs _) out a = rw (A.discarded, A.climbs) at g in
+            answered_result E.planned.changes E.planned.climbs E.world A.holds A.held k
 
         module _ (x : Bool) (e : ltb (length held) (length (encoded step_at.result)) ≡ x) where
-          short : x ≡ true → (reached_on h (lent_of tree bookmarks) b (length held) ≡ refused 13) × (of_length (length_of a) ≡ Refused 13) × (out ≡ held)
-          unfolding fits fitting refuse reached outcome written promises.left_in ◌>>=◌
+          short : x ≡ true → (reached_on h (lent_of tree bookmarks) b (length held) ≡ refused 13) × (answered a ≡ refused 13) × (out ≡ held)
+          unfolding fits fitting fitted over_front refuse ◌>>=◌
           short y =
-              let no : applied h b (length held) ≡ refused 13 = applied_at (length held) ∙ rw (e ∙ y) refl in
-              (reached_fits (length held) ∙ rw (e ∙ y) refl, answered.answer ∙ rw no refl, answered.result ∙ rw no refl)
+              let no : fitted (length held) step_at.result ≡ refused 13 = rw (e ∙ y) refl in
+              (reached_fits (length held) ∙ rw (e ∙ y) refl, finished.answer ∙ rw no refl, finished.result ∙ rw no refl)
 
-          wrote : x ≡ false → (reached_on h (lent_of tree bookmarks) b (length held) ≡ gives step_at) × (of_length (length_of a) ≡ Bytes (length (encoded step_at.result))) × (out ≡ promises.left_in held (gives (encoded step_at.result)))
-          unfolding fits fitting refuse reached outcome written ◌>>=◌
+          wrote : x ≡ false → (reached_on h (lent_of tree bookmarks) b (length held) ≡ gives step_at) × (answered a ≡ gives (length (encoded step_at.result))) × (out ≡ promises.left_in held (gives (encoded step_at.result)))
+          unfolding fits fitting fitted refuse ◌>>=◌
           wrote y =
-              let yes : applied h b (length held) ≡ gives (encoded step_at.result) = applied_at (length held) ∙ rw (e ∙ y) refl in
-              (reached_fits (length held) ∙ rw (e ∙ y, sym lacks ∙ z) refl, answered.answer ∙ rw yes refl, answered.result ∙ rw yes refl)
+              let yes : fitted (length held) step_at.result ≡ gives (encoded step_at.result) = rw (e ∙ y) refl in
+              (reached_fits (length held) ∙ rw (e ∙ y, sym lacks ∙ z) refl, finished.answer ∙ rw yes refl, finished.result ∙ (ap (over_front held) yes ∙ left_over held (gives (encoded step_at.result))))
 
         -- the result slice is too short
-        pub ends_short : a ≡ Short → TellsOn (reached_on h (lent_of tree bookmarks) b (length held)) (lent_of tree bookmarks) held (Refused 13) out (lent_of tree bookmarks)
-        unfolding of_length length_of
-        ends_short i = go (ltb (length held) (length (encoded step_at.result))) refl
+        pub ends_short : (f : Refusal) → a ≡ Err f → TellsOn (reached_on h (lent_of tree bookmarks) b (length held)) (lent_of tree bookmarks) held (Err f) out (lent_of tree bookmarks)
+        unfolding answered
+        ends_short f i = go (ltb (length held) (length (encoded step_at.result))) refl
           where
-            go : (x : Bool) → ltb (length held) (length (encoded step_at.result)) ≡ x → TellsOn (reached_on h (lent_of tree bookmarks) b (length held)) (lent_of tree bookmarks) held (Refused 13) out (lent_of tree bookmarks)
+            go : (x : Bool) → ltb (length held) (length (encoded step_at.result)) ≡ x → TellsOn (reached_on h (lent_of tree bookmarks) b (length held)) (lent_of tree bookmarks) held (Err f) out (lent_of tree bookmarks)
             go true e =
                 let (p, q, r) = short true e refl in
-                subst (λ (o : List ℕ). TellsOn (reached_on h (lent_of tree bookmarks) b (length held)) (lent_of tree bookmarks) held (Refused 13) o (lent_of tree bookmarks)) (sym r) (tells_refused 13 p)
+                let y : ◌≡◌ {A = Answer ℕ} (refused (number f)) (refused 13) = sym (ap answered i) ∙ q in
+                let same : number f ≡ 13 = cc in
+                subst (λ (o : List ℕ). TellsOn (reached_on h (lent_of tree bookmarks) b (length held)) (lent_of tree bookmarks) held (Err f) o (lent_of tree bookmarks)) (sym r) (tells_refused f (p ∙ ap refused (sym same)))
             go false e =
                 let (p, q, r) = wrote false e refl in
-                let y : Refused 13 ≡ Bytes (length (encoded step_at.result)) = ap (λ (a : Finished). of_length (length_of a)) (sym i) ∙ q in
-                absurd (let w : ◌≡◌ {A = ℕ} 0 1 = cc in omega arith)
+                refused_gives (sym (ap answered i) ∙ q)
 
         -- both are written
-        pub ends_written : (n : ℕ) → a ≡ Wrote n → {tree' bookmarks' : List ℕ} → ((w : Leaving s d.elements marks rows d.rows text tree bookmarks) → lent_of tree' bookmarks' ≡ left_in (lent_of tree bookmarks) w.step.memory)
-            → TellsOn (reached_on h (lent_of tree bookmarks) b (length held)) (lent_of tree bookmarks) held (Bytes n) out (lent_of tree' bookmarks')
-        unfolding of_length length_of leaving
+        pub ends_written : (n : ℕ) → a ≡ Ok n → {tree' bookmarks' : List ℕ} → ((w : Leaving s d.elements marks rows d.rows text tree bookmarks) → lent_of tree' bookmarks' ≡ left_in (lent_of tree bookmarks) w.step.memory)
+            → TellsOn (reached_on h (lent_of tree bookmarks) b (length held)) (lent_of tree bookmarks) held (Ok n) out (lent_of tree' bookmarks')
+        unfolding answered leaving
         ends_written n i {tree'} {bookmarks'} g = go (ltb (length held) (length (encoded step_at.result))) refl
           where
-            go : (x : Bool) → ltb (length held) (length (encoded step_at.result)) ≡ x → TellsOn (reached_on h (lent_of tree bookmarks) b (length held)) (lent_of tree bookmarks) held (Bytes n) out (lent_of tree' bookmarks')
+            go : (x : Bool) → ltb (length held) (length (encoded step_at.result)) ≡ x → TellsOn (reached_on h (lent_of tree bookmarks) b (length held)) (lent_of tree bookmarks) held (Ok n) out (lent_of tree' bookmarks')
             go true e =
                 let (p, q, r) = short true e refl in
-                let y : Bytes n ≡ Refused 13 = ap (λ (a : Finished). of_length (length_of a)) (sym i) ∙ q in
-                absurd (let w : ◌≡◌ {A = ℕ} 0 1 = cc in omega arith)
+                refused_gives (sym q ∙ ap answered i)
             go false e =
                 let (p, q, r) = wrote false e refl in
-                let y : Bytes n ≡ Bytes (length (encoded step_at.result)) = ap (λ (a : Finished). of_length (length_of a)) (sym i) ∙ q in
-                let m : n ≡ length (encoded step_at.result) = cc in
-                tells_gives step_at p m r (g (leaving z))
+                tells_gives step_at p (gives_inj (sym (ap answered i) ∙ q)) r (g (leaving z))
 
 -- ── What is performed ───────────────────────────────────────────────────────────────────────────────────────
 
-module _ {p : Performed} (want : Answer Step) where
-  pub after_refused : {k : ℕ} → p ≡ Stopped k → afterwards p want ≡ refused k
+module _ {p : Result Ended Unplanned} (want : Answer Step) where
+  pub after_refused : {u : Unplanned} {e : Refusal} → p ≡ Err u → u ≡ Refused e → afterwards p want ≡ refused (number e)
   unfolding afterwards
-  after_refused e = rw e refl
+  after_refused e i = rw (e, i) refl
 
-  pub after_overlap : {j k : ℕ} → p ≡ Overlap j k → afterwards p want ≡ refused 8
-  unfolding afterwards
-  after_overlap e = rw e refl
+  pub after_overlap : {u : Unplanned} {j k : ℕ} → p ≡ Err u → u ≡ Overlap (record { earlier = j; later = k }) → afterwards p want ≡ refused (number Overlaps)
+  unfolding afterwards number
+  after_overlap e i = rw (e, i) refl
 
-  pub after_done : {d : Ended} → p ≡ Ran-through d → want ≡ afterwards p want
+  pub after_done : {d : Ended} → p ≡ Ok d → want ≡ afterwards p want
   unfolding afterwards
   after_done e = rw e refl

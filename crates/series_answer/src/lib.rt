@@ -9,13 +9,13 @@ ghost use Rattle.series_answer.specs.Telling.{TellsOn};
 ghost use Rattle.series_answer.specs.Ends.{ToLeave, ToAnswer};
 
 use choices::Choices;
-use edit_perform::{Ended, Performed};
-use finish_result::{Finished, finish};
-use promises::Outcome;
+use edit_perform::{Ended, Unplanned};
+use finish_result::finish;
+use refusals::Refusal;
 use series_leave::leave;
 use series_tree::lacks_room;
 
-// At the end of the run: 13 where the memory or the result slice is too short, before anything is written; else both are written. `starts` is for where each element's text starts.
+// At the end of the run: 13 where the memory or the result slice is too short, before anything is written; else both are written, and the result has so many bytes. `starts` is for where each element's text starts.
 fn answer_end(
     choices: Choices,
     batch: &[u8],
@@ -29,16 +29,16 @@ fn answer_end(
     tree: &mut [u8],
     bookmarks: &mut [u32],
     res: &mut [u8],
-) -> Outcome
+) -> Result<usize, Refusal>
     requires { ToLeave (meant choices) tree.old bookmarks.old batch.now source.now rows.now notes.old changed.old marks.now starts.old d }
     ensures { TellsOn (reached_on (meant choices) (lent_of tree.old bookmarks.old) batch.now (length res.old)) (lent_of tree.old bookmarks.old) res.old result res.new (lent_of tree.new bookmarks.new) }
 {
     let from = d.text;
     let text = &batch[from..];
     if lacks_room(rows, d.rows, text, tree.len()) {
-        return Outcome::Refused(13);
+        return Err(Refusal::ShortResult);
     }
-    let end = finish(
+    let n = finish(
         rows,
         d.rows,
         d.root,
@@ -51,23 +51,18 @@ fn answer_end(
         d.discarded,
         d.climbs,
         res,
+    )?;
+    leave(
+        source, d.elements, marks, rows, d.rows, text, tree, bookmarks,
     );
-    match end {
-        Finished::Short => Outcome::Refused(13),
-        Finished::Bytes(n) => {
-            leave(
-                source, d.elements, marks, rows, d.rows, text, tree, bookmarks,
-            );
-            Outcome::Bytes(n)
-        }
-    }
+    Ok(n)
 }
 
 // What is answered from what is performed: its refusal, 8 where two changes overlap, or what follows from the end of the run.
 pub fn answer(
     choices: Choices,
     batch: &[u8],
-    done: Performed,
+    done: Result<Ended, Unplanned>,
     source: &[u32],
     marks: &[u32],
     rows: &[u32],
@@ -77,14 +72,16 @@ pub fn answer(
     tree: &mut [u8],
     bookmarks: &mut [u32],
     res: &mut [u8],
-) -> Outcome
+) -> Result<usize, Refusal>
     requires { ToAnswer (meant choices) tree.old bookmarks.old batch.now source.now rows.now notes.old changed.old marks.now starts.old done }
     ensures { TellsOn (afterwards done (reached_on (meant choices) (lent_of tree.old bookmarks.old) batch.now (length res.old))) (lent_of tree.old bookmarks.old) res.old result res.new (lent_of tree.new bookmarks.new) }
 {
     match done {
-        Performed::Refused(n) => Outcome::Refused(n),
-        Performed::Overlap(_, _) => Outcome::Refused(8),
-        Performed::Done(d) => answer_end(
+        Err(unplanned) => match unplanned {
+            Unplanned::Refused(refusal) => Err(refusal),
+            Unplanned::Overlap(_) => Err(Refusal::Overlap),
+        },
+        Ok(d) => answer_end(
             choices, batch, d, source, marks, rows, notes, changed, starts, tree, bookmarks, res,
         ),
     }

@@ -2,34 +2,34 @@
 -- Assumes nothing.
 use Rattle.std.proofs.Math.Path.{◌≡◌, refl, sym, ap}
 use Rattle.std.proofs.Common.{◌∙◌, subst, arith}
-use Rattle.std.specs.Prelude.{Bool, not, List, length}
+use Rattle.std.specs.Prelude.{Result, Ok, Err, Bool, List, length}
 use Rattle.std.proofs.Math.Bool.{true, false}
-use Prim.Native.Nat.{ℕ, zero, suc}
+use Prim.Native.Nat.{ℕ}
 use Rattle.definition.specs.Basics.{Answer, refused, gives, ◌>>=◌, refuse}
 use Rattle.definition.specs.Choices.{Choices, chosen}
 use Rattle.definition.specs.Refusals.{Accepted, accepted}
 use Rattle.definition.specs.Running.{World}
 use Rattle.definition.specs.Answers.{too_short, with_choices, Plan, plan, ran}
 use Rattle.definition_laws.specs.Answers.{gives_inj, refused_gives, given}
-use Rattle.choices.specs.Meant.{refusal_of}
+use Rattle.refusals.specs.Numbers.{number, answered}
+use Rattle.refusals.specs.declared.Refusal.{Refusal}
 use Rattle.promises.specs.Slices.{needed, lengths}
 use Rattle.promises.specs.Promises.{with_long}
 use Rattle.check_laws.specs.Claimed.{old_tree, flat_of}
 use Rattle.series_laws.specs.Memory.{Memory, most_later}
 use Rattle.series_laws.specs.Follow.{Step, step}
 use Rattle.series_laws.specs.Lent.{Lent, lent, fits, followed}
-use Rattle.series_check.specs.Judged.{number_of}
-use Rattle.series_check.specs.Passed.{judged_passes}
+use Rattle.series_check.specs.Judged.{judged}
+use Rattle.series_check.specs.Passed.{judged_ok, judged_err}
 use Rattle.series_move.specs.Ready.{step_of}
 use Rattle.series_tree.specs.Accepted.{lent_same}
 use Rattle.read_layout.specs.declared.Layout.{Layout}
-use Rattle.edit_perform.specs.First.{stopped_early, nothing_wrong}
+use Rattle.edit_perform.specs.First.{before, stopped_early, nothing_wrong}
 use Rattle.edit_perform.specs.Beginning.{LaidOut}
 use Rattle.edit_perform.specs.Ending.{End, ending}
 use Rattle.edit_perform.specs.AtEnd.{AtEnd, Told, Marked, Performs}
 use Rattle.edit_perform.specs.declared.Ended.{Ended}
-use Rattle.edit_perform.specs.declared.Performed.{Performed}
-use Rattle.edit_perform.specs.declared.Performed.TheVariants.{Refused, Overlap, Done}
+use Rattle.edit_perform.specs.Stops.{Unplanned, Refused, Overlap}
 use Rattle.series_follow.specs.Accepting.{same_as, accepted_on, held_in}
 
 refused_inj : {A : Type 0} {j k : ℕ} → ◌≡◌ {A = Answer A} (refused j) (refused k) → j ≡ k
@@ -45,10 +45,10 @@ reached_on h l b room = do
   fits room (length l.tree) s
 
 -- the same, once what is performed is known: refused, overlapping (8), or the answer
-unfoldable pub afterwards : {A : Type 0} → Performed → Answer A → Answer A
-afterwards (Refused k) a = refused k
-afterwards (Overlap j k) a = refused 8
-afterwards (Done d) a = a
+unfoldable pub afterwards : {A : Type 0} → Result Ended Unplanned → Answer A → Answer A
+afterwards (Err (Refused e)) a = refused (number e)
+afterwards (Err (Overlap o)) a = refused 8
+afterwards (Ok d) a = a
 
 -- how a run that has ended came there
 pub record Ran (h : Choices) (b : List ℕ) (e : End) : Type 0 where
@@ -66,13 +66,14 @@ ended_run h b e q =
 
 -- ── Before line 2 ───────────────────────────────────────────────────────────────────────────────────────────
 
-module _ (h : Choices) (work : List (ℕ × ℕ)) (l : Lent) (k : ℕ) (e : k ≡ refusal_of (with_choices h work (gives tt))) where
-  pub before_first : ¬ (k ≡ 0) → k ≡ number_of (with_choices h work (lent most_later l))
-  unfolding number_of
-  before_first n = sym (rw (stopped_early h work k e (lent most_later l) n) refl)
+module _ (h : Choices) (work : List (ℕ × ℕ)) (l : Lent) {c : Result (Unit {0}) Refusal} (e : answered c ≡ before h work) where
+  pub before_first : (f : Refusal) → c ≡ Err f → answered (Err f) ≡ judged (with_choices h work (lent most_later l))
+  unfolding judged answered
+  before_first f i = sym (ap judged (stopped_early h work (lent most_later l) (number f) (sym e ∙ ap answered i)))
 
-  pub before_judged : k ≡ 0 → {r : ℕ} → r ≡ number_of (lent most_later l) → r ≡ number_of (with_choices h work (lent most_later l))
-  before_judged z q = let (c, t) = nothing_wrong h work k e z in q ∙ ap number_of (sym (with_long h work (lent most_later l) c t))
+  pub before_judged : c ≡ Ok tt → (r : Result (Unit {0}) Refusal) → answered r ≡ judged (lent most_later l) → answered r ≡ judged (with_choices h work (lent most_later l))
+  unfolding answered
+  before_judged i r q = let (c, t) = nothing_wrong h work (sym e ∙ ap answered i) in q ∙ ap judged (sym (with_long h work (lent most_later l) c t))
 
 -- nothing refuses before line 2
 pub record Passes (h : Choices) (work : List (List ℕ)) (l : Lent) : Type 0 where
@@ -81,40 +82,39 @@ pub record Passes (h : Choices) (work : List (List ℕ)) (l : Lent) : Type 0 whe
   pub memory : Memory
   pub lent : lent most_later l ≡ gives memory
 
-module _ (h : Choices) (work : List (List ℕ)) (l : Lent) {r : ℕ} (e : r ≡ number_of (with_choices h (lengths needed work) (lent most_later l))) where
-  -- what a number tells that is not 0
-  pub before_stops : ¬ (r ≡ 0) → (b : List ℕ) (room : ℕ) → followed h (lengths needed work) l b room ≡ refused r
-  unfolding followed number_of ◌>>=◌
-  before_stops n b room = go (refusal_of (with_choices h (lengths needed work) (gives tt))) refl
+module _ (h : Choices) (work : List (List ℕ)) (l : Lent) {r : Result (Unit {0}) Refusal} (e : answered r ≡ judged (with_choices h (lengths needed work) (lent most_later l))) where
+  -- what a refusal tells
+  pub before_stops : (f : Refusal) → r ≡ Err f → (b : List ℕ) (room : ℕ) → followed h (lengths needed work) l b room ≡ refused (number f)
+  unfolding followed ◌>>=◌
+  before_stops f i b room = go (before h (lengths needed work)) refl
     where
       rest : Memory → Answer Step
       rest m = step h m b >>= λ s. fits room (length l.tree) s
 
-      go : (k : ℕ) → refusal_of (with_choices h (lengths needed work) (gives tt)) ≡ k → with_choices h (lengths needed work) (lent most_later l >>= rest) ≡ refused r
-      go (suc k) q =
-          let x = stopped_early h (lengths needed work) (suc k) (sym q) (lent most_later l) (λ z. omega arith) in
-          stopped_early h (lengths needed work) (suc k) (sym q) (lent most_later l >>= rest) (λ z. omega arith) ∙ ap refused (sym (e ∙ rw x refl))
-      go zero q =
-          let (c, t) = nothing_wrong h (lengths needed work) zero (sym q) refl in
-          with_long h (lengths needed work) (lent most_later l >>= rest) c t ∙ last (lent most_later l) (e ∙ ap number_of (with_long h (lengths needed work) (lent most_later l) c t))
-        where
-          last : (o : Answer Memory) → r ≡ number_of o → (o >>= rest) ≡ refused r
-          last (refused k) z = ap refused (sym z)
-          last (gives m) z = absurd (n z)
+      stopped : with_choices h (lengths needed work) (lent most_later l) ≡ refused (number f)
+      stopped = judged_err (with_choices h (lengths needed work) (lent most_later l)) f e i
 
-  -- and 0
-  pub before_passes : r ≡ 0 → Passes h work l
-  unfolding number_of
-  before_passes z = go (refusal_of (with_choices h (lengths needed work) (gives tt))) refl
+      go : (o : Answer (Unit {0})) → before h (lengths needed work) ≡ o → with_choices h (lengths needed work) (lent most_later l >>= rest) ≡ refused (number f)
+      go (refused k) q =
+          let x = stopped_early h (lengths needed work) (lent most_later l) k q in
+          stopped_early h (lengths needed work) (lent most_later l >>= rest) k q ∙ ap refused (refused_inj (sym x ∙ stopped))
+      go (gives tt) q =
+          let (c, t) = nothing_wrong h (lengths needed work) q in
+          let x : lent most_later l ≡ refused (number f) = sym (with_long h (lengths needed work) (lent most_later l) c t) ∙ stopped in
+          with_long h (lengths needed work) (lent most_later l >>= rest) c t ∙ rw x refl
+
+  -- and none
+  pub before_passes : r ≡ Ok tt → Passes h work l
+  before_passes i = go (before h (lengths needed work)) refl
     where
-      go : (k : ℕ) → refusal_of (with_choices h (lengths needed work) (gives tt)) ≡ k → Passes h work l
-      go (suc k) q =
-          let y : r ≡ suc k = e ∙ rw (stopped_early h (lengths needed work) (suc k) (sym q) (lent most_later l) (λ z. omega arith)) refl in
-          absurd (omega arith)
-      go zero q =
-          let (c, t) = nothing_wrong h (lengths needed work) zero (sym q) refl in
-          let (m, p) = judged_passes most_later l (e ∙ ap number_of (with_long h (lengths needed work) (lent most_later l) c t)) z in
-          record { choices = c; long = t; memory = m; lent = p }
+      some : (m : Memory) × (with_choices h (lengths needed work) (lent most_later l) ≡ gives m)
+      some = judged_ok (with_choices h (lengths needed work) (lent most_later l)) e i
+
+      go : (o : Answer (Unit {0})) → before h (lengths needed work) ≡ o → Passes h work l
+      go (refused k) q = refused_gives (sym (stopped_early h (lengths needed work) (lent most_later l) k q) ∙ some.1)
+      go (gives tt) q =
+          let (c, t) = nothing_wrong h (lengths needed work) q in
+          record { choices = c; long = t; memory = some.0; lent = sym (with_long h (lengths needed work) (lent most_later l) c t) ∙ some.1 }
 
 -- ── The promise ─────────────────────────────────────────────────────────────────────────────────────────────
 
@@ -128,25 +128,25 @@ pub record EndsOn (h : Choices) (l : Lent) (b t s rows notes changed marks : Lis
   pub marked : Marked h b marks d
 
 -- THE PROMISE of `perform` with the work slices `work`: the definition's refusal, or the end of the run
-pub record PerformsOn (h : Choices) (work : List (List ℕ)) (l : Lent) (b t s rows notes changed marks : List ℕ) (r : Performed) : Type 0 where
+pub record PerformsOn (h : Choices) (work : List (List ℕ)) (l : Lent) (b t s rows notes changed marks : List ℕ) (r : Result Ended Unplanned) : Type 0 where
   -- what is performed settles the answer but for 13
   pub answers : (room : ℕ) → afterwards r (reached_on h l b room) ≡ followed h (lengths needed work) l b room
-  pub long : (d : Ended) → r ≡ Done d → too_short (lengths needed work) ≡ false
-  pub ends : (d : Ended) → r ≡ Done d → EndsOn h l b t s rows notes changed marks d
+  pub long : (d : Ended) → r ≡ Ok d → too_short (lengths needed work) ≡ false
+  pub ends : (d : Ended) → r ≡ Ok d → EndsOn h l b t s rows notes changed marks d
 
 -- ── The ways out ────────────────────────────────────────────────────────────────────────────────────────────
 
 -- refused before the end
-stops : {h : Choices} {work : List (List ℕ)} {l : Lent} {b t s rows notes changed marks : List ℕ} (k : ℕ) → ((room : ℕ) → followed h (lengths needed work) l b room ≡ refused k) → PerformsOn h work l b t s rows notes changed marks (Refused k)
+stops : {h : Choices} {work : List (List ℕ)} {l : Lent} {b t s rows notes changed marks : List ℕ} (f : Refusal) → ((room : ℕ) → followed h (lengths needed work) l b room ≡ refused (number f)) → PerformsOn h work l b t s rows notes changed marks (Err (Refused f))
 unfolding afterwards
-stops k e = record {
+stops f e = record {
   answers = λ room. sym (e room);
   long = λ d i. absurd (let z : ◌≡◌ {A = ℕ} 0 1 = cc in omega arith);
   ends = λ d i. absurd (let z : ◌≡◌ {A = ℕ} 0 1 = cc in omega arith);
 }
 
-pub performs_early : {h : Choices} {work : List (List ℕ)} {l : Lent} {b t s rows notes changed marks : List ℕ} {k : ℕ} → k ≡ number_of (with_choices h (lengths needed work) (lent most_later l)) → ¬ (k ≡ 0) → PerformsOn h work l b t s rows notes changed marks (Refused k)
-performs_early {h} {work} {l} {b} {k = k} e n = stops k (λ room. before_stops h work l e n b room)
+pub performs_early : {h : Choices} {work : List (List ℕ)} {l : Lent} {b t s rows notes changed marks : List ℕ} {r : Result (Unit {0}) Refusal} → answered r ≡ judged (with_choices h (lengths needed work) (lent most_later l)) → (f : Refusal) → r ≡ Err f → PerformsOn h work l b t s rows notes changed marks (Err (Refused f))
+performs_early {h} {work} {l} {b} e f i = stops f (λ room. before_stops h work l e f i b room)
 
 module _ {h : Choices} {work : List (List ℕ)} {l : Lent} (P : Passes h work l) (b : List ℕ) where
   followed_on : (room : ℕ) → reached_on h l b room ≡ followed h (lengths needed work) l b room
@@ -193,24 +193,24 @@ module _ {h : Choices} {work : List (List ℕ)} {l : Lent} (P : Passes h work l)
       go (refused j) e = ap refused (refused_inj e)
       go (gives p) e = last p (ran a p) e
 
-  pub performs_unaccepted : {t s rows notes changed marks : List ℕ} (k : ℕ) → accepted_on (held_in l.tree) b ≡ refused k → PerformsOn h work l b t s rows notes changed marks (Refused k)
-  performs_unaccepted k e = stops k (reached_refused k (not_accepted_on k e))
+  pub performs_unaccepted : {t s rows notes changed marks : List ℕ} (f : Refusal) → accepted_on (held_in l.tree) b ≡ refused (number f) → PerformsOn h work l b t s rows notes changed marks (Err (Refused f))
+  performs_unaccepted f e = stops f (reached_refused (number f) (not_accepted_on (number f) e))
 
   -- what the run of an accepted batch tells
-  pub performs_on : {lay : Layout} {t s changes rows notes changed marks : List ℕ} → LaidOut b lay t s → ((a : Accepted) → accepted b ≡ gives a → same_as (held_in l.tree) a ≡ true) → (r : Performed)
+  pub performs_on : {lay : Layout} {t s changes rows notes changed marks : List ℕ} → LaidOut b lay t s → ((a : Accepted) → accepted b ≡ gives a → same_as (held_in l.tree) a ≡ true) → (r : Result Ended Unplanned)
       → Performs h b t s changes rows notes changed marks r → PerformsOn h work l b t s rows notes changed marks r
   unfolding afterwards
-  performs_on L f (Refused k) Q =
+  performs_on L f (Err (Refused e)) Q =
       let v = L.leaves in
-      stops k (reached_refused k (not_ended v.what v.accepted (f v.what v.accepted) k (Q.refuses k refl).0))
-  performs_on L f (Overlap j k) Q =
+      stops e (reached_refused (number e) (not_ended v.what v.accepted (f v.what v.accepted) (number e) (Q.refuses e refl).0))
+  performs_on L f (Err (Overlap o)) Q =
       let v = L.leaves in
       record {
-        answers = λ room. sym (reached_refused 8 (not_ended v.what v.accepted (f v.what v.accepted) 8 (Q.overlaps j k refl).refused8) room);
+        answers = λ room. sym (reached_refused 8 (not_ended v.what v.accepted (f v.what v.accepted) 8 (Q.overlaps o.earlier o.later refl).refused8) room);
         long = λ d i. absurd (let z : ◌≡◌ {A = ℕ} 0 1 = cc in omega arith);
         ends = λ d i. absurd (let z : ◌≡◌ {A = ℕ} 0 1 = cc in omega arith);
       }
-  performs_on L f (Done d) Q = record {
+  performs_on L f (Ok d) Q = record {
     answers = followed_on;
     long = λ e i. P.long;
     ends = λ e i.

@@ -8,22 +8,24 @@ ghost use Rattle.choices.specs.Meant.{meant};
 ghost use Rattle.promises.specs.Slices.{needed, lengths};
 ghost use Rattle.series_laws.specs.Memory.{most_later};
 ghost use Rattle.series_laws.specs.Lent.{lent};
-ghost use Rattle.series_check.specs.Judged.{number_of};
+ghost use Rattle.refusals.specs.Numbers.{answered};
+ghost use Rattle.series_check.specs.Judged.{judged};
 ghost use Rattle.series_leave.specs.Leaving.{lent_of};
 ghost use Rattle.series_follow.specs.Accepting.{AcceptsOn};
 ghost use Rattle.series_follow.specs.Performing.{PerformsOn};
 
 use choices::Choices;
-use edit_perform::{Performed, plan_and_run, refused_first};
+use edit_perform::{Ended, Unplanned, plan_and_run, refused_first};
 use read_batch::accept;
-use read_layout::Laid;
+use read_layout::Layout;
+use refusals::Refusal;
 use series_check::judge;
 use series_tree::same_tree;
 
 // A tree left by a batch may have so many elements.
 const MOST_LATER: usize = 4096;
 
-// What comes before line 2: 17, 18, 1, or the first of the memory's own refusals; else 0. The rows are for the memory's tree.
+// What comes before line 2: 17, 18, 1, or the first of the memory's own refusals. The rows are for the memory's tree.
 fn refused_before(
     choices: Choices,
     tree: &[u8],
@@ -37,34 +39,31 @@ fn refused_before(
     marks: &[u32],
     rows: &mut [u32],
     prepared: &[u32],
-) -> usize
-    ensures { result ≡ number_of (with_choices (meant choices) (lengths needed (table.now ∷ source.now ∷ changes.now ∷ notes.now ∷ incoming.now ∷ changed.now ∷ marks.now ∷ rows.old ∷ prepared.now ∷ [])) (lent most_later (lent_of tree.now bookmarks.now))) }
+) -> Result<(), Refusal>
+    ensures { answered result ≡ judged (with_choices (meant choices) (lengths needed (table.now ∷ source.now ∷ changes.now ∷ notes.now ∷ incoming.now ∷ changed.now ∷ marks.now ∷ rows.old ∷ prepared.now ∷ [])) (lent most_later (lent_of tree.now bookmarks.now))) }
 {
-    let n = refused_first(
+    refused_first(
         choices, table, source, changes, notes, incoming, changed, marks, rows, prepared,
-    );
-    if n != 0 {
-        return n;
-    }
+    )?;
     judge(MOST_LATER, tree, bookmarks, rows)
 }
 
 // Lines 2 to 7 with 16, and 22 after them.
-fn accept_same(b: &[u8], tree: &[u8], table: &mut [u32], source: &mut [u32]) -> Laid
+fn accept_same(
+    b: &[u8],
+    tree: &[u8],
+    table: &mut [u32],
+    source: &mut [u32],
+) -> Result<Layout, Refusal>
     requires in_bounds { (16384 ≤ length table.old) × (6147 ≤ length source.old) }
     requires in_bounds_2 { (8 ≤ length tree.now) × (8 + 8 * word tree.now + word (drop 4 tree.now) ≤ length tree.now) }
     ensures { AcceptsOn b.now tree.now table.new source.new result }
 {
-    let laid = accept(b, table, source);
-    match laid {
-        Laid::Refused(n) => Laid::Refused(n),
-        Laid::At(l) => {
-            if same_tree(b, l, source, tree) {
-                return Laid::At(l);
-            }
-            Laid::Refused(22)
-        }
+    let l = accept(b, table, source)?;
+    if same_tree(b, l, source, tree) {
+        return Ok(l);
     }
+    Err(Refusal::AnotherTree)
 }
 
 // From what is lent to what the run leaves, or the first refusal before 13.
@@ -82,21 +81,15 @@ pub fn perform(
     marks: &mut [u32],
     rows: &mut [u32],
     prepared: &mut [u32],
-) -> Performed
+) -> Result<Ended, Unplanned>
     ensures { PerformsOn (meant choices) (table.old ∷ source.old ∷ changes.old ∷ notes.old ∷ incoming.old ∷ changed.old ∷ marks.old ∷ rows.old ∷ prepared.old ∷ []) (lent_of tree.now bookmarks.now) b.now table.new source.new rows.new notes.new changed.new marks.new result }
 {
-    let n = refused_before(
+    refused_before(
         choices, tree, bookmarks, table, source, changes, notes, incoming, changed, marks, rows,
         prepared,
-    );
-    if n != 0 {
-        return Performed::Refused(n);
-    }
-    let laid = accept_same(b, tree, table, source);
-    match laid {
-        Laid::Refused(n) => Performed::Refused(n),
-        Laid::At(l) => plan_and_run(
-            choices, b, l, table, source, changes, notes, incoming, changed, marks, rows, prepared,
-        ),
-    }
+    )?;
+    let l = accept_same(b, tree, table, source)?;
+    plan_and_run(
+        choices, b, l, table, source, changes, notes, incoming, changed, marks, rows, prepared,
+    )
 }

@@ -1,6 +1,6 @@
 -- What the exported calls on a series return, as one number, and what they promise.
 -- Assumes nothing.
-use Rattle.std.specs.Prelude.{◌≡◌, refl, ◌||◌, List, [], ◌∷◌, ℕ, ◌≤◌, ltb, ℤ, pos, length, drop}
+use Rattle.std.specs.Prelude.{◌≡◌, refl, Result, Ok, Err, ◌||◌, List, [], ◌∷◌, ℕ, ◌≤◌, ltb, ℤ, pos, length, drop}
 use Rattle.std.proofs.Common.{sym, ◌∙◌, arith}
 use Rattle.std.proofs.Math.Path.{ap}
 use Rattle.std.proofs.Math.Option.{Option, none, some}
@@ -18,12 +18,11 @@ use Rattle.definition.specs.Answers.{too_short, with_work, with_choices, plan, p
 use Rattle.definition_laws.proofs.Limits.{encoded_within}
 use Rattle.promises.specs.Slices.{needed, lengths, zeros, zeroed}
 use Rattle.promises.specs.Promises as promises
-use Rattle.promises.specs.Serving.{of_length}
-use Rattle.promises.specs.declared.Outcome.{Outcome}
-use Rattle.promises.specs.declared.Outcome.TheVariants.{Refused}
+use Rattle.refusals.specs.Numbers.{number, answered as answered_by}
+use Rattle.refusals.specs.declared.Refusal.{Refusal}
 use Rattle.promises_read.specs.Refused.{By, batch_lines, plan_lines, step_lines, edit_numbers, by_then, by_refuse, by_more, by_number, accepted_by, plan_by, steps_by}
 use Rattle.check_laws.specs.Check.{alone}
-use Rattle.edit_numbers.specs.Told.{number_of as outcome_number, Small, number_read}
+use Rattle.edit_numbers.specs.ReturnedBatch.{Few, length_number, length_read}
 use Rattle.edit_numbers.specs.Returned.{returned}
 use Rattle.series_laws.specs.Memory.{Memory, most_at_start, most_later, too_big, wrong_numbers, astray, held}
 use Rattle.series_laws.specs.Follow.{Step, step}
@@ -31,6 +30,7 @@ use Rattle.series_laws.specs.Lent.{Lent, slots_in, beyond_slot, memory_in, cut_o
 use Rattle.series_laws.proofs.Passing.{step_done}
 use Rattle.series_laws.proofs.Series.{answered}
 use Rattle.series_check.specs.Judged.{number_of}
+use Rattle.series_check.specs.Passed.{judged_ok, judged_err}
 use Rattle.series_answer.specs.Telling.{result_bytes}
 use Rattle.series.specs.Promises.{start_needs, Starts, call_of, Follows}
 
@@ -123,28 +123,46 @@ unfolding number_of any
 number_few (refused n) h = omega (arith, (by_number {A = Memory} start_numbers 1 21 n (refused n) refl h refl).1)
 number_few (gives a) h = omega arith
 
-module _ {l : Lent} {rows left : List ℕ} {n : ℕ} (s : Starts l rows n left) where
-  pub start_small : Small (Refused n)
-  unfolding Small
-  start_small = rw s.answer (number_few (started (lengths start_needs (rows ∷ [])) l) (started_by (lengths start_needs (rows ∷ [])) l))
+module _ {l : Lent} {rows left : List ℕ} {r : Result (Unit {0}) Refusal} (s : Starts l rows r left) where
+  abbrev begun : Answer Memory
+  begun = started (lengths start_needs (rows ∷ [])) l
 
-  pub start_returned : (z : ℤ) → z ≡ outcome_number (Refused n) → ReturnsStart l rows (to_z w64 (of_z w64 z)) left
-  unfolding outcome_number
-  start_returned z q = record { answer = ap (λ (y : ℤ). to_z w64 (of_z w64 y)) q ∙ (number_read (Refused n) start_small ∙ ap (λ (k : ℕ). neg_ℤ (pos k)) s.answer); zeros = s.zeros }
+  refused_by : (f : Refusal) → r ≡ Err f → number f ≡ number_of begun
+  unfolding number_of
+  refused_by f i = sym (rw (judged_err begun f s.answer i) refl)
+
+  pub start_small : (f : Refusal) → r ≡ Err f → Few (answered_by (Err f))
+  unfolding Few answered_by
+  start_small f i = rw (refused_by f i) (number_few begun (started_by (lengths start_needs (rows ∷ [])) l))
+
+  -- it may begin
+  pub start_begun : r ≡ Ok tt → ReturnsStart l rows (pos 0) left
+  unfolding number_of
+  start_begun i =
+      let (m, q) = judged_ok begun s.answer i in
+      record { answer = sym (ap (λ (k : ℕ). neg_ℤ (pos k)) (ap number_of q)); zeros = s.zeros }
+
+  -- it may not
+  pub start_returned : (f : Refusal) → r ≡ Err f → (z : ℤ) → z ≡ length_number (answered_by (Err f)) → ReturnsStart l rows (to_z w64 (of_z w64 z)) left
+  unfolding length_number answered_by
+  start_returned f i z q = record {
+    answer = ap (λ (y : ℤ). to_z w64 (of_z w64 y)) q ∙ (length_read (answered_by (Err f)) (start_small f i) ∙ ap (λ (k : ℕ). neg_ℤ (pos k)) (refused_by f i));
+    zeros = s.zeros;
+  }
 
 -- ── A later call ────────────────────────────────────────────────────────────────────────────────────────────
 
-step_small : (o : Answer Step) → By follow_numbers o → ((s : Step) → o ≡ gives s → length (encoded s.result) ≤ 134217728) → Small (of_length (o >>= λ s. gives (length (encoded s.result))))
-unfolding Small of_length ◌>>=◌ any
+step_small : (o : Answer Step) → By follow_numbers o → ((s : Step) → o ≡ gives s → length (encoded s.result) ≤ 134217728) → Few (o >>= λ s. gives (length (encoded s.result)))
+unfolding Few ◌>>=◌ any
 step_small (refused n) h k = omega (arith, (by_number {A = Step} follow_numbers 1 22 n (refused n) refl h refl).1)
 step_small (gives s) h k = k s refl
 
-step_returned : (o : Answer Step) → outcome_number (of_length (o >>= λ s. gives (length (encoded s.result)))) ≡ returned (result_bytes o)
-unfolding outcome_number of_length returned ◌>>=◌
+step_returned : (o : Answer Step) → length_number (o >>= λ s. gives (length (encoded s.result))) ≡ returned (result_bytes o)
+unfolding length_number returned ◌>>=◌
 step_returned (refused n) = refl
 step_returned (gives s) = refl
 
-module _ {h : Choices} {b : List ℕ} {l : Lent} {held holds : List ℕ} {work left : List (List ℕ)} {r : Outcome} {after : Lent} (f : Follows h b l held work r holds after left) where
+module _ {h : Choices} {b : List ℕ} {l : Lent} {held holds : List ℕ} {work left : List (List ℕ)} {r : Result ℕ Refusal} {after : Lent} (f : Follows h b l held work r holds after left) where
   abbrev x : Answer Step
   x = answers (call_of h b held work) l
 
@@ -157,13 +175,13 @@ module _ {h : Choices} {b : List ℕ} {l : Lent} {held holds : List ℕ} {work l
       let is : edit h b ≡ gives s.result = rw (D.accepts, D.plans, D.runs) (ap gives (sym D.result)) in
       omega (arith, encoded_within h b s.result is)
 
-  pub follow_small : Small r
+  pub follow_small : Few (answered_by r)
   unfolding answers
   follow_small = rw f.answer (step_small (answers (call_of h b held work) l) (followed_by h (lengths needed work) l b (length held)) result_few)
 
-  pub follow_returned : (z : ℤ) → z ≡ outcome_number r → ReturnsFollow h b l held work (to_z w64 (of_z w64 z)) holds after left
+  pub follow_returned : (z : ℤ) → z ≡ length_number (answered_by r) → ReturnsFollow h b l held work (to_z w64 (of_z w64 z)) holds after left
   follow_returned z q = record {
-    answer = ap (λ (y : ℤ). to_z w64 (of_z w64 y)) q ∙ (number_read r follow_small ∙ (ap outcome_number f.answer ∙ step_returned (answers (call_of h b held work) l)));
+    answer = ap (λ (y : ℤ). to_z w64 (of_z w64 y)) q ∙ (length_read (answered_by r) follow_small ∙ (ap length_number f.answer ∙ step_returned (answers (call_of h b held work) l)));
     result = f.result;
     memory = f.memory;
     zeros = f.zeros;

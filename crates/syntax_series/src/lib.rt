@@ -6,7 +6,7 @@ ghost use Rattle.series_leave.specs.Leaving.{lent_of};
 ghost use Rattle.syntax_series.specs.Returned.{ReturnsStart, ReturnsFollow};
 
 use choices::Choices;
-use promises::Outcome;
+use edit_numbers::number_written;
 
 // THE FIRST CALL of a series: 0 if it may begin with this tree and these bookmarks, or a refusal's number (1, 3, 4, 5, 20 or 21) with a minus. `rows` is a work slice, which ends as
 // zeros.
@@ -14,8 +14,10 @@ use promises::Outcome;
 pub extern "C" fn syntax_series_start(tree: &[u8], bookmarks: &[u32], rows: &mut [u32]) -> i64
     ensures { ReturnsStart (lent_of tree.now bookmarks.now) rows.old result rows.new }
 {
-    let n = series::start(tree, bookmarks, rows);
-    edit_numbers::number_of(Outcome::Refused(n))
+    match series::start(tree, bookmarks, rows) {
+        Ok(()) => 0,
+        Err(refusal) => number_written(Err(refusal)),
+    }
 }
 
 // A LATER CALL of a series: the length of the answer, which stands at the front of `result`; `tree` and `bookmarks` then hold the new tree and the bookmarks that survive. Or a refusal's
@@ -56,5 +58,5 @@ pub extern "C" fn syntax_series_follow(
         rows,
         prepared,
     );
-    edit_numbers::number_of(told)
+    number_written(told)
 }

@@ -1,6 +1,6 @@
 -- `show` meets its contract: what is printed is told of the answer.
 -- Assumes nothing.
-use Rattle.edit_program.specs.Told.{refused_room, edited_counted, edited_printable, refused_told, edited_told}
+use Rattle.edit_program.specs.Told.{refused_room, edited_printable, refused_told, edited_told}
 use borrow.Author.Rules.{rules}
 use Rattle.edit_program.proofs.show.Goals as goal
 
@@ -10,8 +10,8 @@ print_refusal-requires c = search (refused_room, rules)
 pub print_result-requires : goal.print_result-requires
 print_result-requires c = search (edited_printable, rules)
 
-pub returns-in-Refused : goal.returns-in-Refused
-returns-in-Refused c = search (refused_told, rules)
+pub returns-in-Err : goal.returns-in-Err
+returns-in-Err c = search (refused_told, rules)
 
-pub returns-in-Edited : goal.returns-in-Edited
-returns-in-Edited c = search (edited_told, rules)
+pub returns-in-Ok : goal.returns-in-Ok
+returns-in-Ok c = search (edited_told, rules)

@@ -1,5 +1,6 @@
 -- `answer_end` meets its contract.
 use native.Mathlib.Omega.{arith}
+use Rattle.std.proofs.lemmas.Result.{err_from_is_err_and}
 use Rattle.series_answer.specs.Ends.{rest_told, ends_full, ends_leaving, ends_short, ends_written}
 use Rattle.series_answer.proofs.answer_end.Goals as goal
 
@@ -9,14 +10,16 @@ lacks_room-requires c = let A = c.requires.ends.ends in (A.rows_within, A.some_r
 pub returns-then-lacks_room : goal.returns-then-lacks_room
 returns-then-lacks_room c = ends_full c.requires _ (rest_told c.args.d.text c.args.batch.now) c.lacks_room.ensures c.if-lacks_room.true _
 
-pub finish-end-requires : goal.finish-end-requires
-finish-end-requires c = let v = c.requires in let A = v.ends.ends in record { n_in_bounds = (A.rows_within, A.some_rows, omega (arith, A.few_rows), omega (arith, A.few_rows, v.room), A.few_bytes _); k_in_bounds = (A.notes_within, A.few_notes, A.changed_within, A.few_changed, A.few_discarded, A.few_climbs); root_value = A.place }
+pub finish-requires : goal.finish-requires
+finish-requires c = let v = c.requires in let A = v.ends.ends in record { n_in_bounds = (A.rows_within, A.some_rows, omega (arith, A.few_rows), omega (arith, A.few_rows, v.room), A.few_bytes _); k_in_bounds = (A.notes_within, A.few_notes, A.changed_within, A.few_changed, A.few_discarded, A.few_climbs); root_value = A.place }
+
+pub returns-in_err-n : goal.returns-in_err-n
+returns-in_err-n c =
+    let p = err_from_is_err_and c.from_residual.result c.from_residual.ensures.1 in
+    rw (p.1, p.2) (ends_short c.requires _ (rest_told c.args.d.text c.args.batch.now) c.lacks_room.ensures c.if-lacks_room.false _ c.finish.ensures _ c.in_err-n.was)
 
 pub leave-requires : goal.leave-requires
 leave-requires c = ends_leaving c.requires _ (rest_told c.args.d.text c.args.batch.now) c.lacks_room.ensures c.if-lacks_room.false
 
-pub returns-in-Short : goal.returns-in-Short
-returns-in-Short c = ends_short c.requires _ (rest_told c.args.d.text c.args.batch.now) c.lacks_room.ensures c.if-lacks_room.false _ c.finish-end.ensures c.in-Short.is
-
-pub returns-in-Bytes : goal.returns-in-Bytes
-returns-in-Bytes c = ends_written c.requires _ (rest_told c.args.d.text c.args.batch.now) c.lacks_room.ensures c.if-lacks_room.false _ c.finish-end.ensures _ c.in-Bytes.is c.leave.ensures
+pub returns : goal.returns
+returns c = ends_written c.requires _ (rest_told c.args.d.text c.args.batch.now) c.lacks_room.ensures c.if-lacks_room.false _ c.finish.ensures _ c.in_ok-n.was c.leave.ensures
