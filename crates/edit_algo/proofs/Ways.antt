@@ -4,18 +4,18 @@ use Rattle.std.specs.Prelude as prelude
 use Rattle.std.specs.Prelude.{Result, Ok, Err, Some, None}
 use mathlib.Core.Path.{◌≡◌, refl, sym, ap, subst, ◌∙◌}
 use mathlib.Core.Bool.{false}
-use mathlib.Core.List.{List, [], ◌∷◌, map}
+use mathlib.Core.List.{List}
 use mathlib.Core.Option.{Option, none, some}
 use Prim.Native.Nat.{ℕ, ◌≤◌}
 use native.Mathlib.Omega.{arith}
-use lib.ListN.{length, replicate}
+use lib.ListN.{length}
 use Rattle.definition.specs.Basics as basics
 use Rattle.definition.specs.Basics.{refused, gives, ◌>>=◌, refuse}
 use Rattle.definition.specs.Choices.{Choices}
 use Rattle.definition.specs.Answers.{too_short}
 use Rattle.definition.specs.Account.{account}
 use Rattle.definition_laws.specs.Answers.{refused_gives}
-use Rattle.promises.specs.Slices.{needed, lengths, zeros, zeroed}
+use Rattle.promises.specs.Slices.{needed, lengths, zeroed}
 use Rattle.promises.specs.Keeping.{paired}
 use Rattle.promises.specs.Promises.{Edits, Finds, Accounts, Shares, Keeps, applied, recounted, with_long}
 use Rattle.promises.specs.Serving.{reached, served, place, of_length, of_place, of_share, Tells, Serves, serves_edits, serves_finds, serves_accounts, serves_shares, serves_keeps}
@@ -72,20 +72,6 @@ module _ {h : Choices} {work : List (List ℕ)} {b t s changes rows notes change
   to_answer P starts q = record { overlaps = λ j k e. overlap_known P j k e; recounts = λ d e. (done_long P d e).1.recounts d e; ends = λ d e. (done_long P d e).1.ends d e; tells = λ d e. (done_long P d e).1.tells d e; marked = λ d e. (done_long P d e).1.marked d e; room = λ d e. q (done_long P d e).0 }
 
 -- ── Cleared ─────────────────────────────────────────────────────────────────────────────────────────────────
-
--- slices of the same lengths are cleared to the same zeros
-pub zeroed_same : (v w : List (List ℕ)) → map length v ≡ map length w → zeroed v ≡ zeroed w
-unfolding zeroed zeros
-zeroed_same v w e = by_length v ∙ (ap (map (λ n. replicate n 0)) e ∙ sym (by_length w))
-  where
-    by_length : (l : List (List ℕ)) → map zeros l ≡ map (λ n. replicate n 0) (map length l)
-    by_length [] = refl
-    by_length (s ∷ l) = ap (λ t. replicate (length s) 0 ∷ t) (by_length l)
-
--- and as long for a call
-pub asked_same : (v w : List (List ℕ)) → map length v ≡ map length w → lengths needed v ≡ lengths needed w
-unfolding lengths
-asked_same v w e = rw e refl
 
 -- what is told, and then cleared, is what is promised
 pub serves_cleared : (h : Choices) (j : Job) (batch held holds : List ℕ) (work mid left : List (List ℕ)) (r : Result Told Refusal) {want : basics.Answer (Told × List ℕ)} → want ≡ served h j (lengths needed work) batch (length held) → Tells want held r holds

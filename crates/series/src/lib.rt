@@ -3,6 +3,7 @@
 
 ghost use Rattle.std.specs.Prelude.{◌≡◌, ◌∷◌, []};
 ghost use Rattle.choices.specs.Meant.{meant};
+ghost use Rattle.promises.specs.Lent.{held, Same};
 ghost use Rattle.promises.specs.Slices.{lengths};
 ghost use Rattle.refusals.specs.Numbers.{answered};
 ghost use Rattle.series_check.specs.Judged.{judged};
@@ -11,6 +12,7 @@ ghost use Rattle.series_leave.specs.Leaving.{lent_of};
 ghost use Rattle.series.specs.Promises.{start_needs, Starts, Follows};
 
 use choices::Choices;
+use promises::Work;
 use refusals::Refusal;
 
 // How many words the rows of 4,096 elements have.
@@ -39,35 +41,37 @@ pub fn start(tree: &[u8], bookmarks: &[u32], rows: &mut [u32]) -> Result<(), Ref
 }
 
 // A LATER CALL of a series: the batch is edited, its result written to the front of `result`, and the memory then holds the new tree and the bookmarks that survive, each with its
-// path of now. How many bytes the result has, or the refusal out of 1 to 13, 16 to 18 and 20 to 22: then the result slice and both slices of the memory are as they were. The nine
-// others are work slices, which end as zeros.
+// path of now. How many bytes the result has, or the refusal out of 1 to 13, 16 to 18 and 20 to 22: then the result slice and both slices of the memory are as they were. The work
+// slices end as zeros.
 pub fn follow(
     choices: Choices,
     batch: &[u8],
     tree: &mut [u8],
     bookmarks: &mut [u32],
     res: &mut [u8],
-    table: &mut [u32],
-    source: &mut [u32],
-    changes: &mut [u32],
-    notes: &mut [u32],
-    incoming: &mut [u32],
-    changed: &mut [u32],
-    marks: &mut [u32],
-    rows: &mut [u32],
-    prepared: &mut [u32],
+    work: &mut Work,
 ) -> Result<usize, Refusal>
-    ensures { Follows (meant choices) batch.now (lent_of tree.old bookmarks.old) res.old (table.old ∷ source.old ∷ changes.old ∷ notes.old ∷ incoming.old ∷ changed.old ∷ marks.old ∷ rows.old ∷ prepared.old ∷ []) result res.new (lent_of tree.new bookmarks.new) (table.new ∷ source.new ∷ changes.new ∷ notes.new ∷ incoming.new ∷ changed.new ∷ marks.new ∷ rows.new ∷ prepared.new ∷ []) }
+    ensures same { Same work.old work.new }
+    ensures follows { Follows (meant choices) batch.now (lent_of tree.old bookmarks.old) res.old (held work.old) result res.new (lent_of tree.new bookmarks.new) (held work.new) }
 {
-    let done = series_follow::perform(
-        choices, batch, tree, bookmarks, table, source, changes, notes, incoming, changed, marks,
-        rows, prepared,
-    );
+    let done = series_follow::perform(choices, batch, tree, bookmarks, work);
+    let source = &mut *work.source;
+    let marks = &mut *work.marks;
+    let rows = &mut *work.rows;
     let told = series_answer::answer(
-        choices, batch, done, source, marks, rows, notes, changed, prepared, tree, bookmarks, res,
+        choices,
+        batch,
+        done,
+        source,
+        marks,
+        rows,
+        work.notes,
+        work.changed,
+        work.prepared,
+        tree,
+        bookmarks,
+        res,
     );
-    promises::clear_all(
-        table, source, changes, notes, incoming, changed, marks, rows, prepared,
-    );
+    promises::clear_all(work);
     told
 }

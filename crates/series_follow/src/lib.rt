@@ -1,10 +1,11 @@
 // A later call of a series, from what is lent to the end of its run: 17, 18, 1, the memory's own lines, 2 to 7 with 16, 22, then planning and the steps (document 02, Note 14).
 #![tactic(auto)]
 
-ghost use Rattle.std.specs.Prelude.{◌≡◌, ◌∷◌, [], ◌+◌, ◌*◌, ◌≤◌, length, drop};
+ghost use Rattle.std.specs.Prelude.{◌≡◌, ◌+◌, ◌*◌, ◌≤◌, length, map, drop};
 ghost use Rattle.definition.specs.Words.{word};
 ghost use Rattle.definition.specs.Answers.{with_choices};
 ghost use Rattle.choices.specs.Meant.{meant};
+ghost use Rattle.promises.specs.Lent.{held, Same};
 ghost use Rattle.promises.specs.Slices.{needed, lengths};
 ghost use Rattle.series_laws.specs.Memory.{most_later};
 ghost use Rattle.series_laws.specs.Lent.{lent};
@@ -16,6 +17,7 @@ ghost use Rattle.series_follow.specs.Performing.{PerformsOn};
 
 use choices::Choices;
 use edit_perform::{Ended, Unplanned, plan_and_run, refused_first};
+use promises::Work;
 use read_batch::accept;
 use read_layout::Layout;
 use refusals::Refusal;
@@ -24,29 +26,6 @@ use series_tree::same_tree;
 
 // A tree left by a batch may have so many elements.
 const MOST_LATER: usize = 4096;
-
-// What comes before line 2: 17, 18, 1, or the first of the memory's own refusals. The rows are for the memory's tree.
-fn refused_before(
-    choices: Choices,
-    tree: &[u8],
-    bookmarks: &[u32],
-    table: &[u32],
-    source: &[u32],
-    changes: &[u32],
-    notes: &[u32],
-    incoming: &[u32],
-    changed: &[u32],
-    marks: &[u32],
-    rows: &mut [u32],
-    prepared: &[u32],
-) -> Result<(), Refusal>
-    ensures { answered result ≡ judged (with_choices (meant choices) (lengths needed (table.now ∷ source.now ∷ changes.now ∷ notes.now ∷ incoming.now ∷ changed.now ∷ marks.now ∷ rows.old ∷ prepared.now ∷ [])) (lent most_later (lent_of tree.now bookmarks.now))) }
-{
-    refused_first(
-        choices, table, source, changes, notes, incoming, changed, marks, rows, prepared,
-    )?;
-    judge(MOST_LATER, tree, bookmarks, rows)
-}
 
 // Lines 2 to 7 with 16, and 22 after them.
 fn accept_same(
@@ -66,30 +45,35 @@ fn accept_same(
     Err(Refusal::AnotherTree)
 }
 
-// From what is lent to what the run leaves, or the first refusal before 13.
+// From what is lent to what the run leaves, or the first refusal before 13. The rows are first for the memory's tree.
 pub fn perform(
     choices: Choices,
     b: &[u8],
     tree: &[u8],
     bookmarks: &[u32],
-    table: &mut [u32],
-    source: &mut [u32],
-    changes: &mut [u32],
-    notes: &mut [u32],
-    incoming: &mut [u32],
-    changed: &mut [u32],
-    marks: &mut [u32],
-    rows: &mut [u32],
-    prepared: &mut [u32],
+    work: &mut Work,
 ) -> Result<Ended, Unplanned>
-    ensures { PerformsOn (meant choices) (table.old ∷ source.old ∷ changes.old ∷ notes.old ∷ incoming.old ∷ changed.old ∷ marks.old ∷ rows.old ∷ prepared.old ∷ []) (lent_of tree.now bookmarks.now) b.now table.new source.new rows.new notes.new changed.new marks.new result }
+    ensures same { Same work.old work.new }
+    ensures lengths { map length (held work.new) ≡ map length (held work.old) }
+    ensures performs { PerformsOn (meant choices) (held work.old) (lent_of tree.now bookmarks.now) b.now work.new.table.now work.new.source.now work.new.rows.now work.new.notes.now work.new.changed.now work.new.marks.now result }
 {
-    refused_before(
-        choices, tree, bookmarks, table, source, changes, notes, incoming, changed, marks, rows,
-        prepared,
-    )?;
+    refused_first(choices, work)?;
+    judge(MOST_LATER, tree, bookmarks, work.rows)?;
+    let table = &mut *work.table;
+    let source = &mut *work.source;
     let l = accept_same(b, tree, table, source)?;
     plan_and_run(
-        choices, b, l, table, source, changes, notes, incoming, changed, marks, rows, prepared,
+        choices,
+        b,
+        l,
+        table,
+        source,
+        work.changes,
+        work.notes,
+        work.incoming,
+        work.changed,
+        work.marks,
+        work.rows,
+        work.prepared,
     )
 }

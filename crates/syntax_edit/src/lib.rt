@@ -9,7 +9,7 @@ ghost use Rattle.edit_numbers.specs.ReturnedBatch.{ReturnsBatch};
 
 use choices::Choices;
 use edit_algo::serve;
-use promises::Job;
+use promises::{Job, Work};
 
 // THE EDIT of a batch: the length of the answer, which stands at the front of `result`, or a refusal's number with a minus.
 // The nine others are work slices, which end as zeros.
@@ -31,11 +31,7 @@ pub extern "C" fn syntax_edit(
 ) -> i64
     ensures { Returns (record { edge = edge; stronger = stronger }) batch.now res.old (table.old ∷ source.old ∷ changes.old ∷ notes.old ∷ incoming.old ∷ changed.old ∷ marks.old ∷ rows.old ∷ prepared.old ∷ []) result res.new (table.new ∷ source.new ∷ changes.new ∷ notes.new ∷ incoming.new ∷ changed.new ∷ marks.new ∷ rows.new ∷ prepared.new ∷ []) }
 {
-    let told = serve(
-        Choices { edge, stronger },
-        Job::Edit,
-        batch,
-        res,
+    let mut work = Work {
         table,
         source,
         changes,
@@ -45,6 +41,13 @@ pub extern "C" fn syntax_edit(
         marks,
         rows,
         prepared,
+    };
+    let told = serve(
+        Choices { edge, stronger },
+        Job::Edit,
+        batch,
+        res,
+        &mut work,
     );
     edit_numbers::number_of(told)
 }
@@ -70,11 +73,7 @@ pub extern "C" fn syntax_find_element(
     ensures { ReturnsElement (record { edge = edge; stronger = stronger }) batch.now number (table.old ∷ source.old ∷ changes.old ∷ notes.old ∷ incoming.old ∷ changed.old ∷ marks.old ∷ rows.old ∷ prepared.old ∷ []) result (table.new ∷ source.new ∷ changes.new ∷ notes.new ∷ incoming.new ∷ changed.new ∷ marks.new ∷ rows.new ∷ prepared.new ∷ []) }
 {
     let mut none = [0u8; 0];
-    let told = serve(
-        Choices { edge, stronger },
-        Job::Find(number),
-        batch,
-        &mut none,
+    let mut work = Work {
         table,
         source,
         changes,
@@ -84,6 +83,13 @@ pub extern "C" fn syntax_find_element(
         marks,
         rows,
         prepared,
+    };
+    let told = serve(
+        Choices { edge, stronger },
+        Job::Find(number),
+        batch,
+        &mut none,
+        &mut work,
     );
     edit_numbers::number_of(told)
 }
@@ -109,11 +115,7 @@ pub extern "C" fn syntax_account(
 ) -> i64
     ensures { ReturnsAccount (record { edge = edge; stronger = stronger }) batch.now res.old (table.old ∷ source.old ∷ changes.old ∷ notes.old ∷ incoming.old ∷ changed.old ∷ marks.old ∷ rows.old ∷ prepared.old ∷ []) result res.new (table.new ∷ source.new ∷ changes.new ∷ notes.new ∷ incoming.new ∷ changed.new ∷ marks.new ∷ rows.new ∷ prepared.new ∷ []) }
 {
-    let told = serve(
-        Choices { edge, stronger },
-        Job::Account,
-        batch,
-        res,
+    let mut work = Work {
         table,
         source,
         changes,
@@ -123,6 +125,13 @@ pub extern "C" fn syntax_account(
         marks,
         rows,
         prepared,
+    };
+    let told = serve(
+        Choices { edge, stronger },
+        Job::Account,
+        batch,
+        res,
+        &mut work,
     );
     edit_numbers::number_of(told)
 }
@@ -147,11 +156,7 @@ pub extern "C" fn syntax_share(
     ensures { ReturnsShare (record { edge = edge; stronger = stronger }) batch.now (table.old ∷ source.old ∷ changes.old ∷ notes.old ∷ incoming.old ∷ changed.old ∷ marks.old ∷ rows.old ∷ prepared.old ∷ []) result (table.new ∷ source.new ∷ changes.new ∷ notes.new ∷ incoming.new ∷ changed.new ∷ marks.new ∷ rows.new ∷ prepared.new ∷ []) }
 {
     let mut none = [0u8; 0];
-    let told = serve(
-        Choices { edge, stronger },
-        Job::Share,
-        batch,
-        &mut none,
+    let mut work = Work {
         table,
         source,
         changes,
@@ -161,6 +166,13 @@ pub extern "C" fn syntax_share(
         marks,
         rows,
         prepared,
+    };
+    let told = serve(
+        Choices { edge, stronger },
+        Job::Share,
+        batch,
+        &mut none,
+        &mut work,
     );
     edit_numbers::number_of(told)
 }
@@ -186,11 +198,7 @@ pub extern "C" fn syntax_kept(
 ) -> i64
     ensures { ReturnsKept (record { edge = edge; stronger = stronger }) batch.now res.old (table.old ∷ source.old ∷ changes.old ∷ notes.old ∷ incoming.old ∷ changed.old ∷ marks.old ∷ rows.old ∷ prepared.old ∷ []) result res.new (table.new ∷ source.new ∷ changes.new ∷ notes.new ∷ incoming.new ∷ changed.new ∷ marks.new ∷ rows.new ∷ prepared.new ∷ []) }
 {
-    let told = serve(
-        Choices { edge, stronger },
-        Job::Kept,
-        batch,
-        res,
+    let mut work = Work {
         table,
         source,
         changes,
@@ -200,6 +208,13 @@ pub extern "C" fn syntax_kept(
         marks,
         rows,
         prepared,
+    };
+    let told = serve(
+        Choices { edge, stronger },
+        Job::Kept,
+        batch,
+        res,
+        &mut work,
     );
     edit_numbers::number_of(told)
 }

@@ -7,6 +7,7 @@ ghost use Rattle.syntax_series.specs.Returned.{ReturnsStart, ReturnsFollow};
 
 use choices::Choices;
 use edit_numbers::number_written;
+use promises::Work;
 
 // THE FIRST CALL of a series: 0 if it may begin with this tree and these bookmarks, or a refusal's number (1, 3, 4, 5, 20 or 21) with a minus. `rows` is a work slice, which ends as
 // zeros.
@@ -42,12 +43,7 @@ pub extern "C" fn syntax_series_follow(
 ) -> i64
     ensures { ReturnsFollow (record { edge = edge; stronger = stronger }) batch.now (lent_of tree.old bookmarks.old) res.old (table.old ∷ source.old ∷ changes.old ∷ notes.old ∷ incoming.old ∷ changed.old ∷ marks.old ∷ rows.old ∷ prepared.old ∷ []) result res.new (lent_of tree.new bookmarks.new) (table.new ∷ source.new ∷ changes.new ∷ notes.new ∷ incoming.new ∷ changed.new ∷ marks.new ∷ rows.new ∷ prepared.new ∷ []) }
 {
-    let told = series::follow(
-        Choices { edge, stronger },
-        batch,
-        tree,
-        bookmarks,
-        res,
+    let mut work = Work {
         table,
         source,
         changes,
@@ -57,6 +53,14 @@ pub extern "C" fn syntax_series_follow(
         marks,
         rows,
         prepared,
+    };
+    let told = series::follow(
+        Choices { edge, stronger },
+        batch,
+        tree,
+        bookmarks,
+        res,
+        &mut work,
     );
     number_written(told)
 }

@@ -1,27 +1,51 @@
 -- `perform` meets its contract.
+use mathlib.Core.Path.{refl}
 use native.Mathlib.Omega.{arith}
 use Rattle.std.proofs.lemmas.Result.{err_from_is_err_and}
 use Rattle.promises.specs.Slices.{long_enough}
+use Rattle.edit_perform.proofs.Stages.{early_passed}
 use Rattle.series_laws.specs.Memory.{most_later}
 use Rattle.series_tree.specs.Accepted.{lent_within}
-use Rattle.series_follow.specs.Performing.{before_passes, performs_early, performs_unaccepted, performs_on}
+use Rattle.series_follow.specs.Performing.{before_first, before_judged, before_passes, performs_early, performs_unaccepted, performs_on}
 use Rattle.series_follow.proofs.perform.Goals as goal
 
-pub returns-in_err-refused_before : goal.returns-in_err-refused_before
-returns-in_err-refused_before c =
+pub returns-in_err-refused_first-clause-performs : goal.returns-in_err-refused_first-clause-performs
+returns-in_err-refused_first-clause-performs c =
     let p = err_from_is_err_and c.from_residual.result c.from_residual.ensures.1 in
-    rw (p.1, p.2) (performs_early c.refused_before.ensures _ c.in_err-refused_before.was)
+    rw (p.1, p.2) (performs_early (before_first _ _ _ c.refused_first.ensures _ c.in_err-refused_first.was) _ refl)
 
-pub accept_same-requires : goal.accept_same-requires
-accept_same-requires c = let P = before_passes _ _ _ c.refused_before.ensures c.in_ok-refused_before.was in let v = long_enough _ _ _ _ _ _ _ _ _ P.long in record { in_bounds = (v.0.0, v.0.1); in_bounds_2 = lent_within most_later _ _ P.lent }
+pub judge-requires : goal.judge-requires
+judge-requires c = (omega arith, omega (arith, (long_enough _ _ _ _ _ _ _ _ _ (early_passed _ _ c.refused_first.ensures c.in_ok-refused_first.was).1).1.4))
 
-pub plan_and_run-requires : goal.plan_and_run-requires
-plan_and_run-requires c = let P = before_passes _ _ _ c.refused_before.ensures c.in_ok-refused_before.was in let v = long_enough _ _ _ _ _ _ _ _ _ P.long in record { laid_out = c.accept_same.ensures.left _ c.in_ok-l.was; in_bounds = (omega (arith, c.accept_same.auto.source, v.0.1), v.0.2); in_bounds_2 = (v.1.0, v.1.1, v.1.2, v.1.3, omega (arith, c.refused_before.auto.rows, v.1.4), v.1.5) }
+pub returns-in_err-judge-clause-performs : goal.returns-in_err-judge-clause-performs
+returns-in_err-judge-clause-performs c =
+    let p = err_from_is_err_and c.from_residual-in_err-judge.result c.from_residual-in_err-judge.ensures.1 in
+    rw (p.1, p.2) (performs_early (before_judged _ _ _ c.refused_first.ensures c.in_ok-refused_first.was _ c.judge.ensures) _ c.in_err-judge.was)
 
-pub returns-in_err-l : goal.returns-in_err-l
-returns-in_err-l c =
+pub accept_same-requires-clause-in_bounds : goal.accept_same-requires-clause-in_bounds
+accept_same-requires-clause-in_bounds c = let v = long_enough _ _ _ _ _ _ _ _ _ (early_passed _ _ c.refused_first.ensures c.in_ok-refused_first.was).1 in (v.0.0, v.0.1)
+
+pub accept_same-requires-clause-in_bounds_2 : goal.accept_same-requires-clause-in_bounds_2
+accept_same-requires-clause-in_bounds_2 c =
+    let P = before_passes _ _ _ (before_judged _ _ _ c.refused_first.ensures c.in_ok-refused_first.was _ c.judge.ensures) c.in_ok-judge.was in
+    lent_within most_later _ _ P.lent
+
+pub plan_and_run-requires-clause-laid_out : goal.plan_and_run-requires-clause-laid_out
+plan_and_run-requires-clause-laid_out c = c.accept_same.ensures.left _ c.in_ok-l.was
+
+pub plan_and_run-requires-clause-in_bounds : goal.plan_and_run-requires-clause-in_bounds
+plan_and_run-requires-clause-in_bounds c = let v = long_enough _ _ _ _ _ _ _ _ _ (early_passed _ _ c.refused_first.ensures c.in_ok-refused_first.was).1 in (omega (arith, c.accept_same.auto.source, v.0.1), v.0.2)
+
+pub plan_and_run-requires-clause-in_bounds_2 : goal.plan_and_run-requires-clause-in_bounds_2
+plan_and_run-requires-clause-in_bounds_2 c = let v = long_enough _ _ _ _ _ _ _ _ _ (early_passed _ _ c.refused_first.ensures c.in_ok-refused_first.was).1 in (v.1.0, v.1.1, v.1.2, v.1.3, omega (arith, c.judge.auto.rows, v.1.4), v.1.5)
+
+pub returns-in_err-l-clause-performs : goal.returns-in_err-l-clause-performs
+returns-in_err-l-clause-performs c =
     let p = err_from_is_err_and c.from_residual-in_err-l.result c.from_residual-in_err-l.ensures.1 in
-    rw (p.1, p.2) (performs_unaccepted (before_passes _ _ _ c.refused_before.ensures c.in_ok-refused_before.was) _ _ (c.accept_same.ensures.refuses _ c.in_err-l.was))
+    let P = before_passes _ _ _ (before_judged _ _ _ c.refused_first.ensures c.in_ok-refused_first.was _ c.judge.ensures) c.in_ok-judge.was in
+    rw (p.1, p.2) (performs_unaccepted P _ _ (c.accept_same.ensures.refuses _ c.in_err-l.was))
 
-pub returns : goal.returns
-returns c = performs_on (before_passes _ _ _ c.refused_before.ensures c.in_ok-refused_before.was) _ (c.accept_same.ensures.left _ c.in_ok-l.was) (c.accept_same.ensures.same _ c.in_ok-l.was) _ c.plan_and_run.ensures
+pub returns-clause-performs : goal.returns-clause-performs
+returns-clause-performs c =
+    let P = before_passes _ _ _ (before_judged _ _ _ c.refused_first.ensures c.in_ok-refused_first.was _ c.judge.ensures) c.in_ok-judge.was in
+    performs_on P _ (c.accept_same.ensures.left _ c.in_ok-l.was) (c.accept_same.ensures.same _ c.in_ok-l.was) _ c.plan_and_run.ensures
