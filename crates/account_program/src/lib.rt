@@ -10,6 +10,7 @@ ghost use Rattle.account_program.specs.Responds.{Tells, judged_in_room};
 use choices::Choices;
 use program_input::Program;
 use refusals::Refusal;
+use promises::Work;
 use std::io;
 use std::io::{Read, Write};
 use std::rt::Env;
@@ -28,19 +29,22 @@ fn account_batch(choices: Choices, batch: &[u8], out: &mut [u8]) -> Result<usize
     let mut marks = [0u32; 2048];
     let mut rows = [0u32; 12291];
     let mut prepared = [0u32; 12288];
+    let mut work = Work {
+        table: &mut table,
+        source: &mut source,
+        changes: &mut changes,
+        notes: &mut notes,
+        incoming: &mut incoming,
+        changed: &mut changed,
+        marks: &mut marks,
+        rows: &mut rows,
+        prepared: &mut prepared,
+    };
     edit_algo::account(
         choices,
         batch,
         out,
-        &mut table,
-        &mut source,
-        &mut changes,
-        &mut notes,
-        &mut incoming,
-        &mut changed,
-        &mut marks,
-        &mut rows,
-        &mut prepared,
+        &mut work,
     )
 }
 

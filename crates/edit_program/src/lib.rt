@@ -12,6 +12,7 @@ ghost use Rattle.edit_program.specs.Responds.{judged_in_room};
 use choices::Choices;
 use program_input::Program;
 use refusals::Refusal;
+use promises::Work;
 use std::io;
 use std::io::{Read, Write};
 use std::rt::Env;
@@ -30,19 +31,22 @@ fn edit_batch(choices: Choices, batch: &[u8], res: &mut [u8]) -> Result<usize, R
     let mut marks = [0u32; 2048];
     let mut rows = [0u32; 12291];
     let mut prepared = [0u32; 12288];
+    let mut work = Work {
+        table: &mut table,
+        source: &mut source,
+        changes: &mut changes,
+        notes: &mut notes,
+        incoming: &mut incoming,
+        changed: &mut changed,
+        marks: &mut marks,
+        rows: &mut rows,
+        prepared: &mut prepared,
+    };
     edit_algo::edit(
         choices,
         batch,
         res,
-        &mut table,
-        &mut source,
-        &mut changes,
-        &mut notes,
-        &mut incoming,
-        &mut changed,
-        &mut marks,
-        &mut rows,
-        &mut prepared,
+        &mut work,
     )
 }
 

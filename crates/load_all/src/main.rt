@@ -5,6 +5,7 @@ ghost use Rattle.std.specs.Prelude.{◌≤◌};
 
 use choices::Choices;
 use edit_algo::Answer;
+use promises::Work;
 use std::io;
 
 // How many loads are edited.
@@ -30,6 +31,17 @@ fn accepts(batch: &[u8]) -> usize
     let mut marks = [0u32; WORDS];
     let mut rows = [0u32; WORDS];
     let mut prepared = [0u32; WORDS];
+    let mut work = Work {
+        table: &mut table,
+        source: &mut source,
+        changes: &mut changes,
+        notes: &mut notes,
+        incoming: &mut incoming,
+        changed: &mut changed,
+        marks: &mut marks,
+        rows: &mut rows,
+        prepared: &mut prepared,
+    };
     let answer = edit_algo::edit(
         Choices {
             edge: 0,
@@ -37,15 +49,7 @@ fn accepts(batch: &[u8]) -> usize
         },
         batch,
         &mut result,
-        &mut table,
-        &mut source,
-        &mut changes,
-        &mut notes,
-        &mut incoming,
-        &mut changed,
-        &mut marks,
-        &mut rows,
-        &mut prepared,
+        &mut work,
     );
     match answer {
         Answer::Refused(_) => 0,

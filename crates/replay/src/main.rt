@@ -7,7 +7,7 @@ ghost use Rattle.std.specs.Prelude.{◌^◌, ◌<◌, ◌≤◌, IfOk};
 use choices::Choices;
 use edit_algo::serve;
 use program_input::Filled;
-use promises::{Job, Outcome};
+use promises::{Job, Outcome, Work};
 use std::io;
 use std::io::Write;
 use write_again::write_again;
@@ -204,23 +204,26 @@ fn run_job(choices: Choices, job: Job, batch: &[u8], res: &mut [u8]) -> Served {
     let mut marks = [WORD; 2048];
     let mut rows = [WORD; 12291];
     let mut prepared = [WORD; 12288];
+    let mut work = Work {
+        table: &mut table,
+        source: &mut source,
+        changes: &mut changes,
+        notes: &mut notes,
+        incoming: &mut incoming,
+        changed: &mut changed,
+        marks: &mut marks,
+        rows: &mut rows,
+        prepared: &mut prepared,
+    };
     let told = serve(
         choices,
         job,
         batch,
         res,
-        &mut table,
-        &mut source,
-        &mut changes,
-        &mut notes,
-        &mut incoming,
-        &mut changed,
-        &mut marks,
-        &mut rows,
-        &mut prepared,
+        &mut work,
     );
     if all_zero(
-        &table, &source, &changes, &notes, &incoming, &changed, &marks, &rows, &prepared,
+        &table, &source, &changes, &notes, &incoming, &changed, &marks, &rows, &prepared,table, &source, &changes, &notes, &incoming, &changed, &marks, &rows, &prepared,
     ) {
         Served::Told(told)
     } else {

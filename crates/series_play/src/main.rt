@@ -7,7 +7,7 @@ ghost use Rattle.std.specs.Prelude.{◌^◌, ◌<◌, ◌≤◌, length};
 
 use choices::Choices;
 use program_input::Filled;
-use promises::Outcome;
+use promises::{Outcome, Work};
 use series_check::{PATH, PATH_LENGTH, SLOT_WORDS, slot_at};
 use std::io;
 use std::io::Write;
@@ -133,21 +133,24 @@ fn play_batch<W: Write>(
     let mut marks = [0u32; WORDS];
     let mut rows = [0u32; WORDS];
     let mut prepared = [0u32; WORDS];
+    let mut work = Work {
+        table: &mut table,
+        source: &mut source,
+        changes: &mut changes,
+        notes: &mut notes,
+        incoming: &mut incoming,
+        changed: &mut changed,
+        marks: &mut marks,
+        rows: &mut rows,
+        prepared: &mut prepared,
+    };
     let told = series::follow(
         Choices { edge, stronger: 0 },
         batch,
         tree,
         bookmarks,
         res,
-        &mut table,
-        &mut source,
-        &mut changes,
-        &mut notes,
-        &mut incoming,
-        &mut changed,
-        &mut marks,
-        &mut rows,
-        &mut prepared,
+        &mut work,
     );
     print_outcome(to, told)
 }

@@ -10,6 +10,7 @@ ghost use Rattle.share_program.specs.Responds.{Tells, Responds};
 
 use choices::Choices;
 use edit_algo::Shared;
+use promises::Work;
 use std::io;
 use std::io::{Read, Write};
 use std::rt::Env;
@@ -27,18 +28,21 @@ fn share_batch(choices: Choices, batch: &[u8]) -> Shared
     let mut marks = [0u32; 2048];
     let mut rows = [0u32; 12291];
     let mut prepared = [0u32; 12288];
+    let mut work = Work {
+        table: &mut table,
+        source: &mut source,
+        changes: &mut changes,
+        notes: &mut notes,
+        incoming: &mut incoming,
+        changed: &mut changed,
+        marks: &mut marks,
+        rows: &mut rows,
+        prepared: &mut prepared,
+    };
     edit_algo::share(
         choices,
         batch,
-        &mut table,
-        &mut source,
-        &mut changes,
-        &mut notes,
-        &mut incoming,
-        &mut changed,
-        &mut marks,
-        &mut rows,
-        &mut prepared,
+        &mut work,
     )
 }
 

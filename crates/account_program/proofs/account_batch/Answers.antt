@@ -6,4 +6,4 @@ use Rattle.account_program.specs.Responds.{account_tells}
 use Rattle.account_program.proofs.account_batch.Goals as goal
 
 pub returns : goal.returns
-returns c = account_tells c.account.ensures c.requires.1 (search rules) (search (lengths_suffice, rules))
+returns c = account_tells c.account.ensures.accounts c.requires.1 (search rules) (search (lengths_suffice, rules))

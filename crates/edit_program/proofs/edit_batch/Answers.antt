@@ -7,4 +7,4 @@ use borrow.Author.Rules.{rules}
 use Rattle.edit_program.proofs.edit_batch.Goals as goal
 
 pub returns : goal.returns
-returns c = edit_tells c.edit.ensures c.requires.1 (search (lengths_suffice, rules)) c.requires.0 (λ i. omega (arith, c.type_inv.batch i))
+returns c = edit_tells c.edit.ensures.edits c.requires.1 (search (lengths_suffice, rules)) c.requires.0 (λ i. omega (arith, c.type_inv.batch i))
