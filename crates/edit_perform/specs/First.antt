@@ -44,4 +44,4 @@ module _ (h : definition.Choices) (work : List (ℕ × ℕ)) where
       go (gives u) c true f e =
           let z : ◌≡◌ {A = Answer (Unit {0})} (refused 1) (gives tt) = rw (c, f) at e in
           refused_gives z
-      go (gives tt) c false f e = (c, f)
+      go (gives u) c false f e = (c, f)

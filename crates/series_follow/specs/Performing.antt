@@ -98,7 +98,7 @@ module _ (h : Choices) (work : List (List ℕ)) (l : Lent) {r : Result (Unit {0}
       go (refused k) q =
           let x = stopped_early h (lengths needed work) (lent most_later l) k q in
           stopped_early h (lengths needed work) (lent most_later l >>= rest) k q ∙ ap refused (refused_inj (sym x ∙ stopped))
-      go (gives tt) q =
+      go (gives u) q =
           let (c, t) = nothing_wrong h (lengths needed work) q in
           let x : lent most_later l ≡ refused (number f) = sym (with_long h (lengths needed work) (lent most_later l) c t) ∙ stopped in
           with_long h (lengths needed work) (lent most_later l >>= rest) c t ∙ rw x refl
@@ -112,7 +112,7 @@ module _ (h : Choices) (work : List (List ℕ)) (l : Lent) {r : Result (Unit {0}
 
       go : (o : Answer (Unit {0})) → before h (lengths needed work) ≡ o → Passes h work l
       go (refused k) q = refused_gives (sym (stopped_early h (lengths needed work) (lent most_later l) k q) ∙ some.1)
-      go (gives tt) q =
+      go (gives u) q =
           let (c, t) = nothing_wrong h (lengths needed work) q in
           record { choices = c; long = t; memory = some.0; lent = sym (with_long h (lengths needed work) (lent most_later l) c t) ∙ some.1 }
 
