@@ -15,12 +15,16 @@ use std::rt::Env;
 
 // The program by its choices.
 #[derive(Clone, Copy)]
-struct Sharing {
-    choices: Choices,
+pub struct Sharing {
+    pub choices: Choices,
 }
 
 impl Program<65536, 64> for Sharing {
     ghost says = { λ p. share_printed (meant p.choices) };
+
+    ghost takes = { λ out. 64 ≡ length out };
+
+    ghost room = { λ out e. e };
 
     fn answer(&self, batch: &[u8], read: usize, out: &mut [u8]) -> usize {
         // The work slices are made here, of the lengths of docs/WORK.md.
