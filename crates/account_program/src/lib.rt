@@ -46,12 +46,16 @@ fn account_batch(choices: Choices, batch: &[u8], out: &mut [u8]) -> Result<usize
 
 // The program by its choices.
 #[derive(Clone, Copy)]
-struct Accounting {
-    choices: Choices,
+pub struct Accounting {
+    pub choices: Choices,
 }
 
 impl Program<65536, 8192> for Accounting {
     ghost says = { λ p. account_printed (meant p.choices) };
+
+    ghost takes = { λ out. 8192 ≡ length out };
+
+    ghost room = { λ out e. e };
 
     // The text, or a refusal's number alone.
     fn answer(&self, batch: &[u8], read: usize, out: &mut [u8]) -> usize {

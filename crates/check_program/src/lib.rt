@@ -6,7 +6,7 @@ ghost use Rattle.check_laws.specs.Check.{checked};
 ghost use Rattle.check_laws.specs.Layout.{claims_from, claim_printed, verdict_line};
 ghost use Rattle.check_claim.specs.Judging.{answer_of};
 ghost use Rattle.edit_print.specs.Lines.{Put};
-ghost use Rattle.program_input.specs.Told.{Writes};
+ghost use Rattle.program_input.specs.Told.{Writes, enough};
 ghost use Rattle.check_program.specs.Responds.{answered, judged_in_room};
 
 use check_claim::Verdict;
@@ -94,10 +94,14 @@ fn show(verdict: Result<Verdict, Refusal>, out: &mut [u8]) -> usize
 }
 
 // The program, whose buffer holds 262,144 bytes of claims.
-struct Checking;
+pub struct Checking;
 
-impl Program<262144, 64> for Checking {
+impl Program<262144, 32> for Checking {
     ghost says = { λ _. claim_printed };
+
+    ghost takes = { λ out. 32 ≤ length out };
+
+    ghost room = { λ out e. enough 32 out e };
 
     fn answer(&self, claim: &[u8], read: usize, out: &mut [u8]) -> usize {
         let verdict = judge(&claim[..read]);

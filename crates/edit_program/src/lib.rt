@@ -4,7 +4,7 @@
 ghost use Rattle.std.specs.Prelude.{◌≡◌, ◌≤◌, length, OnOk};
 ghost use Rattle.choices.specs.Meant.{meant};
 ghost use Rattle.definition.specs.Printed.{printed};
-ghost use Rattle.program_input.specs.Told.{Writes};
+ghost use Rattle.program_input.specs.Told.{Writes, enough};
 ghost use Rattle.edit_print.specs.Lines.{Put};
 ghost use Rattle.edit_program.specs.Told.{Showable, told, Tells};
 ghost use Rattle.edit_program.specs.Responds.{judged_in_room};
@@ -59,12 +59,16 @@ fn show(answer: Result<usize, Refusal>, res: &[u8], out: &mut [u8]) -> usize
 
 // The program by its choices.
 #[derive(Clone, Copy)]
-struct Editing {
-    choices: Choices,
+pub struct Editing {
+    pub choices: Choices,
 }
 
 impl Program<65536, 190000> for Editing {
     ghost says = { λ p. printed (meant p.choices) };
+
+    ghost takes = { λ out. 190000 ≤ length out };
+
+    ghost room = { λ out e. enough 190000 out e };
 
     fn answer(&self, batch: &[u8], read: usize, out: &mut [u8]) -> usize {
         let mut result = [0u8; 65536];

@@ -41,3 +41,7 @@ written_said say room same (Some bs) (Some ys) old new batch text read l h c z t
     let f : take room bs ≡ take read batch = front_taken bs (take read batch) ys room c (omega arith) (λ k. z (omega arith)) in
     let e : text ≡ say bs = t ∙ (ap say (sym f) ∙ same bs) in
     rw (← e) w
+
+-- an output of n bytes has n bytes and more
+pub enough : (n : ℕ) (out : List ℕ) → n ≡ length out → n ≤ length out
+enough n out e = omega arith

@@ -77,9 +77,14 @@ pub trait Program<const IN: usize, const OUT: usize> {
     // What it prints of an input.
     ghost says: { Self → List ℕ → List ℕ };
 
+    // Which outputs it takes: those of `OUT` bytes, and longer ones where it says so.
+    ghost takes: { List ℕ → Type 0 };
+
+    ghost room: { (out : List ℕ) → OUT ≡ length out → takes out };
+
     // What is printed of the first `read` bytes is written at the front of `out`.
     fn answer(&self, input: &[u8], read: usize, out: &mut [u8]) -> usize
-        requires { (IN ≡ length input.now) × (read ≤ length input.now) × (OUT ≡ length out.old) }
+        requires { (IN ≡ length input.now) × (read ≤ length input.now) × takes out.old }
         ensures { Responds (says self.now) input.now read out.new result };
 
     // No more of an input matters than there is room for.
@@ -102,7 +107,7 @@ pub fn respond<const IN: usize, const OUT: usize, P: Program<IN, OUT>, R: Read>(
     input: &mut [u8],
     out: &mut [u8],
 ) -> (Response, io::Result<()>)
-    requires { (IN ≡ length input.old) × (OUT ≡ length out.old) }
+    requires { (IN ≡ length input.old) × P.takes out.old }
     ensures responds { Responds (P.says program.now) input.new result.0.read out.new result.0.written }
     ensures bytes { Consumes (R.remaining from.old) (R.remaining from.new) (take result.0.read input.new) }
     ensures end { OnOk result.1 (result.0.read < length input.new → IsAtEnd (R.remaining from.new)) }
