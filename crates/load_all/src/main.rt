@@ -1,10 +1,7 @@
 // Edits the loads of 0 to 255, as the edit program does without arguments, and counts those that are accepted.
 #![tactic(auto)]
 
-ghost use Rattle.std.specs.Prelude.{◌≤◌};
-
 use choices::Choices;
-use edit_algo::Answer;
 use promises::Work;
 use std::io;
 
@@ -17,10 +14,8 @@ const LONGEST: usize = 8632;
 // The most words that a work slice needs.
 const WORDS: usize = 16384;
 
-// 1 for a batch that is accepted, 0 for one that is refused.
-fn accepts(batch: &[u8]) -> usize
-    ensures { result ≤ 1 }
-{
+// Whether a batch is accepted.
+fn accepts(batch: &[u8]) -> bool {
     let mut result = [0u8; 65536];
     let mut table = [0u32; WORDS];
     let mut source = [0u32; WORDS];
@@ -51,16 +46,11 @@ fn accepts(batch: &[u8]) -> usize
         &mut result,
         &mut work,
     );
-    match answer {
-        Answer::Refused(_) => 0,
-        Answer::Edited(_) => 1,
-    }
+    answer.is_ok()
 }
 
-// 1 for a starting number whose load is accepted.
-fn accepts_load(start: u32) -> usize
-    ensures { result ≤ 1 }
-{
+// Whether the load of a starting number is accepted.
+fn accepts_load(start: u32) -> bool {
     let mut batch = [0u8; LONGEST];
     let n = load_program::write_load(start, &mut batch);
     accepts(&batch[..n])
@@ -68,13 +58,7 @@ fn accepts_load(start: u32) -> usize
 
 // How many of the first loads are accepted.
 fn accepted() -> usize {
-    let mut count = 0;
-    let mut start = 0;
-    while start < LOADS {
-        count += accepts_load(start);
-        start += 1;
-    }
-    count
+    (0..LOADS).filter(|start| accepts_load(*start)).count()
 }
 
 fn main(rt: HostRuntime) -> io::Result<()> {

@@ -6,64 +6,16 @@
 ghost use Rattle.std.specs.Prelude.{◌^◌, ◌<◌, ◌≤◌, length};
 
 use choices::Choices;
-use program_input::Filled;
-use promises::{Outcome, Work};
+use program_input::{read_part, read_word};
+use promises::Work;
+use refusals::Refusal;
 use series_check::{PATH, PATH_LENGTH, SLOT_WORDS, slot_at};
 use std::io;
-use std::io::Write;
+use std::io::{Read, Write};
 use words::word;
 
 // The most words that a work slice needs.
 const WORDS: usize = 16384;
-
-// A number that is read, or the input's end.
-#[derive(Clone, Copy)]
-enum Read {
-    Word(usize),
-    End,
-}
-
-// A byte as a number.
-fn wide(x: u8) -> usize
-    ensures { result < 2 ^ 8 }
-{
-    x as usize
-}
-
-// The next word of the input.
-fn read_word<R: io::Read>(from: &mut R) -> io::Result<Read> {
-    let mut four = [0u8; 4];
-    let Filled { count, ended } = program_input::read_full(from, &mut four);
-    ended?;
-    if count < 4 {
-        return Ok(Read::End);
-    }
-    Ok(Read::Word(
-        wide(four[0]) + 256 * wide(four[1]) + 65536 * wide(four[2]) + 16777216 * wide(four[3]),
-    ))
-}
-
-// The next word, and as many bytes behind it as it says, into the front of `part`.
-fn read_part<R: io::Read>(from: &mut R, part: &mut [u8]) -> io::Result<Read> {
-    let Read::Word(n) = read_word(from)? else {
-        return Ok(Read::End);
-    };
-    if part.len() < n {
-        return Ok(Read::End);
-    }
-    let Filled { count, ended } = program_input::read_full(from, &mut part[..n]);
-    ended?;
-    if count == n {
-        Ok(Read::Word(n))
-    } else {
-        Ok(Read::End)
-    }
-}
-
-// A name and a number.
-fn print_named<W: Write>(to: &mut W, name: &str, n: usize) -> io::Result<()> {
-    write!(to, "{name}{n}")
-}
 
 // A path, by its child numbers.
 fn print_path<W: Write>(to: &mut W, path: &[u32]) -> io::Result<()> {
@@ -81,8 +33,7 @@ fn print_bookmark<W: Write>(to: &mut W, bookmarks: &[u32], i: usize) -> io::Resu
     if bookmarks.len() < at + SLOT_WORDS {
         return Ok(());
     }
-    print_named(to, " ", word(bookmarks, at))?;
-    write!(to, "=")?;
+    write!(to, " {}=", word(bookmarks, at))?;
     let n = word(bookmarks, at + PATH_LENGTH);
     if 63 < n {
         return Ok(());
@@ -94,7 +45,7 @@ fn print_bookmark<W: Write>(to: &mut W, bookmarks: &[u32], i: usize) -> io::Resu
 
 // All bookmarks in a line.
 fn print_bookmarks<W: Write>(to: &mut W, bookmarks: &[u32]) -> io::Result<()> {
-    if bookmarks.len() == 0 {
+    if bookmarks.is_empty() {
         return Ok(());
     }
     let k = word(bookmarks, 0);
@@ -104,14 +55,11 @@ fn print_bookmarks<W: Write>(to: &mut W, bookmarks: &[u32]) -> io::Result<()> {
     writeln!(to)
 }
 
-// What a later call answers. (It finds no element and tells no share.)
-fn print_outcome<W: Write>(to: &mut W, told: Outcome) -> io::Result<()> {
+// What a later call answers.
+fn print_told<W: Write>(to: &mut W, told: Result<usize, Refusal>) -> io::Result<()> {
     match told {
-        Outcome::Refused(n) => print_named(to, "refused ", n),
-        Outcome::Bytes(n) => print_named(to, "bytes ", n),
-        Outcome::Nothing => print_named(to, "", 0),
-        Outcome::At(n) => print_named(to, "", n),
-        Outcome::Of(n, _) => print_named(to, "", n),
+        Err(refusal) => write!(to, "{refusal}"),
+        Ok(n) => write!(to, "bytes {n}"),
     }
 }
 
@@ -152,29 +100,26 @@ fn play_batch<W: Write>(
         res,
         &mut work,
     );
-    print_outcome(to, told)
+    print_told(to, told)
 }
 
 // The next batch of the input, on the memory; false at the input's end.
-fn next_batch<R: io::Read, W: Write>(
+fn next_batch<R: Read, W: Write>(
     from: &mut R,
     to: &mut W,
     tree: &mut [u8],
     bookmarks: &mut [u32],
 ) -> io::Result<bool> {
-    let Read::Word(edge) = read_word(from)? else {
+    let Some(edge) = read_word(from)? else {
         return Ok(false);
     };
-    let Read::Word(room) = read_word(from)? else {
+    let Some(room) = read_word(from)? else {
         return Ok(false);
     };
     let mut batch = [0u8; 65536];
-    let Read::Word(n) = read_part(from, &mut batch)? else {
+    let Some(n) = read_part(from, &mut batch)? else {
         return Ok(false);
     };
-    if 65536 < n {
-        return Ok(false);
-    }
     if 65536 < room {
         return Ok(false);
     }
@@ -185,7 +130,7 @@ fn next_batch<R: io::Read, W: Write>(
 }
 
 // The batches of a series.
-fn play_batches<R: io::Read, W: Write>(
+fn play_batches<R: Read, W: Write>(
     from: &mut R,
     to: &mut W,
     tree: &mut [u8],
@@ -201,7 +146,7 @@ fn play_batches<R: io::Read, W: Write>(
 }
 
 // The first call, and then the batches.
-fn play<R: io::Read, W: Write>(
+fn play<R: Read, W: Write>(
     from: &mut R,
     to: &mut W,
     tree: &mut [u8],
@@ -209,13 +154,17 @@ fn play<R: io::Read, W: Write>(
     batches: usize,
 ) -> io::Result<()> {
     let mut rows = [0u32; WORDS];
-    print_named(to, "start ", series::start(tree, bookmarks, &mut rows))?;
+    let number = match series::start(tree, bookmarks, &mut rows) {
+        Ok(()) => 0,
+        Err(refusal) => refusal.number(),
+    };
+    write!(to, "start {number}")?;
     print_bookmarks(to, bookmarks)?;
     play_batches(from, to, tree, bookmarks, batches)
 }
 
 // The bookmarks' words from their bytes, and then the series.
-fn play_words<R: io::Read, W: Write>(
+fn play_words<R: Read, W: Write>(
     from: &mut R,
     to: &mut W,
     tree: &mut [u8],
@@ -232,31 +181,25 @@ fn play_words<R: io::Read, W: Write>(
 }
 
 // The next series of the input; false at the input's end.
-fn next_series<R: io::Read, W: Write>(from: &mut R, to: &mut W) -> io::Result<bool> {
+fn next_series<R: Read, W: Write>(from: &mut R, to: &mut W) -> io::Result<bool> {
     let mut tree = [0u8; 65536];
-    let Read::Word(n) = read_part(from, &mut tree)? else {
+    let Some(n) = read_part(from, &mut tree)? else {
         return Ok(false);
     };
     let mut bytes = [0u8; 65536];
-    let Read::Word(m) = read_part(from, &mut bytes)? else {
+    let Some(m) = read_part(from, &mut bytes)? else {
         return Ok(false);
     };
-    let Read::Word(batches) = read_word(from)? else {
+    let Some(batches) = read_word(from)? else {
         return Ok(false);
     };
-    if 65536 < n {
-        return Ok(false);
-    }
-    if 65536 < m {
-        return Ok(false);
-    }
     play_words(from, to, &mut tree[..n], &bytes[..m], batches)?;
     Ok(true)
 }
 
 // All series of the input.
-fn play_all<R: io::Read, W: Write>(from: &mut R, to: &mut W) -> io::Result<()> {
-    let Read::Word(all) = read_word(from)? else {
+fn play_all<R: Read, W: Write>(from: &mut R, to: &mut W) -> io::Result<()> {
+    let Some(all) = read_word(from)? else {
         return Ok(());
     };
     for _ in 0..all {

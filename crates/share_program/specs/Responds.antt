@@ -4,7 +4,8 @@ use Rattle.std.specs.Prelude.{◌≡◌, refl, false, ℕ, ◌≤◌, length, ta
 use Rattle.std.proofs.Math.Path.{sym, ap}
 use Rattle.std.proofs.Common.{◌∙◌, arith, take_all, length-take-le}
 use mathlib.Core.List.{List, [], ◌∷◌}
-use Rattle.program_input.specs.Counts.{IsPrefixLen}
+use Rattle.std.proofs.lemmas.List.{take-take}
+use Rattle.program_input.specs.Told as frame
 use Rattle.definition.specs.Basics as basics
 use Rattle.definition.specs.Basics.{gives, refused, ◌>>=◌}
 use Rattle.definition.specs.Choices.{Choices, chosen}
@@ -13,9 +14,6 @@ use Rattle.definition.specs.Printed.{program_room, ascii, line, print}
 use Rattle.promises.specs.Slices.{needed, lengths}
 use Rattle.promises.specs.Promises.{Shares, wrongly_chosen, with_long}
 use Rattle.edit_print.specs.Lines.{Put, put_fits, put_front, line_of, spaced}
-use Rattle.edit_algo.specs.declared.Shared.{Shared}
-use Rattle.edit_algo.specs.declared.Shared.TheVariants.{Refused, Of}
-use Rattle.edit_algo.specs.Numbers.{share_of}
 use Rattle.share_laws.specs.Share.{share, shared}
 use Rattle.share_laws.specs.Printed.{share_line, share_printed}
 
@@ -24,14 +22,17 @@ abbrev pub reckoned : Choices → List ℕ → basics.Answer (ℕ × ℕ)
 reckoned h b = chosen h >>= λ u. share h b
 
 -- an answer tells it
-pub record Tells (h : Choices) (b : List ℕ) (r : Shared) : Type 0 where
-  pub says : share_of r ≡ reckoned h b
+pub record Tells (h : Choices) (b : List ℕ) (r : basics.Answer (ℕ × ℕ)) : Type 0 where
+  pub says : r ≡ reckoned h b
 
 -- the first `written` bytes of the output are what is printed by the choices h of the first `read` bytes of the batch's buffer
-pub record Responds (h : Choices) (batch : List ℕ) (read : ℕ) (out : List ℕ) (written : ℕ) : Type 0 where
-  pub judged : read ≤ length batch
-  pub fits : IsPrefixLen written out
-  pub says : take written out ≡ share_printed h (take read batch)
+abbrev pub Responds : Choices → List ℕ → ℕ → List ℕ → ℕ → Type 0
+Responds h = frame.Responds (share_printed h)
+
+-- no more of the input is judged than the buffer has room for
+pub judged_in_room : (h : Choices) (bs : List ℕ) → share_printed h (take 65536 bs) ≡ share_printed h bs
+unfolding share_printed
+judged_in_room h bs = rw (take-take 65536 65536 bs (omega arith)) refl
 
 pub front_long : (read : ℕ) (b : List ℕ) → read ≤ length b → read ≡ length (take read b)
 front_long read b h = sym (length-take-le read b h)
@@ -47,23 +48,23 @@ shared_whole h work b s = go (chosen h) refl
     go (refused k) c = wrongly_chosen h work (share h b) k c
     go (gives u) c = with_long h work (share h b) c s
 
-pub share_tells : {h : Choices} {b : List ℕ} {work left : List (List ℕ)} (r : Shared) → Shares h b work (share_of r) left → too_short (lengths needed work) ≡ false → Tells h b r
+pub share_tells : {h : Choices} {b : List ℕ} {work left : List (List ℕ)} (r : basics.Answer (ℕ × ℕ)) → Shares h b work r left → too_short (lengths needed work) ≡ false → Tells h b r
 share_tells {h} {b} {work} r p s = record { says = p.share ∙ shared_whole h (lengths needed work) b s }
 
 -- ── Printed ─────────────────────────────────────────────────────────────────────────────────────────────────
 
-module _ {h : Choices} (b : List ℕ) (read : ℕ) {r : Shared} (n : 65536 ≡ length b) (c : read ≤ length b) (t : Tells h (take read b) r) where
+module _ {h : Choices} (b : List ℕ) (read : ℕ) {r : basics.Answer (ℕ × ℕ)} (n : 65536 ≡ length b) (c : read ≤ length b) (t : Tells h (take read b) r) where
   whole : take program_room (take read b) ≡ take read b
   whole = take_all 65536 (take read b) (omega (arith, length-take-le read b c))
 
-  printed : share_printed h (take read b) ≡ share_line (share_of r)
+  printed : share_printed h (take read b) ≡ share_line r
   unfolding share_printed
   printed = ap (λ (l : List ℕ). share_line (reckoned h l)) whole ∙ ap share_line (sym t.says)
 
-  pub refused_responds : {k : ℕ} {d out : List ℕ} {to : ℕ} → r ≡ Refused k → Put d 0 (print (refused k)) out to → length out ≡ length d → Responds h b read out to
-  unfolding share_of share_line print
+  pub refused_responds : {k : ℕ} {d out : List ℕ} {to : ℕ} → r ≡ refused k → Put d 0 (print (refused k)) out to → length out ≡ length d → Responds h b read out to
+  unfolding share_line print
   refused_responds {k} {d} {out} {to} e p m = record { judged = c; fits = (put_fits p m, sym (length-take-le to out (put_fits p m))); says = put_front p m ∙ sym (printed ∙ rw e refl) }
 
-  pub told_responds : {q s : ℕ} {d out : List ℕ} {to : ℕ} → r ≡ Of q s → Put d 0 (line_of (115 ∷ 104 ∷ 97 ∷ 114 ∷ 101 ∷ []) (q ∷ s ∷ [])) out to → length out ≡ length d → Responds h b read out to
-  unfolding share_of share_line line line_of spaced ascii
+  pub told_responds : {q s : ℕ} {d out : List ℕ} {to : ℕ} → r ≡ gives (q, s) → Put d 0 (line_of (115 ∷ 104 ∷ 97 ∷ 114 ∷ 101 ∷ []) (q ∷ s ∷ [])) out to → length out ≡ length d → Responds h b read out to
+  unfolding share_line line line_of spaced ascii
   told_responds {q} {s} {d} {out} {to} e p m = record { judged = c; fits = (put_fits p m, sym (length-take-le to out (put_fits p m))); says = put_front p m ∙ sym (printed ∙ rw e refl) }
