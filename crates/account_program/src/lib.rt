@@ -9,8 +9,8 @@ ghost use Rattle.account_program.specs.Responds.{Tells, judged_in_room};
 
 use choices::Choices;
 use program_input::Program;
-use refusals::Refusal;
 use promises::Work;
+use refusals::Refusal;
 use std::io;
 use std::io::{Read, Write};
 use std::rt::Env;
@@ -40,12 +40,7 @@ fn account_batch(choices: Choices, batch: &[u8], out: &mut [u8]) -> Result<usize
         rows: &mut rows,
         prepared: &mut prepared,
     };
-    edit_algo::account(
-        choices,
-        batch,
-        out,
-        &mut work,
-    )
+    edit_algo::account(choices, batch, out, &mut work)
 }
 
 // The program by its choices.

@@ -106,13 +106,7 @@ pub fn edit(
     ensures same { Same work.old work.new }
     ensures edits { Edits (meant choices) batch.now res.old (held work.old) (answer_of result) res.new (held work.new) }
 {
-    answer_in(serve(
-        choices,
-        Job::Edit,
-        batch,
-        res,
-        work,
-    ))
+    answer_in(serve(choices, Job::Edit, batch, res, work))
 }
 
 // The first node of the new tree with the kind and the text start of the old tree's node `number`. The work slices end as zeros.
@@ -126,13 +120,7 @@ pub fn find_element(
     ensures finds { Finds (meant choices) batch.now number (held work.old) (element_of result) (held work.new) }
 {
     let mut none = [0u8; 0];
-    element_in(serve(
-        choices,
-        Job::Find(number),
-        batch,
-        &mut none,
-        work,
-    ))
+    element_in(serve(choices, Job::Find(number), batch, &mut none, work))
 }
 
 // THE ACCOUNT of a batch: what becomes of each change, a line each, in sorted order; or which two overlap. The text is written to the front of `result`; the
@@ -146,33 +134,17 @@ pub fn account(
     ensures same { Same work.old work.new }
     ensures accounts { Accounts (meant choices) batch.now res.old (held work.old) (answer_of result) res.new (held work.new) }
 {
-    answer_in(serve(
-        choices,
-        Job::Account,
-        batch,
-        res,
-        work,
-    ))
+    answer_in(serve(choices, Job::Account, batch, res, work))
 }
 
 // THE SHARE OF TEXT REWRITTEN by a batch: the bytes of the new tree that lie in a changed element, in thousandths of all its bytes; of an empty text 0 and 0. The work
 // slices end as zeros.
-pub fn share(
-    choices: Choices,
-    batch: &[u8],
-    work: &mut Work,
-) -> Result<Thousandths, Refusal>
+pub fn share(choices: Choices, batch: &[u8], work: &mut Work) -> Result<Thousandths, Refusal>
     ensures same { Same work.old work.new }
     ensures shares { Shares (meant choices) batch.now (held work.old) (share_of result) (held work.new) }
 {
     let mut none = [0u8; 0];
-    share_in(serve(
-        choices,
-        Job::Share,
-        batch,
-        &mut none,
-        work,
-    ))
+    share_in(serve(choices, Job::Share, batch, &mut none, work))
 }
 
 // THE SURVIVING PAIRS of a batch's edit: each element of the old tree that is in the new tree, with its number there, by rising old numbers. All old numbers, then all
@@ -186,11 +158,5 @@ pub fn kept(
     ensures same { Same work.old work.new }
     ensures keeps { Keeps (meant choices) batch.now res.old (held work.old) (answer_of result) res.new (held work.new) }
 {
-    answer_in(serve(
-        choices,
-        Job::Kept,
-        batch,
-        res,
-        work,
-    ))
+    answer_in(serve(choices, Job::Kept, batch, res, work))
 }

@@ -11,8 +11,8 @@ ghost use Rattle.edit_program.specs.Responds.{judged_in_room};
 
 use choices::Choices;
 use program_input::Program;
-use refusals::Refusal;
 use promises::Work;
+use refusals::Refusal;
 use std::io;
 use std::io::{Read, Write};
 use std::rt::Env;
@@ -42,12 +42,7 @@ fn edit_batch(choices: Choices, batch: &[u8], res: &mut [u8]) -> Result<usize, R
         rows: &mut rows,
         prepared: &mut prepared,
     };
-    edit_algo::edit(
-        choices,
-        batch,
-        res,
-        &mut work,
-    )
+    edit_algo::edit(choices, batch, res, &mut work)
 }
 
 // What is printed of an answer is written at the front of `out`.

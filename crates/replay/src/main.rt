@@ -137,18 +137,8 @@ fn run_job(
         rows: &mut rows,
         prepared: &mut prepared,
     };
-    let told = serve(
-        choices,
-        job,
-        batch,
-        res,
-        &mut work,
-    );
-    if all_zero(&work) {
-        Some(told)
-    } else {
-        None
-    }
+    let told = serve(choices, job, batch, res, &mut work);
+    if all_zero(&work) { Some(told) } else { None }
 }
 
 // Whether the edit of a batch, its result slice and its work slices are as recorded.

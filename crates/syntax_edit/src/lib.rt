@@ -42,13 +42,7 @@ pub extern "C" fn syntax_edit(
         rows,
         prepared,
     };
-    let told = serve(
-        Choices { edge, stronger },
-        Job::Edit,
-        batch,
-        res,
-        &mut work,
-    );
+    let told = serve(Choices { edge, stronger }, Job::Edit, batch, res, &mut work);
     edit_numbers::number_of(told)
 }
 
@@ -209,13 +203,7 @@ pub extern "C" fn syntax_kept(
         rows,
         prepared,
     };
-    let told = serve(
-        Choices { edge, stronger },
-        Job::Kept,
-        batch,
-        res,
-        &mut work,
-    );
+    let told = serve(Choices { edge, stronger }, Job::Kept, batch, res, &mut work);
     edit_numbers::number_of(told)
 }
 

@@ -12,12 +12,12 @@ pub returns-in-Err : goal.returns-in-Err
 unfolding share_of
 returns-in-Err c =
     let p = c.requires in
-    let t = share_tells _ c.share-told.ensures (search (lengths_suffice, rules)) in
+    let t = share_tells _ c.share-told.ensures.shares (search (lengths_suffice, rules)) in
     refused_responds _ _ (search rules) (search rules) t (ap share_of c.in-Err.is ∙ ap refused (sym c.number.ensures)) c.print_refusal.ensures (search rules)
 
 pub returns-in-Ok : goal.returns-in-Ok
 unfolding share_of
 returns-in-Ok c =
     let p = c.requires in
-    let t = share_tells _ c.share-told.ensures (search (lengths_suffice, rules)) in
+    let t = share_tells _ c.share-told.ensures.shares (search (lengths_suffice, rules)) in
     told_responds _ _ (search rules) (search rules) t (ap share_of c.in-Ok.is) c.put_line.ensures (search rules)
