@@ -31,10 +31,10 @@ fn too_short(old: &[u32], new: &[u32], partners: &[u32], marks: &[u32]) -> bool
 fn clear_work(old: &mut [u32], new: &mut [u32], partners: &mut [u32], marks: &mut [u32])
     ensures { (old.new ∷ new.new ∷ partners.new ∷ marks.new ∷ []) ≡ zeroed (old.old ∷ new.old ∷ partners.old ∷ marks.old ∷ []) }
 {
-    words::clear(old);
-    words::clear(new);
-    words::clear(partners);
-    words::clear(marks);
+    old.fill(0);
+    new.fill(0);
+    partners.fill(0);
+    marks.fill(0);
 }
 
 // 3, of a tree whose lists have these lengths.
@@ -120,8 +120,8 @@ fn write_claims(
     requires { (length news.now ≡ length olds.now) × Below 4096 olds.now × Below (length partners.old) news.now × Below (length marks.old) changed.now }
     ensures { WritesClaims (zip olds.now news.now) changed.now (length partners.old) (length marks.old) result partners.new marks.new }
 {
-    words::clear(partners);
-    words::clear(marks);
+    partners.fill(0);
+    marks.fill(0);
     check_clauses::mark_all(changed, marks);
     check_clauses::pair_up(olds, news, partners)
 }

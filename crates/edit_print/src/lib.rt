@@ -61,7 +61,7 @@ pub fn put_line(out: &mut [u8], at: usize, name: &[u8], ns: &[usize]) -> usize
     requires { at + length name.now + 11 * length ns.now + 1 ≤ length out.old }
     ensures { Put out.old at (line_of name.now ns.now) out.new result }
 {
-    words::copy_bytes(out, at, name);
+    words::copy_in(out, at, name);
     let end = put_numbers(out, at + name.len(), ns);
     put(out, end, b'\n')
 }
@@ -103,7 +103,7 @@ fn put_text(out: &mut [u8], at: usize, text: &[u8]) -> usize
     if text.is_empty() {
         return put_line(out, at, b"text", &[]);
     }
-    words::copy_bytes(out, at, b"text ");
+    words::copy_in(out, at, b"text ");
     let to = put_bytes(out, at + 5, text);
     put(out, to, b'\n')
 }

@@ -112,7 +112,7 @@ pub fn write_text(b: &mut [u8], at: usize, tree: &[u32], text: &[u8])
     let mut to = at;
     for i in 0..tree.len() / ROW_WORDS {
         let part = own_text(tree, i, text);
-        words::copy_bytes(b, to, part);
+        words::copy_in(b, to, part);
         to += part.len();
     }
 }

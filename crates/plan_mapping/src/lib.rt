@@ -90,10 +90,11 @@ pub fn upmap_to_ancestor(
         }
         let next = upmap_node_single(map, n, parent);
         if parent == output {
-            return Ok(k);
+            break;
         }
         trail[k] = table[read_element_table::WORDS * next + read_element_table::CHILD];
         x = next;
         k += 1;
     }
+    Ok(k)
 }

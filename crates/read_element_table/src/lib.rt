@@ -8,6 +8,10 @@ ghost use Rattle.read_spelling.specs.Spelling.{elements_at};
 ghost use Rattle.read_element_table.specs.Told.{child_count};
 ghost use Rattle.read_element_table.specs.Filling.{Accepted, Filled, ended, table_of, rows_from};
 
+mod elements;
+
+pub use elements::Elements;
+
 use rows_syntax_node::{KIND, MEASURE, ROW_WORDS};
 
 // How many words an element has, and which they are (specs/View.antt).

@@ -6,6 +6,10 @@ ghost use Rattle.definition.specs.Batch.{sizes, beyond};
 ghost use Rattle.refusals.specs.Numbers.{answered};
 ghost use Rattle.read_layout.specs.Layout.{sizes_of, layout_of, Limits, ends_at, laid};
 
+mod batch;
+
+pub use batch::Batch;
+
 use refusals::Refusal;
 
 // At which byte the arrays start: the seven sizes stand before them.

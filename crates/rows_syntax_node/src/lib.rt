@@ -6,6 +6,10 @@ ghost use Rattle.orders.specs.Lists.{All};
 ghost use Rattle.definition_laws.specs.Basics.{up_from};
 ghost use Rattle.rows_syntax_node.specs.Promises.{Counted, Measured, After, ChildAt, TreesIn, TreesBetween, Bytes, Height, Part, Appended, Spliced, Moved, Shifted};
 
+mod rows;
+
+pub use rows::Rows;
+
 use words::{copy_in, splice_words, word};
 
 // How many words a row has, and which they are: the kind word is the first, at `ROW_WORDS * i`.
@@ -45,38 +49,38 @@ pub fn text_length(rows: &[u32], i: usize) -> usize
 
 // ── Places ──
 
-// The row after the next `owed` trees from row `at` on, of `n` rows: each row is one element owed less, and a node's row owes its children.
-pub fn rows_after(rows: &[u32], n: usize, at: usize, owed: usize) -> usize
-    requires { (3 * n ≤ length rows.now) × (n < 2 ^ 16) × (at ≤ n) × (owed < 2 ^ 32) }
-    ensures { After rows.now n at owed result }
+// The row after the next `owed` trees from row `at` on: each row is one element owed less, and a node's row owes its children.
+pub fn rows_after(rows: &Rows, at: usize, owed: usize) -> usize
+    requires { (at ≤ rows.now.count) × (owed < 2 ^ 32) }
+    ensures { After rows.now.words.now rows.now.count at owed result }
 {
     let mut o = owed;
-    for i in at..n {
+    for i in at..rows.count {
         if o == 0 {
             return i;
         }
-        o = o - 1 + child_count(rows, i);
+        o = o - 1 + child_count(rows.words, i);
     }
-    n
+    rows.count
 }
 
 // The row of child `i` of the node at row `parent`.
-pub fn child_row(rows: &[u32], n: usize, parent: usize, i: usize) -> usize
-    requires { (3 * n ≤ length rows.now) × (n < 2 ^ 16) × (parent < n) × (i < 2 ^ 32) }
-    ensures { ChildAt rows.now n parent i result }
+pub fn child_row(rows: &Rows, parent: usize, i: usize) -> usize
+    requires { (parent < rows.now.count) × (i < 2 ^ 32) }
+    ensures { ChildAt rows.now.words.now rows.now.count parent i result }
 {
-    rows_after(rows, n, parent + 1, i)
+    rows_after(rows, parent + 1, i)
 }
 
 // The element at row `at` with all that is below it: its preorder run.
-pub fn subtree(rows: &[u32], n: usize, at: usize) -> &[u32]
-    requires { (3 * n ≤ length rows.now) × (n < 2 ^ 16) × (at ≤ n) }
-    ensures { Part rows.now n at result.now }
+pub fn subtree<'a>(rows: &Rows<'a>, at: usize) -> &'a [u32]
+    requires { at ≤ rows.now.count }
+    ensures { Part rows.now.words.now rows.now.count at result.now }
 {
-    let end = rows_after(rows, n, at, 1);
+    let end = rows_after(rows, at, 1);
     let from = ROW_WORDS * at;
     let to = ROW_WORDS * end;
-    &rows[from..to]
+    &rows.words[from..to]
 }
 
 // ── A run of rows, as a slice of its own ──
@@ -98,13 +102,13 @@ pub fn trees_in(run: &[u32]) -> usize
 }
 
 // How many siblings the rows `p` up to `q` are.
-pub fn children_between(rows: &[u32], n: usize, p: usize, q: usize) -> usize
-    requires { (3 * n ≤ length rows.now) × (n < 2 ^ 16) × (p ≤ q) × (q ≤ n) }
-    ensures { TreesBetween rows.now n p q result }
+pub fn children_between(rows: &Rows, p: usize, q: usize) -> usize
+    requires { (p ≤ q) × (q ≤ rows.now.count) }
+    ensures { TreesBetween rows.now.words.now rows.now.count p q result }
 {
     let from = ROW_WORDS * p;
     let to = ROW_WORDS * q;
-    trees_in(&rows[from..to])
+    trees_in(&rows.words[from..to])
 }
 
 // The length of the text of a run.

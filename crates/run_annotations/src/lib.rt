@@ -10,7 +10,7 @@ ghost use Rattle.run_annotations.specs.Changed.{changed_word, changed_of, change
 ghost use Rattle.run_annotations.specs.Places.{part_rows};
 ghost use Rattle.run_annotations.specs.Promises.{RowMoved, RowsMoved, NoteMoved, NotesMoved, NoteTaken, NotesTaken, RowsAdded};
 
-use words::{store3, word};
+use words::{store, word};
 
 // How many words a note has, and which they are: the row of its element is the first, at `NOTE_WORDS * i`.
 pub const NOTE_WORDS: usize = 3;
@@ -100,7 +100,7 @@ fn keep_note(notes: &mut [u32], i: usize, r: usize, row: usize)
 {
     let number = word(notes, NOTE_WORDS * i + NUMBER);
     let place = word(notes, NOTE_WORDS * i + PLACE);
-    store3(notes, NOTE_WORDS * r, row, number, place);
+    store(notes, NOTE_WORDS * r, &[row, number, place]);
 }
 
 // The note at `i` goes behind the first `r`, moved; one at the rows that give way is left out.
@@ -143,7 +143,7 @@ fn copy_note(notes: &[u32], i: usize, out: &mut [u32], r: usize, row: usize)
 {
     let number = word(notes, NOTE_WORDS * i + NUMBER);
     let place = word(notes, NOTE_WORDS * i + PLACE);
-    store3(out, NOTE_WORDS * r, row, number, place);
+    store(out, NOTE_WORDS * r, &[row, number, place]);
 }
 
 // The note at `i`, if it is in the rows `p` up to `q`, goes behind the first `c` of `out`; from `most` on it is only counted.

@@ -36,7 +36,7 @@ pub fn start(tree: &[u8], bookmarks: &[u32], rows: &mut [u32]) -> Result<(), Ref
     ensures { Starts (record { tree = tree.entry.now; bookmarks = bookmarks.now }) rows.old result rows.new }
 {
     let told = judge_start(tree, bookmarks, rows);
-    words::clear(rows);
+    rows.fill(0);
     told
 }
 

@@ -119,7 +119,7 @@ fn fill_rows(tree: &[u8], n: usize, rows: &mut [u32])
     for i in 0..n {
         let kind = read_word(tree, SIZES + 4 * i);
         let measure = read_word(tree, measures + 4 * i);
-        words::store3(rows, ROW_WORDS * i, kind, measure, offset);
+        words::store(rows, ROW_WORDS * i, &[kind, measure, offset]);
         offset += read_spelling::length_of(kind, measure);
     }
 }

@@ -1,11 +1,15 @@
-// Words in byte slices; slices of words cleared, copied, moved and spliced.
+// Words in byte slices; slices of words copied, moved and spliced.
 #![tactic(auto)]
 
-ghost use Rattle.std.specs.Prelude.{◌≡◌, ◌∷◌, [], ◌++◌, ◌+◌, ◌-◌, ◌*◌, ◌^◌, ◌≤◌, ◌<◌, length, get_or, take, drop, replicate};
+ghost use Rattle.std.specs.Prelude.{◌≡◌, ◌++◌, ◌+◌, ◌-◌, ◌*◌, ◌^◌, ◌≤◌, ◌<◌, length, get_or, take, drop};
 ghost use Rattle.std.proofs.Math.Seq.{paste};
 ghost use Rattle.std.specs.List.{AllByRecursion};
 ghost use Rattle.definition.specs.Words.{word as word_of, words, bytes, written};
 ghost use Rattle.words.specs.Parts.{spliced};
+
+mod list;
+
+pub use list::WordList;
 
 // The byte at `i`.
 pub fn byte(b: &[u8], i: usize) -> usize
@@ -59,28 +63,6 @@ pub fn write_words(b: &mut [u8], at: usize, s: &[u32])
     }
 }
 
-// The bytes `src` are written at `at`.
-pub fn copy_bytes(b: &mut [u8], at: usize, src: &[u8])
-    requires { at + length src.now ≤ length b.old }
-    ensures { b.new ≡ paste b.old at src.now (length src.now) }
-{
-    copy_in(b, at, src);
-}
-
-// Every word becomes 0.
-pub fn clear(s: &mut [u32])
-    ensures { s.new ≡ replicate (length s.old) 0 }
-{
-    s.fill(0);
-}
-
-// Every byte becomes 0.
-pub fn clear_bytes(b: &mut [u8])
-    ensures { b.new ≡ replicate (length b.old) 0 }
-{
-    b.fill(0);
-}
-
 // The elements of `src` are written at `at`.
 pub fn copy_in<T: Copy>(s: &mut [T], at: usize, src: &[T])
     requires { at + length src.now ≤ length s.old }
@@ -114,31 +96,4 @@ pub fn store(s: &mut [u32], at: usize, row: &[usize])
     for (i, x) in row.iter().enumerate() {
         s[at + i] = *x as u32;
     }
-}
-
-// Three words are written at `at`.
-pub fn store3(s: &mut [u32], at: usize, a: usize, b: usize, c: usize)
-    requires { (at + 3 ≤ length s.old) × (a < 2 ^ 32) × (b < 2 ^ 32) × (c < 2 ^ 32) }
-    ensures { s.new ≡ paste s.old at (a ∷ b ∷ c ∷ []) 3 }
-{
-    store(s, at, &[a, b, c]);
-}
-
-// Eight words are written at `at`.
-pub fn store8(
-    s: &mut [u32],
-    at: usize,
-    a: usize,
-    b: usize,
-    c: usize,
-    d: usize,
-    e: usize,
-    f: usize,
-    g: usize,
-    h: usize,
-)
-    requires { (at + 8 ≤ length s.old) × (a < 2 ^ 32) × (b < 2 ^ 32) × (c < 2 ^ 32) × (d < 2 ^ 32) × (e < 2 ^ 32) × (f < 2 ^ 32) × (g < 2 ^ 32) × (h < 2 ^ 32) }
-    ensures { s.new ≡ paste s.old at (a ∷ b ∷ c ∷ d ∷ e ∷ f ∷ g ∷ h ∷ []) 8 }
-{
-    store(s, at, &[a, b, c, d, e, f, g, h]);
 }

@@ -204,7 +204,7 @@ fn append_text(draft: &mut [u8], at: usize, text: &[u8]) -> usize
     requires { at + length text.now ≤ length draft.old }
     ensures { Appended draft.old at text.now draft.new result }
 {
-    words::copy_bytes(draft, at, text);
+    words::copy_in(draft, at, text);
     at + text.len()
 }
 

@@ -6,8 +6,8 @@ use Rattle.finish_arrays.proofs.write_text.Goals as goal
 pub loop-i-init : goal.loop-i-init
 loop-i-init c = search (texting, rules)
 
-pub copy_bytes-requires : goal.copy_bytes-requires
-copy_bytes-requires c = search (texting_room, rules)
+pub copy_in-requires : goal.copy_in-requires
+copy_in-requires c = search (texting_room, rules)
 
 pub loop-i-preserved : goal.loop-i-preserved
 loop-i-preserved c = search (texting_next, rules)

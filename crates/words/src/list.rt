@@ -1,0 +1,27 @@
+// Words that stand in some bytes, as one value.
+
+ghost use Rattle.std.specs.Prelude.{◌≡◌, ◌+◌, ◌*◌, ◌^◌, ◌≤◌, ◌<◌, length, get_or};
+
+// The `count` words that stand in `bytes` from `at` on.
+#[derive(Clone, Copy)]
+pub struct WordList<'a> {
+    pub bytes: &'a [u8],
+    pub at: usize,
+    pub count: usize,
+    pub ghost within: { at + 4 * count ≤ length bytes.now },
+}
+
+impl WordList<'_> {
+    ghost use Rattle.words.specs.List.{words_of};
+
+    // Word `i`, 0 past the end.
+    #[tactic(auto, using(crate::specs::List::word_there, crate::specs::List::none_there))]
+    pub fn get(&self, i: usize) -> usize
+        ensures { (result ≡ get_or (words_of self.now) i 0) × (result < 2 ^ 32) }
+    {
+        if i < self.count {
+            return crate::read_word(self.bytes, self.at + 4 * i);
+        }
+        0
+    }
+}
