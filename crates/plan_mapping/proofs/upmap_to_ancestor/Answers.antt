@@ -36,8 +36,8 @@ returns-then-n-k c =
     let s : c.checked_sub.result ≡ Some c.in_ok-parent.parent = grind arith in
     climbing_10 _ _ _ _ _ _ c.requires.lines _ _ _ c.loop-parent.invariant c.entry.ensures.0 (names_some c.checked_sub.ensures s).1 c.if-n-k.true
 
-pub returns-then-parent-output : goal.returns-then-parent-output
-returns-then-parent-output c =
+pub returns : goal.returns
+returns c =
     let s : c.checked_sub.result ≡ Some c.in_ok-parent.parent = grind arith in
     let p = names_some c.checked_sub.ensures s in
     climbing_done _ _ _ _ _ _ c.requires.lines _ _ _ c.loop-parent.invariant c.entry.ensures.0 p.1 (search rules) (sym p.0 ∙ c.if-parent-output.true)
