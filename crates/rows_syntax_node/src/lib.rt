@@ -9,7 +9,6 @@ ghost use Rattle.rows_syntax_node.specs.Promises.{Counted, Measured, After, Chil
 mod rows;
 
 pub use rows::Rows;
-
 use words::{copy_in, splice_words, word};
 
 // How many words a row has, and which they are: the kind word is the first, at `ROW_WORDS * i`.
@@ -123,7 +122,8 @@ pub fn text_bytes(run: &[u32]) -> usize
     sum
 }
 
-// The greatest depth in a run, or 65 where it is more than 64.
+// The greatest depth in a run, or 65 where it is more than 64: a height and no refusal, since callers add it to a depth and compare the sum with 64, and an `Option` would be turned back into such a number at each.
+// Its `while` walks with a stack: a turn either takes a row or closes a node, so a `for` over rows would need a second loop inside; no plainer.
 pub fn height(run: &[u32]) -> usize
     requires { length run.now < 3 * 2 ^ 16 }
     ensures { Height run.now result }
