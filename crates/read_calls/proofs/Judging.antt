@@ -1,7 +1,7 @@
--- Each answer of `word_fits` and `call_fits`, from the tests that led there.
+-- Each answer of `first_listed`, `word_fits` and `call_fits`, from the tests that led there.
 -- Assumes nothing.
 use mathlib.Core.Bool.{Bool, true, false, not, ◌&&◌, ◌||◌}
-use mathlib.Core.List.{List, [], ◌∷◌}
+use mathlib.Core.List.{List, [], ◌∷◌, head_d}
 use mathlib.Core.Path.{◌≡◌, refl, sym, ◌∙◌}
 use Prim.Native.Nat.{ℕ, zero, suc, ◌+◌, ◌*◌, ◌≤◌, ◌<◌}
 use native.Mathlib.Omega.{arith}
@@ -17,6 +17,13 @@ use Rattle.read_element_table.specs.View.{view}
 use Rattle.read_element_table.specs.Wellformed.{Wellformed}
 use Rattle.read_element_table.specs.Told.{element_of, node_told, parent_told, root_told, child_told}
 use Rattle.read_calls.specs.Fits.{word_fits, call_fits, run_fits}
+
+-- ── The first listed element ────────────────────────────────────────────────────────────────────────────────
+
+pub first_told : (l : List ℕ) (x : ℕ) → x ≡ get_or l 0 0 → x ≡ head_d l 0
+unfolding head_d
+first_told [] x e = e
+first_told (y ∷ l) x e = e
 
 -- ── Tests ───────────────────────────────────────────────────────────────────────────────────────────────────
 

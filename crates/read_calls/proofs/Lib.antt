@@ -1,2 +1,2 @@
--- Judging   the laws of each answer of `word_fits` and `call_fits`
+-- Judging   the laws of each answer of `first_listed`, `word_fits` and `call_fits`
 pub mod Judging

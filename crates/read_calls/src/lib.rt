@@ -1,17 +1,17 @@
 // One call: what its word says, and its judgement by what the element table tells, for a batch's calls and for rewritten ones.
 #![tactic(auto)]
 
-ghost use Rattle.std.specs.Prelude.{◌≡◌, suc, ◌+◌, ◌*◌, ◌^◌, ◌≤◌, ◌<◌, length, get_or, drop, eqb};
+ghost use Rattle.std.specs.Prelude.{◌≡◌, suc, ◌+◌, ◌*◌, ◌^◌, ◌≤◌, ◌<◌, length, get_or, eqb};
 ghost use mathlib.Core.List.{head_d};
-ghost use Rattle.definition.specs.Words.{words as words_of};
+ghost use Rattle.words.specs.List.{words_of};
 ghost use Rattle.definition.specs.Elements.{is_node};
 ghost use Rattle.definition.specs.Refusals.{operation_of, count_of, rule_of};
 ghost use Rattle.read_element_table.specs.View.{view};
-ghost use Rattle.read_element_table.specs.Wellformed.{Wellformed};
 ghost use Rattle.read_element_table.specs.Told.{child_count};
 ghost use Rattle.read_calls.specs.Fits.{word_fits, call_fits, run_fits};
 
-use read_element_table::{CHILD, PARENT, child_count, entry, is_node, is_root};
+use read_element_table::{CHILD, Elements, PARENT, entry, is_node, is_root};
+use words::WordList;
 
 // The operation of a call word.
 pub fn operation_of(word: usize) -> usize
@@ -34,18 +34,15 @@ pub fn rule_of(word: usize) -> usize
     word / read_layout::RULE % read_layout::RULES
 }
 
-// The first of the `count` listed elements that stand at `from` in a batch, 0 if there is none.
-pub fn first_listed(b: &[u8], from: usize, count: usize) -> usize
-    requires { from + 4 * count ≤ length b.now }
-    ensures { result ≡ head_d (words_of count (drop from b.now)) 0 }
+// The first of the elements that a call lists, 0 if there is none.
+#[tactic(auto, using(crate::proofs::Judging::first_told))]
+pub fn first_listed(listed: &WordList) -> usize
+    ensures { result ≡ head_d (words_of listed.now) 0 }
 {
-    if count == 0 {
-        return 0;
-    }
-    words::read_word(b, from)
+    listed.get(0)
 }
 
-// Whether `x` and `y` are children of one parent (or both roots), and `y` does not come before `x`.
+// Whether `x` and `y` are children of one parent (or both roots), and `y` does not come before `x`. It asks less than `Elements` has: the two elements' words alone.
 pub fn run_fits(table: &[u32], x: usize, y: usize) -> bool
     requires { (8 * x + 8 ≤ length table.now) × (8 * y + 8 ≤ length table.now) }
     ensures { result ≡ run_fits table.now x y }
@@ -69,23 +66,15 @@ pub fn word_fits(operation: usize, count: usize, rule: usize) -> bool
 }
 
 // What else is asked of a call of a known operation, by its target and the first listed element (any element if it lists none).
-pub fn call_fits(
-    table: &[u32],
-    source: &[u32],
-    n: usize,
-    operation: usize,
-    target: usize,
-    first: usize,
-) -> bool
-    requires wellformed { Wellformed n table.now source.now }
-    requires operation_bound { (operation ≤ 6) × (target < n) × (first < n) }
-    ensures { result ≡ call_fits (view n table.now source.now) operation target first }
+pub fn call_fits(elements: &Elements, operation: usize, target: usize, first: usize) -> bool
+    requires { (operation ≤ 6) × (target < elements.now.count) × (first < elements.now.count) }
+    ensures { result ≡ call_fits (view elements.now.count elements.now.table.now elements.now.source.now) operation target first }
 {
     match operation {
-        0 => is_node(source, target),
+        0 => is_node(elements.source, target),
         6 => target == 0,
-        _ if is_root(table, target) => operation == 2 && is_node(source, first),
-        5 => run_fits(table, target, first),
+        _ if is_root(elements.table, target) => operation == 2 && is_node(elements.source, first),
+        5 => run_fits(elements.table, target, first),
         _ => true,
     }
 }
