@@ -4,7 +4,7 @@
 ghost use Rattle.std.specs.Prelude.{◌*◌, ◌^◌, ◌<◌, length};
 ghost use Rattle.rows_path.specs.Promises.{Resolves};
 
-use rows_syntax_node::{ROW_WORDS, child_count, child_row, text_bytes};
+use rows_syntax_node::{ROW_WORDS, Rows, child_count, child_row, text_bytes};
 
 // An element: its row, and where its text starts in its tree.
 #[derive(Clone, Copy)]
@@ -19,6 +19,10 @@ pub fn resolve(tree: &[u32], path: &[u32]) -> Option<Resolved>
     ensures { Resolves tree.now path.now result }
 {
     let n = tree.len() / ROW_WORDS;
+    let rows = Rows {
+        count: n,
+        words: tree,
+    };
     let mut at = 0;
     for step in path {
         if n <= at {
@@ -28,7 +32,7 @@ pub fn resolve(tree: &[u32], path: &[u32]) -> Option<Resolved>
         if child_count(tree, at) <= i {
             return None;
         }
-        at = child_row(tree, n, at, i);
+        at = child_row(&rows, at, i);
     }
     if n <= at {
         return None;
