@@ -1,4 +1,4 @@
--- Ways    the ways out of the functions on work slices
+-- Ways    the library's test of a list
 -- Alike   work slices of the same lengths
 pub mod Ways
 pub mod Alike

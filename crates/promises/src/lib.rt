@@ -40,54 +40,38 @@ pub struct Work<'a> {
     pub prepared: &'a mut [u32],
 }
 
-// Whether a slice has less than `n` words.
-fn is_short(s: &[u32], n: usize) -> bool
-    ensures { result ≡ ltb (length s.now) n }
-{
-    s.len() < n
-}
-
-// Whether one of three slices is too short.
-fn short_of_three(a: &[u32], i: usize, b: &[u32], j: usize, c: &[u32], k: usize) -> bool
-    ensures { result ≡ too_short (asked a.now i ∷ asked b.now j ∷ asked c.now k ∷ []) }
-{
-    if is_short(a, i) {
-        return true;
-    }
-    if is_short(b, j) {
-        return true;
-    }
-    is_short(c, k)
-}
-
 // Whether a work slice is shorter than its length in docs/WORK.md.
 pub fn too_short(work: &Work) -> bool
     ensures { result ≡ too_short (lengths needed (held work.now)) }
 {
-    if short_of_three(work.table, 16384, work.source, 6147, work.changes, 3840) {
-        return true;
-    }
-    if short_of_three(work.notes, 3072, work.incoming, 3072, work.changed, 1024) {
-        return true;
-    }
-    short_of_three(work.marks, 2048, work.rows, 12291, work.prepared, 12288)
-}
-
-// Three slices become zeros.
-fn clear_three(a: &mut [u32], b: &mut [u32], c: &mut [u32])
-    ensures { (a.new ≡ zeros a.old) × (b.new ≡ zeros b.old) × (c.new ≡ zeros c.old) }
-{
-    a.fill(0);
-    b.fill(0);
-    c.fill(0);
+    [
+        (work.table.len(), 16384),
+        (work.source.len(), 6147),
+        (work.changes.len(), 3840),
+        (work.notes.len(), 3072),
+        (work.incoming.len(), 3072),
+        (work.changed.len(), 1024),
+        (work.marks.len(), 2048),
+        (work.rows.len(), 12291),
+        (work.prepared.len(), 12288),
+    ]
+    .iter()
+    .any(|lent| lent.0 < lent.1)
 }
 
 // Every work slice becomes zeros.
+#[tactic(auto, unfolding(crate::specs::Slices::zeroed, crate::specs::Slices::zeros))]
 pub fn clear_all(work: &mut Work)
     ensures same { Same work.old work.new }
     ensures zeros { held work.new ≡ zeroed (held work.old) }
 {
-    clear_three(work.table, work.source, work.changes);
-    clear_three(work.notes, work.incoming, work.changed);
-    clear_three(work.marks, work.rows, work.prepared);
+    work.table.fill(0);
+    work.source.fill(0);
+    work.changes.fill(0);
+    work.notes.fill(0);
+    work.incoming.fill(0);
+    work.changed.fill(0);
+    work.marks.fill(0);
+    work.rows.fill(0);
+    work.prepared.fill(0);
 }

@@ -1,13 +1,16 @@
--- `too_short` meets its contract: three by three.
-use borrow.Author.Rules.{rules}
-use Rattle.promises.proofs.Ways.{short_in_first, short_in_second, short_in_third}
+-- `too_short` meets its contract: the library's test of a list is the definition's.
+use mathlib.Core.Path.{◌∙◌}
+use Rattle.std.proofs.Common.{rules, tests, ltb, ℕ}
+use Rattle.std.proofs.lemmas.Iterator.{YieldsList-from_slice}
+use Rattle.std.proofs.lemmas.Iterator.Search.{any_from_yields_List}
+use Rattle.definition.specs.Answers.{too_short}
+use Rattle.promises.specs.Lent.{held}
+use Rattle.promises.specs.Slices.{lengths, needed}
+use Rattle.promises.proofs.Ways.{some_alike}
 use Rattle.promises.proofs.too_short.Goals as goal
 
-pub returns-then-short_of_three : goal.returns-then-short_of_three
-returns-then-short_of_three c = search (short_in_first, rules)
-
-pub returns-then-short_of_three-2 : goal.returns-then-short_of_three-2
-returns-then-short_of_three-2 c = search (short_in_second, rules)
-
 pub returns : goal.returns
-returns c = search (short_in_third, rules)
+unfolding too_short lengths needed mathlib.Core.List.zip
+returns c =
+    any_from_yields_List {all = lengths needed (held c.args.work.now)} (λ (s : ℕ × ℕ). ltb s.0 s.1) _ _ _ c.any.ensures.ran (YieldsList-from_slice _ cc) (λ x b q k. search (rules, tests))
+    ∙ some_alike _ _
