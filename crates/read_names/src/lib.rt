@@ -1,113 +1,107 @@
 // Lines 6, 16 and 7: the calls, the mappings and the notes of a batch, judged by what the element table tells.
 #![tactic(auto)]
 
-ghost use Rattle.std.specs.Prelude.{◌≡◌, not, ◌+◌, ◌*◌, ◌≤◌, ◌<◌, length, drop, leb};
+ghost use Rattle.std.specs.Prelude.{◌≡◌, not, leb};
 ghost use mathlib.Core.List.{zip};
+ghost use Rattle.words.specs.List.{words_of};
 ghost use Rattle.definition.specs.Basics.{any};
-ghost use Rattle.definition.specs.Words.{words as words_of};
 ghost use Rattle.definition.specs.Refusals.{count_of, call_of, wrong_call, wrong_mapping};
 ghost use Rattle.read_element_table.specs.View.{view};
-ghost use Rattle.read_element_table.specs.Wellformed.{Wellformed};
 ghost use Rattle.read_names.specs.Called.{word_too_many, calls_fit};
 ghost use Rattle.read_names.specs.Noted.{note_wrong};
 
+use read_element_table::{Elements, is_node, is_root};
+use words::WordList;
+
 // The most elements that a call may list, a run's end not counted.
 pub const MOST_LISTED: usize = 41;
+// The operation that may list a run's end too: a number, since a call word may hold any, and `record_changes::Operation` lies above.
+const REPLACE_ALL: usize = 5;
 
-// Whether the `count` words at `from` are all below `n`.
-fn all_below(b: &[u8], from: usize, count: usize, n: usize) -> bool
-    requires { from + 4 * count ≤ length b.now }
-    ensures { result ≡ not (any (leb n) (words_of count (drop from b.now))) }
+// Whether the words are all below `n`.
+#[tactic(auto, using(crate::proofs::Passing::wording_start, crate::proofs::Passing::wording_all))]
+fn all_below(listed: &WordList, n: usize) -> bool
+    ensures { result ≡ not (any (leb n) (words_of listed.now)) }
 {
-    for i in 0..count {
-        if n <= words::read_word(b, from + 4 * i) {
+    for i in 0..listed.count {
+        if n <= listed.get(i) {
             return false;
         }
     }
     true
 }
 
-// Whether a call, whose listed elements stand at `from`, is as line 6 asks.
-fn call_stands(
-    b: &[u8],
-    from: usize,
-    word: usize,
-    target: usize,
-    n: usize,
-    table: &[u32],
-    source: &[u32],
-) -> bool
-    requires wellformed { Wellformed n table.now source.now }
-    requires word_in_bounds { from + 4 * count_of word ≤ length b.now }
-    ensures { result ≡ not (wrong_call (view n table.now source.now) (call_of word target (words_of (count_of word) (drop from b.now)))) }
+// Whether a call that lists these elements is as line 6 asks.
+#[tactic(auto, using(crate::proofs::Calling::wrong_word, crate::proofs::Calling::wrong_target, crate::proofs::Calling::wrong_listed, crate::proofs::Calling::call_judged))]
+fn call_stands(listed: &WordList, word: usize, target: usize, elements: &Elements) -> bool
+    requires { listed.now.count ≡ count_of word }
+    ensures { result ≡ not (wrong_call (view elements.now.count elements.now.table.now elements.now.source.now) (call_of word target (words_of listed.now))) }
 {
     let operation = read_calls::operation_of(word);
-    let count = read_calls::count_of(word);
     let rule = read_calls::rule_of(word);
-    if !read_calls::word_fits(operation, count, rule) {
+    if !read_calls::word_fits(operation, listed.count, rule) {
         return false;
     }
-    if n <= target {
+    if elements.count <= target {
         return false;
     }
-    if !all_below(b, from, count, n) {
+    if !all_below(listed, elements.count) {
         return false;
     }
-    let first = read_calls::first_listed(b, from, count);
-    read_calls::call_fits(table, source, n, operation, target, first)
+    let first = read_calls::first_listed(listed);
+    read_calls::call_fits(elements, operation, target, first)
 }
 
 // Line 6: every call takes its count of the listed elements, stands as it should, and none is left.
+#[tactic(auto, using(crate::proofs::Calling::calling_start, crate::proofs::Calling::calling_short, crate::proofs::Calling::calling_wrong, crate::proofs::Calling::calling_next, crate::proofs::Calling::calling_end))]
 pub fn calls_fit(
-    b: &[u8],
-    words: usize,
-    targets: usize,
-    calls: usize,
-    list: usize,
-    listed: usize,
-    n: usize,
-    table: &[u32],
-    source: &[u32],
+    calls: &WordList,
+    targets: &WordList,
+    listed: &WordList,
+    elements: &Elements,
 ) -> bool
-    requires wellformed { Wellformed n table.now source.now }
-    requires calls_in_bounds { (words + 4 * calls ≤ length b.now) × (targets + 4 * calls ≤ length b.now) × (list + 4 * listed ≤ length b.now) }
-    ensures { result ≡ calls_fit (view n table.now source.now) (zip (words_of calls (drop words b.now)) (words_of calls (drop targets b.now))) (words_of listed (drop list b.now)) }
+    requires { targets.now.count ≡ calls.now.count }
+    ensures { result ≡ calls_fit (view elements.now.count elements.now.table.now elements.now.source.now) (zip (words_of calls.now) (words_of targets.now)) (words_of listed.now) }
 {
     let mut taken = 0;
-    for i in 0..calls {
-        let word = words::read_word(b, words + 4 * i);
-        let target = words::read_word(b, targets + 4 * i);
+    for i in 0..calls.count {
+        let word = calls.get(i);
+        let target = targets.get(i);
         let count = read_calls::count_of(word);
-        if listed - taken < count {
+        if listed.count - taken < count {
             return false;
         }
-        if !call_stands(b, list + 4 * taken, word, target, n, table, source) {
+        let bytes = listed.bytes;
+        let at = listed.at + 4 * taken;
+        let own = WordList { bytes, at, count };
+        if !call_stands(&own, word, target, elements) {
             return false;
         }
         taken += count;
     }
-    taken == listed
+    taken == listed.count
 }
 
 // Whether a call lists no more than it may.
+#[tactic(auto, using(crate::proofs::Calling::run_few, crate::proofs::Calling::others_few))]
 fn lists_few(word: usize) -> bool
     ensures { result ≡ not (word_too_many word) }
 {
     let operation = read_calls::operation_of(word);
     let count = read_calls::count_of(word);
-    if operation == 5 {
+    if operation == REPLACE_ALL {
         return count <= MOST_LISTED + 1;
     }
     count <= MOST_LISTED
 }
 
 // 16, of the call words: by themselves, since 6 of a later call comes before 16 of an earlier one.
-pub fn lists_fit(b: &[u8], words: usize, calls: usize) -> bool
-    requires { words + 4 * calls ≤ length b.now }
-    ensures { result ≡ not (any word_too_many (words_of calls (drop words b.now))) }
+#[tactic(auto, using(crate::proofs::Passing::wording_start, crate::proofs::Passing::few_met, crate::proofs::Passing::few_next, crate::proofs::Passing::wording_all))]
+pub fn lists_fit(calls: &WordList) -> bool
+    ensures { result ≡ not (any word_too_many (words_of calls.now)) }
 {
-    for i in 0..calls {
-        let word = words::read_word(b, words + 4 * i);
+    for i in 0..calls.count {
+        let word = calls.get(i);
         if !lists_few(word) {
             return false;
         }
@@ -116,35 +110,26 @@ pub fn lists_fit(b: &[u8], words: usize, calls: usize) -> bool
 }
 
 // Whether a mapping names two nodes, the output no root.
-fn mapping_fits(table: &[u32], source: &[u32], n: usize, input: usize, output: usize) -> bool
-    requires { Wellformed n table.now source.now }
-    ensures { result ≡ not (wrong_mapping (view n table.now source.now) (input, output)) }
+fn mapping_fits(elements: &Elements, input: usize, output: usize) -> bool
+    ensures { result ≡ not (wrong_mapping (view elements.now.count elements.now.table.now elements.now.source.now) (input, output)) }
 {
-    input < n
-        && output < n
-        && read_element_table::is_node(source, input)
-        && read_element_table::is_node(source, output)
-        && !read_element_table::is_root(table, output)
+    input < elements.count
+        && output < elements.count
+        && is_node(elements.source, input)
+        && is_node(elements.source, output)
+        && !is_root(elements.table, output)
 }
 
 // Line 7, of the mappings.
-pub fn mappings_fit(
-    b: &[u8],
-    inputs: usize,
-    outputs: usize,
-    mappings: usize,
-    n: usize,
-    table: &[u32],
-    source: &[u32],
-) -> bool
-    requires wellformed { Wellformed n table.now source.now }
-    requires mappings_in_bounds { (inputs + 4 * mappings ≤ length b.now) × (outputs + 4 * mappings ≤ length b.now) }
-    ensures { result ≡ not (any (wrong_mapping (view n table.now source.now)) (zip (words_of mappings (drop inputs b.now)) (words_of mappings (drop outputs b.now)))) }
+#[tactic(auto, using(crate::proofs::Passing::pairing_start, crate::proofs::Passing::pairing_met, crate::proofs::Passing::pairing_next, crate::proofs::Passing::pairing_all))]
+pub fn mappings_fit(inputs: &WordList, outputs: &WordList, elements: &Elements) -> bool
+    requires { outputs.now.count ≡ inputs.now.count }
+    ensures { result ≡ not (any (wrong_mapping (view elements.now.count elements.now.table.now elements.now.source.now)) (zip (words_of inputs.now) (words_of outputs.now))) }
 {
-    for i in 0..mappings {
-        let input = words::read_word(b, inputs + 4 * i);
-        let output = words::read_word(b, outputs + 4 * i);
-        if !mapping_fits(table, source, n, input, output) {
+    for i in 0..inputs.count {
+        let input = inputs.get(i);
+        let output = outputs.get(i);
+        if !mapping_fits(elements, input, output) {
             return false;
         }
     }
@@ -160,13 +145,14 @@ fn note_fits(n: usize, element: usize, number: usize) -> bool
 }
 
 // Line 7, of the notes.
-pub fn notes_fit(b: &[u8], noted: usize, numbers: usize, notes: usize, n: usize) -> bool
-    requires { (noted + 4 * notes ≤ length b.now) × (numbers + 4 * notes ≤ length b.now) }
-    ensures { result ≡ not (any (note_wrong n) (zip (words_of notes (drop noted b.now)) (words_of notes (drop numbers b.now)))) }
+#[tactic(auto, using(crate::proofs::Passing::pairing_start, crate::proofs::Passing::pairing_met, crate::proofs::Passing::pairing_next, crate::proofs::Passing::pairing_all))]
+pub fn notes_fit(noted: &WordList, numbers: &WordList, n: usize) -> bool
+    requires { numbers.now.count ≡ noted.now.count }
+    ensures { result ≡ not (any (note_wrong n) (zip (words_of noted.now) (words_of numbers.now))) }
 {
-    for i in 0..notes {
-        let element = words::read_word(b, noted + 4 * i);
-        let number = words::read_word(b, numbers + 4 * i);
+    for i in 0..noted.count {
+        let element = noted.get(i);
+        let number = numbers.get(i);
         if !note_fits(n, element, number) {
             return false;
         }

@@ -3,4 +3,4 @@ use Rattle.read_names.proofs.Passing.{Wording}
 use Rattle.read_names.proofs.all_below.Given as goal
 
 abbrev pub invariant-loop-i : goal.invariant-loop-i
-invariant-loop-i l = Wording (leb l.n) l.b l.from l.count l.i
+invariant-loop-i l = Wording (leb l.n) l.listed l.i

@@ -3,4 +3,4 @@ use Rattle.read_names.proofs.Calling.{Calling}
 use Rattle.read_names.proofs.calls_fit.Given as goal
 
 abbrev pub invariant-loop-i : goal.invariant-loop-i
-invariant-loop-i l = Calling (view l.n l.table l.source) l.b l.words l.targets l.calls l.list l.listed l.taken l.i
+invariant-loop-i l = Calling (view l.elements.count l.elements.table.now l.elements.source.now) l.calls l.targets l.listed l.taken l.i

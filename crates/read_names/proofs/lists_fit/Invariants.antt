@@ -3,4 +3,4 @@ use Rattle.read_names.proofs.Passing.{Wording}
 use Rattle.read_names.proofs.lists_fit.Given as goal
 
 abbrev pub invariant-loop-i : goal.invariant-loop-i
-invariant-loop-i l = Wording word_too_many l.b l.words l.calls l.i
+invariant-loop-i l = Wording word_too_many l.calls l.i

@@ -4,4 +4,4 @@ use Rattle.read_names.proofs.Passing.{Pairing}
 use Rattle.read_names.proofs.mappings_fit.Given as goal
 
 abbrev pub invariant-loop-i : goal.invariant-loop-i
-invariant-loop-i l = Pairing (wrong_mapping (view l.n l.table l.source)) l.b l.inputs l.outputs l.mappings l.i
+invariant-loop-i l = Pairing (wrong_mapping (view l.elements.count l.elements.table.now l.elements.source.now)) l.inputs l.outputs l.i

@@ -3,4 +3,4 @@ use Rattle.read_names.proofs.Passing.{Pairing}
 use Rattle.read_names.proofs.notes_fit.Given as goal
 
 abbrev pub invariant-loop-i : goal.invariant-loop-i
-invariant-loop-i l = Pairing (note_wrong l.n) l.b l.noted l.numbers l.notes l.i
+invariant-loop-i l = Pairing (note_wrong l.n) l.noted l.numbers l.i
