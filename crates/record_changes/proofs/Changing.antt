@@ -1,28 +1,23 @@
 -- Each answer of the functions on one change, from the tests that led there.
 -- Assumes nothing.
 use mathlib.Core.Bool.{Bool, true, false}
-use mathlib.Core.List.{List, [], ◌∷◌, ◌++◌, head_d}
-use mathlib.Core.Path.{◌≡◌, refl, ap, ◌∙◌}
+use mathlib.Core.List.{List, [], ◌∷◌, head_d}
+use mathlib.Core.Path.{◌≡◌, refl, ◌∙◌}
 use Prim.Native.Nat.{ℕ, zero, suc, ◌+◌, ◌-◌, ◌*◌, ◌≤◌, ◌<◌}
 use native.Mathlib.Omega.{arith}
-use lib.ListN.{length, get_or}
-use lib.Seq.{paste}
+use lib.ListN.{get_or}
 use lib.Dec.{eqb}
 use borrow.Author.Tests.{eq-eqb, ne_eqb}
 use Rattle.definition.specs.Elements.{is_node}
-use Rattle.words.specs.Parts.{paste_paste}
-use Rattle.record_changes.specs.ChangeRow.{row_words}
 use Rattle.read_element_table.specs.View.{view}
 use Rattle.read_element_table.specs.Wellformed.{Wellformed}
-use Rattle.read_element_table.specs.Told.{deep}
-use Rattle.record_changes.specs.Numbers.{numbers_of, as_change, run_asked, change_asked, row_with, change_by}
+use Rattle.record_changes.specs.Numbers.{numbers_of, as_change, run_asked, change_asked, change_by}
 use Rattle.record_changes.specs.Spots.{spot_of, Named, spot_in, insertion_in, run_in, above_word, region_by, spot_insert, spot_replace, spot_delete, spot_many, spot_run}
 use Rattle.record_changes.specs.declared.Place.{Place}
 use Rattle.record_changes.specs.declared.Place.TheVariants.{FirstChild, After}
 use Rattle.record_changes.specs.declared.Listed.{Listed}
 use Rattle.record_changes.specs.declared.Change.{Change}
 use Rattle.record_changes.specs.declared.Change.TheVariants.{Insert, Replace, Delete, ReplaceWithMany, ReplaceAll}
-use Rattle.record_changes.specs.declared.Numbers.{Numbers}
 use Rattle.record_changes.specs.declared.Spot.{Spot}
 
 -- ── The change that a call asks for ─────────────────────────────────────────────────────────────────────────
@@ -97,29 +92,6 @@ module _ {n : ℕ} {w s : List ℕ} {c : Change} (W : Wellformed n w s) (N : Nam
   named : {d : Change} → c ≡ d → ((numbers_of d).target < n) × ((numbers_of d).end < n)
   named e = (rw e at N.target, rw e at N.end)
 
-  pub reach_insert : {p : Place} {x : ℕ} {l : Listed} → c ≡ Insert p x l → (8 * x + 8 ≤ length w) × (0 < get_or w (8 * x + 3) 0)
-  reach_insert e = let h = (named e).0 in (omega (arith, W.lines.long), deep n w W.lines _ h)
-
-  module _ {d : Change} (e : c ≡ d) where
-    -- a replacement of one element
-    abbrev x : ℕ
-    x = (numbers_of d).target
-
-    pub reach_node : (3 * x + 6 ≤ length s) × (1 < 4)
-    reach_node = let h = (named e).0 in (omega (arith, W.long), omega arith)
-
-    pub reach_by : {b : ℕ} → b ≤ 1 → (3 * x + 6 ≤ length s) × (b + 1 < 4)
-    reach_by k = let h = (named e).0 in (omega (arith, W.long), omega arith)
-
-    pub reach_one : {q : ℕ} → q ≤ 1 → (8 * x + 8 ≤ length w) × (8 * x + 8 ≤ length w) × (0 < get_or w (8 * x + 3) 0) × (q < 4)
-    reach_one k = let h = (named e).0 in (omega (arith, W.lines.long), omega (arith, W.lines.long), deep n w W.lines x h, omega arith)
-
-    pub reach_two : {b q : ℕ} → b ≤ 1 → q ≤ b + 1 → (8 * x + 8 ≤ length w) × (8 * x + 8 ≤ length w) × (0 < get_or w (8 * x + 3) 0) × (q < 4)
-    reach_two j k = let h = (named e).0 in (omega (arith, W.lines.long), omega (arith, W.lines.long), deep n w W.lines x h, omega arith)
-
-  pub reach_run : {x y : ℕ} {l : Listed} → c ≡ ReplaceAll x y l → (8 * x + 8 ≤ length w) × (8 * y + 8 ≤ length w) × (0 < get_or w (8 * x + 3) 0) × (1 < 4)
-  reach_run {x} e = let h = named e in (omega (arith, W.lines.long, h.0), omega (arith, W.lines.long, h.1), deep n w W.lines x h.0, omega arith)
-
   -- ── and is told as the definition says ────────────────────────────────────────────────────────────────────
 
   module _ {r : Spot} (y : ℕ) where
@@ -138,16 +110,3 @@ module _ {n : ℕ} {w s : List ℕ} {c : Change} (W : Wellformed n w s) (N : Nam
 
     pub told_run : {x z : ℕ} {l : Listed} → c ≡ ReplaceAll x z l → r ≡ run_in w x z 1 → r ≡ spot_of (view n w s) (as_change (y ∷ []) c)
     told_run {x} {z} e k = rw e (k ∙ spot_run n w s W x (named e).0 z (named e).1 (y ∷ []))
-
--- ── A row written ───────────────────────────────────────────────────────────────────────────────────────────
-
--- the first eight words of a row, and the other six
-pub row_stored : (w w₁ w₂ : List ℕ) (k at : ℕ) (m : Numbers) (s : Spot) (n : ℕ) → at ≡ 14 * k → 14 * k + 14 ≤ length w
-    → w₁ ≡ paste w at (m.operation ∷ m.target ∷ m.end ∷ m.list ∷ m.count ∷ s.tree ∷ s.from ∷ s.to ∷ []) 8
-    → w₂ ≡ paste w₁ (at + 8) (s.depth ∷ m.rank ∷ s.region ∷ 0 ∷ 0 ∷ n ∷ []) 6
-    → w₂ ≡ paste w (14 * k) (row_words (row_with m s n)) 14
-unfolding row_words row_with
-row_stored w w₁ w₂ k at m s n e h e₁ e₂ =
-    let six : List ℕ = s.depth ∷ m.rank ∷ s.region ∷ 0 ∷ 0 ∷ n ∷ [] in
-    let eight : List ℕ = m.operation ∷ m.target ∷ m.end ∷ m.list ∷ m.count ∷ s.tree ∷ s.from ∷ s.to ∷ [] in
-    e₂ ∙ (ap (λ (v : List ℕ). paste v (at + 8) six 6) e₁ ∙ (paste_paste w at eight 8 six 6 (at + 8) 14 refl refl (omega arith) (omega arith) refl ∙ ap (λ (i : ℕ). paste w i (eight ++ six) 14) e))
