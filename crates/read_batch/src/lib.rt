@@ -14,87 +14,81 @@ ghost use Rattle.read_names.specs.Noted.{note_wrong};
 ghost use Rattle.read_batch.specs.Accepting.{named};
 ghost use Rattle.read_batch.specs.Leaving.{Judged};
 
-use read_layout::Layout;
+use read_element_table::Elements;
+use read_layout::{Batch, Layout};
 use refusals::Refusal;
 
 // Line 6, of a batch with this layout.
-fn calls_stand(b: &[u8], l: Layout, table: &[u32], source: &[u32]) -> bool
-    requires within { Within b.now l }
-    requires wellformed { Wellformed l.sizes.elements table.now source.now }
-    ensures { result ≡ calls_fit (view l.sizes.elements table.now source.now) (zip (arrays_at l b.now).calls (arrays_at l b.now).targets) (arrays_at l b.now).listed }
+fn calls_stand(batch: &Batch, elements: &Elements) -> bool
+    ensures { result ≡ calls_fit (view elements.now.count elements.now.table.now elements.now.source.now) (zip (arrays_at batch.now.layout batch.now.bytes.now).calls (arrays_at batch.now.layout batch.now.bytes.now).targets) (arrays_at batch.now.layout batch.now.bytes.now).listed }
 {
-    let s = l.sizes;
-    read_names::calls_fit(
-        b, l.words, l.targets, s.calls, l.list, s.listed, s.elements, table, source,
-    )
+    read_names::calls_fit(&batch.calls(), &batch.targets(), &batch.listed(), elements)
 }
 
 // 16, of its calls.
-fn lists_stand(b: &[u8], l: Layout) -> bool
-    requires { Within b.now l }
-    ensures { result ≡ not (any word_too_many (arrays_at l b.now).calls) }
+fn lists_stand(batch: &Batch) -> bool
+    ensures { result ≡ not (any word_too_many (arrays_at batch.now.layout batch.now.bytes.now).calls) }
 {
-    let s = l.sizes;
-    read_names::lists_fit(b, l.words, s.calls)
+    read_names::lists_fit(&batch.calls())
 }
 
 // Line 7, of its mappings.
-fn mappings_stand(b: &[u8], l: Layout, table: &[u32], source: &[u32]) -> bool
-    requires within { Within b.now l }
-    requires wellformed { Wellformed l.sizes.elements table.now source.now }
-    ensures { result ≡ not (any (wrong_mapping (view l.sizes.elements table.now source.now)) (zip (arrays_at l b.now).inputs (arrays_at l b.now).outputs)) }
+fn mappings_stand(batch: &Batch, elements: &Elements) -> bool
+    ensures { result ≡ not (any (wrong_mapping (view elements.now.count elements.now.table.now elements.now.source.now)) (zip (arrays_at batch.now.layout batch.now.bytes.now).inputs (arrays_at batch.now.layout batch.now.bytes.now).outputs)) }
 {
-    let s = l.sizes;
-    read_names::mappings_fit(
-        b, l.inputs, l.outputs, s.mappings, s.elements, table, source,
-    )
+    read_names::mappings_fit(&batch.inputs(), &batch.outputs(), elements)
 }
 
 // Line 7, of its notes.
-fn notes_stand(b: &[u8], l: Layout) -> bool
-    requires { Within b.now l }
-    ensures { result ≡ not (any (note_wrong l.sizes.elements) (zip (arrays_at l b.now).noted (arrays_at l b.now).numbers)) }
+fn notes_stand(batch: &Batch) -> bool
+    ensures { result ≡ not (any (note_wrong batch.now.layout.sizes.elements) (zip (arrays_at batch.now.layout batch.now.bytes.now).noted (arrays_at batch.now.layout batch.now.bytes.now).numbers)) }
 {
-    let s = l.sizes;
-    read_names::notes_fit(b, l.noted, l.numbers, s.notes, s.elements)
+    read_names::notes_fit(
+        &batch.noted(),
+        &batch.numbers(),
+        batch.layout.sizes.elements,
+    )
 }
 
 // Lines 6, 16 and 7.
-fn judge_names(b: &[u8], l: Layout, table: &[u32], source: &[u32]) -> Result<Layout, Refusal>
-    requires within { Within b.now l }
-    requires wellformed { Wellformed l.sizes.elements table.now source.now }
-    ensures { answered result ≡ named (arrays_at l b.now) (view l.sizes.elements table.now source.now) l }
+fn judge_names(batch: &Batch, elements: &Elements) -> Result<Layout, Refusal>
+    requires { elements.now.count ≡ batch.now.layout.sizes.elements }
+    ensures { answered result ≡ named (arrays_at batch.now.layout batch.now.bytes.now) (view elements.now.count elements.now.table.now elements.now.source.now) batch.now.layout }
 {
-    if !calls_stand(b, l, table, source) {
+    if !calls_stand(batch, elements) {
         return Err(Refusal::Call);
     }
-    if !lists_stand(b, l) {
+    if !lists_stand(batch) {
         return Err(Refusal::Listed);
     }
-    if !mappings_stand(b, l, table, source) {
+    if !mappings_stand(batch, elements) {
         return Err(Refusal::Name);
     }
-    if !notes_stand(b, l) {
+    if !notes_stand(batch) {
         return Err(Refusal::Name);
     }
-    Ok(l)
+    Ok(batch.layout)
 }
 
 // Lines 5 to 7, of a batch with this layout: where line 5 accepts, the element table and the rows are filled.
-fn judge(b: &[u8], l: Layout, table: &mut [u32], source: &mut [u32]) -> Result<Layout, Refusal>
-    requires b_value { laid b.now ≡ gives l }
-    requires within { Within b.now l }
+fn judge(batch: &Batch, table: &mut [u32], source: &mut [u32]) -> Result<Layout, Refusal>
+    requires laid { laid batch.now.bytes.now ≡ gives batch.now.layout }
     requires in_bounds { (16384 ≤ length table.old) × (6147 ≤ length source.old) }
-    ensures { Judged b.now table.old source.old table.new source.new result }
+    ensures { Judged batch.now.bytes.now table.old source.old table.new source.new result }
 {
-    let s = l.sizes;
-    let kinds = l.kinds;
-    let measures = l.measures;
-    if !read_spelling::spells(b, kinds, measures, s.elements, s.trees, s.text) {
+    let b = batch.bytes;
+    let l = batch.layout;
+    let count = l.sizes.elements;
+    if !read_spelling::spells(b, l.kinds, l.measures, count, l.sizes.trees, l.sizes.text) {
         return Err(Refusal::Spelling);
     }
-    read_element_table::fill(b, kinds, measures, s.elements, s.trees, table, source);
-    judge_names(b, l, table, source)
+    read_element_table::fill(b, l.kinds, l.measures, count, l.sizes.trees, table, source);
+    let elements = Elements {
+        count,
+        table,
+        source,
+    };
+    judge_names(batch, &elements)
 }
 
 // Lines 2 to 7: the first refusal in checking order, or the layout.
@@ -102,6 +96,7 @@ pub fn accept(b: &[u8], table: &mut [u32], source: &mut [u32]) -> Result<Layout,
     requires { (16384 ≤ length table.old) × (6147 ≤ length source.old) }
     ensures { Judged b.now table.old source.old table.new source.new result }
 {
-    let l = read_layout::lay_out(b)?;
-    judge(b, l, table, source)
+    let layout = read_layout::lay_out(b)?;
+    let batch = Batch { bytes: b, layout };
+    judge(&batch, table, source)
 }

@@ -4,11 +4,11 @@ use borrow.Author.Rules.{rules}
 use Rattle.read_batch.proofs.Judging.{is_laid, is_within, unlaid}
 use Rattle.read_batch.proofs.accept.Goals as goal
 
-pub judge-requires-clause-b_value : goal.judge-requires-clause-b_value
-judge-requires-clause-b_value c = is_laid _ _ c.in_ok-l.ensures _ refl
+pub invariant_of-batch : goal.invariant_of-batch
+invariant_of-batch c = record { within = is_within _ _ c.in_ok-layout.ensures _ refl }
 
-pub judge-requires-clause-within : goal.judge-requires-clause-within
-judge-requires-clause-within c = is_within _ _ c.in_ok-l.ensures _ refl
+pub judge-requires-clause-laid : goal.judge-requires-clause-laid
+judge-requires-clause-laid c = is_laid _ _ c.in_ok-layout.ensures _ refl
 
-pub returns-in_err-l : goal.returns-in_err-l
-returns-in_err-l c = search (unlaid, rules)
+pub returns-in_err-layout : goal.returns-in_err-layout
+returns-in_err-layout c = search (unlaid, rules)

@@ -9,8 +9,10 @@ returns-then-not-spells c = search (wrong_elements, rules)
 pub fill-requires : goal.fill-requires
 fill-requires c = search (may_fill, rules)
 
-pub judge_names-requires : goal.judge_names-requires
-judge_names-requires c = search (may_judge, rules)
+pub invariant_of-elements : goal.invariant_of-elements
+invariant_of-elements c =
+    let w = c.args.batch.now.within in
+    record { formed = may_judge _ _ _ c.spells.ensures c.requires.laid c.if-not-spells.false _ _ _ _ c.fill.ensures w c.requires.in_bounds.0 c.requires.in_bounds.1 }
 
 pub returns : goal.returns
 returns c = search (judges, rules)

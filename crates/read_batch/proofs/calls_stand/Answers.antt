@@ -1,7 +1,0 @@
--- `calls_stand` meets its contract: the arrays stand where the layout says.
-use Rattle.read_layout.specs.Layout.{arrays_at}
-use Rattle.read_batch.proofs.calls_stand.Goals as goal
-
-pub returns : goal.returns
-unfolding arrays_at
-returns c = c.calls_fit.ensures
