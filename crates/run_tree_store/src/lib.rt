@@ -1,38 +1,38 @@
 // The current trees as rows and marks: what a listed element yields, and where a change goes.
 #![tactic(auto)]
 
-ghost use Rattle.std.specs.Prelude.{◌≡◌, ◌+◌, ◌*◌, ◌^◌, ◌≤◌, ◌<◌, length};
-ghost use Rattle.orders.specs.Lists.{All};
+ghost use Rattle.std.specs.Prelude.{◌≡◌, ◌+◌, ◌*◌, ◌≤◌, ◌<◌, length};
 ghost use Rattle.read_element_table.specs.Wellformed.{Lines};
 ghost use Rattle.rows_syntax_node.specs.Promises.{TreesBetween};
 ghost use Rattle.run_model.specs.Sums.{too_large_by};
 ghost use Rattle.run_tree_store.specs.Promises.{Prepared, GapOf, GapAfter, GapRun, RunSite, SiteAt};
 ghost use Rattle.run_tree_store.specs.Gaps.{mark_or_top, parent_mark};
 
+mod trees;
+
 use read_element_table::{PARENT, TREE, entry, is_root};
-use rows_syntax_node::{child_row, children_between, rows_after, subtree};
+use record_changes::Operation;
+use rows_syntax_node::{Rows, child_row, children_between, rows_after, subtree};
+pub use trees::Trees;
 use words::word;
 
 // ── What a listed element yields ──
 
 // Rust: TreeStore::prepare_element. The rows of element `e` with all that is below it: a run of the current rows while its mark is there, else of the
 // batch's own.
-pub fn prepared_rows<'a>(
-    rows: &'a [u32],
-    n: usize,
-    source: &'a [u32],
-    marks: &'a [u32],
-    e: usize,
-) -> &'a [u32]
-    requires n_in_bounds { (3 * n ≤ length rows.now) × (n < 2 ^ 16) × All (λ m. m < n) marks.now }
-    requires e_in_bounds { (e < length marks.now) × (length marks.now ≤ 2048) × (3 * length marks.now + 3 ≤ length source.now) }
-    ensures { Prepared rows.now n source.now marks.now e result.now }
+pub fn prepared_rows<'a>(trees: &Trees<'a>, source: &'a [u32], e: usize) -> &'a [u32]
+    requires { (e < length trees.now.marks.now) × (length trees.now.marks.now ≤ 2048) × (3 * length trees.now.marks.now + 3 ≤ length source.now) }
+    ensures { Prepared trees.now.rows.words.now trees.now.rows.count source.now trees.now.marks.now e result.now }
 {
-    let m = word(marks, e);
+    let m = word(trees.marks, e);
     if m == 0 {
-        return subtree(source, marks.len() + 1, e + 1);
+        let own = Rows {
+            count: trees.marks.len() + 1,
+            words: source,
+        };
+        return subtree(&own, e + 1);
     }
-    subtree(rows, n, m)
+    subtree(&trees.rows, m)
 }
 
 // ── Where a change goes ──
@@ -67,24 +67,24 @@ fn parent_row(table: &[u32], marks: &[u32], x: usize) -> usize
 }
 
 // The number of trees of the rows `p` up to `q`: none if `q` comes first.
-fn trees_between(rows: &[u32], n: usize, p: usize, q: usize) -> usize
-    requires { (3 * n ≤ length rows.now) × (n < 2 ^ 16) × (q ≤ n) }
-    ensures { TreesBetween rows.now n p q result }
+fn trees_between(rows: &Rows, p: usize, q: usize) -> usize
+    requires { q ≤ rows.now.count }
+    ensures { TreesBetween rows.now.words.now rows.now.count p q result }
 {
     if q < p {
         return 0;
     }
-    children_between(rows, n, p, q)
+    children_between(rows, p, q)
 }
 
 // The element `x` at row `m` gives way.
-fn gap_of(rows: &[u32], n: usize, table: &[u32], marks: &[u32], x: usize, m: usize) -> Gap
-    requires n_in_bounds { (3 * n ≤ length rows.now) × (n < 2 ^ 16) × (m ≤ n) }
-    requires lines { Lines (length marks.now) table.now × (x < length marks.now) }
-    ensures { GapOf rows.now n table.now marks.now x m result }
+fn gap_of(trees: &Trees, table: &[u32], x: usize, m: usize) -> Gap
+    requires m_in_bounds { m ≤ trees.now.rows.count }
+    requires lines { Lines (length trees.now.marks.now) table.now × (x < length trees.now.marks.now) }
+    ensures { GapOf trees.now.rows.words.now trees.now.rows.count table.now trees.now.marks.now x m result }
 {
-    let parent = parent_row(table, marks, x);
-    let to = rows_after(rows, n, m, 1);
+    let parent = parent_row(table, trees.marks, x);
+    let to = rows_after(&trees.rows, m, 1);
     Gap {
         parent,
         from: m,
@@ -94,13 +94,13 @@ fn gap_of(rows: &[u32], n: usize, table: &[u32], marks: &[u32], x: usize, m: usi
 }
 
 // The place behind the element `x` at row `m`.
-fn gap_after(rows: &[u32], n: usize, table: &[u32], marks: &[u32], x: usize, m: usize) -> Gap
-    requires n_in_bounds { (3 * n ≤ length rows.now) × (n < 2 ^ 16) × (m ≤ n) }
-    requires lines { Lines (length marks.now) table.now × (x < length marks.now) }
-    ensures { GapAfter rows.now n table.now marks.now x m result }
+fn gap_after(trees: &Trees, table: &[u32], x: usize, m: usize) -> Gap
+    requires m_in_bounds { m ≤ trees.now.rows.count }
+    requires lines { Lines (length trees.now.marks.now) table.now × (x < length trees.now.marks.now) }
+    ensures { GapAfter trees.now.rows.words.now trees.now.rows.count table.now trees.now.marks.now x m result }
 {
-    let parent = parent_row(table, marks, x);
-    let to = rows_after(rows, n, m, 1);
+    let parent = parent_row(table, trees.marks, x);
+    let to = rows_after(&trees.rows, m, 1);
     Gap {
         parent,
         from: to,
@@ -110,22 +110,14 @@ fn gap_after(rows: &[u32], n: usize, table: &[u32], marks: &[u32], x: usize, m: 
 }
 
 // The run from the element `x` at row `m` to the element at row `k`.
-fn gap_run(
-    rows: &[u32],
-    n: usize,
-    table: &[u32],
-    marks: &[u32],
-    x: usize,
-    m: usize,
-    k: usize,
-) -> Gap
-    requires n_in_bounds { (3 * n ≤ length rows.now) × (n < 2 ^ 16) × (k ≤ n) }
-    requires lines { Lines (length marks.now) table.now × (x < length marks.now) }
-    ensures { GapRun rows.now n table.now marks.now x m k result }
+fn gap_run(trees: &Trees, table: &[u32], x: usize, m: usize, k: usize) -> Gap
+    requires k_in_bounds { k ≤ trees.now.rows.count }
+    requires lines { Lines (length trees.now.marks.now) table.now × (x < length trees.now.marks.now) }
+    ensures { GapRun trees.now.rows.words.now trees.now.rows.count table.now trees.now.marks.now x m k result }
 {
-    let parent = parent_row(table, marks, x);
-    let to = rows_after(rows, n, k, 1);
-    let lost = trees_between(rows, n, m, to);
+    let parent = parent_row(table, trees.marks, x);
+    let to = rows_after(&trees.rows, k, 1);
+    let lost = trees_between(&trees.rows, m, to);
     Gap {
         parent,
         from: m,
@@ -135,70 +127,53 @@ fn gap_run(
 }
 
 // The run from the element `x` at row `m` to the element `y`, if that is still there.
-fn run_site(
-    rows: &[u32],
-    n: usize,
-    table: &[u32],
-    marks: &[u32],
-    x: usize,
-    m: usize,
-    y: usize,
-) -> Option<Gap>
-    requires n_in_bounds { (3 * n ≤ length rows.now) × (n < 2 ^ 16) × All (λ m. m < n) marks.now }
-    requires lines { Lines (length marks.now) table.now × (x < length marks.now) }
-    requires y_in_bounds { y < length marks.now }
-    ensures { RunSite rows.now n table.now marks.now x m y result }
+fn run_site(trees: &Trees, table: &[u32], x: usize, m: usize, y: usize) -> Option<Gap>
+    requires lines { Lines (length trees.now.marks.now) table.now × (x < length trees.now.marks.now) }
+    requires y_in_bounds { y < length trees.now.marks.now }
+    ensures { RunSite trees.now.rows.words.now trees.now.rows.count table.now trees.now.marks.now x m y result }
 {
-    let k = word(marks, y);
+    let k = word(trees.marks, y);
     if k == 0 {
         return None;
     }
-    Some(gap_run(rows, n, table, marks, x, m, k))
+    Some(gap_run(trees, table, x, m, k))
 }
 
 // Where a call 2 on the element `x` goes, if that is still there: a root is found by counting, and needs no mark, since its mark is gone once it was replaced before.
-fn replaced_site(rows: &[u32], n: usize, table: &[u32], marks: &[u32], x: usize) -> Option<Gap>
-    requires n_in_bounds { (3 * n ≤ length rows.now) × (n < 2 ^ 16) × (0 < n) × All (λ m. m < n) marks.now }
-    requires lines { Lines (length marks.now) table.now × (x < length marks.now) }
-    ensures { SiteAt rows.now n table.now marks.now 2 x x result }
+fn replaced_site(trees: &Trees, table: &[u32], x: usize) -> Option<Gap>
+    requires some { 0 < trees.now.rows.count }
+    requires lines { Lines (length trees.now.marks.now) table.now × (x < length trees.now.marks.now) }
+    ensures { SiteAt trees.now.rows.words.now trees.now.rows.count table.now trees.now.marks.now 2 x x result }
 {
     if is_root(table, x) {
         let t = entry(table, x, TREE);
-        let top = child_row(rows, n, 0, t);
-        return Some(gap_of(rows, n, table, marks, x, top));
+        let top = child_row(&trees.rows, 0, t);
+        return Some(gap_of(trees, table, x, top));
     }
-    let m = word(marks, x);
+    let m = word(trees.marks, x);
     if m == 0 {
         return None;
     }
-    Some(gap_of(rows, n, table, marks, x, m))
+    Some(gap_of(trees, table, x, m))
 }
 
 // Rust: TreeState::apply, what it finds before it splices (TreeState::map_original_element). Where a change goes, by its operation, its target `x` and its end
 // `y`: none if a mark that it needs is gone, where the Rust panics.
-// The operation stays a number: any may come, and all but four are one gap.
-pub fn find_gap(
-    rows: &[u32],
-    n: usize,
-    table: &[u32],
-    marks: &[u32],
-    operation: usize,
-    x: usize,
-    y: usize,
-) -> Option<Gap>
-    requires n_in_bounds { (3 * n ≤ length rows.now) × (n < 2 ^ 16) × (0 < n) × All (λ m. m < n) marks.now }
-    requires lines { Lines (length marks.now) table.now × (x < length marks.now) }
-    requires y_in_bounds { y < length marks.now }
-    ensures { SiteAt rows.now n table.now marks.now operation x y result }
+// The operation stays a number: any may come, and all but four are one gap. The table stays a slice: its lines alone are asked for, which is less than `Elements` holds.
+pub fn find_gap(trees: &Trees, table: &[u32], operation: usize, x: usize, y: usize) -> Option<Gap>
+    requires some { 0 < trees.now.rows.count }
+    requires lines { Lines (length trees.now.marks.now) table.now × (x < length trees.now.marks.now) }
+    requires y_in_bounds { y < length trees.now.marks.now }
+    ensures { SiteAt trees.now.rows.words.now trees.now.rows.count table.now trees.now.marks.now operation x y result }
 {
-    if operation == 2 {
-        return replaced_site(rows, n, table, marks, x);
+    if operation == Operation::Replace as usize {
+        return replaced_site(trees, table, x);
     }
-    let m = word(marks, x);
+    let m = word(trees.marks, x);
     if m == 0 {
         return None;
     }
-    if operation == 0 {
+    if operation == Operation::FirstChild as usize {
         return Some(Gap {
             parent: m,
             from: m + 1,
@@ -206,13 +181,13 @@ pub fn find_gap(
             lost: 0,
         });
     }
-    if operation == 1 {
-        return Some(gap_after(rows, n, table, marks, x, m));
+    if operation == Operation::After as usize {
+        return Some(gap_after(trees, table, x, m));
     }
-    if operation == 5 {
-        return run_site(rows, n, table, marks, x, m, y);
+    if operation == Operation::ReplaceAll as usize {
+        return run_site(trees, table, x, m, y);
     }
-    Some(gap_of(rows, n, table, marks, x, m))
+    Some(gap_of(trees, table, x, m))
 }
 
 // ── Refusal 12 ──
