@@ -4,11 +4,11 @@
 ghost use Rattle.std.specs.Prelude.{[], ◌∷◌, ◌≡◌, ◌+◌, ◌*◌, ◌≤◌, ◌<◌, length, drop};
 ghost use Rattle.std.proofs.Math.Seq.{paste};
 ghost use Rattle.read_element_table.specs.View.{view};
-ghost use Rattle.read_element_table.specs.Wellformed.{Wellformed};
 ghost use Rattle.record_changes.specs.ChangeRow.{row_words};
 ghost use Rattle.record_changes.specs.ChangeRowLaws.{row_at};
 ghost use Rattle.record_rewritten.specs.Stated.{ChangedEnds, row_anew};
 
+use read_element_table::Elements;
 use record_changes::{Change, Listed};
 
 // The change at place `i` of `rows` with the target `x` and the end `y`.
@@ -42,9 +42,7 @@ fn copy_fate(rows: &[u32], i: usize, out: &mut [u32])
 // The row at place `i` of `rows` with the target `x`, the end `y` and the first listed element `z`, written at the same place of `out`. Tree, range and
 // depth are those of the new target: the running order goes by them.
 pub fn write_row(
-    table: &[u32],
-    source: &[u32],
-    n: usize,
+    elements: &Elements,
     rows: &[u32],
     i: usize,
     x: usize,
@@ -52,12 +50,11 @@ pub fn write_row(
     z: usize,
     out: &mut [u32],
 )
-    requires wellformed { Wellformed n table.now source.now }
-    requires x_lt_n { (x < n) × (y < n) × (z < n) × (i < 256) × (14 * i + 14 ≤ length out.old) }
-    ensures { out.new ≡ paste out.old (14 * i) (row_words (row_anew (view n table.now source.now) (row_at rows.now i) x y z)) 14 }
+    requires { (x < elements.now.count) × (y < elements.now.count) × (z < elements.now.count) × (i < 256) × (14 * i + 14 ≤ length out.old) }
+    ensures { out.new ≡ paste out.old (14 * i) (row_words (row_anew (view elements.now.count elements.now.table.now elements.now.source.now) (row_at rows.now i) x y z)) 14 }
 {
-    let change = change_anew(rows, n, i, x, y);
-    let spot = record_changes::spot_of(change, z, n, table, source);
+    let change = change_anew(rows, elements.count, i, x, y);
+    let spot = record_changes::spot_of(change, z, elements);
     record_changes::write_row(out, i, record_changes::numbers_of(change), spot, 0);
     copy_fate(rows, i, out);
 }

@@ -7,6 +7,4 @@ pub write_row-requires : goal.write_row-requires
 write_row-requires c = (search rules, search (fits_told, rules), search rules, search rules)
 
 pub returns : goal.returns
-returns c =
-    let long = c.requires.x_lt_n.4 in
-    search (row_written, rules)
+returns c = search (row_written, rules)
