@@ -1,57 +1,54 @@
 -- The loop of `fill_mapping`: the mappings that are left go over the array as it stands.
 -- Assumes nothing.
-use mathlib.Core.List.{List, ◌∷◌, foldl, zip, zip_with}
+use mathlib.Core.List.{List, [], ◌∷◌, foldl, zip, zip_with}
 use mathlib.Core.Path.{◌≡◌, refl, sym, ap, ◌∙◌}
-use Prim.Native.Nat.{ℕ, suc, ◌+◌, ◌-◌, ◌*◌, ◌≤◌, ◌<◌}
+use Prim.Native.Nat.{ℕ, zero, suc, ◌+◌, ◌≤◌, ◌<◌, min}
 use native.Mathlib.Numerals.{add-one}
 use native.Mathlib.Omega.{arith}
-use lib.ListN.{length, set, drop, replicate, length-set, length-replicate}
-use lib.Seq.{drop-drop}
-use Rattle.definition.specs.Words.{word, words}
-use Rattle.plan_mapping.specs.Mapped.{words_at, noted, mapping_words, Bounded}
+use lib.ListN.{length, get_or, set, drop, replicate, length-set, length-replicate}
+use Rattle.plan_mapping.specs.Mapped.{noted, mapping_words, Bounded}
 
--- n mappings whose inputs and outputs stand at two places
-abbrev pub mappings_at : List ℕ → ℕ → ℕ → ℕ → List (ℕ × ℕ)
-mappings_at b inputs outputs n = zip (words_at b inputs n) (words_at b outputs n)
+-- the mappings of these inputs and outputs from number i on
+zip_next : (xs ys : List ℕ) (i : ℕ) → i < length xs → i < length ys → drop i (zip xs ys) ≡ (get_or xs i 0, get_or ys i 0) ∷ drop (suc i) (zip xs ys)
+unfolding zip zip_with
+zip_next [] ys i h g = absurd (omega arith)
+zip_next (x ∷ xs) [] i h g = absurd (omega arith)
+zip_next (x ∷ xs) (y ∷ ys) zero h g = refl
+zip_next (x ∷ xs) (y ∷ ys) (suc i) h g = zip_next xs ys i (omega arith) (omega arith)
 
-mappings_cons : (b : List ℕ) (p q p' q' k l : ℕ) → k ≡ suc l → p' ≡ p + 4 → q' ≡ q + 4 → mappings_at b p q k ≡ (word (drop p b), word (drop q b)) ∷ mappings_at b p' q' l
-unfolding zip zip_with words words_at
-mappings_cons b p q p' q' k l h e f = rw (h, e, f, drop-drop 4 p b, drop-drop 4 q b)
+zip_done : (xs ys : List ℕ) (i : ℕ) → min (length xs) (length ys) ≤ i → drop i (zip xs ys) ≡ []
+unfolding zip zip_with
+zip_done [] ys zero h = refl
+zip_done [] ys (suc i) h = refl
+zip_done (x ∷ xs) [] zero h = refl
+zip_done (x ∷ xs) [] (suc i) h = refl
+zip_done (x ∷ xs) (y ∷ ys) zero h = absurd (omega arith)
+zip_done (x ∷ xs) (y ∷ ys) (suc i) h = zip_done xs ys i (omega arith)
 
-pub record Filling (b : List ℕ) (inputs outputs m k : ℕ) (map : List ℕ) (i : ℕ) : Type 0 where
-  pub inside : i ≤ m
+pub record Filling (xs ys : List ℕ) (k : ℕ) (map : List ℕ) (i : ℕ) : Type 0 where
   pub long : length map ≡ k
-  pub bounded : Bounded k 2048 (mappings_at b (inputs + 4 * i) (outputs + 4 * i) (m - i))
-  pub rest : foldl noted map (mappings_at b (inputs + 4 * i) (outputs + 4 * i) (m - i)) ≡ mapping_words k (mappings_at b inputs outputs m)
+  pub bounded : Bounded k 2048 (drop i (zip xs ys))
+  pub rest : foldl noted map (drop i (zip xs ys)) ≡ mapping_words k (zip xs ys)
 
-module _ (b : List ℕ) (inputs outputs m : ℕ) where
-  pub filling_start : (map₀ map : List ℕ) → map ≡ replicate (length map₀) 0 → Bounded (length map₀) 2048 (mappings_at b inputs outputs m) → Filling b inputs outputs m (length map) map 0
+module _ (xs ys : List ℕ) where
+  pub filling_start : (map₀ map : List ℕ) → map ≡ replicate (length map₀) 0 → Bounded (length map₀) 2048 (zip xs ys) → Filling xs ys (length map₀) map 0
   unfolding mapping_words
-  filling_start map₀ map q h =
-      let e : inputs + 4 * 0 ≡ inputs = omega arith in
-      let f : outputs + 4 * 0 ≡ outputs = omega arith in
-      let g : m - 0 ≡ m = omega arith in
-      let l : length map ≡ length map₀ = ap length q ∙ length-replicate (length map₀) 0 in
-      record { inside = omega arith; long = refl; bounded = rw (e, f, g, l) h; rest = rw (e, f, g, l, q) }
+  filling_start map₀ map q h = record { long = ap length q ∙ length-replicate (length map₀) 0; bounded = h; rest = rw q }
 
-  module _ (k : ℕ) (map : List ℕ) (i : ℕ) (F : Filling b inputs outputs m k map i) where
-    pub filling_done : (map₀ map₁ : List ℕ) → map₁ ≡ replicate (length map₀) 0 → k ≡ length map₁ → m ≤ i → map ≡ mapping_words (length map₀) (mappings_at b inputs outputs m)
-    unfolding words zip zip_with words_at
-    filling_done map₀ map₁ q z h =
-        let g : m - i ≡ 0 = omega arith in
-        let l : k ≡ length map₀ = z ∙ (ap length q ∙ length-replicate (length map₀) 0) in
-        rw (← l) (sym (ap (λ (n : ℕ). foldl noted map (mappings_at b (inputs + 4 * i) (outputs + 4 * i) n)) g) ∙ F.rest)
+  module _ (k : ℕ) (map : List ℕ) (i : ℕ) (F : Filling xs ys k map i) where
+    pub filling_done : (m n : ℕ) → length xs ≡ m → length ys ≡ n → min m n ≤ i → map ≡ mapping_words k (zip xs ys)
+    filling_done m n e f h = sym (ap (foldl noted map) (zip_done xs ys i (rw (e, f) h))) ∙ F.rest
 
-    module _ (x y : ℕ) (h : i < m) (ex : x ≡ word (drop (inputs + 4 * i) b)) (ey : y ≡ word (drop (outputs + 4 * i) b)) where
-      onward : mappings_at b (inputs + 4 * i) (outputs + 4 * i) (m - i) ≡ (x, y) ∷ mappings_at b (inputs + 4 * (i + 1)) (outputs + 4 * (i + 1)) (m - (i + 1))
-      onward = rw (ex, ey) (mappings_cons b (inputs + 4 * i) (outputs + 4 * i) (inputs + 4 * (i + 1)) (outputs + 4 * (i + 1)) (m - i) (m - (i + 1)) (omega arith) (omega arith) (omega arith))
+    module _ (m n x y : ℕ) (e : length xs ≡ m) (f : length ys ≡ n) (h : i < min m n) (ex : x ≡ get_or xs i 0) (ey : y ≡ get_or ys i 0) where
+      onward : drop i (zip xs ys) ≡ (x, y) ∷ drop (i + 1) (zip xs ys)
+      onward = rw (ex, ey, add-one i) (zip_next xs ys i (omega arith) (omega arith))
 
       pub filling_in : (x < length map) × (y < 2048)
       filling_in = let a = rw onward at F.bounded in (omega (arith, a.0.0, F.long), a.0.1)
 
-      pub filling_next : Filling b inputs outputs m k (set map x (y + 1)) (i + 1)
+      pub filling_next : Filling xs ys k (set map x (y + 1)) (i + 1)
       unfolding noted
       filling_next =
           let a = rw onward at F.bounded in
           rw (add-one y)
-          (record { inside = omega arith; long = length-set map x (suc y) ∙ F.long; bounded = a.1; rest = sym (ap (foldl noted map) onward) ∙ F.rest })
+          (record { long = length-set map x (suc y) ∙ F.long; bounded = a.1; rest = sym (ap (foldl noted map) onward) ∙ F.rest })

@@ -2,7 +2,7 @@
 -- Assumes nothing.
 use Rattle.std.specs.Prelude.{List, [], ◌∷◌, reverse, ◌≡◌, refl, ℕ, zero, suc, ◌+◌, ◌-◌, ◌≤◌, ◌<◌, length, get_or, set, take}
 use Rattle.std.proofs.lemmas.List.{reverse-append, length-reverse}
-use Rattle.std.proofs.Common.{◌∙◌, add-one, arith, take-suc, take-suc-set, length-take-le}
+use Rattle.std.proofs.Common.{ap, ◌∙◌, add-one, arith, take_all, take-suc, take-suc-set, length-take-le}
 
 -- the first k numbers, the last first
 unfoldable pub backward : ℕ → List ℕ → List ℕ
@@ -11,6 +11,11 @@ backward k numbers = reverse (take k numbers)
 pub backward_none : (a : List ℕ) → backward 0 a ≡ []
 unfolding backward
 backward_none a = refl
+
+-- the numbers at the front, as a slice of their own
+pub backward_front : (k : ℕ) (a : List ℕ) → backward (length (take k a)) (take k a) ≡ backward k a
+unfolding backward
+backward_front k a = ap reverse (take_all (length (take k a)) (take k a) (omega arith))
 
 -- one more is written behind them
 pub backward_set : (a : List ℕ) (k v : ℕ) → k < length a → backward (k + 1) (set a k v) ≡ v ∷ backward k a

@@ -1,5 +1,6 @@
 -- The mappings as an array by element number: word e is 0 if element e is not mapped, y + 1 if it is mapped to y.
 -- Assumes nothing.
+use Rattle.std.proofs.Props.{props}
 use Rattle.std.specs.Prelude.{Bool, true, false, cond, not, ◌||◌, ◌≡◌, refl, ℕ, zero, suc, ◌≤◌, ◌<◌, length, get_or, drop, set, replicate, eqb, leb}
 use mathlib.Core.List.{List, [], ◌∷◌, foldl}
 use Rattle.std.proofs.Math.Option.{Option, none, some}
@@ -29,6 +30,10 @@ mapped_by words e = element_of (get_or words e 0)
 pub record Mapped (n : ℕ) (words : List ℕ) : Type 0 where
   pub long : n ≤ length words
   pub low : (e : ℕ) → get_or words e 0 ≤ n
+
+-- there is at most one proof of it, so that it can be a field
+pub mapped_prop : (n : ℕ) (words : List ℕ) → IsProp (Mapped n words)
+mapped_prop n words = hlevel props
 
 -- ── The array of some mappings ──────────────────────────────────────────────────────────────────────────────
 

@@ -5,23 +5,21 @@ ghost use Rattle.std.specs.Prelude.{◌≡◌, ◌+◌, ◌*◌, ◌≤◌, ◌<
 ghost use Rattle.std.proofs.Math.Option.{get_or};
 ghost use mathlib.Core.List.{zip};
 ghost use Rattle.read_element_table.specs.Wellformed.{Lines};
-ghost use Rattle.plan_mapping.specs.Mapped.{words_at, mapped_by, Mapped, Bounded, mapping_words};
+ghost use Rattle.words.specs.List.{words_of};
+ghost use Rattle.plan_mapping.specs.Mapped.{mapped_by, Mapped, Bounded, mapping_words};
 ghost use Rattle.plan_mapping.specs.Answers.{Placed, Climbed};
 
 use refusals::Refusal;
+use words::WordList;
 
-// Rust: SyntaxMapping::add_mapping, SyntaxMapping::merge. The array of the `m` mappings of the batch `b` whose inputs and outputs stand at these places:
-// the later mapping of one input wins.
-pub fn fill_mapping(b: &[u8], inputs: usize, outputs: usize, m: usize, map: &mut [u32])
-    requires m_in_bounds { (inputs + 4 * m ≤ length b.now) × (outputs + 4 * m ≤ length b.now) }
-    requires bounded { Bounded (length map.old) 2048 (zip (words_at b.now inputs m) (words_at b.now outputs m)) }
-    ensures { map.new ≡ mapping_words (length map.old) (zip (words_at b.now inputs m) (words_at b.now outputs m)) }
+// Rust: SyntaxMapping::add_mapping, SyntaxMapping::merge. The array of the mappings with these inputs and outputs: the later mapping of one input wins.
+pub fn fill_mapping(inputs: &WordList, outputs: &WordList, map: &mut [u32])
+    requires bounded { Bounded (length map.old) 2048 (zip (words_of inputs.now) (words_of outputs.now)) }
+    ensures { map.new ≡ mapping_words (length map.old) (zip (words_of inputs.now) (words_of outputs.now)) }
 {
     map.fill(0);
-    for i in 0..m {
-        let x = words::read_word(b, inputs + 4 * i);
-        let y = words::read_word(b, outputs + 4 * i);
-        map[x] = (y + 1) as u32;
+    for i in 0..inputs.count.min(outputs.count) {
+        map[inputs.get(i)] = (outputs.get(i) + 1) as u32;
     }
 }
 
@@ -49,6 +47,7 @@ pub fn place_below(
 {
     let mut at = e;
     let mut k: usize = 0;
+    // A climb has no bound to count to but its elements: as a range of 64 steps it would owe a case behind it that never comes.
     while at != x {
         let parent = read_element_table::entry(table, at, read_element_table::PARENT).checked_sub(
             1,
@@ -81,6 +80,7 @@ pub fn upmap_to_ancestor(
     let mut x = upmap_node_single(map, n, input);
     trail[0] = table[read_element_table::WORDS * x + read_element_table::CHILD];
     let mut k: usize = 1;
+    // It is left by its outcome alone, as document 01 tells this climb: a parent that is the replacement, or a refusal.
     loop {
         let parent = read_element_table::entry(table, x, read_element_table::PARENT)
             .checked_sub(1)
