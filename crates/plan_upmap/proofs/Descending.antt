@@ -1,7 +1,7 @@
 -- The loops of `nth_child` and `descend`, and the landing.
 -- Assumes nothing.
 use mathlib.Core.Bool.{Bool, true, false, ◌&&◌}
-use mathlib.Core.List.{List}
+use mathlib.Core.List.{List, [], ◌∷◌}
 use mathlib.Core.Option.{some, bind}
 use mathlib.Core.Path.{◌≡◌, refl, sym, ◌∙◌}
 use Prim.Native.Nat.{ℕ, zero, suc, ◌+◌, ◌-◌, ◌*◌, ◌≤◌, ◌<◌}
@@ -17,8 +17,11 @@ use Rattle.definition.specs.Rewriting.{land}
 use Rattle.read_element_table.specs.View.{view, field, siblings}
 use Rattle.read_element_table.specs.Wellformed.{Wellformed}
 use Rattle.read_element_table.specs.Told.{row_view, node_told, child_count, children_told, length_siblings}
-use Rattle.std.specs.Prelude.{Option, Some, None}
-use Rattle.plan_mapping.specs.Backward.{backward, backward_none, backward_read}
+use Rattle.std.specs.Prelude.{Option, Some, None, reverse}
+use Rattle.std.specs.List.{push}
+use Rattle.std.proofs.lemmas.List.{reverse-append}
+use Rattle.std.proofs.Common.{take_all}
+use Rattle.plan_mapping.specs.Backward.{backward}
 use Rattle.plan_upmap.specs.Answers.{found, within_at, FoundChild, Descended, Landed}
 
 -- ── Siblings ────────────────────────────────────────────────────────────────────────────────────────────────
@@ -102,32 +105,36 @@ module _ (n : ℕ) (w s : List ℕ) (e i c j : ℕ) (S : Siblings n w s e i c j)
 
 -- ── The way down ────────────────────────────────────────────────────────────────────────────────────────────
 
--- the way down from r has come to `at`, and of the k numbers in a the first `left` are still to be read, backward
-pub record Descending (n : ℕ) (w s : List ℕ) (r : ℕ) (a : List ℕ) (k at left : ℕ) : Type 0 where
+-- the way down from r has come to `at`, and of the numbers in a the first are still to be read, backward
+pub record Descending (n : ℕ) (w s : List ℕ) (r : ℕ) (a : List ℕ) (at : ℕ) (left : List ℕ) : Type 0 where
   pub here : at < n
-  pub short : left ≤ length a
-  pub rest : descend (view n w s) r (backward k a) ≡ descend (view n w s) at (backward left a)
+  pub rest : descend (view n w s) r (backward (length a) a) ≡ descend (view n w s) at (reverse left)
 
-pub descending_start : (n : ℕ) (w s : List ℕ) (r : ℕ) (a : List ℕ) (k : ℕ) → r < n → k ≤ length a → Descending n w s r a k r k
-descending_start n w s r a k h l = record { here = h; short = l; rest = refl }
+pub descending_start : (n : ℕ) (w s : List ℕ) (r : ℕ) (a left : List ℕ) → r < n → left ≡ a → Descending n w s r a r left
+unfolding backward
+descending_start n w s r a left h l = record { here = h; rest = rw (take_all (length a) a (omega arith), l) }
 
-module _ (n : ℕ) (w s : List ℕ) (r : ℕ) (a : List ℕ) (k at left : ℕ) (D : Descending n w s r a k at left) where
-  pub descending_done : left ≤ 0 → Descended n w s r (backward k a) (Some at)
+module _ (n : ℕ) (w s : List ℕ) (r : ℕ) (a : List ℕ) (at : ℕ) (left : List ℕ) (D : Descending n w s r a at left) where
+  pub descending_done : length left ≡ 0 → Descended n w s r (backward (length a) a) (Some at)
   unfolding found descend
-  descending_done l = let z : left ≡ 0 = omega arith in record { element = sym (D.rest ∙ rw (z, backward_none a)); within = D.here }
+  descending_done l = record { element = sym (D.rest ∙ go left l); within = D.here }
+    where
+      go : (left : List ℕ) → length left ≡ 0 → descend (view n w s) at (reverse left) ≡ some at
+      go [] l = refl
+      go (x ∷ left) l = absurd (omega arith)
 
-  module _ (i : ℕ) (o : Option ℕ) (l : 0 < left) (q : i ≡ get_or a (left - 1) 0) (F : FoundChild n w s at i o) where
-    one_down : descend (view n w s) at (backward left a) ≡ bind (found o) (λ c. descend (view n w s) c (backward (left - 1) a))
+  module _ (i : ℕ) (less : List ℕ) (l : left ≡ push less i) (o : Option ℕ) (F : FoundChild n w s at i o) where
+    one_down : descend (view n w s) at (reverse left) ≡ bind (found o) (λ c. descend (view n w s) c (reverse less))
     unfolding descend
-    one_down = rw (backward_read a left l D.short, ← q, ← F.child)
+    one_down = rw (l, reverse-append less (i ∷ []), ← F.child)
 
-    pub descending_none : o ≡ None → Descended n w s r (backward k a) None
+    pub descending_none : o ≡ None → Descended n w s r (backward (length a) a) None
     unfolding found bind
     descending_none z = record { element = sym (D.rest ∙ (one_down ∙ rw z)); within = tt }
 
-    pub descending_next : (c : ℕ) → o ≡ Some c → Descending n w s r a k c (left - 1)
+    pub descending_next : (c : ℕ) → o ≡ Some c → Descending n w s r a c less
     unfolding found bind
-    descending_next c z = record { here = within_at n o c F.within z; short = omega (arith, D.short); rest = D.rest ∙ (one_down ∙ rw z) }
+    descending_next c z = record { here = within_at n o c F.within z; rest = D.rest ∙ (one_down ∙ rw z) }
 
 -- ── The landing ─────────────────────────────────────────────────────────────────────────────────────────────
 

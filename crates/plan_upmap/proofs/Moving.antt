@@ -2,9 +2,9 @@
 -- Assumes nothing.
 use mathlib.Core.List.{List, [], ◌∷◌, ◌++◌}
 use mathlib.Core.Option.{Option, none, some, bind}
-use mathlib.Core.Path.{◌≡◌, refl, sym, ◌∙◌}
+use mathlib.Core.Path.{◌≡◌, refl, sym, ap, ◌∙◌}
 use Prim.Native.Nat.{ℕ}
-use lib.ListN.{get_elem?}
+use lib.ListN.{length, get_elem?, take}
 use Rattle.orders.specs.Tree.{Path}
 use Rattle.definition.specs.Basics.{refused, gives, ◌>>=◌, or_refuse}
 use Rattle.definition.specs.Elements.{Table, row, descend}
@@ -18,7 +18,7 @@ use Rattle.refusals.specs.Numbers.{number}
 use Rattle.plan_upmap.specs.declared.Moved.{Moved}
 use Rattle.plan_mapping.specs.Mapped.{mapped_by}
 use Rattle.plan_mapping.proofs.Told.{nothing}
-use Rattle.plan_mapping.specs.Backward.{backward, length_backward}
+use Rattle.plan_mapping.specs.Backward.{backward, backward_front, length_backward}
 use Rattle.plan_mapping.specs.Answers.{below, Placed, climbed, Climbed, trail_room}
 use Rattle.plan_upmap.specs.Answers.{found, within_at, Descended, Landed, moved_by, moved_from, MovedFrom, MovedTo}
 
@@ -46,21 +46,24 @@ module _ (n : ℕ) (w s m : List ℕ) (x r e : ℕ) (p : Path) (a : List ℕ) (o
   moving_refused y z = record { move = rw (← (C.trail s), z); within = tt }
 
   module _ (k : ℕ) (z : o ≡ Ok k) where
-    trail_is : trail (view n w s) (mapped_by m) x r ≡ gives (backward k a)
-    unfolding climbed
-    trail_is = sym (C.trail s) ∙ rw z
+    abbrev numbers : Path
+    numbers = backward (length (take k a)) (take k a)
 
-    module _ (f : Opt ℕ) (D : Descended n w s r (backward k a) f) where
+    trail_is : trail (view n w s) (mapped_by m) x r ≡ gives numbers
+    unfolding climbed
+    trail_is = sym (C.trail s) ∙ rw (z, backward_front k a)
+
+    module _ (f : Opt ℕ) (D : Descended n w s r numbers f) where
       pub moving_missing : {q : Result ℕ Refusal} (v : Refusal) → q ≡ ok_or f Unmapped → q ≡ Err v → MovedFrom n w s m x r e p (Err v)
       unfolding number moved_by moved_from ◌>>=◌ found
       moving_missing v y g =
           let (h, u) = nothing f (sym y ∙ g) in
-          record { move = rw (trail_is, land_missing (view n w s) (mapped_by m) e r (backward k a) p (sym D.element ∙ rw h), u); within = tt }
+          record { move = rw (trail_is, land_missing (view n w s) (mapped_by m) e r numbers p (sym D.element ∙ rw h), u); within = tt }
 
       module _ (y : ℕ) (g : f ≡ Some y) (f' : Opt ℕ) (G : Landed n w s e y p f') where
-        landed : land (view n w s) (mapped_by m) e r (backward k a ++ p) ≡ or_refuse 9 (found f')
+        landed : land (view n w s) (mapped_by m) e r (numbers ++ p) ≡ or_refuse 9 (found f')
         unfolding found
-        landed = land_on (view n w s) (mapped_by m) e r y (backward k a) p (sym D.element ∙ rw g) ∙ sym (G.landing (mapped_by m))
+        landed = land_on (view n w s) (mapped_by m) e r y numbers p (sym D.element ∙ rw g) ∙ sym (G.landing (mapped_by m))
 
         pub moving_nowhere : {q : Result ℕ Refusal} (v : Refusal) → q ≡ ok_or f' Unmapped → q ≡ Err v → MovedFrom n w s m x r e p (Err v)
         unfolding number moved_by moved_from ◌>>=◌ found or_refuse
@@ -71,7 +74,7 @@ module _ (n : ℕ) (w s m : List ℕ) (x r e : ℕ) (p : Path) (a : List ℕ) (o
         moving_to to h =
             let l = trail_room C z in
             record {
-              move = rw (trail_is, landed, h, length_backward a k l.1);
+              move = rw (trail_is, landed, h, ap length (backward_front k a) ∙ length_backward a k l.1);
               within = (within_at n f' to G.within h, l.0);
             }
 
@@ -81,6 +84,6 @@ module _ (n : ℕ) (w s m : List ℕ) (x r e : ℕ) (a : List ℕ) (o : Opt ℕ)
   moving_elsewhere v y g = let (z, u) = nothing o (sym y ∙ g) in record { move = rw (← (P.place s), z, u); within = tt }
 
   module _ (k : ℕ) (z : o ≡ Some k) where
-    pub moving_from : (t : Result Moved Refusal) → MovedFrom n w s m x r e (backward k a) t → MovedTo n w s m x r e t
+    pub moving_from : (t : Result Moved Refusal) → MovedFrom n w s m x r e (backward (length (take k a)) (take k a)) t → MovedTo n w s m x r e t
     unfolding below moved moved_from or_refuse ◌>>=◌
-    moving_from t M = record { move = M.move ∙ rw (← (P.place s), z); within = M.within }
+    moving_from t M = record { move = M.move ∙ rw (backward_front k a, ← (P.place s), z); within = M.within }

@@ -8,7 +8,7 @@ use mathlib.Core.Path.{◌≡◌, refl, sym, ◌∙◌}
 use Prim.Native.Nat.{ℕ, zero, suc, ◌+◌, ◌-◌, ◌*◌, ◌<◌}
 use native.Mathlib.Numerals.{add-one}
 use native.Mathlib.Omega.{arith}
-use lib.ListN.{get_or}
+use lib.ListN.{length, get_or, take}
 use lib.Dec.{eqb, eqb-zero-suc, eqb-suc-suc}
 use borrow.Author.Tests.{eq-eqb, ne_eqb}
 use Rattle.definition.specs.Basics.{refused, gives, ◌>>=◌, refuse, or_refuse, is_some, first}
@@ -23,7 +23,7 @@ use Rattle.refusals.specs.declared.Refusal.{Refusal}
 use Rattle.refusals.specs.declared.Refusal.TheVariants.{Unmapped, Endless}
 use Rattle.refusals.specs.Numbers.{number, answered}
 use Rattle.plan_mapping.specs.Mapped.{mapped_by}
-use Rattle.plan_mapping.specs.Backward.{backward}
+use Rattle.plan_mapping.specs.Backward.{backward, backward_front}
 use Rattle.plan_mapping.specs.Answers.{below, Placed}
 use Rattle.plan_upmap.specs.Answers.{found, Within, Landed}
 use Rattle.plan_mapping.proofs.Told.{nothing}
@@ -112,10 +112,10 @@ module _ (n : ℕ) (w s m : List ℕ) (a e y : ℕ) (L : Lines n w) (hy : y < n)
     unfolding number answered note_from mapped_or refuse or_refuse ◌>>=◌ below
     move_elsewhere v g' h = let (x, u) = nothing o (sym g' ∙ h) in record { move = rw (← q, held, ne_eqb k (a + 1) z, ← (P.place s), x, u); within = tt }
 
-    module _ (d : ℕ) (x : o ≡ Some d) (f : Opt ℕ) (G : Landed n w s e y (backward d b) f) where
+    module _ (d : ℕ) (x : o ≡ Some d) (f : Opt ℕ) (G : Landed n w s e y (backward (length (take d b)) (take d b)) f) where
       moves : note_from (view n w s) (mapped_by m) a e ≡ or_refuse 9 (found f)
       unfolding note_from mapped_or refuse or_refuse ◌>>=◌ below
-      moves = rw (← q, held, ne_eqb k (a + 1) z, ← (P.place s), x) (sym (G.landing (mapped_by m)))
+      moves = rw (← q, held, ne_eqb k (a + 1) z, ← (P.place s), x, ← (backward_front d b)) (sym (G.landing (mapped_by m)))
 
       pub move_lands : OneMove n w s m a e (ok_or f Unmapped)
       unfolding number answered found or_refuse

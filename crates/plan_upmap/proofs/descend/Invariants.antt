@@ -1,5 +1,5 @@
 use Rattle.plan_upmap.proofs.Descending.{Descending}
 use Rattle.plan_upmap.proofs.descend.Given as goal
 
-abbrev pub invariant-loop-left : goal.invariant-loop-left
-invariant-loop-left l = Descending l.n l.table l.source l.r l.numbers l.k l.at l.left
+abbrev pub invariant-loop-number : goal.invariant-loop-number
+invariant-loop-number l = Descending l.elements.count l.elements.table.now l.elements.source.now l.r l.numbers l.at l.number-iterator.iter.rest.now

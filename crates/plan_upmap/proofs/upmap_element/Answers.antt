@@ -15,7 +15,7 @@ pub returns-then-left-eq0 : goal.returns-then-left-eq0
 returns-then-left-eq0 c = search (settling_10, rules)
 
 pub upmap_from-requires : goal.upmap_from-requires
-upmap_from-requires c = record { wellformed = search rules; mapped = search rules; a_lt_n = (within_at _ _ _ c.nearest_mapped.ensures.within c.in-Some.is, search rules) }
+upmap_from-requires c = (within_at _ _ _ c.nearest_mapped.ensures.within c.in-Some.is, search rules)
 
 pub returns-in_err-at : goal.returns-in_err-at
 returns-in_err-at c =
