@@ -22,7 +22,7 @@ use Rattle.promises.specs.Serving.{reached, served, place, of_length, of_place, 
 use Rattle.promises.specs.declared.Job.{Job}
 use Rattle.promises.specs.declared.Job.TheVariants.{Edit, Find, Account, Share, Kept}
 use Rattle.promises.specs.declared.Told.{Told}
-use Rattle.promises.specs.declared.Told.TheVariants.{Bytes, Nothing, At, Of}
+use Rattle.promises.specs.declared.Told.TheVariants.{Bytes, Place, Of}
 use Rattle.refusals.specs.Numbers.{number, answered}
 use Rattle.refusals.specs.declared.Refusal.{Refusal}
 use Rattle.edit_answer.specs.Share.{Thousandths}
@@ -102,15 +102,10 @@ module _ {told : Result Told Refusal} where
   length_told {n = n} e i (gives k) h = let y : gives (Bytes n) ≡ gives (Bytes k) = given_told e i (gives (Bytes k)) h in let same : n ≡ k = cc in ap gives same
 
   -- no edit finds an element or tells a share
-  pub no_place : {t : Told} {n : ℕ} → told ≡ Ok t → t ≡ At n → LengthTold told → ⊥
+  pub no_place : {t : Told} {o : prelude.Option ℕ} → told ≡ Ok t → t ≡ Place o → LengthTold told → ⊥
   unfolding of_length
   no_place e i (refused k, h) = refused_gives (sym (given_told e i (refused k) h))
-  no_place {n = n} e i (gives k, h) = let y : gives (At n) ≡ gives (Bytes k) = given_told e i (gives (Bytes k)) h in absurd (let z : ◌≡◌ {A = ℕ} 0 1 = cc in omega arith)
-
-  pub no_element : {t : Told} → told ≡ Ok t → t ≡ Nothing → LengthTold told → ⊥
-  unfolding of_length
-  no_element e i (refused k, h) = refused_gives (sym (given_told e i (refused k) h))
-  no_element e i (gives k, h) = let y : gives Nothing ≡ gives (Bytes k) = given_told e i (gives (Bytes k)) h in absurd (let z : ◌≡◌ {A = ℕ} 0 1 = cc in omega arith)
+  no_place {o = o} e i (gives k, h) = let y : gives (Place o) ≡ gives (Bytes k) = given_told e i (gives (Bytes k)) h in absurd (let z : ◌≡◌ {A = ℕ} 0 1 = cc in omega arith)
 
   pub no_share : {t : Told} {q m : ℕ} → told ≡ Ok t → t ≡ Of q m → LengthTold told → ⊥
   unfolding of_length
@@ -126,26 +121,26 @@ module _ {told : Result Told Refusal} where
   pub no_bytes : {t : Told} {n : ℕ} → told ≡ Ok t → t ≡ Bytes n → PlaceTold told → ⊥
   unfolding of_place place
   no_bytes e i (refused k, h) = refused_gives (sym (given_told e i (refused k) h))
-  no_bytes {n = n} e i (gives none, h) = let y : gives (Bytes n) ≡ gives Nothing = given_told e i (gives Nothing) h in absurd (let z : ◌≡◌ {A = ℕ} 0 1 = cc in omega arith)
-  no_bytes {n = n} e i (gives (some k), h) = let y : gives (Bytes n) ≡ gives (At k) = given_told e i (gives (At k)) h in absurd (let z : ◌≡◌ {A = ℕ} 0 1 = cc in omega arith)
+  no_bytes {n = n} e i (gives none, h) = let y : gives (Bytes n) ≡ gives (Place None) = given_told e i (gives (Place None)) h in absurd (let z : ◌≡◌ {A = ℕ} 0 1 = cc in omega arith)
+  no_bytes {n = n} e i (gives (some k), h) = let y : gives (Bytes n) ≡ gives (Place (Some k)) = given_told e i (gives (Place (Some k))) h in absurd (let z : ◌≡◌ {A = ℕ} 0 1 = cc in omega arith)
 
   pub no_parts : {t : Told} {q m : ℕ} → told ≡ Ok t → t ≡ Of q m → PlaceTold told → ⊥
   unfolding of_place place
   no_parts e i (refused k, h) = refused_gives (sym (given_told e i (refused k) h))
-  no_parts {q = q} {m} e i (gives none, h) = let y : gives (Of q m) ≡ gives Nothing = given_told e i (gives Nothing) h in absurd (let z : ◌≡◌ {A = ℕ} 0 1 = cc in omega arith)
-  no_parts {q = q} {m} e i (gives (some k), h) = let y : gives (Of q m) ≡ gives (At k) = given_told e i (gives (At k)) h in absurd (let z : ◌≡◌ {A = ℕ} 0 1 = cc in omega arith)
+  no_parts {q = q} {m} e i (gives none, h) = let y : gives (Of q m) ≡ gives (Place None) = given_told e i (gives (Place None)) h in absurd (let z : ◌≡◌ {A = ℕ} 0 1 = cc in omega arith)
+  no_parts {q = q} {m} e i (gives (some k), h) = let y : gives (Of q m) ≡ gives (Place (Some k)) = given_told e i (gives (Place (Some k))) h in absurd (let z : ◌≡◌ {A = ℕ} 0 1 = cc in omega arith)
 
-  pub place_none : {t : Told} → told ≡ Ok t → t ≡ Nothing → TellsPlace told (Ok None)
-  unfolding of_place place element_of
-  place_none e i (refused k) h = refused_gives (sym (given_told e i (refused k) h))
-  place_none e i (gives none) h = refl
-  place_none e i (gives (some k)) h = let y : gives Nothing ≡ gives (At k) = given_told e i (gives (At k)) h in absurd (let z : ◌≡◌ {A = ℕ} 0 1 = cc in omega arith)
-
-  pub place_told : {t : Told} {n : ℕ} → told ≡ Ok t → t ≡ At n → TellsPlace told (Ok (Some n))
+  pub place_told : {t : Told} {o : prelude.Option ℕ} → told ≡ Ok t → t ≡ Place o → TellsPlace told (Ok o)
   unfolding of_place place element_of
   place_told e i (refused k) h = refused_gives (sym (given_told e i (refused k) h))
-  place_told {n = n} e i (gives none) h = let y : gives (At n) ≡ gives Nothing = given_told e i (gives Nothing) h in absurd (let z : ◌≡◌ {A = ℕ} 0 1 = cc in omega arith)
-  place_told {n = n} e i (gives (some k)) h = let y : gives (At n) ≡ gives (At k) = given_told e i (gives (At k)) h in let same : n ≡ k = cc in ap (λ (x : ℕ). gives (some x)) same
+  place_told {o = o} e i (gives none) h =
+      let y : gives (Place o) ≡ gives (Place None) = given_told e i (gives (Place None)) h in
+      let same : o ≡ None = cc in
+      rw same refl
+  place_told {o = o} e i (gives (some k)) h =
+      let y : gives (Place o) ≡ gives (Place (Some k)) = given_told e i (gives (Place (Some k))) h in
+      let same : o ≡ Some k = cc in
+      rw same refl
 
   pub share_refused : {f : Refusal} → told ≡ Err f → TellsShare told (Err f)
   unfolding of_share share_of
@@ -158,15 +153,10 @@ module _ {told : Result Told Refusal} where
   share_no_bytes e i (refused k, h) = refused_gives (sym (given_told e i (refused k) h))
   share_no_bytes {n = n} e i (gives s, h) = let y : gives (Bytes n) ≡ gives (Of s.0 s.1) = given_told e i (gives (Of s.0 s.1)) h in absurd (let z : ◌≡◌ {A = ℕ} 0 1 = cc in omega arith)
 
-  pub share_nowhere : {t : Told} → told ≡ Ok t → t ≡ Nothing → ShareTold told → ⊥
-  unfolding of_share
-  share_nowhere e i (refused k, h) = refused_gives (sym (given_told e i (refused k) h))
-  share_nowhere e i (gives s, h) = let y : gives Nothing ≡ gives (Of s.0 s.1) = given_told e i (gives (Of s.0 s.1)) h in absurd (let z : ◌≡◌ {A = ℕ} 0 1 = cc in omega arith)
-
-  pub share_no_place : {t : Told} {n : ℕ} → told ≡ Ok t → t ≡ At n → ShareTold told → ⊥
+  pub share_no_place : {t : Told} {o : prelude.Option ℕ} → told ≡ Ok t → t ≡ Place o → ShareTold told → ⊥
   unfolding of_share
   share_no_place e i (refused k, h) = refused_gives (sym (given_told e i (refused k) h))
-  share_no_place {n = n} e i (gives s, h) = let y : gives (At n) ≡ gives (Of s.0 s.1) = given_told e i (gives (Of s.0 s.1)) h in absurd (let z : ◌≡◌ {A = ℕ} 0 1 = cc in omega arith)
+  share_no_place {o = o} e i (gives s, h) = let y : gives (Place o) ≡ gives (Of s.0 s.1) = given_told e i (gives (Of s.0 s.1)) h in absurd (let z : ◌≡◌ {A = ℕ} 0 1 = cc in omega arith)
 
   pub share_told : {t : Told} {q m : ℕ} → told ≡ Ok t → t ≡ Of q m → TellsShare told (Ok (record { quotient = q; remainder = m }))
   unfolding of_share share_of

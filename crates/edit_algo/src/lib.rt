@@ -61,8 +61,7 @@ fn answer_in(told: Result<Told, Refusal>) -> Result<usize, Refusal>
 {
     match told? {
         Told::Bytes(n) => Ok(n),
-        Told::Nothing => unreachable!(),
-        Told::At(_) => unreachable!(),
+        Told::Place(_) => unreachable!(),
         Told::Of(_, _) => unreachable!(),
     }
 }
@@ -74,8 +73,7 @@ fn element_in(told: Result<Told, Refusal>) -> Result<Option<usize>, Refusal>
 {
     match told? {
         Told::Bytes(_) => unreachable!(),
-        Told::Nothing => Ok(None),
-        Told::At(e) => Ok(Some(e)),
+        Told::Place(place) => Ok(place),
         Told::Of(_, _) => unreachable!(),
     }
 }
@@ -87,8 +85,7 @@ fn share_in(told: Result<Told, Refusal>) -> Result<Thousandths, Refusal>
 {
     match told? {
         Told::Bytes(_) => unreachable!(),
-        Told::Nothing => unreachable!(),
-        Told::At(_) => unreachable!(),
+        Told::Place(_) => unreachable!(),
         Told::Of(quotient, remainder) => Ok(Thousandths {
             quotient,
             remainder,

@@ -46,7 +46,7 @@ use Rattle.promises.specs.Serving.{reached, place, of_length, of_place, of_share
 use Rattle.promises.specs.declared.Job.{Job}
 use Rattle.promises.specs.declared.Job.TheVariants.{Edit, Find, Account, Share, Kept}
 use Rattle.promises.specs.declared.Told.{Told}
-use Rattle.promises.specs.declared.Told.TheVariants.{Bytes, Nothing, At, Of}
+use Rattle.promises.specs.declared.Told.TheVariants.{Bytes, Place, Of}
 use Rattle.edit_answer.specs.AtEnd.{RowsAtEnd, answered_edit, old_node, none_there, no_node, node_there, old_tree, no_old_node, old_node_lem, unless, unless_refused, unless_done, unless_overlap, overlap_told, overlap_answers, account_13, account_answer, share_told, ToKeep, pairs_answer, ToAnswer}
 
 -- what is behind a place, as a part is told
@@ -161,12 +161,12 @@ module _ (n : ℕ) (t s : List ℕ) (k : ℕ) (h : k < n) (b : Bool) (e : b ≡ 
 
 -- ── Where it stands ─────────────────────────────────────────────────────────────────────────────────────────
 
-pub none_numbered : {h : Choices} {b rows t s : List ℕ} {d : Ended} → RowsAtEnd h b rows d → ElementsTold b t s d.elements → (k : ℕ) → d.elements ≤ k → gives Nothing ≡ of_place (found h b k)
+pub none_numbered : {h : Choices} {b rows t s : List ℕ} {d : Ended} → RowsAtEnd h b rows d → ElementsTold b t s d.elements → (k : ℕ) → d.elements ≤ k → gives (Place None) ≡ of_place (found h b k)
 unfolding of_place place
 none_numbered {h} {b} {rows} {t} {s} {d} v w k q = ap of_place (no_old_node v w k (sym (none_there d.elements t s k q)))
 
 module _ {h : Choices} {b rows t s : List ℕ} {d : Ended} (v : RowsAtEnd h b rows d) (w : ElementsTold b t s d.elements) (k : ℕ) (o : Bool) (p : o ≡ old_node (view d.elements t s) k) where
-  pub none_asked : o ≡ false → gives Nothing ≡ of_place (found h b k)
+  pub none_asked : o ≡ false → gives (Place None) ≡ of_place (found h b k)
   unfolding of_place place
   none_asked q = ap of_place (no_old_node v w k (sym p ∙ q))
 
@@ -175,16 +175,16 @@ module _ {h : Choices} {b rows t s : List ℕ} {d : Ended} (v : RowsAtEnd h b ro
 
   module _ (q : o ≡ true) (low : k < d.elements) (kind start : ℕ) (e : kind ≡ get_or s (3 * suc k + 0) 0) (f : start ≡ (row (view d.elements t s) k).start) (r : prelude.Option ℕ)
       (g : (text : List ℕ) → r ≡ found_by (find_row (first_tree (first_rows text d.rows rows)) kind start)) where
-    meant : (o : Option ℕ) → r ≡ found_by o → gives o ≡ found h b k → (r ≡ None → gives Nothing ≡ of_place (found h b k)) × ((x : ℕ) → r ≡ Some x → gives (At x) ≡ of_place (found h b k))
+    meant : (o : Option ℕ) → r ≡ found_by o → gives o ≡ found h b k → (r ≡ None → gives (Place None) ≡ of_place (found h b k)) × ((x : ℕ) → r ≡ Some x → gives (Place (Some x)) ≡ of_place (found h b k))
     unfolding found_by of_place place
     meant none i j = ((λ z. ap of_place j), λ x z. absurd (let y : ◌≡◌ {A = ℕ} 0 1 = cc in omega arith))
     meant (some y) i j = ((λ z. absurd (let y : ◌≡◌ {A = ℕ} 0 1 = cc in omega arith)), λ x z. let m : x ≡ y = cc in rw m (ap of_place j))
 
-    told : (r ≡ None → gives Nothing ≡ of_place (found h b k)) × ((x : ℕ) → r ≡ Some x → gives (At x) ≡ of_place (found h b k))
+    told : (r ≡ None → gives (Place None) ≡ of_place (found h b k)) × ((x : ℕ) → r ≡ Some x → gives (Place (Some x)) ≡ of_place (found h b k))
     told = meant (find_row (first_tree (first_rows (drop d.text b) d.rows rows)) kind start) (g (drop d.text b)) (old_node_lem v w k (sym p ∙ q) low kind start (e ∙ ap (λ (i : ℕ). get_or s i 0) (add-zero (3 * suc k))) f)
 
-    pub found_none : r ≡ None → gives Nothing ≡ of_place (found h b k)
+    pub found_none : r ≡ None → gives (Place None) ≡ of_place (found h b k)
     found_none = told.0
 
-    pub found_there : (x : ℕ) → r ≡ Some x → gives (At x) ≡ of_place (found h b k)
+    pub found_there : (x : ℕ) → r ≡ Some x → gives (Place (Some x)) ≡ of_place (found h b k)
     found_there = told.1

@@ -84,17 +84,14 @@ fn find_from(
 {
     let n = d.elements;
     if n <= k {
-        return Told::Nothing;
+        return Told::Place(None);
     }
     if !is_old_node(table, source, n, k) {
-        return Told::Nothing;
+        return Told::Place(None);
     }
     let kind = read_element_table::row_word(source, k, rows_syntax_node::KIND);
     let start = finish_find::old_start(table, source, n, k);
-    match finish_find::find_in_tree(rows, d.rows, d.root, kind, start) {
-        None => Told::Nothing,
-        Some(e) => Told::At(e),
-    }
+    Told::Place(finish_find::find_in_tree(rows, d.rows, d.root, kind, start))
 }
 
 // The account from what the run of the batch leaves, or 13: where the edit program's buffer could not hold the result, or where this one cannot hold the account.

@@ -1,5 +1,6 @@
 -- One promise for every job of `serve`: refusals 17, 18 and 1, what is answered, and that work slices end as zeros. The promises of the public calls follow from it.
 -- Assumes nothing.
+use Rattle.std.specs.Prelude.{None, Some}
 use Rattle.std.specs.Prelude.{◌≡◌, refl, Bool, true, false, List, [], ℕ, length, Result}
 use Rattle.std.proofs.Common.{ap, ◌∙◌}
 use Rattle.std.proofs.Math.Option.{Option, none, some}
@@ -16,7 +17,7 @@ use Rattle.promises.specs.Promises.{left_in, Edits, Finds, Accounts, Shares, Kee
 use Rattle.promises.specs.declared.Job.{Job}
 use Rattle.promises.specs.declared.Job.TheVariants.{Edit, Find, Account, Share, Kept}
 use Rattle.promises.specs.declared.Told.{Told}
-use Rattle.promises.specs.declared.Told.TheVariants.{Bytes, Nothing, At, Of}
+use Rattle.promises.specs.declared.Told.TheVariants.{Bytes, Place, Of}
 use Rattle.refusals.specs.Numbers.{answered}
 use Rattle.refusals.specs.declared.Refusal.{Refusal}
 
@@ -24,8 +25,8 @@ use Rattle.refusals.specs.declared.Refusal.{Refusal}
 
 -- how an element is told that may be found
 unfoldable pub place : Option ℕ → Told
-place none = Nothing
-place (some e) = At e
+place none = Place None
+place (some e) = Place (Some e)
 
 -- the edit, the account and the pairs tell how many bytes they write
 abbrev pub tell_bytes : List ℕ → Answer (Told × List ℕ)

@@ -17,12 +17,11 @@ pub enum Job {
     Kept,
 }
 
-// What a call that is not refused tells: how many bytes the result, the account or the pairs have; no element; an element's number; or a share's quotient and remainder.
+// What a call that is not refused tells: how many bytes the result, the account or the pairs have; an element's number, if one is found; or a share's quotient and remainder.
 #[derive(Clone, Copy)]
 pub enum Told {
     Bytes(usize),
-    Nothing,
-    At(usize),
+    Place(Option<usize>),
     Of(usize, usize),
 }
 

@@ -99,8 +99,8 @@ fn is_answer(told: Result<Told, Refusal>, refusal: usize, length: usize) -> bool
 fn is_element(told: Result<Told, Refusal>, refusal: usize, found: usize) -> bool {
     match told {
         Err(refused) => refused.number() == refusal,
-        Ok(Told::Nothing) => found == NONE,
-        Ok(Told::At(at)) => at == found,
+        Ok(Told::Place(None)) => found == NONE,
+        Ok(Told::Place(Some(at))) => at == found,
         Ok(_) => false,
     }
 }

@@ -1,6 +1,6 @@
 -- `element_in` meets its contract: case by case; who finds writes no bytes and tells no share.
 use Rattle.std.proofs.lemmas.Result.{err_from_is_err_and}
-use Rattle.edit_algo.proofs.Ways.{place_refused, no_bytes, no_parts, place_none, place_told}
+use Rattle.edit_algo.proofs.Ways.{place_refused, no_bytes, no_parts, place_told}
 use Rattle.edit_algo.proofs.element_in.Goals as goal
 
 pub returns-in_err-told : goal.returns-in_err-told
@@ -14,8 +14,5 @@ unreachable-requires c = no_bytes c.in_ok-told.was c.in-Bytes.is c.requires
 pub unreachable-requires-in-Of : goal.unreachable-requires-in-Of
 unreachable-requires-in-Of c = no_parts c.in_ok-told.was c.in-Of.is c.requires
 
-pub returns-in-Nothing : goal.returns-in-Nothing
-returns-in-Nothing c = place_none c.in_ok-told.was c.in-Nothing.is
-
-pub returns-in-At : goal.returns-in-At
-returns-in-At c = place_told c.in_ok-told.was c.in-At.is
+pub returns : goal.returns
+returns c = place_told c.in_ok-told.was c.in-Place.is

@@ -1,6 +1,6 @@
 -- `share_in` meets its contract: case by case; a share is no length and no place.
 use Rattle.std.proofs.lemmas.Result.{err_from_is_err_and}
-use Rattle.edit_algo.proofs.Ways.{share_refused, share_no_bytes, share_nowhere, share_no_place, share_told}
+use Rattle.edit_algo.proofs.Ways.{share_refused, share_no_bytes, share_no_place, share_told}
 use Rattle.edit_algo.proofs.share_in.Goals as goal
 
 pub returns-in_err-told : goal.returns-in_err-told
@@ -11,11 +11,8 @@ returns-in_err-told c =
 pub unreachable-requires : goal.unreachable-requires
 unreachable-requires c = share_no_bytes c.in_ok-told.was c.in-Bytes.is c.requires
 
-pub unreachable-requires-in-Nothing : goal.unreachable-requires-in-Nothing
-unreachable-requires-in-Nothing c = share_nowhere c.in_ok-told.was c.in-Nothing.is c.requires
-
-pub unreachable-requires-in-At : goal.unreachable-requires-in-At
-unreachable-requires-in-At c = share_no_place c.in_ok-told.was c.in-At.is c.requires
+pub unreachable-requires-in-Place : goal.unreachable-requires-in-Place
+unreachable-requires-in-Place c = share_no_place c.in_ok-told.was c.in-Place.is c.requires
 
 pub returns : goal.returns
 returns c = share_told c.in_ok-told.was c.in-Of.is
