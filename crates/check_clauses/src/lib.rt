@@ -1,7 +1,7 @@
 // The clauses of the checker, each in one pass over the pairs or the new elements.
 #![tactic(auto)]
 
-ghost use Rattle.std.specs.Prelude.{◌≡◌, ◌+◌, ◌*◌, ◌≤◌, ◌<◌, leb, length, take};
+ghost use Rattle.std.specs.Prelude.{◌≡◌, ◌+◌, ◌*◌, ◌≤◌, ◌<◌, leb, length};
 ghost use mathlib.Core.List.{zip};
 ghost use Rattle.orders.specs.Lists.{any};
 ghost use Rattle.check_laws.specs.Check.{every, same_bytes};
@@ -43,7 +43,7 @@ pub fn mark_all(changed: &[u32], marks: &mut [u32])
     }
 }
 
-// Whether two texts are the same.
+// Whether two texts are the same: the library's comparison, by the definition that the clauses and a series' trees speak of, so that its law is asked for once.
 pub fn same_bytes(a: &[u8], b: &[u8]) -> bool
     ensures { result ≡ same_bytes a.now b.now }
 {
@@ -122,13 +122,12 @@ fn all_parents_meet(olds: &[u32], news: &[u32], old: &[u32], new: &[u32], partne
     true
 }
 
-// 5: whether the partners of the first `n` new elements rise.
-fn rising(partners: &[u32], n: usize) -> bool
-    requires { n ≤ length partners.now }
-    ensures { result ≡ rises 0 (take n partners.now) }
+// 5: whether the partners rise.
+fn rising(partners: &[u32]) -> bool
+    ensures { result ≡ rises 0 partners.now }
 {
     let mut last = 0;
-    for w in &partners[..n] {
+    for w in partners {
         if *w != 0 {
             if *w <= last {
                 return false;
@@ -195,7 +194,7 @@ pub fn judge(
     if !all_parents_meet(olds, news, old, new, partners) {
         return false;
     }
-    if !rising(partners, n) {
+    if !rising(&partners[..n]) {
         return false;
     }
     all_accounted(new, partners, marks, n)

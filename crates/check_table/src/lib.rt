@@ -26,7 +26,7 @@ pub fn entry(table: &[u32], e: usize, k: usize) -> usize
 }
 
 // Line 5 of one tree with `bytes` bytes of text; where it accepts, the words of all elements stand in the table. Each turn closes the innermost open element,
-// if all its children have come, or opens the next one: a token has none.
+// if all its children have come, or opens the next one: a token has none. So it is a `while`: a `for` over elements would need a second loop inside.
 pub fn read_tree(kinds: &[u32], measures: &[u32], bytes: usize, table: &mut [u32]) -> bool
     requires { (length measures.now ≡ length kinds.now) × (length kinds.now ≤ 4096) × (4 * length kinds.now ≤ length table.old) × (bytes ≤ 16384) }
     ensures { Reads (zip kinds.now measures.now) bytes result table.new }
