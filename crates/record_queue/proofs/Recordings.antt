@@ -8,7 +8,7 @@ use mathlib.Core.Path.{◌≡◌, refl, sym, ap, ◌∙◌}
 use Prim.Native.Nat.{ℕ, suc, ◌+◌, ◌-◌, ◌*◌, ◌^◌, ◌≤◌, ◌<◌}
 use native.Mathlib.Numerals.{add-one}
 use native.Mathlib.Omega.{arith}
-use lib.ListN.{length, get_or, take, drop, length-drop, drop_of_length-le, take-append-drop, get_or-eq_default}
+use lib.ListN.{length, get_or, take, drop, length-drop, drop_of_length-le, take-append-drop}
 use lib.Seq.{paste, get_or-drop, split_at, drop-drop, drop-paste}
 use lib.Dec.{eqb}
 use borrow.Author.Tests.{eq-eqb, ne_eqb}
@@ -16,16 +16,18 @@ use Rattle.record_changes.specs.ChangeRow.{ChangeRow, row_words, row_of, rows_of
 use Rattle.record_changes.specs.ChangeRowLaws.{row_at, length_row, length_rows_of, rows_written, row_among, row_set, row_added}
 use Rattle.record_queue.specs.Queueing.{place, place_none, place_passed, place_found, put, put_found, put_new, through, through_editor, through_put, through_end}
 use Rattle.definition.specs.Elements.{Table}
-use Rattle.definition.specs.Words.{word, words}
+use Rattle.definition.specs.Words.{words}
 use Rattle.definition.specs.Refusals.{Call, call_of, operation_of, count_of, rule_of}
 use Rattle.orders.specs.Lists.{All}
-use Rattle.words.specs.Bytes.{length_words, take_words, drop_words, get_d_words}
+use Rattle.words.specs.Bytes.{length_words, take_words, drop_words}
 use Rattle.definition.specs.Recording.{change}
 use Rattle.record_changes.specs.Numbers.{place_number, numbers_of, as_change, run_asked, change_asked, row_with, NumbersFit}
 use Rattle.record_changes.specs.Spots.{spot_of, Named}
 use Rattle.record_queue.specs.Recorded.{news_at, asked_at, all_asked}
 use Rattle.read_element_table.specs.Wellformed.{Wellformed}
-use Rattle.record_queue.specs.CallList.{call_as, calls_of, Fit, calls_from, calls_all, calls_more, calls_none, Stands, CallFits, CallPut}
+use Rattle.words.specs.List.{words_of}
+use Rattle.words.specs.declared.list.WordList.{WordList}
+use Rattle.record_queue.specs.CallList.{call_as, calls_of, Fit, calls_from, calls_more, calls_none, CallFits, CallPut}
 use Rattle.record_queue.specs.Placed.{fit_stand}
 use Rattle.record_queue.specs.Asked.{row_of_change, row_asked}
 use Rattle.record_changes.specs.declared.Place.{Place}
@@ -69,13 +71,6 @@ module _ (w : List ℕ) (k : ℕ) where
     meets_target e v f t g = rw (← second_word z h, eq-eqb x z e, and-true, ← first_word v f) g
 
 -- ── Whether a change has an effect ──────────────────────────────────────────────────────────────────────────
-
-module _ (b : List ℕ) (list listed i : ℕ) where
-  pub listed_there : (r : ℕ) → i < listed → r ≡ word (drop (list + 4 * i) b) → r ≡ get_or (words listed (drop list b)) i 0
-  listed_there r h e = e ∙ sym (get_d_words listed (drop list b) i h ∙ rw (drop-drop (4 * i) list b))
-
-  pub listed_past : listed ≤ i → 0 ≡ get_or (words listed (drop list b)) i 0
-  listed_past h = sym (get_or-eq_default (words listed (drop list b)) 0 (omega (arith, length_words listed (drop list b))))
 
 module _ (L w : List ℕ) (k op at v : ℕ) (h : v ≡ get_or w (14 * k) 0) where
   pub idle_delete : v ≡ 3 → true ≡ idle_by L op at (row_at w k)
@@ -210,6 +205,9 @@ module _ (L : List ℕ) (m : Numbers) (s : Spot) (n start count : ℕ) (w : List
     unfolding row_with
     record_over w' q p = put_over L (row_with m s n) start count w h k e b l t f w' q p
 
+pub length_of : (l : WordList) → length (words_of l) ≡ l.count
+length_of l = length_words l.count _
+
 -- ── One call ────────────────────────────────────────────────────────────────────────────────────────────────
 
 -- what a call's change names, and its numbers
@@ -253,27 +251,23 @@ module _ (op x at k y : ℕ) where
       small FirstChild = omega arith
       small After = omega arith
 
-module _ {n : ℕ} {b : List ℕ} {from at j x : ℕ} (F : CallFits n b from at j x) {k : ℕ} (ek : k ≡ j) {y : ℕ} (e : y ≡ head_d (words k (drop from b)) 0) where
+module _ {n : ℕ} (l : WordList) {at x : ℕ} (F : CallFits n (words_of l) at x) {y : ℕ} (e : y ≡ head_d (words_of l) 0) where
   pub first_below : y < n
-  first_below = rw (e, ek) F.first
+  first_below = rw e F.first
 
-  module _ (op : ℕ) {c : Change} (ec : c ≡ change_asked op x at k y) where
+  module _ (op : ℕ) {c : Change} (ec : c ≡ change_asked op x at l.count y) where
     pub call_named : Named n c
-    call_named = asked_named op x at k y n c ec F.target first_below
+    call_named = asked_named op x at l.count y n c ec F.target first_below
 
     pub call_numbers : {w s : List ℕ} → Wellformed n w s → {m : Numbers} → m ≡ numbers_of c → NumbersFit m
     call_numbers W {m} em =
-        asked_fits op x at k y m c ec em (omega (arith, F.target, W.lines.few)) (omega (arith, first_below, W.lines.few)) F.low (rw ek F.few)
+        asked_fits op x at l.count y m c ec em (omega (arith, F.target, W.lines.few)) (omega (arith, first_below, W.lines.few)) F.low (omega (arith, F.few, length_of l))
 
 pub rule_fits : (w : ℕ) {n : ℕ} → n ≡ rule_of w → n < 2 ^ 32
 unfolding rule_of
 rule_fits w e = omega (arith, e)
 
-module _ (T : Table) (L : List ℕ) (at word₁ op x start count : ℕ) (bytes w : List ℕ) (eo : op ≡ operation_of word₁) where
-  -- what it lists
-  abbrev l : List ℕ
-  l = words (count_of word₁) bytes
-
+module _ (T : Table) (L : List ℕ) (at word₁ op x start count : ℕ) (l w : List ℕ) (eo : op ≡ operation_of word₁) where
   -- a further editor starts
   pub call_editor : op ≡ 6 → CallPut T L at (call_of word₁ x l) start count w count count w
   unfolding asked_at
@@ -289,11 +283,11 @@ module _ (T : Table) (L : List ℕ) (at word₁ op x start count : ℕ) (bytes w
       }
 
   -- any other call
-  pub call_put : (k y n next : ℕ) (c : Change) (m : Numbers) (s : Spot) (w' : List ℕ) → (op ≡ 6 → ⊥) → start ≤ count → k ≡ count_of word₁ → n ≡ rule_of word₁ → y ≡ head_d (words k bytes) 0 → c ≡ change_asked op x at k y → m ≡ numbers_of c → s ≡ spot_of T (as_change (y ∷ []) c)
+  pub call_put : (k y n next : ℕ) (c : Change) (m : Numbers) (s : Spot) (w' : List ℕ) → (op ≡ 6 → ⊥) → start ≤ count → k ≡ length l → n ≡ rule_of word₁ → y ≡ head_d l 0 → c ≡ change_asked op x at k y → m ≡ numbers_of c → s ≡ spot_of T (as_change (y ∷ []) c)
       → Put L (row_with m s n) start count w next w' → CallPut T L at (call_of word₁ x l) start count w start next w'
   unfolding asked_at row_of_change
   call_put k y n next c m s w' z h ek en ey ec em es p =
-      let row : row_with m s n ≡ change_row T (news_at at (call_as op x l n)) n (change (call_as op x l n)) = rw (em, es, ec) (row_asked T x at k y n l (ek ∙ sym (length_words (count_of word₁) bytes)) (ey ∙ rw ek) op) in
+      let row : row_with m s n ≡ change_row T (news_at at (call_as op x l n)) n (change (call_as op x l n)) = rw (em, es, ec) (row_asked T x at k y n l ek ey op) in
       record {
         sound = omega (arith, p.low);
         low = p.low;
@@ -306,32 +300,23 @@ module _ (T : Table) (L : List ℕ) (at word₁ op x start count : ℕ) (bytes w
 
 -- ── All calls ───────────────────────────────────────────────────────────────────────────────────────────────
 
-module _ (T : Table) (n : ℕ) (b : List ℕ) (heads targets calls list listed : ℕ) (w₀ : List ℕ) where
-  -- the listed elements that are left
-  abbrev list_from : ℕ → List ℕ
-  list_from taken = words (listed - taken) (drop (list + 4 * taken) b)
-
+module _ (T : Table) (n : ℕ) (calls targets listed : WordList) (w₀ : List ℕ) where
   abbrev all : List Call
-  all = calls_of (zip (words calls (drop heads b)) (words calls (drop targets b))) (words listed (drop list b))
+  all = calls_of (zip (words_of calls) (words_of targets)) (words_of listed)
 
   -- i calls are recorded, and have taken so many of the listed elements
   pub record Recording (start count taken i : ℕ) (w : List ℕ) : Type 0 where
-    pub inside : i ≤ calls
-    pub few : taken ≤ listed
+    pub inside : i ≤ calls.count
+    pub few : taken ≤ listed.count
     pub sound : start ≤ count
     pub high : count ≤ i
     pub long : length w ≡ length w₀
-    pub fit : Fit n (calls_from b heads targets calls i) (list_from taken)
+    pub fit : Fit n (calls_from (words_of calls) (words_of targets) i) (drop taken (words_of listed))
     pub beyond : drop (14 * count) w ≡ drop (14 * count) w₀
-    pub verdict : change_rows T all ≡ through meets_row (merged_row (words listed (drop list b))) (take start (rows_of count w)) (drop start (rows_of count w)) (rows_asked T taken (calls_of (calls_from b heads targets calls i) (list_from taken)))
+    pub verdict : change_rows T all
+        ≡ through meets_row (merged_row (words_of listed)) (take start (rows_of count w)) (drop start (rows_of count w)) (rows_asked T taken (calls_of (calls_from (words_of calls) (words_of targets) i) (drop taken (words_of listed))))
 
-  list_all : list_from 0 ≡ words listed (drop list b)
-  list_all =
-      let e : listed - 0 ≡ listed = omega arith in
-      let f : list + 4 * 0 ≡ list = omega arith in
-      rw (e, f)
-
-  pub recording_start : Fit n (zip (words calls (drop heads b)) (words calls (drop targets b))) (words listed (drop list b)) → Recording 0 0 0 0 w₀
+  pub recording_start : Fit n (zip (words_of calls) (words_of targets)) (words_of listed) → Recording 0 0 0 0 w₀
   unfolding rows_of
   recording_start h =
       record {
@@ -340,48 +325,47 @@ module _ (T : Table) (n : ℕ) (b : List ℕ) (heads targets calls list listed :
         sound = omega arith;
         high = omega arith;
         long = refl;
-        fit = rw (calls_all b heads targets calls, list_all) h;
+        fit = h;
         beyond = refl;
-        verdict = rows_through T (words listed (drop list b)) all (fit_stand n (words listed (drop list b)) (zip (words calls (drop heads b)) (words calls (drop targets b))) 0 (words listed (drop list b)) refl h) ∙ sym (rw (calls_all b heads targets calls, list_all));
+        verdict = rows_through T (words_of listed) all (fit_stand n (words_of listed) (zip (words_of calls) (words_of targets)) 0 (words_of listed) refl h);
       }
 
-module _ {T : Table} {n : ℕ} {b : List ℕ} {heads targets calls list listed : ℕ} {w₀ : List ℕ} {start count taken i : ℕ} {w : List ℕ} (v : Recording T n b heads targets calls list listed w₀ start count taken i w) where
+module _ {T : Table} {n : ℕ} {calls targets listed : WordList} {w₀ : List ℕ} {start count taken i : ℕ} {w : List ℕ} (v : Recording T n calls targets listed w₀ start count taken i w) where
   -- no call is left
-  pub recording_done : calls ≤ i → 14 * calls ≤ length w₀ → RowsRecorded calls (change_rows T (all T n b heads targets calls list listed w₀)) w₀ count w
+  pub recording_done : calls.count ≤ i → 14 * calls.count ≤ length w₀ → RowsRecorded calls.count (change_rows T (all T n calls targets listed w₀)) w₀ count w
   unfolding calls_of all_asked
   recording_done h l =
-      let e : change_rows T (all T n b heads targets calls list listed w₀) ≡ rows_of count w = v.verdict ∙ rw (calls_none b heads targets calls i h) (through_end meets_row (merged_row (words listed (drop list b))) (rows_of count w) start) in
+      let e : change_rows T (all T n calls targets listed w₀) ≡ rows_of count w = v.verdict ∙ rw (calls_none (words_of calls) (words_of targets) i (omega (arith, length_of calls))) (through_end meets_row (merged_row (words_of listed)) (rows_of count w) start) in
       record {
         few = omega (arith, v.high, v.inside);
         counted = rw e (sym (length_rows_of count w));
         written = rw (e, length_rows_of count w, rows_written count w (omega (arith, v.long, v.high, v.inside)), ← v.beyond) (sym (take-append-drop (14 * count) w));
       }
 
-  module _ (h : i < calls) {word₁ x : ℕ} (ew : word₁ ≡ word (drop (heads + 4 * i) b)) (ex : x ≡ word (drop (targets + 4 * i) b)) where
-    abbrev k : ℕ
-    k = count_of word₁
+  module _ (h : i < calls.count) (s : targets.count ≡ calls.count) {word₁ x : ℕ} (ew : word₁ ≡ get_or (words_of calls) i 0) (ex : x ≡ get_or (words_of targets) i 0) {k : ℕ} (ek : k ≡ count_of word₁) where
+    abbrev rest : List ℕ
+    rest = drop taken (words_of listed)
 
-    abbrev m : List ℕ
-    m = drop (list + 4 * taken) b
+    more : calls_from (words_of calls) (words_of targets) i ≡ (word₁, x) ∷ calls_from (words_of calls) (words_of targets) (i + 1)
+    more = rw (ew, ex) (calls_more (words_of calls) (words_of targets) i (omega (arith, length_of calls)) (omega (arith, length_of calls, length_of targets)))
 
-    more : calls_from b heads targets calls i ≡ (word₁, x) ∷ calls_from b heads targets calls (i + 1)
-    more = rw (ew, ex) (calls_more b heads targets calls i h)
+    pub recording_front : k ≤ listed.count - taken
+    recording_front = let f = rw more at v.fit in omega (arith, ek, f.0, length-drop taken (words_of listed), length_of listed)
 
-    pub recording_front : k ≤ listed - taken
-    recording_front = let f = rw more at v.fit in omega (arith, f.0, length_words (listed - taken) m)
+    -- its own elements
+    abbrev own : List ℕ
+    own = words k (drop (listed.at + 4 * taken) listed.bytes.now)
 
-    parts : listed - taken ≡ k + (listed - (taken + k))
-    parts = omega (arith, recording_front, v.few)
+    taking : take (count_of word₁) rest ≡ own
+    taking =
+        let j : ℕ = listed.count - (taken + k) in
+        rw (← ek, drop_words taken (listed.count - taken) listed.count (drop listed.at listed.bytes.now) (omega (arith, v.few)), drop-drop (4 * taken) listed.at listed.bytes.now)
+        (take_words k j (listed.count - taken) _ (omega (arith, recording_front, v.few)))
 
-    taking : take k (words (listed - taken) m) ≡ words k m
-    taking = take_words k (listed - (taken + k)) (listed - taken) m parts
+    left : drop (count_of word₁) rest ≡ drop (taken + k) (words_of listed)
+    left = rw (← ek, drop-drop k taken (words_of listed))
 
-    left : drop k (words (listed - taken) m) ≡ words (listed - (taken + k)) (drop (list + 4 * (taken + k)) b)
-    left =
-        let e : list + 4 * taken + 4 * k ≡ list + 4 * (taken + k) = omega arith in
-        drop_words k (listed - (taken + k)) (listed - taken) m parts ∙ rw (drop-drop (4 * k) (list + 4 * taken) b, e)
-
-    fits : (x < n) × All (λ e. e < n) (words k m) × Fit n (calls_from b heads targets calls (i + 1)) (words (listed - (taken + k)) (drop (list + 4 * (taken + k)) b))
+    fits : (x < n) × All (λ e. e < n) own × Fit n (calls_from (words_of calls) (words_of targets) (i + 1)) (drop (taken + k) (words_of listed))
     fits = let f = rw more at v.fit in (f.1, rw taking at f.2, rw left at f.4)
 
     head_below : (l : List ℕ) → All (λ e. e < n) l → 0 < n → head_d l 0 < n
@@ -389,29 +373,27 @@ module _ {T : Table} {n : ℕ} {b : List ℕ} {heads targets calls list listed :
     head_below [] a p = p
     head_below (e ∷ l) a p = a.0
 
-    pub recording_fits : Stands b heads targets calls list listed → CallFits n b (list + 4 * taken) taken k x
-    recording_fits s =
+    pub recording_fits : listed.count ≤ 1024 → CallFits n own taken x
+    recording_fits few =
         let f = fits in
         record {
           target = f.0;
-          first = head_below (words k m) f.1 (omega (arith, f.0));
-          inside = omega (arith, recording_front, v.few, s.list_within);
-          low = omega (arith, v.few, s.few_listed);
-          few = omega (arith, recording_front, s.few_listed);
+          first = head_below own f.1 (omega (arith, f.0));
+          low = omega (arith, v.few);
+          few = omega (arith, recording_front, length_words k (drop (listed.at + 4 * taken) listed.bytes.now));
         }
 
-    turn : rows_asked T taken (calls_of (calls_from b heads targets calls i) (words (listed - taken) m))
-        ≡ map (row_for T) (asked_at taken (call_of word₁ x (words k m))) ∷ rows_asked T (taken + k) (calls_of (calls_from b heads targets calls (i + 1)) (words (listed - (taken + k)) (drop (list + 4 * (taken + k)) b)))
+    turn : rows_asked T taken (calls_of (calls_from (words_of calls) (words_of targets) i) rest)
+        ≡ map (row_for T) (asked_at taken (call_of word₁ x own)) ∷ rows_asked T (taken + k) (calls_of (calls_from (words_of calls) (words_of targets) (i + 1)) (drop (taken + k) (words_of listed)))
     unfolding calls_of all_asked
-    turn = rw (more, taking, left, length_words k m)
+    turn = rw (more, taking, left, length_words k (drop (listed.at + 4 * taken) listed.bytes.now))
 
-    pub recording_next : {start' count' : ℕ} {w' : List ℕ} → CallPut T (words listed (drop list b)) taken (call_of word₁ x (words k m)) start count w start' count' w' → length w' ≡ length w → {j : ℕ} → j ≡ k → Recording T n b heads targets calls list listed w₀ start' count' (taken + j) (i + 1) w'
-    recording_next {start'} {count'} {w'} p l ej =
-        let rest : List (Option ChangeRow) = rows_asked T (taken + k) (calls_of (calls_from b heads targets calls (i + 1)) (words (listed - (taken + k)) (drop (list + 4 * (taken + k)) b))) in
+    pub recording_next : {start' count' : ℕ} {w' : List ℕ} → CallPut T (words_of listed) taken (call_of word₁ x own) start count w start' count' w' → length w' ≡ length w → Recording T n calls targets listed w₀ start' count' (taken + k) (i + 1) w'
+    recording_next {start'} {count'} {w'} p l =
+        let rows : List (Option ChangeRow) = rows_asked T (taken + k) (calls_of (calls_from (words_of calls) (words_of targets) (i + 1)) (drop (taken + k) (words_of listed))) in
         let j : ℕ = 14 * count' - 14 * count in
         let e : 14 * count' ≡ 14 * count + j = omega (arith, p.low) in
-        rw ej
-        (record {
+        record {
           inside = omega arith;
           few = omega (arith, recording_front, v.few);
           sound = p.sound;
@@ -419,5 +401,5 @@ module _ {T : Table} {n : ℕ} {b : List ℕ} {heads targets calls list listed :
           long = l ∙ v.long;
           fit = fits.2;
           beyond = p.beyond ∙ rw (e, ← drop-drop j (14 * count) w, v.beyond, drop-drop j (14 * count) w₀);
-          verdict = v.verdict ∙ (ap (λ (cs : List (Option ChangeRow)). through meets_row (merged_row (words listed (drop list b))) (take start (rows_of count w)) (drop start (rows_of count w)) cs) turn ∙ p.step rest);
-        })
+          verdict = v.verdict ∙ (ap (λ (cs : List (Option ChangeRow)). through meets_row (merged_row (words_of listed)) (take start (rows_of count w)) (drop start (rows_of count w)) cs) turn ∙ p.step rows);
+        }

@@ -1,18 +1,17 @@
 -- The calls of a batch, one by one.
 -- Assumes nothing.
-use Rattle.std.specs.Prelude.{Bool, true, false, cond, ◌≡◌, refl, length, take, drop, leb}
+use Rattle.std.specs.Prelude.{Bool, true, false, cond, ◌≡◌, refl, length, take, drop, leb, get_or}
 use mathlib.Core.List.{List, [], ◌∷◌, head_d, zip, zip_with}
 use Rattle.std.proofs.Math.Option.{Option, none, some, map}
-use Rattle.std.proofs.Common.{sym, ap, ◌∙◌, leb-true}
-use Prim.Native.Nat.{ℕ, suc, ◌+◌, ◌-◌, ◌*◌, ◌^◌, ◌≤◌, ◌<◌}
+use Rattle.std.proofs.Common.{sym, ap, ◌∙◌, leb-true, add-one, drop-cons}
+use Rattle.std.proofs.Math.ListN.{drop_of_length-le}
+use Prim.Native.Nat.{ℕ, ◌+◌, ◌*◌, ◌^◌, ◌≤◌, ◌<◌}
 use native.Mathlib.Omega.{arith}
-use Rattle.std.proofs.Math.Seq.{drop-drop}
 use Rattle.orders.specs.Lists.{All}
 use Rattle.orders.specs.ListLaws.{either_false, none_some, some_inj, map_some}
 use Rattle.definition.specs.Basics.{any}
 use Rattle.definition.specs.Elements.{Table}
 use Rattle.definition.specs.Refusals.{operation_of, count_of, Call, call_of, calls, wrong_count, wrong_call}
-use Rattle.definition.specs.Words.{word, words}
 use Rattle.definition_laws.specs.Right.{judged, below_E}
 use Rattle.record_changes.specs.ChangeRow.{ChangeRow, rows_of}
 use Rattle.record_queue.specs.Queueing.{through}
@@ -64,47 +63,29 @@ accepted_calls T (c ∷ cs) l r e q = go (leb (count_of c.0) (length l)) refl e 
 
 -- ── The calls from a place on ───────────────────────────────────────────────────────────────────────────────
 
-module _ (b : List ℕ) (heads targets calls : ℕ) where
+module _ (a b : List ℕ) where
   -- call words with their targets, from call i on
   abbrev pub calls_from : ℕ → List (ℕ × ℕ)
-  calls_from i = zip (words (calls - i) (drop (heads + 4 * i) b)) (words (calls - i) (drop (targets + 4 * i) b))
+  calls_from i = zip (drop i a) (drop i b)
 
-  pub calls_all : calls_from 0 ≡ zip (words calls (drop heads b)) (words calls (drop targets b))
-  calls_all =
-      let e : calls - 0 ≡ calls = omega arith in
-      let f : heads + 4 * 0 ≡ heads = omega arith in
-      let g : targets + 4 * 0 ≡ targets = omega arith in
-      rw (e, f, g)
+  pub calls_more : (i : ℕ) → i < length a → length b ≡ length a → calls_from i ≡ (get_or a i 0, get_or b i 0) ∷ calls_from (i + 1)
+  unfolding zip zip_with
+  calls_more i h k =
+      let j : i < length b = omega arith in
+      rw (add-one i, drop-cons a i 0 h, drop-cons b i 0 j)
 
-  pub calls_more : (i : ℕ) → i < calls → calls_from i ≡ (word (drop (heads + 4 * i) b), word (drop (targets + 4 * i) b)) ∷ calls_from (i + 1)
-  unfolding words zip zip_with
-  calls_more i h =
-      let e : calls - i ≡ suc (calls - (i + 1)) = omega arith in
-      let f : heads + 4 * (i + 1) ≡ heads + 4 * i + 4 = omega arith in
-      let g : targets + 4 * (i + 1) ≡ targets + 4 * i + 4 = omega arith in
-      rw (e, f, g, ← drop-drop 4 (heads + 4 * i) b, ← drop-drop 4 (targets + 4 * i) b)
-
-  pub calls_none : (i : ℕ) → calls ≤ i → calls_from i ≡ []
-  unfolding words zip zip_with
-  calls_none i h = let e : calls - i ≡ 0 = omega arith in rw e
-
--- the arrays stand within the batch, and keep the limits
-pub record Stands (b : List ℕ) (heads targets calls list listed : ℕ) : Type 0 where
-  pub heads_within : heads + 4 * calls ≤ length b
-  pub targets_within : targets + 4 * calls ≤ length b
-  pub list_within : list + 4 * listed ≤ length b
-  pub few_calls : calls ≤ 256
-  pub few_listed : listed ≤ 1024
+  pub calls_none : (i : ℕ) → length a ≤ i → calls_from i ≡ []
+  unfolding zip zip_with
+  calls_none i h = rw (drop_of_length-le a {i = i} h)
 
 -- ── One call ────────────────────────────────────────────────────────────────────────────────────────────────
 
--- what is asked of a call with target x whose k listed elements stand at `from` among the bytes, and at `at` in the batch's list
-pub record CallFits (n : ℕ) (b : List ℕ) (from at k x : ℕ) : Type 0 where
+-- what is asked of a call with target x that lists the elements l, which stand at `at` in the batch's list
+pub record CallFits (n : ℕ) (l : List ℕ) (at x : ℕ) : Type 0 where
   pub target : x < n
-  pub first : head_d (words k (drop from b)) 0 < n
-  pub inside : from + 4 * k ≤ length b
+  pub first : head_d l 0 < n
   pub low : at < 2 ^ 31
-  pub few : k < 2 ^ 32
+  pub few : length l < 2 ^ 32
 
 -- a call is recorded: the rows w, of which the present editor's start at `start`, become w'
 pub record CallPut (T : Table) (L : List ℕ) (at : ℕ) (c : Call) (start count : ℕ) (w : List ℕ) (start' count' : ℕ) (w' : List ℕ) : Type 0 where

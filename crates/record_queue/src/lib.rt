@@ -3,19 +3,20 @@
 
 ghost use Rattle.std.specs.Prelude.{◌≡◌, ◌+◌, ◌*◌, ◌^◌, ◌≤◌, ◌<◌, length, get_or, drop, unwrap_or, IfSome};
 ghost use mathlib.Core.List.{zip};
-ghost use Rattle.definition.specs.Words.{words as words_of};
+ghost use Rattle.words.specs.List.{words_of};
 ghost use Rattle.definition.specs.Refusals.{count_of, call_of};
 ghost use Rattle.read_element_table.specs.View.{view};
-ghost use Rattle.read_element_table.specs.Wellformed.{Wellformed};
 ghost use Rattle.record_changes.specs.ChangeRow.{rows_of};
 ghost use Rattle.record_changes.specs.ChangeRowLaws.{row_at};
 ghost use Rattle.record_changes.specs.Numbers.{row_with, NumbersFit};
 ghost use Rattle.record_changes.specs.Spots.{SpotFits};
 ghost use Rattle.record_queue.specs.Queueing.{place};
 ghost use Rattle.record_queue.specs.RecordedRows.{is_single, meets_single, meets_by, idle_by, change_rows, Put, RowsRecorded};
-ghost use Rattle.record_queue.specs.CallList.{calls_of, Fit, CallFits, CallPut, Stands};
+ghost use Rattle.record_queue.specs.CallList.{calls_of, Fit, CallFits, CallPut};
 
+use read_element_table::Elements;
 use record_changes::{LIST, Numbers, Operation, Spot, TARGET, WORDS};
+use words::WordList;
 
 // The rows so far: where the present editor's start, and how many there are.
 #[derive(Clone, Copy)]
@@ -76,30 +77,11 @@ fn place_of(
     single_place(rows, start, count, target)
 }
 
-// Element `i` of the `listed` that stand at `list` in a batch, 0 past the end.
-fn listed_at(b: &[u8], list: usize, listed: usize, i: usize) -> usize
-    requires { list + 4 * listed ≤ length b.now }
-    ensures { result ≡ get_or (words_of listed (drop list b.now)) i 0 }
-{
-    if i < listed {
-        return words::read_word(b, list + 4 * i);
-    }
-    0
-}
-
 // Whether a later change of this operation, whose first element stands at `at` in the batch's list, has no effect on the row at place `k`, which it meets: a
 // delete stays, and so does a replacement by the same element.
-fn is_idle(
-    b: &[u8],
-    list: usize,
-    listed: usize,
-    rows: &[u32],
-    k: usize,
-    operation: usize,
-    at: usize,
-) -> bool
-    requires { (list + 4 * listed ≤ length b.now) × (14 * k + 14 ≤ length rows.now) × (k < 2 ^ 32) }
-    ensures { result ≡ idle_by (words_of listed (drop list b.now)) operation at (row_at rows.now k) }
+fn is_idle(listed: &WordList, rows: &[u32], k: usize, operation: usize, at: usize) -> bool
+    requires { (14 * k + 14 ≤ length rows.now) × (k < 2 ^ 32) }
+    ensures { result ≡ idle_by (words_of listed.now) operation at (row_at rows.now k) }
 {
     let earlier = words::word(rows, WORDS * k);
     if earlier == Operation::Delete as usize {
@@ -111,16 +93,13 @@ fn is_idle(
     if operation != Operation::Replace as usize {
         return false;
     }
-    let element = listed_at(b, list, listed, words::word(rows, WORDS * k + LIST));
-    element == listed_at(b, list, listed, at)
+    listed.get(words::word(rows, WORDS * k + LIST)) == listed.get(at)
 }
 
 // Rust: SyntaxEditor::replace, SyntaxEditor::delete, which look for a replacement of the same element. A change is recorded among the rows from `start`
 // on, over the one it meets unless it has no effect on that; how many rows there are then.
 fn record_change(
-    b: &[u8],
-    list: usize,
-    listed: usize,
+    listed: &WordList,
     rows: &mut [u32],
     start: usize,
     count: usize,
@@ -128,41 +107,34 @@ fn record_change(
     s: Spot,
     rule: usize,
 ) -> usize
-    requires listed_in_bounds { list + 4 * listed ≤ length b.now }
-    requires start_le_count { (start ≤ count) × (count < 256) × (14 * count + 14 ≤ length rows.old) × NumbersFit m × SpotFits s × (rule < 2 ^ 32) }
-    ensures { Put (words_of listed (drop list b.now)) (row_with m s rule) start count rows.old result rows.new }
+    requires { (start ≤ count) × (count < 256) × (14 * count + 14 ≤ length rows.old) × NumbersFit m × SpotFits s × (rule < 2 ^ 32) }
+    ensures { Put (words_of listed.now) (row_with m s rule) start count rows.old result rows.new }
 {
     let Some(k) = place_of(rows, start, count, m.operation, m.target) else {
         record_changes::write_row(rows, count, m, s, rule);
         return count + 1;
     };
-    if is_idle(b, list, listed, rows, k, m.operation, m.list) {
+    if is_idle(listed, rows, k, m.operation, m.list) {
         return count;
     }
     record_changes::write_row(rows, k, m, s, rule);
     count
 }
 
-// The call of a call word is recorded, whose elements stand at `at` in the batch's list of `listed`: the present editor's first row, and how many rows there
-// are.
+// The call of a call word is recorded, whose `own` elements stand at `at` in the batch's list: the present editor's first row, and how many rows there are.
 fn record_call(
-    b: &[u8],
-    list: usize,
-    listed: usize,
+    own: &WordList,
+    listed: &WordList,
     at: usize,
     word: usize,
     target: usize,
-    n: usize,
-    table: &[u32],
-    source: &[u32],
+    elements: &Elements,
     q: Queue,
     rows: &mut [u32],
 ) -> Queue
-    requires wellformed { Wellformed n table.now source.now }
-    requires call_fits { CallFits n b.now (list + 4 * at) at (count_of word) target }
-    requires listed_in_bounds { list + 4 * listed ≤ length b.now }
+    requires call_fits { CallFits elements.now.count (words_of own.now) at target × (own.now.count ≡ count_of word) }
     requires start_le_count { (q.start ≤ q.count) × (q.count < 256) × (14 * q.count + 14 ≤ length rows.old) }
-    ensures { CallPut (view n table.now source.now) (words_of listed (drop list b.now)) at (call_of word target (words_of (count_of word) (drop (list + 4 * at) b.now))) q.start q.count rows.old result.start result.count rows.new }
+    ensures { CallPut (view elements.now.count elements.now.table.now elements.now.source.now) (words_of listed.now) at (call_of word target (words_of own.now)) q.start q.count rows.old result.start result.count rows.new }
 {
     let start = q.start;
     let count = q.count;
@@ -174,45 +146,39 @@ fn record_call(
             count,
         };
     }
-    let taken = read_calls::count_of(word);
     let rule = read_calls::rule_of(word);
-    let first = read_calls::first_listed(b, list + 4 * at, taken);
-    let c = record_changes::change_of(operation, target, at, taken, first);
-    let s = record_changes::spot_of(c, first, n, table, source);
+    let first = read_calls::first_listed(own);
+    let c = record_changes::change_of(operation, target, at, own.count, first);
+    let s = record_changes::spot_of(c, first, elements);
     let m = record_changes::numbers_of(c);
-    let next = record_change(b, list, listed, rows, start, count, m, s, rule);
+    let next = record_change(listed, rows, start, count, m, s, rule);
     Queue { start, count: next }
 }
 
-// Rust: SyntaxEditor::merge, which appends the queue of a further editor without merging. The calls of an accepted batch are recorded: `calls` call words,
-// their targets and the `listed` elements stand at `words`, `targets` and `list`. How many rows there are.
+// Rust: SyntaxEditor::merge, which appends the queue of a further editor without merging. The calls of an accepted batch are recorded, by their call words,
+// their targets and the elements that they list. How many rows there are.
 pub fn record_calls(
-    b: &[u8],
-    words: usize,
-    targets: usize,
-    calls: usize,
-    list: usize,
-    listed: usize,
-    n: usize,
-    table: &[u32],
-    source: &[u32],
+    calls: &WordList,
+    targets: &WordList,
+    listed: &WordList,
+    elements: &Elements,
     rows: &mut [u32],
 ) -> usize
-    requires wellformed { Wellformed n table.now source.now }
-    requires stands { Stands b.now words targets calls list listed }
-    requires calls_in_bounds { 14 * calls ≤ length rows.old }
-    requires fit { Fit n (zip (words_of calls (drop words b.now)) (words_of calls (drop targets b.now))) (words_of listed (drop list b.now)) }
-    ensures { RowsRecorded calls (change_rows (view n table.now source.now) (calls_of (zip (words_of calls (drop words b.now)) (words_of calls (drop targets b.now))) (words_of listed (drop list b.now)))) rows.old result rows.new }
+    requires few { (targets.now.count ≡ calls.now.count) × (calls.now.count ≤ 256) × (listed.now.count ≤ 1024) × (14 * calls.now.count ≤ length rows.old) }
+    requires fit { Fit elements.now.count (zip (words_of calls.now) (words_of targets.now)) (words_of listed.now) }
+    ensures { RowsRecorded calls.now.count (change_rows (view elements.now.count elements.now.table.now elements.now.source.now) (calls_of (zip (words_of calls.now) (words_of targets.now)) (words_of listed.now))) rows.old result rows.new }
 {
     let mut q = Queue { start: 0, count: 0 };
     let mut taken: usize = 0;
-    for i in 0..calls {
-        let word = words::read_word(b, words + 4 * i);
-        let target = words::read_word(b, targets + 4 * i);
-        q = record_call(
-            b, list, listed, taken, word, target, n, table, source, q, rows,
-        );
-        taken += read_calls::count_of(word);
+    for i in 0..calls.count {
+        let word = calls.get(i);
+        let target = targets.get(i);
+        let count = read_calls::count_of(word);
+        let bytes = listed.bytes;
+        let at = listed.at + 4 * taken;
+        let own = WordList { bytes, at, count };
+        q = record_call(&own, listed, taken, word, target, elements, q, rows);
+        taken += count;
     }
     q.count
 }

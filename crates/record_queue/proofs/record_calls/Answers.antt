@@ -7,22 +7,19 @@ use Rattle.record_queue.proofs.record_calls.Goals as goal
 pub loop-i-init : goal.loop-i-init
 loop-i-init c = search (recording_start, rules)
 
-pub record_call-q-requires : goal.record_call-q-requires
-record_call-q-requires c =
+pub invariant_of-own : goal.invariant_of-own
+invariant_of-own c =
     let v = c.loop-i.invariant in
-    let p = c.requires in
-    let fits = recording_fits v (omega arith) c.read_word-word.ensures.0 c.read_word-target.ensures.0 p.stands in record { wellformed = p.wellformed; call_fits = fits; listed_in_bounds = p.stands.list_within; start_le_count = (v.sound, omega (arith, v.high, p.stands.few_calls), omega (arith, v.high, v.long, p.calls_in_bounds)) }
+    let few = recording_front v (omega arith) (search rules) c.get-word.ensures.0 c.get-target.ensures.0 c.count_of-count.ensures in
+    record { within = omega (arith, few, v.few, c.args.listed.now.within) }
 
-pub overflow_add-taken : goal.overflow_add-taken
-overflow_add-taken c =
-    let v = c.loop-i.invariant in
-    let p = c.requires in
-    let few = recording_front v (omega arith) c.read_word-word.ensures.0 c.read_word-target.ensures.0 in
-    record { fits = omega (arith, few, v.few, c.count_of-taken.ensures, p.stands.few_listed) }
+pub record_call-q-requires-clause-call_fits : goal.record_call-q-requires-clause-call_fits
+record_call-q-requires-clause-call_fits c =
+    (recording_fits c.loop-i.invariant (omega arith) (search rules) c.get-word.ensures.0 c.get-target.ensures.0 c.count_of-count.ensures (search rules), c.count_of-count.ensures)
 
 pub loop-i-preserved : goal.loop-i-preserved
 loop-i-preserved c =
-    recording_next c.loop-i.invariant (omega arith) c.read_word-word.ensures.0 c.read_word-target.ensures.0 c.record_call-q.ensures (search rules) c.count_of-taken.ensures
+    recording_next c.loop-i.invariant (omega arith) (search rules) c.get-word.ensures.0 c.get-target.ensures.0 c.count_of-count.ensures c.record_call-q.ensures (search rules)
 
 pub returns : goal.returns
 returns c = search (recording_done, rules)

@@ -3,4 +3,4 @@ use Rattle.record_queue.proofs.Recordings.{Recording}
 use Rattle.record_queue.proofs.record_calls.Given as goal
 
 abbrev pub invariant-loop-i : goal.invariant-loop-i
-invariant-loop-i l = Recording (view l.n l.table l.source) l.n l.b l.words l.targets l.calls l.list l.listed l.initial.rows l.q.start l.q.count l.taken l.i l.rows
+invariant-loop-i l = Recording (view l.elements.count l.elements.table.now l.elements.source.now) l.elements.count l.calls l.targets l.listed l.initial.rows l.q.start l.q.count l.taken l.i l.rows
