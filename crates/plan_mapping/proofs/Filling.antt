@@ -1,29 +1,13 @@
 -- The loop of `fill_mapping`: the mappings that are left go over the array as it stands.
 -- Assumes nothing.
-use mathlib.Core.List.{List, [], ◌∷◌, foldl, zip, zip_with}
-use mathlib.Core.Path.{◌≡◌, refl, sym, ap, ◌∙◌}
-use Prim.Native.Nat.{ℕ, zero, suc, ◌+◌, ◌≤◌, ◌<◌, min}
+use mathlib.Core.List.{List, ◌∷◌, foldl, zip}
+use mathlib.Core.Path.{◌≡◌, sym, ap, ◌∙◌}
+use Prim.Native.Nat.{ℕ, suc, ◌+◌, ◌≤◌, ◌<◌, min}
 use native.Mathlib.Numerals.{add-one}
 use native.Mathlib.Omega.{arith}
 use lib.ListN.{length, get_or, set, drop, replicate, length-set, length-replicate}
+use Rattle.plan_mapping.proofs.Pairs.{zip_next, zip_done}
 use Rattle.plan_mapping.specs.Mapped.{noted, mapping_words, Bounded}
-
--- the mappings of these inputs and outputs from number i on
-zip_next : (xs ys : List ℕ) (i : ℕ) → i < length xs → i < length ys → drop i (zip xs ys) ≡ (get_or xs i 0, get_or ys i 0) ∷ drop (suc i) (zip xs ys)
-unfolding zip zip_with
-zip_next [] ys i h g = absurd (omega arith)
-zip_next (x ∷ xs) [] i h g = absurd (omega arith)
-zip_next (x ∷ xs) (y ∷ ys) zero h g = refl
-zip_next (x ∷ xs) (y ∷ ys) (suc i) h g = zip_next xs ys i (omega arith) (omega arith)
-
-zip_done : (xs ys : List ℕ) (i : ℕ) → min (length xs) (length ys) ≤ i → drop i (zip xs ys) ≡ []
-unfolding zip zip_with
-zip_done [] ys zero h = refl
-zip_done [] ys (suc i) h = refl
-zip_done (x ∷ xs) [] zero h = refl
-zip_done (x ∷ xs) [] (suc i) h = refl
-zip_done (x ∷ xs) (y ∷ ys) zero h = absurd (omega arith)
-zip_done (x ∷ xs) (y ∷ ys) (suc i) h = zip_done xs ys i (omega arith)
 
 pub record Filling (xs ys : List ℕ) (k : ℕ) (map : List ℕ) (i : ℕ) : Type 0 where
   pub long : length map ≡ k

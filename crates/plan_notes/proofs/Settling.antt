@@ -5,18 +5,16 @@ use mathlib.Core.Path.{◌≡◌, refl, sym, ap, ◌∙◌}
 use Prim.Native.Nat.{ℕ, suc, ◌+◌, ◌*◌, ◌≤◌, ◌<◌}
 use native.Mathlib.Numerals.{add-one}
 use native.Mathlib.Omega.{arith}
-use lib.ListN.{length, drop, length-append}
+use lib.ListN.{length, get_or, drop, length-append}
 use lib.Seq.{paste, paste-zero}
 use Rattle.orders.specs.Lists.{All}
 use Rattle.definition.specs.Basics.{Answer, refused, gives, ◌>>=◌}
-use Rattle.definition.specs.Words.{word, words}
 use Rattle.definition_laws.specs.Basics.{All-append}
 use Rattle.words.specs.Parts.{paste_paste}
-use Rattle.read_spelling.specs.Spelling.{elements_at}
-use Rattle.read_spelling.specs.Stack.{elements_from, elements_all, elements_none, elements_more}
 use Rattle.read_element_table.specs.View.{view}
 use Rattle.read_element_table.specs.Told.{length_view}
 use Rattle.plan_mapping.specs.Mapped.{mapped_by}
+use Rattle.plan_mapping.proofs.Pairs.{zip_next, zip_done}
 use Rattle.std.specs.Prelude.{Result, Ok, Err}
 use Rattle.refusals.specs.declared.Refusal.{Refusal}
 use Rattle.refusals.specs.Numbers.{number, answered}
@@ -35,25 +33,25 @@ module _ {A : Type 0} where
   one_more p z (refused x) = refl
   one_more p z (gives l) = ap gives (sym (append_assoc p (z ∷ []) l))
 
-module _ (b : List ℕ) (noted numbers k n : ℕ) (w s m before : List ℕ) where
+module _ (xs ys : List ℕ) (k n : ℕ) (w s m before : List ℕ) where
   -- i notes are settled
   pub record Settling (i : ℕ) (after : List ℕ) : Type 0 where
     pub inside : i ≤ k
     pub long : length after ≡ length before
-    pub elements : All (λ x. x.0 < n) (elements_from b noted numbers k i)
+    pub elements : All (λ x. x.0 < n) (drop i (zip xs ys))
     pub sofar : List (ℕ × ℕ × ℕ)
     pub low : All (λ x. x.0 < n) sofar
     pub count : length (note_words sofar) ≡ 3 * i
-    pub rest : settled_at (view n w s) (mapped_by m) 0 (elements_from b noted numbers k 0) ≡ (settled_at (view n w s) (mapped_by m) i (elements_from b noted numbers k i) >>= λ l. gives (sofar ++ l))
+    pub rest : settled_at (view n w s) (mapped_by m) 0 (zip xs ys) ≡ (settled_at (view n w s) (mapped_by m) i (drop i (zip xs ys)) >>= λ l. gives (sofar ++ l))
     pub written : after ≡ paste before 0 (note_words sofar) (3 * i)
 
-  pub settling_start : All (λ x. x.0 < n) (zip (words k (drop noted b)) (words k (drop numbers b))) → Settling 0 before
-  unfolding elements_at note_words
+  pub settling_start : All (λ x. x.0 < n) (zip xs ys) → Settling 0 before
+  unfolding note_words
   settling_start h =
       record {
         inside = omega arith;
         long = refl;
-        elements = rw (elements_all b noted numbers k) h;
+        elements = h;
         sofar = [];
         low = tt;
         count = refl;
@@ -62,33 +60,33 @@ module _ (b : List ℕ) (noted numbers k n : ℕ) (w s m before : List ℕ) wher
       }
 
   module _ (i : ℕ) (after : List ℕ) (S : Settling i after) where
-    pub settling_done : k ≤ i → NotesSettled n w s m (zip (words k (drop noted b)) (words k (drop numbers b))) k before after (Ok tt)
-    unfolding notes_by ◌>>=◌ settled_at elements_at
-    settling_done h =
+    pub settling_done : length xs ≡ k → length ys ≡ k → k ≤ i → NotesSettled n w s m (zip xs ys) k before after (Ok tt)
+    unfolding notes_by ◌>>=◌ settled_at
+    settling_done lx ly h =
         let e : i ≡ k = omega (arith, S.inside) in
-        let all : settled_at (view n w s) (mapped_by m) 0 (elements_at b noted numbers k) ≡ gives S.sofar =
-        rw (← elements_all b noted numbers k) (S.rest ∙ rw (elements_none b noted numbers k i h, append-nil S.sofar)) in
+        let all : settled_at (view n w s) (mapped_by m) 0 (zip xs ys) ≡ gives S.sofar =
+        S.rest ∙ rw (zip_done xs ys i (omega arith), append-nil S.sofar) in
         record { words = rw all (ap gives (S.written ∙ ap (λ (j : ℕ). paste before 0 (note_words S.sofar) (3 * j)) e)); within = rw all S.low }
 
-    module _ (h : i < k) (x y : ℕ) (ex : x ≡ word (drop (noted + 4 * i) b)) (ey : y ≡ word (drop (numbers + 4 * i) b)) where
-      next : elements_from b noted numbers k i ≡ (x, y) ∷ elements_from b noted numbers k (i + 1)
-      next = elements_more b noted numbers k i h ∙ rw (← ex, ← ey)
+    module _ (lx : length xs ≡ k) (ly : length ys ≡ k) (h : i < k) (x y : ℕ) (ex : x ≡ get_or xs i 0) (ey : y ≡ get_or ys i 0) where
+      next : drop i (zip xs ys) ≡ (x, y) ∷ drop (i + 1) (zip xs ys)
+      next = rw (ex, ey, add-one i) (zip_next xs ys i (omega arith) (omega arith))
 
-      left : All (λ q. q.0 < n) ((x, y) ∷ elements_from b noted numbers k (i + 1))
+      left : All (λ q. q.0 < n) ((x, y) ∷ drop (i + 1) (zip xs ys))
       left = rw next at S.elements
 
       pub settling_element : x < n
       settling_element = left.0
 
       module _ (o : Result ℕ Refusal) (A : SettledAt n w s m x o) where
-        turn : settled_at (view n w s) (mapped_by m) i (elements_from b noted numbers k i) ≡ (answered o >>= λ e. settled_at (view n w s) (mapped_by m) (suc i) (elements_from b noted numbers k (i + 1)) >>= λ r. gives ((e, y, i) ∷ r))
+        turn : settled_at (view n w s) (mapped_by m) i (drop i (zip xs ys)) ≡ (answered o >>= λ e. settled_at (view n w s) (mapped_by m) (suc i) (drop (i + 1) (zip xs ys)) >>= λ r. gives ((e, y, i) ∷ r))
         unfolding settled_at
         turn = rw (next, A.place, settled_at, length_view n w s)
 
-        pub settling_refused : (r : Refusal) → o ≡ Err r → NotesSettled n w s m (zip (words k (drop noted b)) (words k (drop numbers b))) k before after (Err r)
-        unfolding notes_by ◌>>=◌ answered elements_at
+        pub settling_refused : (r : Refusal) → o ≡ Err r → NotesSettled n w s m (zip xs ys) k before after (Err r)
+        unfolding notes_by ◌>>=◌ answered
         settling_refused r q =
-            let all : settled_at (view n w s) (mapped_by m) 0 (elements_at b noted numbers k) ≡ refused (number r) = rw (← elements_all b noted numbers k) (S.rest ∙ rw (turn, q)) in
+            let all : settled_at (view n w s) (mapped_by m) 0 (zip xs ys) ≡ refused (number r) = S.rest ∙ rw (turn, q) in
             record { words = rw all; within = rw all tt }
 
         module _ (e : ℕ) (q : o ≡ Ok e) where
@@ -96,7 +94,7 @@ module _ (b : List ℕ) (noted numbers k n : ℕ) (w s m before : List ℕ) wher
           unfolding ◌>>=◌ answered
           settling_next after' room l g =
               let p : List (ℕ × ℕ × ℕ) = S.sofar in
-              let T = settled_at (view n w s) (mapped_by m) (i + 1) (elements_from b noted numbers k (i + 1)) in
+              let T = settled_at (view n w s) (mapped_by m) (i + 1) (drop (i + 1) (zip xs ys)) in
               record {
                 inside = omega arith;
                 long = l ∙ S.long;
