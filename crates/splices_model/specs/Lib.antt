@@ -1,5 +1,6 @@
 -- Demand 3 in words: a list of splices as words, the state of `orders` as rows and marks, and one step of the list.
 --     Cuts      a splice as its words tell it; what the words hold of a tree, of its old elements' paths, of a list of splices
+--     Reading   a splice as it is read
 --     Places    the paths of a tree's elements, in preorder
 --     Step      where a splice goes now, and what it leaves: the law's step
 --     Orders    a list done one after the other: the law's state, for every apart list
@@ -10,6 +11,7 @@
 --     Found     what is judged is what the definition reads
 --     Examples  the definition computed
 pub mod Cuts
+pub mod Reading
 pub mod Places
 pub mod Step
 pub mod Orders
