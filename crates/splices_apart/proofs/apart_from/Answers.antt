@@ -9,7 +9,7 @@ loop-j-init c = search (parting_start, rules)
 
 pub apart-requires : goal.apart-requires
 apart-requires c =
-    let r = c.requires.3 in
+    let r = c.requires.1 in
     let h = c.loop-j-test.true in
     let x = r.row c.args.i (omega arith) in
     let y = r.row c.loop-j.j (omega (arith, h)) in
