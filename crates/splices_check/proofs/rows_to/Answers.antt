@@ -10,4 +10,4 @@ pub loop-k-preserved : goal.loop-k-preserved
 loop-k-preserved c = search (summed_next, rules)
 
 pub returns : goal.returns
-returns c = summed_done c.loop-k.invariant c.loop-k-test.false c.requires.1
+returns c = search (summed_done, rules)
