@@ -8,7 +8,7 @@ use native.Mathlib.Omega.{arith}
 use native.Mathlib.Nat.{zero-add}
 use native.Mathlib.Numerals.{add-one}
 use lib.Dec.{leb, ltb}
-use lib.ListN.{length, get_or, take, drop}
+use lib.ListN.{length, get_or}
 use borrow.Author.Tests.{leb-true, ltb-true, lt-ltb, le-leb}
 use Rattle.orders.specs.Lists.{All, total}
 use Rattle.orders.specs.ListLaws.{both_true, bool_absurd, All-at}
@@ -21,7 +21,7 @@ use Rattle.rows_model.proofs.PlaceLaws.{place_bound}
 use Rattle.rows_model.proofs.Words.{node_at, rows_many}
 use Rattle.run_splice.specs.Promises.{SplicedMarks}
 use Rattle.splices_model.specs.Cuts.{part_at, left_cut, start_cut, cut_at, cuts_to, Holds, Told}
-use Rattle.splices_model.specs.Bounds.{Bounded, BoundedTo, part_is, part_long}
+use Rattle.splices_model.specs.Bounds.{Bounded, BoundedTo, part_long}
 use Rattle.splices_model.specs.Step.{Due, parent_row, lost_trees, step_holds}
 use Rattle.splices_step.specs.declared.Gap.{Gap}
 use Rattle.splices_step.specs.Promises.{left_run, left_at, TreesOf, Deletes, Shifted, Started, ParentAt, GapAt, takes_by, Stepped}
@@ -32,10 +32,9 @@ Read x y = (x ≡ y) × (x < 2 ^ 32)
 
 -- ── The prepared rows ───────────────────────────────────────────────────────────────────────────────────────
 
-pub part_trees : (s p : List ℕ) (j : ℕ) {a m r : ℕ} → 3 * get_or s (6 * j + 4) 0 + 3 * get_or s (6 * j + 5) 0 ≤ length p → length p < 3 * 2 ^ 16 → Read a (get_or s (6 * j + 4) 0) → Read m (get_or s (6 * j + 5) 0)
-    → TreesIn (take (3 * a + 3 * m - 3 * a) (drop (3 * a) p)) r → TreesOf s p j r
-part_trees s p j w l h k t =
-    let u : TreesIn (part_at s p j) _ = rw (part_is s p j h.0 k.0) at t in
+pub part_trees : (s p : List ℕ) (j : ℕ) {run : List ℕ} {r : ℕ} → 3 * get_or s (6 * j + 4) 0 + 3 * get_or s (6 * j + 5) 0 ≤ length p → length p < 3 * 2 ^ 16 → run ≡ part_at s p j → TreesIn run r → TreesOf s p j r
+part_trees s p j w l e t =
+    let u : TreesIn (part_at s p j) _ = rw e at t in
     record { count = λ text. u.count text; few = omega (arith, u.few, part_long s p j w) }
 
 -- ── What is done to the left ────────────────────────────────────────────────────────────────────────────────
@@ -104,12 +103,8 @@ module _ {s p : List ℕ} {i gained lost from : ℕ} (v : Shifted s p i i gained
   pub started : {e x : ℕ} → Bounded e s p i → e < 2 ^ 16 → i < 2 ^ 15 → x ≡ from + gained - lost → Started s p i x
   started h k l z = rw z (record { start = start_told; small = omega (arith, v.few, f.0, h.ordered, h.within) })
 
-module _ (marks s : List ℕ) (i : ℕ) {pw : ℕ} (f : Read pw (get_or s (6 * i + 1) 0)) where
-  pub parent_inside : get_or s (6 * i + 1) 0 < length marks → pw < length marks
-  parent_inside h = rw f.0 h
-
-  pub parent_told : {n r : ℕ} → Read r (get_or marks pw 0) → get_or s (6 * i + 1) 0 < length marks → All (λ m. m < n) marks → ParentAt n marks s i r
-  parent_told {n} k h a = record { under = k.0 ∙ ap (λ x. get_or marks x 0) f.0; below = rw k.0 (All-at (λ x. x < n) 0 marks pw (parent_inside h) a) }
+pub parent_told : (marks s : List ℕ) (i : ℕ) {n pw r : ℕ} → pw ≡ get_or s (6 * i + 1) 0 → Read r (get_or marks pw 0) → get_or s (6 * i + 1) 0 < length marks → All (λ m. m < n) marks → ParentAt n marks s i r
+parent_told marks s i {n} f k h a = record { under = k.0 ∙ ap (λ x. get_or marks x 0) f; below = rw (k.0, f) (All-at (λ x. x < n) 0 marks (get_or s (6 * i + 1) 0) h a) }
 
 pub gap_told : {rows : List ℕ} {n : ℕ} {marks s p : List ℕ} {i parent start lost from to gained : ℕ} → ParentAt n marks s i parent → Started s p i start → Deletes s i lost
     → ChildAt rows n parent start from → After rows n from lost to → TreesOf s p i gained → GapAt rows n marks s p i (record { parent = parent; from = from; to = to; lost = lost; gain = gained })
@@ -144,15 +139,14 @@ module _ (rows : List ℕ) (parent lost gained : ℕ) (e : takes_by rows parent 
   pub takes_gained : get_or rows (3 * parent + 1) 0 + gained < 2 ^ 32
   takes_gained = ltb-true _ _ taken.2
 
-module _ (s p : List ℕ) (i : ℕ) {a m : ℕ} (bound : 3 * get_or s (6 * i + 4) 0 + 3 * get_or s (6 * i + 5) 0 ≤ length p) (h : Read a (get_or s (6 * i + 4) 0)) (k : Read m (get_or s (6 * i + 5) 0)) where
-  pub run_long : length (take (3 * a + 3 * m - 3 * a) (drop (3 * a) p)) ≡ 3 * get_or s (6 * i + 5) 0
-  run_long = ap length (part_is s p i h.0 k.0) ∙ part_long s p i bound
+module _ (s p : List ℕ) (i : ℕ) {run : List ℕ} (bound : 3 * get_or s (6 * i + 4) 0 + 3 * get_or s (6 * i + 5) 0 ≤ length p) (e : run ≡ part_at s p i) where
+  pub run_long : length run ≡ 3 * get_or s (6 * i + 5) 0
+  run_long = ap length e ∙ part_long s p i bound
 
   -- the run is spliced in
-  pub stepped : {rows : List ℕ} {n : ℕ} {marks : List ℕ} {g : Gap} {out marked : List ℕ} {r : ℕ} → GapAt rows n marks s p i g
-      → SplicedMarks rows n marks g.parent g.from g.to g.lost (take (3 * a + 3 * m - 3 * a) (drop (3 * a) p)) g.gain out marked r → Stepped rows n marks s p i out marked r
+  pub stepped : {rows : List ℕ} {n : ℕ} {marks : List ℕ} {g : Gap} {out marked : List ℕ} {r : ℕ} → GapAt rows n marks s p i g → SplicedMarks rows n marks g.parent g.from g.to g.lost run g.gain out marked r → Stepped rows n marks s p i out marked r
   stepped {rows} {n} {marks} {g} {out} {marked} {r} w x =
-      let y : SplicedMarks rows n marks g.parent g.from g.to g.lost (part_at s p i) g.gain out marked r = rw (part_is s p i h.0 k.0) at x in
+      let y : SplicedMarks rows n marks g.parent g.from g.to g.lost (part_at s p i) g.gain out marked r = rw e at x in
       record {
         step = λ text old now z run d t f. step_holds d w.sited z run f t (y.told text) y.moved;
         few = omega (arith, y.count, part_long s p i bound);

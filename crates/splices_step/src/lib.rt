@@ -6,10 +6,11 @@ ghost use Rattle.std.specs.Prelude.{◌≡◌, true, ◌+◌, ◌*◌, ◌^◌, 
 ghost use Rattle.orders.specs.Lists.{All};
 ghost use Rattle.splices_step.specs.Promises.{left_run, left_at, TreesOf, Deletes, Shifted, Started, ParentAt, GapAt, takes_by, Stepped};
 ghost use Rattle.splices_model.specs.Bounds.{BoundedTo};
+ghost use Rattle.splices_model.specs.Reading.{Stocked};
 
-use rows_syntax_node::{MEASURE, ROW_WORDS, child_row, rows_after, trees_in};
+use rows_syntax_node::{MEASURE, ROW_WORDS, Rows, child_row, rows_after, trees_in};
 use run_splice::splice;
-use splices_model::{FROM, PARENT, ROWS, SPLICE_WORDS, START, TO};
+use splices_model::{SpliceList, Splices};
 use words::word;
 
 // ── To the left ──
@@ -24,38 +25,30 @@ fn left_run(number: usize, from: usize, to: usize, number2: usize, from2: usize,
 
 // Whether splice `j` is in the parent of splice `i` and left of it.
 #[tactic(auto, unfolding(crate::specs::Promises::left_at))]
-fn left_of(splices: &[u32], i: usize, j: usize) -> bool
-    requires { (6 * i + 5 < length splices.now) × (6 * j + 5 < length splices.now) }
-    ensures { result ≡ left_at splices.now i j }
+fn left_of(splices: &Splices, i: usize, j: usize) -> bool
+    requires { (i < splices.now.count) × (j < splices.now.count) }
+    ensures { result ≡ left_at splices.now.words.now i j }
 {
-    word(splices, SPLICE_WORDS * j + PARENT) == word(splices, SPLICE_WORDS * i + PARENT)
-        && left_run(
-            word(splices, SPLICE_WORDS * j),
-            word(splices, SPLICE_WORDS * j + FROM),
-            word(splices, SPLICE_WORDS * j + TO),
-            word(splices, SPLICE_WORDS * i),
-            word(splices, SPLICE_WORDS * i + FROM),
-            word(splices, SPLICE_WORDS * i + TO),
-        )
+    let s = splices.get(i);
+    let t = splices.get(j);
+    t.parent == s.parent && left_run(t.number, t.from, t.to, s.number, s.from, s.to)
 }
 
 // The number of trees that splice `j` brings.
-fn trees_of(splices: &[u32], prepared: &[u32], j: usize) -> usize
-    requires j_in_bounds { (6 * j + 5 < length splices.now) × (length prepared.now < 3 * 2 ^ 16) }
-    requires j_in_bounds_2 { 3 * get_or splices.now (6 * j + 4) 0 + 3 * get_or splices.now (6 * j + 5) 0 ≤ length prepared.now }
-    ensures { TreesOf splices.now prepared.now j result }
+fn trees_of(list: &SpliceList, j: usize) -> usize
+    requires { (j < list.now.splices.count) × Stocked list.now.splices.words.now list.now.prepared.now j }
+    ensures { TreesOf list.now.splices.words.now list.now.prepared.now j result }
 {
-    let from = ROW_WORDS * word(splices, SPLICE_WORDS * j + START);
-    let to = from + ROW_WORDS * word(splices, SPLICE_WORDS * j + ROWS);
-    trees_in(&prepared[from..to])
+    trees_in(list.part(j))
 }
 
 // The number of children that splice `j` deletes.
-fn deleted(splices: &[u32], j: usize) -> usize
-    requires { (6 * j + 5 < length splices.now) × (get_or splices.now (6 * j + 2) 0 ≤ get_or splices.now (6 * j + 3) 0) }
-    ensures { Deletes splices.now j result }
+fn deleted(splices: &Splices, j: usize) -> usize
+    requires { (j < splices.now.count) × (get_or splices.now.words.now (6 * j + 2) 0 ≤ get_or splices.now.words.now (6 * j + 3) 0) }
+    ensures { Deletes splices.now.words.now j result }
 {
-    word(splices, SPLICE_WORDS * j + TO) - word(splices, SPLICE_WORDS * j + FROM)
+    let splice = splices.get(j);
+    splice.to - splice.from
 }
 
 // What splices insert and delete.
@@ -66,29 +59,29 @@ pub struct Moves {
 }
 
 // What the first `i` splices insert and delete to the left of splice `i`, in its parent.
-fn moves_left(splices: &[u32], prepared: &[u32], e: usize, i: usize) -> Moves
-    requires { (e < 2 ^ 16) × (i < 2 ^ 15) × (length prepared.now < 3 * 2 ^ 16) × BoundedTo e splices.now prepared.now i }
-    ensures { Shifted splices.now prepared.now i i result.gained result.lost }
+fn moves_left(list: &SpliceList, e: usize, i: usize) -> Moves
+    requires { (i < list.now.splices.count) × BoundedTo e list.now.splices.words.now list.now.prepared.now i }
+    ensures { Shifted list.now.splices.words.now list.now.prepared.now i i result.gained result.lost }
 {
     let mut gained = 0;
     let mut lost = 0;
     for j in 0..i {
-        if left_of(splices, i, j) {
-            gained += trees_of(splices, prepared, j);
-            lost += deleted(splices, j);
+        if left_of(&list.splices, i, j) {
+            gained += trees_of(list, j);
+            lost += deleted(&list.splices, j);
         }
     }
     Moves { gained, lost }
 }
 
 // The present start of the run of splice `i`.
-fn start_now(splices: &[u32], prepared: &[u32], e: usize, i: usize) -> usize
-    requires { (e < 2 ^ 16) × (i < 2 ^ 15) × (length prepared.now < 3 * 2 ^ 16) × BoundedTo e splices.now prepared.now i }
-    ensures { Started splices.now prepared.now i result }
+fn start_now(list: &SpliceList, e: usize, i: usize) -> usize
+    requires { (e < 2 ^ 16) × (i < list.now.splices.count) × BoundedTo e list.now.splices.words.now list.now.prepared.now i }
+    ensures { Started list.now.splices.words.now list.now.prepared.now i result }
 {
-    let moves = moves_left(splices, prepared, e, i);
-    let from = word(splices, SPLICE_WORDS * i + FROM);
-    (from + moves.gained).saturating_sub(moves.lost)
+    let moves = moves_left(list, e, i);
+    let splice = list.splices.get(i);
+    (splice.from + moves.gained).saturating_sub(moves.lost)
 }
 
 // ── One splice ──
@@ -104,34 +97,26 @@ pub struct Gap {
     pub gain: usize,
 }
 
-// The present row of the parent of splice `i`.
-fn parent_now(n: usize, marks: &[u32], splices: &[u32], i: usize) -> usize
-    requires { (6 * i + 5 < length splices.now) × (get_or splices.now (6 * i + 1) 0 < length marks.now) × All (λ m. m < n) marks.now }
-    ensures { ParentAt n marks.now splices.now i result }
+// The present row of the parent of splice `i`, of `n` rows.
+fn parent_now(n: usize, marks: &[u32], splices: &Splices, i: usize) -> usize
+    requires { (i < splices.now.count) × (get_or splices.now.words.now (6 * i + 1) 0 < length marks.now) × All (λ m. m < n) marks.now }
+    ensures { ParentAt n marks.now splices.now.words.now i result }
 {
-    let p = word(splices, SPLICE_WORDS * i + PARENT);
-    word(marks, p)
+    word(marks, splices.get(i).parent)
 }
 
 // Where splice `i` goes, those before it being done.
-fn gap_now(
-    rows: &[u32],
-    n: usize,
-    marks: &[u32],
-    splices: &[u32],
-    prepared: &[u32],
-    i: usize,
-) -> Gap
-    requires n_in_bounds { (3 * n ≤ length rows.now) × (n < 2 ^ 16) × All (λ m. m < n) marks.now }
-    requires marks_len_bound { (length marks.now < 2 ^ 16) × (i < 2 ^ 15) × (length prepared.now < 3 * 2 ^ 16) × BoundedTo (length marks.now) splices.now prepared.now i }
-    ensures { GapAt rows.now n marks.now splices.now prepared.now i result }
+fn gap_now(rows: &Rows, marks: &[u32], list: &SpliceList, i: usize) -> Gap
+    requires marks_below { (length marks.now < 2 ^ 16) × All (λ m. m < rows.now.count) marks.now }
+    requires i_in_bounds { (i < list.now.splices.count) × BoundedTo (length marks.now) list.now.splices.words.now list.now.prepared.now i }
+    ensures { GapAt rows.now.words.now rows.now.count marks.now list.now.splices.words.now list.now.prepared.now i result }
 {
-    let parent = parent_now(n, marks, splices, i);
-    let start = start_now(splices, prepared, marks.len(), i);
-    let lost = deleted(splices, i);
-    let from = child_row(rows, n, parent, start);
-    let to = rows_after(rows, n, from, lost);
-    let gain = trees_of(splices, prepared, i);
+    let parent = parent_now(rows.count, marks, &list.splices, i);
+    let start = start_now(list, marks.len(), i);
+    let lost = deleted(&list.splices, i);
+    let from = child_row(rows, parent, start);
+    let to = rows_after(rows, from, lost);
+    let gain = trees_of(list, i);
     Gap {
         parent,
         from,
@@ -143,12 +128,12 @@ fn gap_now(
 
 // Whether the row `parent` is a node's, which can lose and gain so many children.
 #[tactic(auto, unfolding(crate::specs::Promises::takes_by))]
-fn takes(rows: &[u32], parent: usize, lost: usize, gain: usize) -> bool
-    requires { (3 * parent + 2 < length rows.now) × (gain < 2 ^ 16) }
-    ensures { result ≡ takes_by rows.now parent lost gain }
+fn takes(rows: &Rows, parent: usize, lost: usize, gain: usize) -> bool
+    requires { (parent < rows.now.count) × (gain < 2 ^ 16) }
+    ensures { result ≡ takes_by rows.now.words.now parent lost gain }
 {
-    let m = word(rows, ROW_WORDS * parent + MEASURE);
-    0x8000_0000 <= word(rows, ROW_WORDS * parent) && lost <= m && m + gain < 0x1_0000_0000
+    let m = word(rows.words, ROW_WORDS * parent + MEASURE);
+    0x8000_0000 <= word(rows.words, ROW_WORDS * parent) && lost <= m && m + gain < 0x1_0000_0000
 }
 
 // Splice `i` of the list is done where it goes. The new number of rows.
@@ -156,33 +141,25 @@ fn splice_at(
     rows: &mut [u32],
     n: usize,
     marks: &mut [u32],
-    splices: &[u32],
-    prepared: &[u32],
+    list: &SpliceList,
     i: usize,
-    g: Gap,
+    gap: Gap,
 ) -> usize
-    requires i_in_bounds { (3 * n + 3 * get_or splices.now (6 * i + 5) 0 ≤ length rows.old) × (n < 2 ^ 16) × All (λ m. m < n) marks.old × (length prepared.now < 3 * 2 ^ 16) }
-    requires i_in_bounds_2 { (6 * i + 5 < length splices.now) × (3 * get_or splices.now (6 * i + 4) 0 + 3 * get_or splices.now (6 * i + 5) 0 ≤ length prepared.now) }
-    requires gap_at { GapAt rows.old n marks.old splices.now prepared.now i g × (takes_by rows.old g.parent g.lost g.gain ≡ true) }
-    ensures { Stepped rows.old n marks.old splices.now prepared.now i rows.new marks.new result }
+    requires i_in_bounds { (3 * n + 3 * get_or list.now.splices.words.now (6 * i + 5) 0 ≤ length rows.old) × (n < 2 ^ 16) × All (λ m. m < n) marks.old }
+    requires stocked { (i < list.now.splices.count) × Stocked list.now.splices.words.now list.now.prepared.now i }
+    requires gap_at { GapAt rows.old n marks.old list.now.splices.words.now list.now.prepared.now i gap × (takes_by rows.old gap.parent gap.lost gap.gain ≡ true) }
+    ensures { Stepped rows.old n marks.old list.now.splices.words.now list.now.prepared.now i rows.new marks.new result }
 {
-    let parent = g.parent;
-    let p = g.from;
-    let q = g.to;
-    let lost = g.lost;
-    let gain = g.gain;
-    let from = ROW_WORDS * word(splices, SPLICE_WORDS * i + START);
-    let to = from + ROW_WORDS * word(splices, SPLICE_WORDS * i + ROWS);
     splice(
         rows,
         n,
         marks,
-        parent,
-        p,
-        q,
-        lost,
-        &prepared[from..to],
-        gain,
+        gap.parent,
+        gap.from,
+        gap.to,
+        gap.lost,
+        list.part(i),
+        gap.gain,
     )
 }
 
@@ -191,20 +168,21 @@ pub fn splice_once(
     rows: &mut [u32],
     n: usize,
     marks: &mut [u32],
-    splices: &[u32],
-    prepared: &[u32],
+    list: &SpliceList,
     i: usize,
 ) -> usize
-    requires i_in_bounds { (3 * n + 3 * get_or splices.now (6 * i + 5) 0 ≤ length rows.old) × (n < 2 ^ 16) × All (λ m. m < n) marks.old }
-    requires marks_len_bound { (length marks.old < 2 ^ 16) × (i < 2 ^ 15) × (length prepared.now < 3 * 2 ^ 16) × BoundedTo (length marks.old) splices.now prepared.now i }
-    ensures { Stepped rows.old n marks.old splices.now prepared.now i rows.new marks.new result }
+    requires room { (3 * n + 3 * get_or list.now.splices.words.now (6 * i + 5) 0 ≤ length rows.old) × (n < 2 ^ 16) }
+    requires marks_below { (length marks.old < 2 ^ 16) × All (λ m. m < n) marks.old }
+    requires i_in_bounds { (i < list.now.splices.count) × BoundedTo (length marks.old) list.now.splices.words.now list.now.prepared.now i }
+    ensures { Stepped rows.old n marks.old list.now.splices.words.now list.now.prepared.now i rows.new marks.new result }
 {
-    let g = gap_now(rows, n, marks, splices, prepared, i);
-    let parent = g.parent;
-    let lost = g.lost;
-    let gain = g.gain;
-    if takes(rows, parent, lost, gain) {
-        return splice_at(rows, n, marks, splices, prepared, i, g);
+    let now = Rows {
+        count: n,
+        words: rows,
+    };
+    let gap = gap_now(&now, marks, list, i);
+    if takes(&now, gap.parent, gap.lost, gap.gain) {
+        return splice_at(rows, n, marks, list, i, gap);
     }
     n
 }

@@ -8,7 +8,7 @@ use Rattle.splices_step.proofs.splice_at.Goals as goal
 
 pub splice-requires : goal.splice-requires
 splice-requires c =
-    let l = run_long c.args.splices.now c.args.prepared.now c.args.i c.requires.i_in_bounds_2.1 c.word-from.ensures c.word.ensures in
+    let l = run_long c.args.list.now.splices.words.now c.args.list.now.prepared.now c.args.i c.requires.stocked.1 c.part.ensures in
     let t = c.requires.gap_at.1 in
     let w = c.requires.gap_at.0 in
     let f : 3 * c.args.n ≤ length c.args.rows.now = omega (arith, c.requires.i_in_bounds.0) in
