@@ -11,43 +11,31 @@ ghost use Rattle.splices_model.specs.SpliceList.{filled};
 
 use rows_syntax_node::{MEASURE, ROW_WORDS, TEXT, number_from};
 use splices_check::{judged, rows_to};
-use splices_model::{SPLICE_WORDS, SpliceRefusal};
+use splices_model::{SPLICE_WORDS, SpliceList, SpliceRefusal, Splices};
 use splices_step::splice_once;
 
-// The first `c` splices, from the first to the last. The new number of rows.
-fn splice_each(
-    rows: &mut [u32],
-    n: usize,
-    marks: &mut [u32],
-    splices: &[u32],
-    prepared: &[u32],
-    c: usize,
-) -> usize
-    requires c_in_bounds { (3 * n + 3 * rows_to splices.now c ≤ length rows.old) × (n + rows_to splices.now c < 2 ^ 16) × All (λ m. m < n) marks.old }
-    requires marks_len_bound { (length marks.old < 2 ^ 16) × (c < 2 ^ 15) × (length prepared.now < 3 * 2 ^ 16) × BoundedAll (length marks.old) splices.now prepared.now c }
-    ensures { Listed rows.old n marks.old splices.now prepared.now c rows.new marks.new result }
+// Its splices, from the first to the last. The new number of rows.
+fn splice_each(rows: &mut [u32], n: usize, marks: &mut [u32], list: &SpliceList) -> usize
+    requires room { (3 * n + 3 * rows_to list.now.splices.words.now list.now.splices.count ≤ length rows.old) × (n + rows_to list.now.splices.words.now list.now.splices.count < 2 ^ 16) }
+    requires marks_below { (length marks.old < 2 ^ 16) × All (λ m. m < n) marks.old }
+    requires in_bounds { BoundedAll (length marks.old) list.now.splices.words.now list.now.prepared.now list.now.splices.count }
+    ensures { Listed rows.old n marks.old list.now.splices.words.now list.now.prepared.now list.now.splices.count rows.new marks.new result }
 {
     let mut m = n;
-    for k in 0..c {
-        m = splice_once(rows, m, marks, splices, prepared, k);
+    for k in 0..list.splices.count {
+        m = splice_once(rows, m, marks, list, k);
     }
     m
 }
 
 // A list that is judged well, from the old tree on. The new number of rows.
-fn splice_list(
-    rows: &mut [u32],
-    marks: &mut [u32],
-    splices: &[u32],
-    prepared: &[u32],
-    c: usize,
-) -> usize
-    requires { Good rows.old marks.old splices.now prepared.now c }
-    ensures { ListedAll rows.old marks.old splices.now prepared.now c rows.new marks.new result }
+fn splice_list(rows: &mut [u32], marks: &mut [u32], list: &SpliceList) -> usize
+    requires { Good rows.old marks.old list.now.splices.words.now list.now.prepared.now list.now.splices.count }
+    ensures { ListedAll rows.old marks.old list.now.splices.words.now list.now.prepared.now list.now.splices.count rows.new marks.new result }
 {
     let e = marks.len();
     number_from(marks, 0);
-    splice_each(rows, e, marks, splices, prepared, c)
+    splice_each(rows, e, marks, list)
 }
 
 // The third word of a row, 0 where it tells nothing: in a node's row, and in that of a token without text.
@@ -85,18 +73,12 @@ fn tidy(rows: &mut [u32], n: usize, to: usize)
 }
 
 // A list that is judged well, done and tidied: zeros stand behind the rows that are left, as far as the list could use rows. The new number of rows.
-fn splice_tidy(
-    rows: &mut [u32],
-    marks: &mut [u32],
-    splices: &[u32],
-    prepared: &[u32],
-    c: usize,
-) -> usize
-    requires { Good rows.old marks.old splices.now prepared.now c }
-    ensures { Tidied rows.old marks.old splices.now prepared.now c rows.new marks.new result }
+fn splice_tidy(rows: &mut [u32], marks: &mut [u32], list: &SpliceList) -> usize
+    requires { Good rows.old marks.old list.now.splices.words.now list.now.prepared.now list.now.splices.count }
+    ensures { Tidied rows.old marks.old list.now.splices.words.now list.now.prepared.now list.now.splices.count rows.new marks.new result }
 {
-    let used = ROW_WORDS * (marks.len() + rows_to(splices, c));
-    let n = splice_list(rows, marks, splices, prepared, c);
+    let used = ROW_WORDS * (marks.len() + rows_to(&list.splices));
+    let n = splice_list(rows, marks, list);
     tidy(rows, n, used);
     n
 }
@@ -104,15 +86,23 @@ fn splice_tidy(
 // All splices of the list, in the order given, on the old tree that the first rows tell, one row for each mark: the first refusal (docs/WORK.md) with nothing
 // changed, or the number of rows of the new tree. The rows are then those of the new tree, where a third word that tells nothing is 0; zeros stand behind them as
 // far as the list could use rows.
-pub fn splice_all(
+pub fn splice_all<'a>(
     rows: &mut [u32],
     marks: &mut [u32],
-    splices: &[u32],
-    prepared: &[u32],
+    splices: &'a [u32],
+    prepared: &'a [u32],
 ) -> Result<usize, SpliceRefusal>
     ensures { Spliced rows.old marks.old splices.now prepared.now rows.new marks.new result }
 {
     let c = splices.len() / SPLICE_WORDS;
     judged(rows, marks.len(), splices, prepared, c)?;
-    Ok(splice_tidy(rows, marks, splices, prepared, c))
+    let each = Splices {
+        count: c,
+        words: splices,
+    };
+    let list = SpliceList {
+        splices: each,
+        prepared,
+    };
+    Ok(splice_tidy(rows, marks, &list))
 }

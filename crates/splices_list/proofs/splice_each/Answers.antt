@@ -1,7 +1,6 @@
 -- `splice_each` meets its contract.
 use borrow.Author.Rules.{rules}
 use Rattle.splices_list.proofs.Turns.{going_start, going_next, going_done, going_room, going_small, going_bounds}
-use native.Mathlib.Omega.{arith}
 use Rattle.splices_list.proofs.splice_each.Goals as goal
 
 pub loop-k-init : goal.loop-k-init
@@ -11,7 +10,7 @@ pub splice_once-m-requires : goal.splice_once-m-requires
 splice_once-m-requires c =
     let v = c.loop-k.invariant in
     let h = c.loop-k-test.true in
-    record { i_in_bounds = search (going_room, going_small, rules); marks_len_bound = (omega (arith, v.many, c.requires.marks_len_bound.0), omega (arith, c.requires.marks_len_bound.1, h), c.requires.marks_len_bound.2, going_bounds v c.requires.c_in_bounds.0 h c.requires.marks_len_bound.3) }
+    record { room = search (going_room, going_small, rules); marks_below = search rules; i_in_bounds = (h, going_bounds v c.requires.room.0 h c.requires.in_bounds) }
 
 pub loop-k-preserved : goal.loop-k-preserved
 loop-k-preserved c = search (going_next, rules)

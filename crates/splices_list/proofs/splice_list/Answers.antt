@@ -11,7 +11,7 @@ splice_each-requires c =
     let e = c.number_from.ensures in
     let g = c.requires in
     let h : length c.args.marks.now < 65536 = omega (arith, g.room.rows) in
-    record { c_in_bounds = (search rules, search rules, numbered_below (length c.args.marks.now) e); marks_len_bound = (numbered_few (length c.args.marks.now) _ e h, g.room.few, g.room.short, numbered_bounds (length c.args.marks.now) _ e g.bounds) }
+    record { room = search rules; marks_below = (numbered_few (length c.args.marks.now) _ e h, numbered_below (length c.args.marks.now) e); in_bounds = numbered_bounds (length c.args.marks.now) _ e g.bounds }
 
 pub returns : goal.returns
 returns c = search (listed_all, rules)
