@@ -1,35 +1,27 @@
 // What the row of a change tells one step of the run.
 #![tactic(auto)]
 
-ghost use Rattle.std.specs.Prelude.{◌≡◌, ◌*◌, ◌^◌, ◌≤◌, ◌<◌, length};
-ghost use Rattle.orders.specs.Lists.{All};
+ghost use Rattle.std.specs.Prelude.{◌≡◌, ◌^◌, ◌<◌, length};
 ghost use Rattle.read_element_table.specs.Wellformed.{Lines};
 ghost use Rattle.record_changes.specs.ChangeRowLaws.{row_at};
 ghost use Rattle.run_tree_store.specs.Promises.{SiteAt};
 ghost use Rattle.run_change.specs.Told.{AboveBy, records_by};
 
 use read_element_table::{DEPTH, entry};
-use record_changes::field;
-use run_tree_store::{Gap, find_gap};
+use record_changes::{Fate, Operation, field};
+use run_tree_store::{Gap, Trees, find_gap};
 
 // Where the change at place `k` goes, if its target is still there.
-pub fn change_gap(
-    rows: &[u32],
-    n: usize,
-    table: &[u32],
-    marks: &[u32],
-    changes: &[u32],
-    k: usize,
-) -> Option<Gap>
-    requires n_in_bounds { (3 * n ≤ length rows.now) × (n < 2 ^ 16) × (0 < n) × All (λ m. m < n) marks.now }
-    requires lines { Lines (length marks.now) table.now × (k < 2 ^ 32) }
-    requires k_in_bounds { ((row_at changes.now k).target < length marks.now) × ((row_at changes.now k).end < length marks.now) }
-    ensures { SiteAt rows.now n table.now marks.now (row_at changes.now k).operation (row_at changes.now k).target (row_at changes.now k).end result }
+pub fn change_gap(trees: &Trees, table: &[u32], changes: &[u32], k: usize) -> Option<Gap>
+    requires some { 0 < trees.now.rows.count }
+    requires lines { Lines (length trees.now.marks.now) table.now × (k < 2 ^ 32) }
+    requires k_in_bounds { ((row_at changes.now k).target < length trees.now.marks.now) × ((row_at changes.now k).end < length trees.now.marks.now) }
+    ensures { SiteAt trees.now.rows.words.now trees.now.rows.count table.now trees.now.marks.now (row_at changes.now k).operation (row_at changes.now k).target (row_at changes.now k).end result }
 {
     let operation = field(changes, k, record_changes::OPERATION);
     let x = field(changes, k, record_changes::TARGET);
     let y = field(changes, k, record_changes::END);
-    find_gap(rows, n, table, marks, operation, x, y)
+    find_gap(trees, table, operation, x, y)
 }
 
 // The depth of the node below which the change at place `k` goes: 0 for the root of all. A first child goes below its target.
@@ -39,7 +31,7 @@ pub fn depth_above(table: &[u32], n: usize, changes: &[u32], k: usize) -> usize
 {
     let x = field(changes, k, record_changes::TARGET);
     let depth = entry(table, x, DEPTH);
-    if field(changes, k, record_changes::OPERATION) == 0 {
+    if field(changes, k, record_changes::OPERATION) == Operation::FirstChild as usize {
         return depth;
     }
     depth - 1
@@ -51,7 +43,7 @@ pub fn recorded_by(changes: &[u32], k: usize) -> usize
     requires { k < 2 ^ 32 }
     ensures { result ≡ records_by (row_at changes.now k) }
 {
-    if field(changes, k, record_changes::FATE) != 0 {
+    if field(changes, k, record_changes::FATE) != Fate::Own as usize {
         return 0;
     }
     if field(changes, k, record_changes::TREE) != 0 {

@@ -7,11 +7,11 @@ use Rattle.run_change.proofs.depth_above.Goals as goal
 pub entry-depth-requires : goal.entry-depth-requires
 entry-depth-requires c = let q = target_line c.args.changes.now c.args.k c.requires c.field-x.ensures in search rules
 
-pub returns-then-field-eq0 : goal.returns-then-field-eq0
-returns-then-field-eq0 c = above_first c.args.changes.now c.args.k c.requires c.field-x.ensures c.entry-depth.ensures c.field.ensures c.if-field-eq0.true
+pub returns-then-field : goal.returns-then-field
+returns-then-field c = above_first c.args.changes.now c.args.k c.requires c.field-x.ensures c.entry-depth.ensures c.field.ensures c.if-field.true
 
 pub overflow_sub-result : goal.overflow_sub-result
 overflow_sub-result c = let q = some_depth c.args.changes.now c.args.k c.requires c.field-x.ensures c.entry-depth.ensures in omega arith
 
 pub returns : goal.returns
-returns c = above_other c.args.changes.now c.args.k c.requires c.field-x.ensures c.entry-depth.ensures c.field.ensures c.if-field-eq0.false
+returns c = above_other c.args.changes.now c.args.k c.requires c.field-x.ensures c.entry-depth.ensures c.field.ensures c.if-field.false
