@@ -49,7 +49,7 @@ module _ (rows : List ℕ) (n : ℕ) (source marks first notes : List ℕ) (k : 
   abbrev pub part_in : List ℕ → List HeldChanged → List HeldChanged → ℕ → Part
   part_in text changed₀ changed = part_of (stored_first text (length marks) source (notes_in first) changed₀) (stored text n rows marks (notes_of k notes) changed)
 
--- ── came_in behind others ─────────────────────────────────────────────────────────────────────────────────────
+-- ── Parts behind others ───────────────────────────────────────────────────────────────────────────────────────
 
 pub new_rows_append : (p q : List Part) → new_rows (p ++ q) ≡ new_rows p ++ new_rows q
 unfolding new_rows

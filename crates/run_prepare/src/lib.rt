@@ -8,7 +8,7 @@ ghost use Rattle.run_prepare.specs.Promises.{NotesAlong, ElementPrepared, Elemen
 
 use rows_syntax_node::{ROW_WORDS, append_rows};
 use run_annotations::{NOTE_WORDS, notes_in};
-use run_tree_store::prepared_rows;
+use run_tree_store::{Trees, prepared_rows};
 use words::{read_word, word};
 
 // How many rows and notes come in.
@@ -54,11 +54,9 @@ fn element_notes(
 
 // Rust: TreeStore::prepare_element. What element `e` yields goes behind the first `m` prepared rows and the first `c` incoming notes; prepared row 0 comes
 // to stand at the row `at`. None if that is more than a step may bring.
-fn prepare_element<'a>(
-    rows: &'a [u32],
-    n: usize,
-    source: &'a [u32],
-    marks: &'a [u32],
+fn prepare_element(
+    trees: &Trees,
+    source: &[u32],
     first: &[u32],
     notes: &[u32],
     k: usize,
@@ -69,19 +67,19 @@ fn prepare_element<'a>(
     incoming: &mut [u32],
     c: usize,
 ) -> Option<Prepared>
-    requires n_in_bounds { (3 * n ≤ length rows.now) × (n ≤ 4097) × All (λ m. m < n) marks.now }
-    requires e_in_bounds { (e < length marks.now) × (length marks.now ≤ 2048) × (3 * length marks.now + 3 ≤ length source.now) }
+    requires n_in_bounds { trees.now.rows.count ≤ 4097 }
+    requires e_in_bounds { (e < length trees.now.marks.now) × (length trees.now.marks.now ≤ 2048) × (3 * length trees.now.marks.now + 3 ≤ length source.now) }
     requires first_len_bound { (length first.now ≤ 768) × (3 * k ≤ length notes.now) × (k ≤ 1024) }
     requires at_bound { (at ≤ 4097) × (m ≤ 4096) × (12288 ≤ length prepared.old) × (c ≤ 1024) × (3072 ≤ length incoming.old) }
-    ensures { ElementPrepared rows.now n source.now marks.now first.now notes.now k e at prepared.old m incoming.old c prepared.new incoming.new result }
+    ensures { ElementPrepared trees.now.rows.words.now trees.now.rows.count source.now trees.now.marks.now first.now notes.now k e at prepared.old m incoming.old c prepared.new incoming.new result }
 {
-    let run = prepared_rows(rows, n, source, marks, e);
+    let run = prepared_rows(trees, source, e);
     let size = run.len() / ROW_WORDS;
     if 4096 - m < size {
         return None;
     }
     let end = append_rows(prepared, m, run);
-    let count = element_notes(marks, first, notes, k, e, size, at + m, incoming, c)?;
+    let count = element_notes(trees.marks, first, notes, k, e, size, at + m, incoming, c)?;
     Some(Prepared {
         rows: end,
         notes: count,
@@ -90,11 +88,9 @@ fn prepare_element<'a>(
 
 // Rust: `replacement` in TreeStore::execute. What the listed elements yield: all are prepared before the step's splice,
 // which may remove them, and prepared row 0 comes to stand at the row `at`. None if that is more than a step may bring.
-pub fn prepare<'a>(
-    rows: &'a [u32],
-    n: usize,
-    source: &'a [u32],
-    marks: &'a [u32],
+pub fn prepare(
+    trees: &Trees,
+    source: &[u32],
     first: &[u32],
     notes: &[u32],
     k: usize,
@@ -104,19 +100,18 @@ pub fn prepare<'a>(
     sizes: &mut [u32],
     incoming: &mut [u32],
 ) -> Option<Prepared>
-    requires n_in_bounds { (3 * n ≤ length rows.now) × (n ≤ 4097) × All (λ m. m < n) marks.now }
-    requires marks_len_bound { (length marks.now ≤ 2048) × (3 * length marks.now + 3 ≤ length source.now) }
+    requires n_in_bounds { trees.now.rows.count ≤ 4097 }
+    requires marks_len_bound { (length trees.now.marks.now ≤ 2048) × (3 * length trees.now.marks.now + 3 ≤ length source.now) }
     requires first_len_bound { (length first.now ≤ 768) × (3 * k ≤ length notes.now) × (k ≤ 1024) }
-    requires all { All (λ e. e < length marks.now) (words_in list.now) }
+    requires all { All (λ e. e < length trees.now.marks.now) (words_in list.now) }
     requires at_bound { (at ≤ 4097) × (12288 ≤ length prepared.old) × (length list.now / 4 ≤ length sizes.old) × (3072 ≤ length incoming.old) }
-    ensures { ElementsPrepared rows.now n source.now marks.now first.now notes.now k (words_in list.now) at prepared.new sizes.new incoming.new result }
+    ensures { ElementsPrepared trees.now.rows.words.now trees.now.rows.count source.now trees.now.marks.now first.now notes.now k (words_in list.now) at prepared.new sizes.new incoming.new result }
 {
     let mut held = Prepared { rows: 0, notes: 0 };
     for i in 0..list.len() / 4 {
         let e = read_word(list, 4 * i);
         let next = prepare_element(
-            rows, n, source, marks, first, notes, k, e, at, prepared, held.rows, incoming,
-            held.notes,
+            trees, source, first, notes, k, e, at, prepared, held.rows, incoming, held.notes,
         )?;
         sizes[i] = (next.rows - held.rows) as u32;
         held = next;

@@ -5,4 +5,4 @@ use Rattle.run_prepare.proofs.prepare.Given as goal
 
 abbrev pub invariant-loop-i : goal.invariant-loop-i
 invariant-loop-i l =
-    Preparing l.rows l.n l.source l.marks l.first l.notes l.k l.list (length l.list / 4) l.at l.initial.prepared l.initial.sizes l.initial.incoming l.prepared l.sizes l.incoming l.i l.held.rows l.held.notes
+    Preparing l.trees.rows.words.now l.trees.rows.count l.source l.trees.marks.now l.first l.notes l.k l.list (length l.list / 4) l.at l.initial.prepared l.initial.sizes l.initial.incoming l.prepared l.sizes l.incoming l.i l.held.rows l.held.notes
