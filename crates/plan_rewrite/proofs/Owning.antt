@@ -1,44 +1,27 @@
 -- A dependent and its owner, by the words of their rows.
 -- Assumes nothing.
-use mathlib.Core.Bool.{cond}
 use mathlib.Core.List.{List, [], ◌∷◌}
-use mathlib.Core.Path.{◌≡◌, sym, ap, ◌∙◌}
-use Prim.Native.Nat.{ℕ, zero, suc, ◌+◌, ◌*◌, ◌<◌}
+use mathlib.Core.Path.{◌≡◌, ◌∙◌}
+use Prim.Native.Nat.{ℕ, zero, suc, ◌*◌, ◌<◌}
 use native.Mathlib.Omega.{arith}
 use lib.ListN.{length, get_or, drop}
-use lib.Seq.{drop-drop}
-use lib.Dec.{eqb}
-use borrow.Author.Tests.{eq-eqb, ne_eqb}
 use Rattle.orders.specs.Lists.{All}
-use Rattle.definition.specs.Words.{word}
 use Rattle.definition.specs.Rewriting.{replacement}
 use Rattle.definition.specs.Running.{news}
-use Rattle.words.specs.Bytes.{length_words, get_d_words}
 use Rattle.record_changes.specs.ChangeRow.{ChangeRow, row_of}
 use Rattle.record_changes.specs.ChangeRowLaws.{row_at}
 use Rattle.record_rewritten.specs.Stated.{change_by, new_of, change_of, Stated, Dependent, target_by}
 use Rattle.std.specs.Prelude.{Result}
 use Rattle.refusals.specs.declared.Refusal.{Refusal}
 use Rattle.plan_rewrite.specs.declared.Ends.{Ends}
-use Rattle.plan_mapping.specs.Mapped.{words_at}
 use Rattle.plan_rewrite.specs.Answers.{MovedEnds, OwnedEnds}
 
 -- ── Listed elements ─────────────────────────────────────────────────────────────────────────────────────────
-
-pub listed_at : (b : List ℕ) (at l i v : ℕ) → i < l → v ≡ word (drop (at + 4 * i) b) → v ≡ get_or (words_at b at l) i 0
-unfolding words_at
-listed_at b at l i v h q = q ∙ sym (get_d_words l (drop at b) i h ∙ ap word (drop-drop (4 * i) at b))
 
 pub all_at : (n : ℕ) (l : List ℕ) (i : ℕ) → All (λ e. e < n) l → i < length l → get_or l i 0 < n
 all_at n [] i a h = absurd (omega arith)
 all_at n (x ∷ l) zero a h = a.0
 all_at n (x ∷ l) (suc i) a h = all_at n l i a.1 (omega arith)
-
-pub chosen : (op a b v : ℕ) → op ≡ 2 → v ≡ a → v ≡ cond (eqb op 2) a b
-chosen op a b v h q = rw (eq-eqb op 2 h) q
-
-pub not_chosen : (op a b : ℕ) → (op ≡ 2 → ⊥) → b ≡ cond (eqb op 2) a b
-not_chosen op a b h = rw (ne_eqb op 2 h)
 
 -- ── A call 2 ────────────────────────────────────────────────────────────────────────────────────────────────
 
@@ -68,24 +51,20 @@ owned_from n ws s m listed o r a D M =
 
 -- ── By the words ────────────────────────────────────────────────────────────────────────────────────────────
 
-module _ (n : ℕ) (b : List ℕ) (at l : ℕ) (w : List ℕ) (k i : ℕ) (D : Dependent n (words_at b at l) (row_at w k) (row_at w i)) where
-  pub owner_lists : (v : ℕ) → v ≡ get_or (drop (14 * k) w) 3 0 → v < l
-  unfolding row_at row_of words_at
-  owner_lists v q = omega (arith, one_listed n (words_at b at l) (row_at w k) D.owner D.replaces, length_words l (drop at b))
-
-  module _ (x v r op t e : ℕ) (qx : x ≡ get_or (drop (14 * k) w) 1 0) (qv : v ≡ get_or (drop (14 * k) w) 3 0) (qr : r ≡ get_or (words_at b at l) v 0)
+module _ (n : ℕ) (listed w : List ℕ) (k i : ℕ) (D : Dependent n listed (row_at w k) (row_at w i)) where
+  module _ (x v r op t e : ℕ) (qx : x ≡ get_or (drop (14 * k) w) 1 0) (qv : v ≡ get_or (drop (14 * k) w) 3 0) (qr : r ≡ get_or listed v 0)
       (qo : op ≡ get_or (drop (14 * i) w) 0 0) (qt : t ≡ get_or (drop (14 * i) w) 1 0) (qe : e ≡ get_or (drop (14 * i) w) 2 0) where
     pub ends_elements : (x < n) × (r < n) × (t < n) × (e < n)
     unfolding row_at row_of
     ends_elements = (
       rw qx D.owner.target,
-      rw (qr, qv) (all_at n (words_at b at l) (get_or (drop (14 * k) w) 3 0) D.elements (one_listed n (words_at b at l) (row_at w k) D.owner D.replaces)),
+      rw (qr, qv) (all_at n listed (get_or (drop (14 * k) w) 3 0) D.elements (one_listed n listed (row_at w k) D.owner D.replaces)),
       rw qt D.itself.target,
       rw qe D.itself.end,
     )
 
-    pub owned_ends : (ws s m : List ℕ) (a : Result Ends Refusal) → MovedEnds n ws s m x r op t e a → OwnedEnds n ws s m (words_at b at l) (row_at w k) (row_at w i) a
+    pub owned_ends : (ws s m : List ℕ) (a : Result Ends Refusal) → MovedEnds n ws s m x r op t e a → OwnedEnds n ws s m listed (row_at w k) (row_at w i) a
     unfolding row_at row_of
     owned_ends ws s m a M =
-        owned_from n ws s m (words_at b at l) (row_at w k) (row_at w i) a D
+        owned_from n ws s m listed (row_at w k) (row_at w i) a D
         (rw (qx, qr, qv, qo, qt, qe) at M)

@@ -13,7 +13,6 @@ use Rattle.orders.specs.Lists.{All}
 use Rattle.definition.specs.Basics.{Answer, refused, gives, ◌>>=◌, refuse}
 use Rattle.definition.specs.Refusals.{wrong_call}
 use Rattle.definition.specs.Recording.{call}
-use Rattle.words.specs.Bytes.{length_words}
 use Rattle.read_element_table.specs.View.{view}
 use Rattle.read_element_table.specs.Wellformed.{Wellformed}
 use Rattle.read_calls.specs.Fits.{call_fits}
@@ -24,7 +23,6 @@ use Rattle.std.specs.Prelude.{Ok, Err}
 use Rattle.refusals.specs.declared.Refusal.TheVariants.{Unmapped}
 use Rattle.refusals.specs.Numbers.{number}
 use Rattle.plan_rewrite.specs.Judged.{wrong_by}
-use Rattle.plan_mapping.specs.Mapped.{words_at}
 use Rattle.plan_rewrite.specs.Answers.{rewritten_by, steps_of, RowRewritten, judged_row}
 use Rattle.plan_rewrite.proofs.Owning.{all_at, one_listed}
 
@@ -95,38 +93,34 @@ module _ (n : ℕ) (w s : List ℕ) (listed : List ℕ) (r : ChangeRow) (x y k :
 
 -- ── By the words ────────────────────────────────────────────────────────────────────────────────────────────
 
-module _ (n : ℕ) (b : List ℕ) (at l : ℕ) (v : List ℕ) (i x y : ℕ) (E : NewEnds n (words_at b at l) (row_at v i) x y) (op list : ℕ) (qo : op ≡ get_or (drop (14 * i) v) 0 0) (ql : list ≡ get_or (drop (14 * i) v) 3 0) where
-  pub lists_one : op ≡ 2 → list < l
-  unfolding row_at row_of words_at
-  lists_one h = omega (arith, one_listed n (words_at b at l) (row_at v i) E.itself (sym qo ∙ h), length_words l (drop at b))
-
-  module _ (z : ℕ) (qz : z ≡ cond (eqb op 2) (get_or (words_at b at l) list 0) y) where
-    judge_is : z ≡ judge (words_at b at l) (row_at v i) y
+module _ (n : ℕ) (listed v : List ℕ) (i x y : ℕ) (E : NewEnds n listed (row_at v i) x y) (op list : ℕ) (qo : op ≡ get_or (drop (14 * i) v) 0 0) (ql : list ≡ get_or (drop (14 * i) v) 3 0) where
+  module _ (z : ℕ) (qz : z ≡ cond (eqb op 2) (get_or listed list 0) y) where
+    judge_is : z ≡ judge listed (row_at v i) y
     unfolding row_at row_of judge
     judge_is = qz ∙ rw (qo, ql)
 
     pub call_known : (op ≤ 6) × (x < n) × (z < n)
     unfolding row_at row_of
-    call_known = (omega (arith, E.itself.known), E.target, rw judge_is (judge_low n (words_at b at l) (row_at v i) x y E))
+    call_known = (omega (arith, E.itself.known), E.target, rw judge_is (judge_low n listed (row_at v i) x y E))
 
     module _ (w s : List ℕ) (k : ℕ) (before : List ℕ) (t : Bool) (q : t ≡ call_fits (view n w s) op x z) where
-      fits_is : t ≡ call_fits (view n w s) (row_at v i).operation x (judge (words_at b at l) (row_at v i) y)
+      fits_is : t ≡ call_fits (view n w s) (row_at v i).operation x (judge listed (row_at v i) y)
       unfolding row_at row_of
       fits_is = q ∙ rw (judge_is, qo)
 
       pub row_written : t ≡ true → (after : List ℕ) → after ≡ paste before (14 * i) (row_words (row_anew (view n w s) (row_at v i) x y z)) 14 → 14 * i + 14 ≤ length before → k ≤ 2 * n → Wellformed n w s
-          → RowRewritten (judged_row (view n w s) (words_at b at l) (row_at v i) (x, y, k)) i before after (Ok k)
+          → RowRewritten (judged_row (view n w s) listed (row_at v i) (x, y, k)) i before after (Ok k)
       unfolding rewritten_by steps_of row_words row_of
       row_written h after e g f W =
           let a : List ℕ = row_words (row_anew (view n w s) (row_at v i) x y z) in
           record {
             row =
                 ap {B = Answer (ChangeRow × ℕ)} (λ p. gives (p, k)) (ap (λ (m : List ℕ). row_at m i) e ∙ (row_there before a i g (omega arith) ∙ ap (λ (j : ℕ). row_anew (view n w s) (row_at v i) x y j) judge_is))
-                ∙ sym (row_of_fitting n w s (words_at b at l) (row_at v i) x y k E (sym fits_is ∙ h));
+                ∙ sym (row_of_fitting n w s listed (row_at v i) x y k E (sym fits_is ∙ h));
             behind = rw e (rows_behind before a i g (omega arith));
             few = omega (arith, W.lines.few);
           }
 
-      pub row_refused : t ≡ false → RowRewritten (judged_row (view n w s) (words_at b at l) (row_at v i) (x, y, k)) i before before (Err Unmapped)
+      pub row_refused : t ≡ false → RowRewritten (judged_row (view n w s) listed (row_at v i) (x, y, k)) i before before (Err Unmapped)
       unfolding rewritten_by steps_of number
-      row_refused h = record { row = sym (row_of_wrong n w s (words_at b at l) (row_at v i) x y k E (sym fits_is ∙ h)); behind = refl; few = omega arith }
+      row_refused h = record { row = sym (row_of_wrong n w s listed (row_at v i) x y k E (sym fits_is ∙ h)); behind = refl; few = omega arith }

@@ -1,11 +1,10 @@
 -- `rewrite_dependent_target` meets its contract. One law for each answer.
-use borrow.Author.Rules.{rules}
 use Rattle.std.proofs.lemmas.Result.{err_from_is_err_and}
 use Rattle.plan_rewrite.proofs.Rows.{dependent_refused, new_ends, dependent_written}
 use Rattle.plan_rewrite.proofs.rewrite_dependent_target.Goals as goal
 
 pub write_judged-requires : goal.write_judged-requires
-write_judged-requires c = let e = new_ends _ _ _ _ _ _ _ c.requires.dependent _ c.upmap_dependent.ensures _ c.in_ok-e.was in record { wellformed = search rules; l_in_bounds = (c.requires.l_in_bounds.0, c.requires.l_in_bounds.1, c.requires.l_in_bounds.3, e.0); new_ends = e.1 }
+write_judged-requires c = let e = new_ends _ _ _ _ _ _ _ c.requires.dependent _ c.upmap_dependent.ensures _ c.in_ok-e.was in record { places = (c.requires.places.0, c.requires.places.2, e.0); new_ends = e.1 }
 
 pub returns-in_err-e : goal.returns-in_err-e
 returns-in_err-e c =

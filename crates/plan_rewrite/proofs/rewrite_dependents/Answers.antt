@@ -7,10 +7,10 @@ use Rattle.plan_rewrite.proofs.Rows.{few_steps, rewriting_start, rewriting_done,
 use Rattle.plan_rewrite.proofs.rewrite_dependents.Goals as goal
 
 pub loop-i-init : goal.loop-i-init
-loop-i-init c = rewriting_start _ _ _ _ _ _ _ _ c.requires.l_in_bounds.1
+loop-i-init c = rewriting_start _ _ _ _ _ _ _ _ c.requires.places
 
 pub rewrite_row-requires : goal.rewrite_row-requires
-rewrite_row-requires c = record { wellformed = c.requires.wellformed; mapped = c.requires.mapped; l_in_bounds = (c.requires.l_in_bounds.0, omega (arith, c.loop-i.invariant.inside, c.loop-i.invariant.long)); fated = fated_row _ _ _ _ _ c.requires.rewritable (omega (arith, c.loop-i.invariant.inside)) }
+rewrite_row-requires c = record { places = omega (arith, c.loop-i.invariant.inside, c.loop-i.invariant.long); fated = fated_row _ _ _ _ _ c.requires.rewritable (omega (arith, c.loop-i.invariant.inside)) }
 
 pub returns-in_err-steps : goal.returns-in_err-steps
 returns-in_err-steps c =
