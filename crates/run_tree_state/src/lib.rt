@@ -7,12 +7,15 @@ ghost use Rattle.orders.specs.Lists.{pick};
 ghost use Rattle.run_annotations.specs.Notes.{notes_of};
 ghost use Rattle.run_annotations.specs.Promises.{moved_note};
 ghost use Rattle.rows_model.specs.Row.{first_rows, bytes as bytes_of};
-ghost use Rattle.run_tree_state.specs.Store.{Open, Coming, StoreSpliced};
+ghost use Rattle.run_tree_state.specs.Store.{Open, StoreSpliced};
 ghost use Rattle.run_tree_state.specs.Sizes.{BytesBetween, StepSize};
 ghost use Rattle.run_tree_state.specs.Applied.{Applied};
 
+mod parts;
+
+pub use parts::Parts;
 use refusals::Refusal;
-use rows_syntax_node::{ROW_WORDS, height, text_bytes};
+use rows_syntax_node::{ROW_WORDS, Rows, height, text_bytes};
 use run_splice::{notes_left, splice_changed, splice_notes};
 use run_tree_store::{Gap, too_large};
 
@@ -29,8 +32,8 @@ pub struct TreeState {
     pub changed: usize,
 }
 
-// The splice, by value: the rows of the gap give way to a run of parts of these sizes, with `c` notes that come in; what is held then has `bytes`
-// text bytes. `recorded` is one more than the rule number that the parts are recorded by, 0 if they are not.
+// The splice, by value: the rows of the gap give way to the parts, with the notes that come in; what is held then has `bytes` text bytes. `recorded` is
+// one more than the rule number that the parts are recorded by, 0 if they are not.
 fn splice_store(
     s: TreeState,
     rows: &mut [u32],
@@ -39,20 +42,16 @@ fn splice_store(
     changed: &mut [u32],
     g: Gap,
     recorded: usize,
-    run: &[u32],
-    sizes: &[u32],
-    incoming: &[u32],
-    c: usize,
+    parts: &Parts,
     bytes: usize,
 ) -> TreeState
-    requires fact { Open s rows.old marks.old notes.old changed.old g recorded (length sizes.now) }
-    requires coming { Coming run.now sizes.now incoming.now c }
-    requires run_in_bounds { (3 * (s.rows - (g.to - g.from)) + length run.now ≤ length rows.old) × (3 * (length (pick (moved_note g.from g.to (length run.now / 3)) (notes_of s.notes notes.old)) + c) ≤ length notes.old) }
-    ensures { StoreSpliced s rows.old marks.old notes.old changed.old g recorded run.now sizes.now incoming.now c bytes rows.new marks.new notes.new changed.new result }
+    requires fact { Open s rows.old marks.old notes.old changed.old g recorded (length parts.now.sizes.now) }
+    requires run_in_bounds { (3 * (s.rows - (g.to - g.from)) + length parts.now.run.now ≤ length rows.old) × (3 * (length (pick (moved_note g.from g.to (length parts.now.run.now / 3)) (notes_of s.notes notes.old)) + parts.now.count) ≤ length notes.old) }
+    ensures { StoreSpliced s rows.old marks.old notes.old changed.old g recorded parts.now.run.now parts.now.sizes.now parts.now.notes.now parts.now.count bytes rows.new marks.new notes.new changed.new result }
 {
     let p = g.from;
     let q = g.to;
-    let m = run.len() / ROW_WORDS;
+    let m = parts.run.len() / ROW_WORDS;
     let r = run_splice::splice(
         rows,
         s.rows,
@@ -61,11 +60,11 @@ fn splice_store(
         p,
         q,
         g.lost,
-        run,
-        sizes.len(),
+        parts.run,
+        parts.sizes.len(),
     );
-    let k = splice_notes(notes, s.notes, p, q, m, incoming, c);
-    let l = splice_changed(changed, s.changed, p, q, m, recorded, sizes);
+    let k = splice_notes(notes, s.notes, p, q, m, parts.notes, parts.count);
+    let l = splice_changed(changed, s.changed, p, q, m, recorded, parts.sizes);
     TreeState {
         root: s.root,
         rows: r,
@@ -84,21 +83,15 @@ fn replace_store(
     changed: &mut [u32],
     g: Gap,
     recorded: usize,
-    run: &[u32],
-    sizes: &[u32],
-    incoming: &[u32],
-    c: usize,
+    parts: &Parts,
     bytes: usize,
 ) -> TreeState
-    requires fact { Open s rows.old marks.old notes.old changed.old g recorded (length sizes.now) }
-    requires coming { Coming run.now sizes.now incoming.now c }
-    requires run_in_bounds { (3 * (s.rows - (g.to - g.from)) + length run.now ≤ length rows.old) × (3 * (length (pick (moved_note g.from g.to (length run.now / 3)) (notes_of s.notes notes.old)) + c) ≤ length notes.old) }
+    requires fact { Open s rows.old marks.old notes.old changed.old g recorded (length parts.now.sizes.now) }
+    requires run_in_bounds { (3 * (s.rows - (g.to - g.from)) + length parts.now.run.now ≤ length rows.old) × (3 * (length (pick (moved_note g.from g.to (length parts.now.run.now / 3)) (notes_of s.notes notes.old)) + parts.now.count) ≤ length notes.old) }
     requires from_value { g.from ≡ s.root }
-    ensures { StoreSpliced s rows.old marks.old notes.old changed.old g recorded run.now sizes.now incoming.now c bytes rows.new marks.new notes.new changed.new result }
+    ensures { StoreSpliced s rows.old marks.old notes.old changed.old g recorded parts.now.run.now parts.now.sizes.now parts.now.notes.now parts.now.count bytes rows.new marks.new notes.new changed.new result }
 {
-    let t = splice_store(
-        s, rows, marks, notes, changed, g, recorded, run, sizes, incoming, c, bytes,
-    );
+    let t = splice_store(s, rows, marks, notes, changed, g, recorded, parts, bytes);
     TreeState { root: g.from, ..t }
 }
 
@@ -114,20 +107,14 @@ fn splice(
     changed: &mut [u32],
     g: Gap,
     recorded: usize,
-    run: &[u32],
-    sizes: &[u32],
-    incoming: &[u32],
-    c: usize,
+    parts: &Parts,
     bytes: usize,
 )
-    requires fact { Open t.old rows.old marks.old notes.old changed.old g recorded (length sizes.now) }
-    requires coming { Coming run.now sizes.now incoming.now c }
-    requires run_in_bounds { (3 * (t.old.rows - (g.to - g.from)) + length run.now ≤ length rows.old) × (3 * (length (pick (moved_note g.from g.to (length run.now / 3)) (notes_of t.old.notes notes.old)) + c) ≤ length notes.old) }
-    ensures { StoreSpliced t.old rows.old marks.old notes.old changed.old g recorded run.now sizes.now incoming.now c bytes rows.new marks.new notes.new changed.new t.new }
+    requires fact { Open t.old rows.old marks.old notes.old changed.old g recorded (length parts.now.sizes.now) }
+    requires run_in_bounds { (3 * (t.old.rows - (g.to - g.from)) + length parts.now.run.now ≤ length rows.old) × (3 * (length (pick (moved_note g.from g.to (length parts.now.run.now / 3)) (notes_of t.old.notes notes.old)) + parts.now.count) ≤ length notes.old) }
+    ensures { StoreSpliced t.old rows.old marks.old notes.old changed.old g recorded parts.now.run.now parts.now.sizes.now parts.now.notes.now parts.now.count bytes rows.new marks.new notes.new changed.new t.new }
 {
-    *t = splice_store(
-        *t, rows, marks, notes, changed, g, recorded, run, sizes, incoming, c, bytes,
-    );
+    *t = splice_store(*t, rows, marks, notes, changed, g, recorded, parts, bytes);
 }
 
 // Rust: TreeState::replace_root.
@@ -139,21 +126,15 @@ fn replace_root(
     changed: &mut [u32],
     g: Gap,
     recorded: usize,
-    run: &[u32],
-    sizes: &[u32],
-    incoming: &[u32],
-    c: usize,
+    parts: &Parts,
     bytes: usize,
 )
-    requires fact { Open t.old rows.old marks.old notes.old changed.old g recorded (length sizes.now) }
-    requires coming { Coming run.now sizes.now incoming.now c }
-    requires run_in_bounds { (3 * (t.old.rows - (g.to - g.from)) + length run.now ≤ length rows.old) × (3 * (length (pick (moved_note g.from g.to (length run.now / 3)) (notes_of t.old.notes notes.old)) + c) ≤ length notes.old) }
+    requires fact { Open t.old rows.old marks.old notes.old changed.old g recorded (length parts.now.sizes.now) }
+    requires run_in_bounds { (3 * (t.old.rows - (g.to - g.from)) + length parts.now.run.now ≤ length rows.old) × (3 * (length (pick (moved_note g.from g.to (length parts.now.run.now / 3)) (notes_of t.old.notes notes.old)) + parts.now.count) ≤ length notes.old) }
     requires from_value { g.from ≡ t.old.root }
-    ensures { StoreSpliced t.old rows.old marks.old notes.old changed.old g recorded run.now sizes.now incoming.now c bytes rows.new marks.new notes.new changed.new t.new }
+    ensures { StoreSpliced t.old rows.old marks.old notes.old changed.old g recorded parts.now.run.now parts.now.sizes.now parts.now.notes.now parts.now.count bytes rows.new marks.new notes.new changed.new t.new }
 {
-    *t = replace_store(
-        *t, rows, marks, notes, changed, g, recorded, run, sizes, incoming, c, bytes,
-    );
+    *t = replace_store(*t, rows, marks, notes, changed, g, recorded, parts, bytes);
 }
 
 // `splice` by value: a local state is lent, and comes back.
@@ -165,20 +146,16 @@ fn spliced(
     changed: &mut [u32],
     g: Gap,
     recorded: usize,
-    run: &[u32],
-    sizes: &[u32],
-    incoming: &[u32],
-    c: usize,
+    parts: &Parts,
     bytes: usize,
 ) -> TreeState
-    requires fact { Open s rows.old marks.old notes.old changed.old g recorded (length sizes.now) }
-    requires coming { Coming run.now sizes.now incoming.now c }
-    requires run_in_bounds { (3 * (s.rows - (g.to - g.from)) + length run.now ≤ length rows.old) × (3 * (length (pick (moved_note g.from g.to (length run.now / 3)) (notes_of s.notes notes.old)) + c) ≤ length notes.old) }
-    ensures { StoreSpliced s rows.old marks.old notes.old changed.old g recorded run.now sizes.now incoming.now c bytes rows.new marks.new notes.new changed.new result }
+    requires fact { Open s rows.old marks.old notes.old changed.old g recorded (length parts.now.sizes.now) }
+    requires run_in_bounds { (3 * (s.rows - (g.to - g.from)) + length parts.now.run.now ≤ length rows.old) × (3 * (length (pick (moved_note g.from g.to (length parts.now.run.now / 3)) (notes_of s.notes notes.old)) + parts.now.count) ≤ length notes.old) }
+    ensures { StoreSpliced s rows.old marks.old notes.old changed.old g recorded parts.now.run.now parts.now.sizes.now parts.now.notes.now parts.now.count bytes rows.new marks.new notes.new changed.new result }
 {
     let mut t = s;
     splice(
-        &mut t, rows, marks, notes, changed, g, recorded, run, sizes, incoming, c, bytes,
+        &mut t, rows, marks, notes, changed, g, recorded, parts, bytes,
     );
     t
 }
@@ -192,21 +169,17 @@ fn root_replaced(
     changed: &mut [u32],
     g: Gap,
     recorded: usize,
-    run: &[u32],
-    sizes: &[u32],
-    incoming: &[u32],
-    c: usize,
+    parts: &Parts,
     bytes: usize,
 ) -> TreeState
-    requires fact { Open s rows.old marks.old notes.old changed.old g recorded (length sizes.now) }
-    requires coming { Coming run.now sizes.now incoming.now c }
-    requires run_in_bounds { (3 * (s.rows - (g.to - g.from)) + length run.now ≤ length rows.old) × (3 * (length (pick (moved_note g.from g.to (length run.now / 3)) (notes_of s.notes notes.old)) + c) ≤ length notes.old) }
+    requires fact { Open s rows.old marks.old notes.old changed.old g recorded (length parts.now.sizes.now) }
+    requires run_in_bounds { (3 * (s.rows - (g.to - g.from)) + length parts.now.run.now ≤ length rows.old) × (3 * (length (pick (moved_note g.from g.to (length parts.now.run.now / 3)) (notes_of s.notes notes.old)) + parts.now.count) ≤ length notes.old) }
     requires from_value { g.from ≡ s.root }
-    ensures { StoreSpliced s rows.old marks.old notes.old changed.old g recorded run.now sizes.now incoming.now c bytes rows.new marks.new notes.new changed.new result }
+    ensures { StoreSpliced s rows.old marks.old notes.old changed.old g recorded parts.now.run.now parts.now.sizes.now parts.now.notes.now parts.now.count bytes rows.new marks.new notes.new changed.new result }
 {
     let mut t = s;
     replace_root(
-        &mut t, rows, marks, notes, changed, g, recorded, run, sizes, incoming, c, bytes,
+        &mut t, rows, marks, notes, changed, g, recorded, parts, bytes,
     );
     t
 }
@@ -220,62 +193,57 @@ fn splice_held(
     changed: &mut [u32],
     g: Gap,
     recorded: usize,
-    run: &[u32],
-    sizes: &[u32],
-    incoming: &[u32],
-    c: usize,
+    parts: &Parts,
     bytes: usize,
 ) -> TreeState
-    requires fact { Open s rows.old marks.old notes.old changed.old g recorded (length sizes.now) }
-    requires coming { Coming run.now sizes.now incoming.now c }
-    requires run_in_bounds { (3 * (s.rows - (g.to - g.from)) + length run.now ≤ length rows.old) × (3 * (length (pick (moved_note g.from g.to (length run.now / 3)) (notes_of s.notes notes.old)) + c) ≤ length notes.old) }
-    ensures { StoreSpliced s rows.old marks.old notes.old changed.old g recorded run.now sizes.now incoming.now c bytes rows.new marks.new notes.new changed.new result }
+    requires fact { Open s rows.old marks.old notes.old changed.old g recorded (length parts.now.sizes.now) }
+    requires run_in_bounds { (3 * (s.rows - (g.to - g.from)) + length parts.now.run.now ≤ length rows.old) × (3 * (length (pick (moved_note g.from g.to (length parts.now.run.now / 3)) (notes_of s.notes notes.old)) + parts.now.count) ≤ length notes.old) }
+    ensures { StoreSpliced s rows.old marks.old notes.old changed.old g recorded parts.now.run.now parts.now.sizes.now parts.now.notes.now parts.now.count bytes rows.new marks.new notes.new changed.new result }
 {
     if g.from == s.root {
-        return root_replaced(
-            s, rows, marks, notes, changed, g, recorded, run, sizes, incoming, c, bytes,
-        );
+        return root_replaced(s, rows, marks, notes, changed, g, recorded, parts, bytes);
     }
-    spliced(
-        s, rows, marks, notes, changed, g, recorded, run, sizes, incoming, c, bytes,
-    )
+    spliced(s, rows, marks, notes, changed, g, recorded, parts, bytes)
 }
 
 // ── Refusal 12 ──
 
 // The text bytes of the rows `p` up to `q`.
-fn bytes_between(rows: &[u32], n: usize, p: usize, q: usize) -> usize
-    requires { (3 * n ≤ length rows.now) × (n < 2 ^ 16) × (p ≤ q) × (q ≤ n) }
-    ensures { BytesBetween rows.now n p q result }
+fn bytes_between(rows: &Rows, p: usize, q: usize) -> usize
+    requires { (p ≤ q) × (q ≤ rows.now.count) }
+    ensures { BytesBetween rows.now.words.now rows.now.count p q result }
 {
     let from = ROW_WORDS * p;
     let to = ROW_WORDS * q;
-    text_bytes(&rows[from..to])
+    text_bytes(&rows.words[from..to])
 }
 
-// How many text bytes a step makes what is held, none if that is too large, decided before it writes: the gap gives way to the run below a node at depth
-// `above`, and `c` notes come in.
+// How many text bytes a step makes what is held, none if that is too large, decided before it writes: the gap gives way to the parts below a node at
+// depth `above`.
 fn step_size(
     rows: &[u32],
     notes: &[u32],
     s: TreeState,
     g: Gap,
-    run: &[u32],
-    c: usize,
+    parts: &Parts,
     above: usize,
 ) -> Option<usize>
     requires rows_in_bounds { (3 * s.rows ≤ length rows.now) × (s.rows ≤ 4097) × (g.from ≤ g.to) × (g.to ≤ s.rows) }
-    requires notes_in_bounds { (3 * s.notes ≤ length notes.now) × (s.notes ≤ 1024) × (length run.now ≤ 12288) × (c ≤ 1024) × (above ≤ 64) }
+    requires notes_in_bounds { (3 * s.notes ≤ length notes.now) × (s.notes ≤ 1024) × (above ≤ 64) }
     requires bytes_bound { (s.bytes ≤ 16384) × ((text : List ℕ) → s.bytes ≡ bytes_of (first_rows text s.rows rows.now)) }
-    ensures { StepSize rows.now notes.now s g run.now c above result }
+    ensures { StepSize rows.now notes.now s g parts.now.run.now parts.now.count above result }
 {
     let p = g.from;
     let q = g.to;
-    let lost = bytes_between(rows, s.rows, p, q);
+    let held = Rows {
+        count: s.rows,
+        words: rows,
+    };
+    let lost = bytes_between(&held, p, q);
     let left = notes_left(notes, s.notes, p, q);
-    let bytes = s.bytes + text_bytes(run) - lost;
-    let n = s.rows - (q - p) + run.len() / ROW_WORDS;
-    if too_large(n, bytes, left + c, above + height(run)) {
+    let bytes = s.bytes + text_bytes(parts.run) - lost;
+    let n = s.rows - (q - p) + parts.run.len() / ROW_WORDS;
+    if too_large(n, bytes, left + parts.count, above + height(parts.run)) {
         return None;
     }
     Some(bytes)
@@ -293,21 +261,15 @@ pub fn apply(
     g: Gap,
     above: usize,
     recorded: usize,
-    run: &[u32],
-    sizes: &[u32],
-    incoming: &[u32],
-    c: usize,
+    parts: &Parts,
 ) -> Result<TreeState, Refusal>
-    requires fact { Open s rows.old marks.old notes.old changed.old g recorded (length sizes.now) }
-    requires coming { Coming run.now sizes.now incoming.now c }
+    requires fact { Open s rows.old marks.old notes.old changed.old g recorded (length parts.now.sizes.now) }
     requires in_bounds { (12291 ≤ length rows.old) × (3072 ≤ length notes.old) × (above ≤ 64) }
     requires bytes_bound { (s.bytes ≤ 16384) × ((text : List ℕ) → s.bytes ≡ bytes_of (first_rows text s.rows rows.old)) }
-    ensures { Applied s rows.old marks.old notes.old changed.old g above recorded run.now sizes.now incoming.now c rows.new marks.new notes.new changed.new result }
+    ensures { Applied s rows.old marks.old notes.old changed.old g above recorded parts.now.run.now parts.now.sizes.now parts.now.notes.now parts.now.count rows.new marks.new notes.new changed.new result }
 {
-    let Some(bytes) = step_size(rows, notes, s, g, run, c, above) else {
+    let Some(bytes) = step_size(rows, notes, s, g, parts, above) else {
         return Err(Refusal::Large);
     };
-    Ok(splice_held(
-        s, rows, marks, notes, changed, g, recorded, run, sizes, incoming, c, bytes,
-    ))
+    Ok(splice_held(s, rows, marks, notes, changed, g, recorded, parts, bytes))
 }

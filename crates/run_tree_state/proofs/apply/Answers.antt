@@ -4,7 +4,7 @@ use Rattle.run_tree_state.proofs.Sizing.{apply_done, apply_refused, apply_asks}
 use Rattle.run_tree_state.proofs.apply.Goals as goal
 
 pub splice_held-requires : goal.splice_held-requires
-splice_held-requires c = let p = c.requires in record { fact = p.fact; coming = p.coming; run_in_bounds = apply_asks p.fact p.coming c.step_size.ensures c.in-Some.is p.in_bounds }
+splice_held-requires c = let p = c.requires in record { fact = p.fact; run_in_bounds = apply_asks p.fact c.args.parts.now.bounded c.step_size.ensures c.in-Some.is p.in_bounds }
 
 pub returns-in_default : goal.returns-in_default
 returns-in_default c = search (apply_refused, rules)
