@@ -2,6 +2,7 @@
 #![tactic(auto)]
 
 use rows_path::{Resolved, resolve};
+use rows_syntax_node::Rows;
 use std::io;
 
 const S: [u32; 15] = [
@@ -69,11 +70,15 @@ fn print_resolved(rt: &impl Print, r: Option<Resolved>) -> io::Result<()> {
 
 // The end of X, the second child of the root, the rows of X; in the tree's own rows, where paths lead.
 fn places(rt: &impl Print) -> io::Result<()> {
-    let rows = S;
-    print(rt, rows_syntax_node::rows_after(&rows, 5, 2, 1))?;
-    print(rt, rows_syntax_node::child_row(&rows, 5, 1, 1))?;
-    print_words(rt, rows_syntax_node::subtree(&rows, 5, 2))?;
-    let tree = &rows[3..15];
+    let words = S;
+    let rows = Rows {
+        count: 5,
+        words: &words,
+    };
+    print(rt, rows_syntax_node::rows_after(&rows, 2, 1))?;
+    print(rt, rows_syntax_node::child_row(&rows, 1, 1))?;
+    print_words(rt, rows_syntax_node::subtree(&rows, 2))?;
+    let tree = &words[3..15];
     print_resolved(rt, resolve(tree, &[0, 0]))?;
     print_resolved(rt, resolve(tree, &[1]))?;
     print_resolved(rt, resolve(tree, &[2]))?;
@@ -83,12 +88,16 @@ fn places(rt: &impl Print) -> io::Result<()> {
 
 // Trees, text and height of what is below the root; of X, the height alone.
 fn measures(rt: &impl Print) -> io::Result<()> {
-    let rows = S;
-    let below = &rows[6..15];
+    let words = S;
+    let below = &words[6..15];
     print(rt, rows_syntax_node::trees_in(below))?;
     print(rt, rows_syntax_node::text_bytes(below))?;
     print(rt, rows_syntax_node::height(below))?;
-    print(rt, rows_syntax_node::children_between(&rows, 5, 2, 4))?;
+    let rows = Rows {
+        count: 5,
+        words: &words,
+    };
+    print(rt, rows_syntax_node::children_between(&rows, 2, 4))?;
     end_line(rt)
 }
 
