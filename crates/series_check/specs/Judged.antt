@@ -245,9 +245,9 @@ module _ (most : ℕ) (t marks : List ℕ) where
             pub judged_cut_slots : length marks < at → answered (Err Length) ≡ judged (lent most (record { tree = t; bookmarks = marks }))
             judged_cut_slots h = slots_short {k = k} ek.0 (omega arith)
 
-            pub judged_rest : (r : Result (Unit {0}) Refusal) → at ≤ length marks → Remains t n b marks k r → answered r ≡ judged (lent most (record { tree = t; bookmarks = marks }))
+            pub judged_rest : (o : Answer (Unit {0})) → at ≤ length marks → o ≡ remaining t n b marks k → o ≡ judged (lent most (record { tree = t; bookmarks = marks }))
             unfolding lent held refuse ◌>>=◌ judged cut_off tree_bytes memory_in slots_in too_big differ remaining tree_in
-            judged_rest r h q =
+            judged_rest o h q =
                 let lk = length_words n (drop 8 t) in
                 let lm = length_words n (drop (4 * n) (drop 8 t)) in
                 let lt = length-take-le b (drop (4 * n) (drop (4 * n) (drop 8 t))) (omega (arith, length-drop (4 * n) (drop (4 * n) (drop 8 t)), length-drop (4 * n) (drop 8 t), length-drop 8 t)) in

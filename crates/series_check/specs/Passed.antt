@@ -1,6 +1,6 @@
 -- The number 0 is that of no refusal: a memory of which it is told passes.
 -- Assumes nothing.
-use Rattle.std.specs.Prelude.{◌≡◌, refl, Result, Ok, Err, Bool, true, false, ◌||◌, ℕ, suc, ltb, length, drop}
+use Rattle.std.specs.Prelude.{◌≡◌, refl, Bool, true, false, ◌||◌, ℕ, suc, ltb, length, drop}
 use Rattle.std.proofs.Common.{sym, ap, ◌∙◌, arith}
 use Rattle.std.proofs.Math.Option.{Option, none, some}
 use Rattle.orders.specs.Lists.{any}
@@ -11,8 +11,6 @@ use Rattle.definition.specs.Writing.{differ}
 use Rattle.check_laws.specs.Check.{alone}
 use Rattle.series_laws.specs.Memory.{Memory, too_big, wrong_numbers, astray, held}
 use Rattle.series_laws.specs.Lent.{Lent, slots_in, beyond_slot, memory_in, cut_off, lent}
-use Rattle.refusals.specs.Numbers.{number, answered}
-use Rattle.refusals.specs.declared.Refusal.{Refusal}
 use Rattle.series_check.specs.Judged.{number_of, judged}
 
 -- it is refused by no number, or what it gives is told
@@ -82,13 +80,13 @@ judged_number (refused n) = refl
 judged_number (gives a) = refl
 
 -- where none is answered, something is given
-pub judged_ok : {A : Type 0} (o : Answer A) {r : Result (Unit {0}) Refusal} → answered r ≡ judged o → r ≡ Ok tt → (a : A) × (o ≡ gives a)
-unfolding judged answered
-judged_ok (refused n) e z = let q = sym e ∙ ap answered z in cc
+pub judged_ok : {A : Type 0} (o : Answer A) {p : Answer (Unit {0})} → p ≡ judged o → p ≡ gives tt → (a : A) × (o ≡ gives a)
+unfolding judged
+judged_ok (refused n) e z = let q = sym e ∙ z in cc
 judged_ok (gives a) e z = (a, refl)
 
 -- and one that is answered is the refusal
-pub judged_err : {A : Type 0} (o : Answer A) {r : Result (Unit {0}) Refusal} (x : Refusal) → answered r ≡ judged o → r ≡ Err x → o ≡ refused (number x)
-unfolding judged answered
-judged_err (refused n) x e z = let q = sym e ∙ ap answered z in cc
-judged_err (gives a) x e z = let q = sym e ∙ ap answered z in cc
+pub judged_err : {A : Type 0} (o : Answer A) {p : Answer (Unit {0})} (n : ℕ) → p ≡ judged o → p ≡ refused n → o ≡ refused n
+unfolding judged
+judged_err (refused k) n e z = let q = sym e ∙ z in cc
+judged_err (gives a) n e z = let q = sym e ∙ z in cc

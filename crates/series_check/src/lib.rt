@@ -14,6 +14,9 @@ ghost use Rattle.series_check.specs.Rows.{text_sum};
 ghost use Rattle.refusals.specs.Numbers.{answered};
 ghost use Rattle.series_check.specs.Judged.{judged, Remains};
 
+mod bookmarks;
+
+use bookmarks::Bookmarks;
 use refusals::Refusal;
 use rows_path::resolve;
 use rows_syntax_node::ROW_WORDS;
@@ -42,7 +45,7 @@ pub fn slot_at(i: usize) -> usize
 
 // ── 20: numbers ──
 
-// The number of bookmark `i`.
+// The number of bookmark `i`. It takes a slice, since of the count it asks only what `i` needs.
 pub fn number_at(bookmarks: &[u32], i: usize) -> usize
     requires { (1 + 65 * (i + 1) ≤ length bookmarks.now) × (i < 2 ^ 32) }
     ensures { (result ≡ get_or (slot_at bookmarks.now i) 0 0) × (result < 2 ^ 32) }
@@ -50,13 +53,12 @@ pub fn number_at(bookmarks: &[u32], i: usize) -> usize
     word(bookmarks, slot_at(i))
 }
 
-// Whether one of the bookmarks from `i` up to `k` has the number `x`.
-fn stands_again(bookmarks: &[u32], k: usize, i: usize, x: usize) -> bool
-    requires { (1 + 65 * k ≤ length bookmarks.now) × (k < 2 ^ 32) }
-    ensures { result ≡ among (numbers_from bookmarks.now k i) x }
+// Whether one of the bookmarks from `i` on has the number `x`.
+fn stands_again(bookmarks: &Bookmarks, i: usize, x: usize) -> bool
+    ensures { result ≡ among (numbers_from bookmarks.now.words.now bookmarks.now.count i) x }
 {
-    for j in i..k {
-        if x == number_at(bookmarks, j) {
+    for j in i..bookmarks.count {
+        if x == number_at(bookmarks.words, j) {
             return true;
         }
     }
@@ -64,13 +66,12 @@ fn stands_again(bookmarks: &[u32], k: usize, i: usize, x: usize) -> bool
 }
 
 // Whether a number is given twice.
-fn repeats(bookmarks: &[u32], k: usize) -> bool
-    requires { (1 + 65 * k ≤ length bookmarks.now) × (k < 2 ^ 32) }
-    ensures { result ≡ not (no_repeat (numbers_from bookmarks.now k 0)) }
+fn repeats(bookmarks: &Bookmarks) -> bool
+    ensures { result ≡ not (no_repeat (numbers_from bookmarks.now.words.now bookmarks.now.count 0)) }
 {
-    for i in 0..k {
-        let x = number_at(bookmarks, i);
-        if stands_again(bookmarks, k, i + 1, x) {
+    for i in 0..bookmarks.count {
+        let x = number_at(bookmarks.words, i);
+        if stands_again(bookmarks, i + 1, x) {
             return true;
         }
     }
@@ -80,26 +81,27 @@ fn repeats(bookmarks: &[u32], k: usize) -> bool
 // ── 21: paths ──
 
 // Whether the path of bookmark `i` finds an element of the tree with these rows.
-fn leads(rows: &[u32], bookmarks: &[u32], i: usize) -> bool
-    requires { (1 + 65 * (i + 1) ≤ length bookmarks.now) × (i < 2 ^ 32) × (length rows.now < 3 * 2 ^ 16) }
-    ensures { Leads rows.now (slot_at bookmarks.now i) result }
+fn leads(rows: &[u32], bookmarks: &Bookmarks, i: usize) -> bool
+    requires { (i < bookmarks.now.count) × (length rows.now < 3 * 2 ^ 16) }
+    ensures { Leads rows.now (slot_at bookmarks.now.words.now i) result }
 {
+    let words = bookmarks.words;
     let at = slot_at(i);
-    let n = word(bookmarks, at + PATH_LENGTH);
+    let n = word(words, at + PATH_LENGTH);
     if LONGEST_PATH < n {
         return false;
     }
     let from = at + PATH;
     let to = from + n;
-    resolve(rows, &bookmarks[from..to]).is_some()
+    resolve(rows, &words[from..to]).is_some()
 }
 
 // Whether every path does.
-fn all_lead(rows: &[u32], bookmarks: &[u32], k: usize) -> bool
-    requires { (1 + 65 * k ≤ length bookmarks.now) × (k < 2 ^ 32) × (length rows.now < 3 * 2 ^ 16) }
-    ensures { AllLead rows.now bookmarks.now k result }
+fn all_lead(rows: &[u32], bookmarks: &Bookmarks) -> bool
+    requires { length rows.now < 3 * 2 ^ 16 }
+    ensures { AllLead rows.now bookmarks.now.words.now bookmarks.now.count result }
 {
-    for i in 0..k {
+    for i in 0..bookmarks.count {
         if !leads(rows, bookmarks, i) {
             return false;
         }
@@ -124,30 +126,29 @@ fn fill_rows(tree: &[u8], n: usize, rows: &mut [u32])
     }
 }
 
-// Lines 5, 20 and 21 of a tree of `n` elements with `b` bytes of text, and of `k` bookmarks. The rows are for the tree.
+// Lines 5, 20 and 21 of a tree of `n` elements with `b` bytes of text, and of bookmarks. The rows are for the tree.
 fn judge_memory(
     tree: &[u8],
     n: usize,
     b: usize,
-    bookmarks: &[u32],
-    k: usize,
+    bookmarks: &Bookmarks,
     rows: &mut [u32],
 ) -> Result<(), Refusal>
-    requires { (8 + 8 * n + b ≤ length tree.now) × (n ≤ 4096) × (b ≤ 16384) × (1 + 65 * k ≤ length bookmarks.now) × (k < 2 ^ 32) × (12288 ≤ length rows.old) }
-    ensures { Remains tree.now n b bookmarks.now k result }
+    requires { (8 + 8 * n + b ≤ length tree.now) × (n ≤ 4096) × (b ≤ 16384) × (12288 ≤ length rows.old) }
+    ensures { Remains tree.now n b bookmarks.now.words.now bookmarks.now.count result }
 {
     if !read_spelling::spells(tree, SIZES, SIZES + 4 * n, n, 1, b) {
         return Err(Refusal::Spelling);
     }
-    if MOST_BOOKMARKS < k {
+    if MOST_BOOKMARKS < bookmarks.count {
         return Err(Refusal::Bookmarks);
     }
-    if repeats(bookmarks, k) {
+    if repeats(bookmarks) {
         return Err(Refusal::Bookmarks);
     }
     fill_rows(tree, n, rows);
     let end = ROW_WORDS * n;
-    if all_lead(&rows[..end], bookmarks, k) {
+    if all_lead(&rows[..end], bookmarks) {
         return Ok(());
     }
     Err(Refusal::Astray)
@@ -179,5 +180,9 @@ pub fn judge(most: usize, tree: &[u8], bookmarks: &[u32], rows: &mut [u32]) -> R
     if bookmarks.len() < slot_at(k) {
         return Err(Refusal::Length);
     }
-    judge_memory(tree, n, b, bookmarks, k, rows)
+    let lent = Bookmarks {
+        count: k,
+        words: bookmarks,
+    };
+    judge_memory(tree, n, b, &lent, rows)
 }
