@@ -11,7 +11,6 @@ ghost use Rattle.read_element_table.specs.Filling.{Accepted, Filled, ended, tabl
 mod elements;
 
 pub use elements::Elements;
-
 use rows_syntax_node::{KIND, MEASURE, ROW_WORDS};
 
 // How many words an element has, and which they are (specs/View.antt).

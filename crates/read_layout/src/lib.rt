@@ -9,7 +9,6 @@ ghost use Rattle.read_layout.specs.Layout.{sizes_of, layout_of, Limits, ends_at,
 mod batch;
 
 pub use batch::Batch;
-
 use refusals::Refusal;
 
 // At which byte the arrays start: the seven sizes stand before them.
