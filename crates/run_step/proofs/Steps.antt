@@ -60,13 +60,12 @@ pub asks_prepare : {s : TreeState} {rows marks notes changed : List ℕ} {g : Ga
     → (length marks ≤ 2048) × (3 * length marks + 3 ≤ length source) × (length first ≤ 768)
     → (length list ≤ 4 * most_listed) × All (λ e. e < length marks) (words_in list)
     → (12288 ≤ length prepared) × (most_listed ≤ length sizes) × (3072 ≤ length incoming)
-    → ((3 * s.rows ≤ length rows) × (s.rows ≤ 4097) × All (λ m. m < s.rows) marks)
-    × ((length marks ≤ 2048) × (3 * length marks + 3 ≤ length source))
+    → ((length marks ≤ 2048) × (3 * length marks + 3 ≤ length source))
     × ((length first ≤ 768) × (3 * s.notes ≤ length notes) × (s.notes ≤ 1024))
     × All (λ e. e < length marks) (words_in list)
     × ((g.from ≤ 4097) × (12288 ≤ length prepared) × (length list / 4 ≤ length sizes) × (3072 ≤ length incoming))
 asks_prepare list v source first prepared sizes incoming x y z =
-    ((v.long, v.few, v.marked), (x.0, x.1), (x.2, v.long_notes, v.few_notes), y.1, (omega (arith, v.order, v.high, v.few), z.0, omega (arith, z.1, y.0), z.2))
+    ((x.0, x.1), (x.2, v.long_notes, v.few_notes), y.1, (omega (arith, v.order, v.high, v.few), z.0, omega (arith, z.1, y.0), z.2))
 
 -- ── What the listed elements yield goes in ──────────────────────────────────────────────────────────────────
 

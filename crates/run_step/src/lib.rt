@@ -14,11 +14,11 @@ ghost use Rattle.run_step.specs.Stepping.{SteppedAt, Performs, lists_in, Stepped
 
 use record_changes::field;
 use refusals::Refusal;
-use rows_syntax_node::ROW_WORDS;
+use rows_syntax_node::{ROW_WORDS, Rows};
 use run_change::{change_gap, depth_above, recorded_by};
 use run_prepare::prepare;
-use run_tree_state::{TreeState, apply};
-use run_tree_store::Gap;
+use run_tree_state::{Parts, TreeState, apply};
+use run_tree_store::{Gap, Trees};
 
 // The gap gives way to what the listed elements yield.
 fn step_at(
@@ -45,27 +45,25 @@ fn step_at(
     requires in_bounds_2 { (12288 ≤ length prepared.old) × (most_listed ≤ length sizes.old) × (3072 ≤ length incoming.old) }
     ensures { SteppedAt s rows.old marks.old notes.old changed.old source.now first.now g above recorded (words_in list.now) rows.new marks.new notes.new changed.new result }
 {
+    let held = Rows {
+        count: s.rows,
+        words: rows,
+    };
+    let trees = Trees { rows: held, marks };
     let Some(made) = prepare(
-        rows, s.rows, source, marks, first, notes, s.notes, list, g.from, prepared, sizes, incoming,
+        &trees, source, first, notes, s.notes, list, g.from, prepared, sizes, incoming,
     ) else {
         return Err(Refusal::Large);
     };
     let end = ROW_WORDS * made.rows;
     let count = list.len() / 4;
-    apply(
-        rows,
-        marks,
-        notes,
-        changed,
-        s,
-        g,
-        above,
-        recorded,
-        &prepared[..end],
-        &sizes[..count],
-        incoming,
-        made.notes,
-    )
+    let parts = Parts {
+        run: &prepared[..end],
+        sizes: &sizes[..count],
+        notes: incoming,
+        count: made.notes,
+    };
+    apply(rows, marks, notes, changed, s, g, above, recorded, &parts)
 }
 
 // Rust: the body of TreeStore::execute. One performed change, the one at place `k`: 11, 12, or what is held then.
@@ -92,7 +90,12 @@ pub fn step(
     requires k_in_bounds { s.changed + lists_in (view (length marks.old) table.now source.now) (words_in listed.now) (row_at changes.now k) ≤ length changed.old }
     ensures { Stepped table.now source.now first.now (words_in listed.now) (row_at changes.now k) s rows.old marks.old notes.old changed.old rows.new marks.new notes.new changed.new result }
 {
-    let Some(g) = change_gap(rows, s.rows, table, marks, changes, k) else {
+    let held = Rows {
+        count: s.rows,
+        words: rows,
+    };
+    let trees = Trees { rows: held, marks };
+    let Some(g) = change_gap(&trees, table, changes, k) else {
         return Err(Refusal::Gone);
     };
     let above = depth_above(table, marks.len(), changes, k);

@@ -20,7 +20,7 @@ use words::word;
 
 // Rust: TreeStore::prepare_element. The rows of element `e` with all that is below it: a run of the current rows while its mark is there, else of the
 // batch's own.
-pub fn prepared_rows<'a>(trees: &Trees<'a>, source: &'a [u32], e: usize) -> &'a [u32]
+pub fn prepared_rows<'a>(trees: &Trees<'a, '_>, source: &'a [u32], e: usize) -> &'a [u32]
     requires { (e < length trees.now.marks.now) × (length trees.now.marks.now ≤ 2048) × (3 * length trees.now.marks.now + 3 ≤ length source.now) }
     ensures { Prepared trees.now.rows.words.now trees.now.rows.count source.now trees.now.marks.now e result.now }
 {

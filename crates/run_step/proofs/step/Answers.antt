@@ -4,8 +4,14 @@ use Rattle.run_step.specs.Opening.{bytes_few}
 use Rattle.run_step.proofs.Performing.{asks_depth, asks_gap, list_within, listed_low, opens, performed, performed_gone}
 use Rattle.run_step.proofs.step.Goals as goal
 
+pub invariant_of-held : goal.invariant_of-held
+invariant_of-held c = let q = asks_gap c.requires.standing c.args.listed.now c.args.changes.now c.args.k c.requires.listed_len_bound c.requires.performs in record { long = q.0.0; few = q.0.1 }
+
+pub invariant_of-trees : goal.invariant_of-trees
+invariant_of-trees c = record { placed = (asks_gap c.requires.standing c.args.listed.now c.args.changes.now c.args.k c.requires.listed_len_bound c.requires.performs).0.3 }
+
 pub change_gap-requires : goal.change_gap-requires
-change_gap-requires c = let q = asks_gap c.requires.standing c.args.listed.now c.args.changes.now c.args.k c.requires.listed_len_bound c.requires.performs in record { n_in_bounds = q.0; lines = q.1.0; k_in_bounds = q.1.1 }
+change_gap-requires c = let q = asks_gap c.requires.standing c.args.listed.now c.args.changes.now c.args.k c.requires.listed_len_bound c.requires.performs in record { some = q.0.2; lines = q.1.0; k_in_bounds = q.1.1 }
 
 pub depth_above-above-requires : goal.depth_above-above-requires
 depth_above-above-requires c = asks_depth c.requires.standing c.args.listed.now c.args.changes.now c.args.k c.requires.listed_len_bound c.requires.performs
