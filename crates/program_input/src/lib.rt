@@ -19,7 +19,8 @@ pub struct Filled {
 }
 
 // Reads into the front of `buf` until it is full or the input ends, or a read fails: what was read before stands there then. The count lies in the buffer. Where it is
-// known what bytes the input has left, these are the next of them, and fewer than the buffer holds only where no more are left or a read failed.
+// known what bytes the input has left, these are the next of them, and fewer than the buffer holds only where no more are left or a read failed. A loop of its own, since
+// `read_exact` says nothing of what was read before it failed; a `while`, since each turn reads as many bytes as the input gives.
 pub fn read_full<R: Read>(from: &mut R, buf: &mut [u8]) -> Filled
     ensures bound { IsPrefixLen result.count buf.new }
     ensures bytes { Consumes (R.remaining from.old) (R.remaining from.new) (take result.count buf.new) }
@@ -44,7 +45,7 @@ pub fn read_full<R: Read>(from: &mut R, buf: &mut [u8]) -> Filled
     }
 }
 
-// The next word of the input, the low byte first; nothing where fewer than four bytes are left.
+// The next word of the input, the low byte first; nothing where fewer than four bytes are left, which `read_exact` would call an error.
 pub fn read_word<R: Read>(from: &mut R) -> io::Result<Option<usize>>
     ensures { IfOk result (λ word. ReadsWord (R.remaining from.old) (R.remaining from.new) word) }
 {
