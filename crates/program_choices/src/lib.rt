@@ -16,14 +16,9 @@ const NO_CHOICE: usize = 10;
 fn digit_of(argument: &[u8]) -> usize
     ensures { result ≡ digit argument.now }
 {
-    if argument.len() != 1 {
-        return NO_CHOICE;
-    }
-    let byte = argument[0];
-    if byte.is_ascii_digit() {
-        usize::from(byte - b'0')
-    } else {
-        NO_CHOICE
+    match argument {
+        [byte] if byte.is_ascii_digit() => usize::from(*byte - b'0'),
+        _ => NO_CHOICE,
     }
 }
 
