@@ -20,7 +20,7 @@ fn put(out: &mut [u8], at: usize, byte: u8) -> usize
     at + 1
 }
 
-// The last `k` digits of `n` in decimal, with no zeros in front, are written at `at`. By hand: the library's `Display` has no contract that says which digits, nor how many.
+// The last `k` digits of `n` in decimal, with no zeros in front, are written at `at`. By hand: `Display` writes all digits, so its text would go into a buffer first, and the last `k` bytes of that to `out`: no plainer.
 pub fn put_digits(out: &mut [u8], at: usize, n: usize, k: usize) -> usize
     requires { at + k ≤ length out.old }
     ensures { Put out.old at (digits k n) out.new result }
@@ -66,7 +66,7 @@ pub fn put_line(out: &mut [u8], at: usize, name: &[u8], ns: &[usize]) -> usize
     put(out, end, b'\n')
 }
 
-// A digit in hexadecimal.
+// A digit in hexadecimal. By hand: `char::from_digit` answers an `Option` of a `char`, to be turned into a byte: no plainer.
 fn hex_digit(n: u8) -> u8
     requires { n < 16 }
     ensures { result ≡ hex_digit n }
