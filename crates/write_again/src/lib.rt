@@ -19,10 +19,9 @@ fn part_words(words: &[u32], operations: &mut [u32], counts: &mut [u32], rules: 
     }
 }
 
-// The notes are found at `at`, and all lists are written, with work slices of their own.
-fn write_notes(
+// All lists are written, with work slices of their own.
+fn write_lists(
     trees: usize,
-    notes: usize,
     kinds: &[u32],
     measures: &[u32],
     text: &[u8],
@@ -33,14 +32,10 @@ fn write_notes(
     listed: &[u32],
     inputs: &[u32],
     outputs: &[u32],
-    list: &[u32],
-    at: usize,
+    noted: &[u32],
+    numbers: &[u32],
     destination: &mut [u8],
-) -> Result<usize, Refusal>
-    requires { (at + 2 * notes ≤ length list.now) × (length list.now ≤ 16384) }
-{
-    let numbers = at + notes;
-    let end = numbers + notes;
+) -> Result<usize, Refusal> {
     let mut draft = [0u8; 49180];
     let mut table = [0u32; 16384];
     let mut source = [0u32; 6147];
@@ -56,8 +51,8 @@ fn write_notes(
         listed,
         inputs,
         outputs,
-        &list[at..numbers],
-        &list[numbers..end],
+        noted,
+        numbers,
         destination,
         &mut draft,
         &mut table,
@@ -65,7 +60,7 @@ fn write_notes(
     )
 }
 
-// The listed elements and the mappings are found at `at`.
+// The listed elements, the mappings and the notes are found at `at`.
 fn write_names(
     z: Sizes,
     kinds: &[u32],
@@ -84,9 +79,10 @@ fn write_names(
     let inputs = at + z.listed;
     let outputs = inputs + z.mappings;
     let noted = outputs + z.mappings;
-    write_notes(
+    let numbers = noted + z.notes;
+    let end = numbers + z.notes;
+    write_lists(
         z.trees,
-        z.notes,
         kinds,
         measures,
         text,
@@ -97,8 +93,8 @@ fn write_names(
         &list[at..inputs],
         &list[inputs..outputs],
         &list[outputs..noted],
-        list,
-        noted,
+        &list[noted..numbers],
+        &list[numbers..end],
         destination,
     )
 }
