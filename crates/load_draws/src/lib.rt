@@ -113,7 +113,7 @@ fn other_drawn(place: u32) -> u32
     donor(place / 4096)
 }
 
-// A call that lists nothing.
+// A call that lists nothing. This and the next two stay three: one that took a slice of elements would ask how many they are, which each call knows.
 fn listing_none(rule: u32, operation: u32, target: u32) -> DrawnCall
     ensures { Called result (call rule operation target []) }
 {
@@ -167,7 +167,7 @@ pub fn first_call(i: u32, d: u32) -> DrawnCall
     }
 }
 
-// A call in block b. Only a later one deletes it.
+// A call in block b. Only a later one deletes it. `later` is the definition's, by whose `free_call` it is promised; two functions would write seven of eight arms twice.
 fn free_call(later: bool, b: u32, what: u32, place: u32) -> DrawnCall
     requires { (b < 128) × (place < 65536) }
     ensures { Called result (free_call later b what place) }

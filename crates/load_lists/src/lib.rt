@@ -103,7 +103,7 @@ pub fn fill_trees(kinds: &mut [u32], measures: &mut [u32], text: &mut [u8])
     fill_text(text);
 }
 
-// Call i, from what the generator holds before it.
+// Call i, from what the generator holds before it: `first_call` or `call_at`, by the draws that it takes.
 fn numbered(i: u32, present: u32) -> DrawnCall
     requires { i < 96 }
     ensures { Called result (numbered_of i present) }

@@ -52,7 +52,7 @@ pub fn respond(argument: &[u8], out: &mut [u8]) -> usize
     }
 }
 
-// Prints what is printed of an argument, and answers how many bytes that is.
+// Prints what is printed of an argument, and answers how many bytes that is. No `Program` of `program_input`: it reads an argument and no input.
 pub fn serve<W: Write>(argument: &[u8], to: &mut W) -> io::Result<usize>
     ensures length { IfOk result (λ n. n ≡ length (told (start_of argument.now))) }
     ensures bytes { OnOk result (Appends (W.contents to.old) (W.contents to.new) (told (start_of argument.now))) }
