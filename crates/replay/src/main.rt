@@ -110,7 +110,7 @@ fn is_recorded(told: Result<Told, Refusal>, res: &[u8], refusal: usize, expected
     is_answer(told, refusal, expected.len()) && holds(res, expected)
 }
 
-// What a job comes to, with work slices that hold a pattern; nothing where one of them is not all zeros then.
+// What a job comes to, with work slices that hold a pattern; nothing where one of them is not all zeros then. It takes a job as the entry point under test does.
 fn run_job(
     choices: Choices,
     job: Job,

@@ -15,8 +15,9 @@ fn print_words(rt: &impl Print, words: &[u32]) -> io::Result<()> {
     println!(rt)
 }
 
-fn print_answer(rt: &impl Print, accepted: bool) -> io::Result<()> {
-    if accepted {
+// Whether the elements spell so many trees with so many bytes of text.
+fn print_answer(rt: &impl Print, trees: usize, bytes: usize) -> io::Result<()> {
+    if read_spelling::spells(&KINDS_AND_MEASURES, 0, 20, 5, trees, bytes) {
         println!(rt; "spelled")
     } else {
         println!(rt; "refused")
@@ -25,10 +26,9 @@ fn print_answer(rt: &impl Print, accepted: bool) -> io::Result<()> {
 
 // Two trees with three bytes of text are spelled, one tree is not, nor two with four bytes.
 fn answers(rt: &impl Print) -> io::Result<()> {
-    let b = KINDS_AND_MEASURES;
-    print_answer(rt, read_spelling::spells(&b, 0, 20, 5, 2, 3))?;
-    print_answer(rt, read_spelling::spells(&b, 0, 20, 5, 1, 3))?;
-    print_answer(rt, read_spelling::spells(&b, 0, 20, 5, 2, 4))
+    print_answer(rt, 2, 3)?;
+    print_answer(rt, 1, 3)?;
+    print_answer(rt, 2, 4)
 }
 
 // The table and the rows, each with one word beyond that stays.
