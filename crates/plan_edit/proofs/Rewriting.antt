@@ -1,6 +1,6 @@
 -- Rewriting: what the callees ask, and a dependent is refused or the rows are rewritten.
 -- Assumes nothing.
-use mathlib.Core.List.{List, map, zip}
+use mathlib.Core.List.{List, map}
 use mathlib.Core.Path.{◌≡◌, sym, ap, ◌∙◌}
 use Prim.Native.Nat.{ℕ, ◌≤◌}
 use native.Mathlib.Omega.{arith}
@@ -11,7 +11,7 @@ use Rattle.definition.specs.Basics.{gives}
 use Rattle.definition.specs.Planning.{fated}
 use Rattle.definition.specs.Rewriting.{mapping}
 use Rattle.record_changes.specs.ChangeRow.{rows_of}
-use Rattle.plan_mapping.specs.Mapped.{words_at, mapped_by, Mapped, mapping_words, Bounded, mapped_words, mapped_elements, bounded_more}
+use Rattle.plan_mapping.specs.Mapped.{mapped_by, Mapped, mapping_words, Bounded, mapped_words, mapped_elements, bounded_more}
 use Rattle.record_rewritten.specs.Stated.{plan_of, Rewritable}
 use Rattle.plan_rewrite.specs.Answers.{rewritten_by, steps_of, RowsRewritten}
 use Rattle.std.specs.Prelude.{Result, Ok, Err}
@@ -37,36 +37,24 @@ module _ {b : List ℕ} {l : Layout} {t s : List ℕ} (r : Ready b l t s) where
   abbrev facts : Facts b l t s
   facts = ready_facts r
 
-  -- the mappings as the code reads them
-  abbrev mappings_at : List (ℕ × ℕ)
-  mappings_at = zip (words_at b l.inputs l.sizes.mappings) (words_at b l.outputs l.sizes.mappings)
+  pub mappings_bounded : (k : ℕ) → 2048 ≤ k → Bounded k 2048 (mappings_in l b)
+  mappings_bounded k h = bounded_more k n 2048 (mappings_in l b) r.within.limits.elements (facts.mappings k (omega (arith, r.within.limits.elements)))
 
-  bounded : (k : ℕ) → n ≤ k → Bounded k n mappings_at
-  unfolding words_at
-  bounded k h = facts.mappings k h
-
-  pub mappings_bounded : (k : ℕ) → 2048 ≤ k → Bounded k 2048 mappings_at
-  mappings_bounded k h = bounded_more k n 2048 mappings_at r.within.limits.elements (bounded k (omega (arith, r.within.limits.elements)))
-
-  module _ {k : ℕ} {m : List ℕ} (e : m ≡ mapping_words k mappings_at) (h : 2048 ≤ k) where
+  module _ {k : ℕ} {m : List ℕ} (e : m ≡ mapping_words k (mappings_in l b)) (h : 2048 ≤ k) where
     low : n ≤ k
     low = omega (arith, r.within.limits.elements)
 
     pub map_mapped : Mapped n m
-    map_mapped = rw e (mapped_elements k n mappings_at low (bounded k low))
+    map_mapped = rw e (mapped_elements k n (mappings_in l b) low (facts.mappings k low))
 
     map_told : mapped_by m ≡ mapping (mappings_in l b)
-    unfolding words_at
-    map_told = rw e (mapped_words k n mappings_at (bounded k low))
+    map_told = rw e (mapped_words k n (mappings_in l b) (facts.mappings k low))
 
-    module _ {c : ℕ} {w : List ℕ} (F : RowsFated n T (listed_in l b) c w) where
-      pub rows_rewritable : 3584 ≤ length w → Rewritable n (words_at b l.list l.sizes.listed) w c
-      unfolding words_at
-      rows_rewritable long = rewritable n T (listed_in l b) c w F (omega (arith, F.few)) facts.elements
+    pub rows_rewriting : {c : ℕ} {w out : List ℕ} {q : Result ℕ Refusal} → RowsFated n T (listed_in l b) c w → RowsRewritten n t s m (listed_in l b) w c out q → Rewriting b l t s m (rows_of c w) c out q
+    rows_rewriting F R = record { mapped = map_mapped; mappings = map_told; rows = R.rows ∙ rw map_told; climbs = omega (arith, R.few, F.few) }
 
-      pub rows_rewriting : {out : List ℕ} {q : Result ℕ Refusal} → RowsRewritten n t s m (words_at b l.list l.sizes.listed) w c out q → Rewriting b l t s m (rows_of c w) c out q
-      unfolding words_at
-      rows_rewriting R = record { mapped = map_mapped; mappings = map_told; rows = R.rows ∙ rw map_told; climbs = omega (arith, R.few, F.few) }
+  pub rows_rewritable : {c : ℕ} {w : List ℕ} → RowsFated n T (listed_in l b) c w → 3584 ≤ length w → Rewritable n (listed_in l b) w c
+  rows_rewritable {c} {w} F long = rewritable n T (listed_in l b) c w F (omega (arith, F.few)) facts.elements
 
 module _ {h : Choices} {b : List ℕ} {l : Layout} {t s : List ℕ} {c : ℕ} {w : List ℕ} (F : ChangesFated h b l t s w c) {m out : List ℕ} {q : Result ℕ Refusal} (R : Rewriting b l t s m (rows_of c w) c out q) where
   were : judging h b ≡ gives (fated (map (plan_of (listed_in l b)) (rows_of c w)))

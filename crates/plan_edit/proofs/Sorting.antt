@@ -10,7 +10,7 @@ use Rattle.definition_laws.specs.Sorting.{rising_length}
 use Rattle.record_changes.specs.ChangeRow.{ChangeRow, rows_of}
 use Rattle.record_changes.specs.ChangeRowLaws.{rows_words, rows_read}
 use Rattle.record_queue.specs.RecordedRows.{change_rows, RowsRecorded}
-use Rattle.record_queue.specs.CallList.{Fit, Stands}
+use Rattle.record_queue.specs.CallList.{Fit}
 use Rattle.plan_sort.specs.Rows.{row_key}
 use Rattle.read_layout.specs.declared.Layout.{Layout}
 use Rattle.plan_model.specs.Fated.{sorted_rows}
@@ -18,9 +18,6 @@ use Rattle.plan_model.specs.Ready.{call_words, listed_in, calls_in, table_in, Re
 use Rattle.plan_edit.specs.Stages.{Sorted}
 
 module _ {b : List ℕ} {l : Layout} {t s : List ℕ} (r : Ready b l t s) where
-  pub calls_stand : Stands b l.words l.targets l.sizes.calls l.list l.sizes.listed
-  calls_stand = record { heads_within = r.within.words; targets_within = r.within.targets; list_within = r.within.list; few_calls = r.within.limits.calls; few_listed = r.within.limits.listed }
-
   pub calls_fit : Fit l.sizes.elements (call_words l b) (listed_in l b)
   calls_fit = (ready_facts r).fit
 

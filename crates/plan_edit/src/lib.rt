@@ -6,19 +6,20 @@ ghost use Rattle.std.specs.Prelude.{◌≡◌, ◌++◌, ◌+◌, ◌*◌, ◌�
 ghost use Rattle.choices.specs.Meant.{meant};
 ghost use Rattle.record_changes.specs.ChangeRow.{rows_of};
 ghost use Rattle.record_changes.specs.ChangeRowLaws.{rows_words};
-ghost use Rattle.plan_mapping.specs.Mapped.{Mapped};
 ghost use Rattle.plan_notes.specs.Answers.{NotesSettled};
-ghost use Rattle.plan_model.specs.Ready.{listed_in, notes_in, table_in, Ready};
-ghost use Rattle.plan_model.specs.Fated.{RowsFated};
+ghost use Rattle.plan_model.specs.Ready.{notes_in, Ready};
 ghost use Rattle.plan_edit.specs.Counted.{discarded_of};
-ghost use Rattle.plan_edit.specs.Stages.{Sorted, LeftBy, rule_rows, RowsJudged, ChangesJudged, ChangesFated, Rewriting, Rewrote};
+ghost use Rattle.plan_edit.specs.Stages.{Sorted, LeftBy, rule_rows, RowsJudged, ChangesJudged, ChangesFated, Rewrote};
 ghost use Rattle.plan_edit.specs.Answers.{PlanMade, Planning};
 ghost use Rattle.plan_edit.specs.declared.Unplanned.TheVariants.{Refused, Overlap as Overlapping};
 
 use choices::Choices;
 use plan_overlap::Overlap;
+use plan_upmap::Mapping;
 use plan_withdraw::number_of;
-use read_layout::Layout;
+use read_element_table::Elements;
+use read_layout::Batch;
+use record_changes::Fate;
 use refusals::Refusal;
 
 // Where the words stand that tell which changes are withdrawn: behind the change rows.
@@ -71,7 +72,7 @@ fn count_discarded(rows: &[u32], c: usize) -> usize
 {
     let mut n: usize = 0;
     for i in 0..c {
-        if 1 < record_changes::field(rows, i, record_changes::FATE) {
+        if record_changes::field(rows, i, record_changes::FATE) > Fate::Dependent as usize {
             n += 1;
         }
     }
@@ -80,21 +81,23 @@ fn count_discarded(rows: &[u32], c: usize) -> usize
 
 // The calls are recorded, and their rows written to `sorted` in sorted order. How many there are.
 fn record_and_sort(
-    b: &[u8],
-    l: Layout,
-    table: &[u32],
-    source: &[u32],
+    batch: &Batch,
+    elements: &Elements,
     recorded: &mut [u32],
     order: &mut [u32],
     sorted: &mut [u32],
 ) -> usize
-    requires ready { Ready b.now l table.now source.now }
+    requires ready { Ready batch.now.bytes.now batch.now.layout elements.now.table.now elements.now.source.now }
+    requires counted { elements.now.count ≡ batch.now.layout.sizes.elements }
     requires in_bounds { (3584 ≤ length recorded.old) × (256 ≤ length order.old) × (3584 ≤ length sorted.old) }
-    ensures { Sorted b.now l table.now source.now result sorted.new }
+    ensures { Sorted batch.now.bytes.now batch.now.layout elements.now.table.now elements.now.source.now result sorted.new }
 {
-    let s = l.sizes;
     let c = record_queue::record_calls(
-        b, l.words, l.targets, s.calls, l.list, s.listed, s.elements, table, source, recorded,
+        &batch.calls(),
+        &batch.targets(),
+        &batch.listed(),
+        elements,
+        recorded,
     );
     plan_sort::sort_rows(recorded, c, order, sorted);
     c
@@ -105,6 +108,7 @@ fn state_fates(choices: Choices, sorted: &mut [u32], c: usize, table: &[u32])
     requires { (14 * c ≤ length sorted.old) × (c ≤ 256) }
     ensures { sorted.new ≡ rows_words (rule_rows (meant choices) table.now c sorted.old) ++ drop (14 * c) sorted.old }
 {
+    // A number, as in `Choices`: any may be asked for.
     if choices.edge == 0 {
         plan_changed_region::plan_fates(sorted, c);
         return;
@@ -123,6 +127,7 @@ fn leave_weaker(
     requires { (n ≤ 256) × (14 * n ≤ length sorted.old) × (withdrawn.old ≡ replicate 256 0) }
     ensures { LeftBy (meant choices) table.now n sorted.old sorted.new withdrawn.new result }
 {
+    // A number, as in `Choices`: any may be asked for.
     if choices.stronger == 0 {
         return n;
     }
@@ -158,51 +163,38 @@ fn judge_rest(
 // others overlap, `sorted` holds their rows with what becomes of each.
 pub fn judge_changes(
     choices: Choices,
-    b: &[u8],
-    l: Layout,
-    table: &[u32],
-    source: &[u32],
+    batch: &Batch,
+    elements: &Elements,
     recorded: &mut [u32],
     order: &mut [u32],
     sorted: &mut [u32],
     withdrawn: &mut [u32],
 ) -> Result<Fated, Overlap>
-    requires ready { Ready b.now l table.now source.now }
+    requires ready { Ready batch.now.bytes.now batch.now.layout elements.now.table.now elements.now.source.now }
+    requires counted { elements.now.count ≡ batch.now.layout.sizes.elements }
     requires in_bounds { (3584 ≤ length recorded.old) × (256 ≤ length order.old) × (3584 ≤ length sorted.old) × (withdrawn.old ≡ replicate 256 0) }
-    ensures { ChangesJudged (meant choices) b.now l table.now source.now sorted.new withdrawn.new result }
+    ensures { ChangesJudged (meant choices) batch.now.bytes.now batch.now.layout elements.now.table.now elements.now.source.now sorted.new withdrawn.new result }
 {
-    let n = record_and_sort(b, l, table, source, recorded, order, sorted);
-    let c = leave_weaker(choices, sorted, n, table, withdrawn);
-    judge_rest(choices, sorted, n, c, table, withdrawn)
+    let n = record_and_sort(batch, elements, recorded, order, sorted);
+    let c = leave_weaker(choices, sorted, n, elements.table, withdrawn);
+    judge_rest(choices, sorted, n, c, elements.table, withdrawn)
 }
 
-// The notes of a batch with this layout settle, and are written to `first`.
-fn settle(
-    b: &[u8],
-    l: Layout,
-    table: &[u32],
-    source: &[u32],
-    map: &[u32],
-    first: &mut [u32],
-) -> Result<(), Refusal>
-    requires ready { Ready b.now l table.now source.now }
-    requires mapped { Mapped l.sizes.elements map.now × (768 ≤ length first.old) }
-    ensures { NotesSettled l.sizes.elements table.now source.now map.now (notes_in l b.now) l.sizes.notes first.old first.new result }
+// The notes of a batch settle, and are written to `first`.
+fn settle(batch: &Batch, mapping: &Mapping, first: &mut [u32]) -> Result<(), Refusal>
+    requires ready { Ready batch.now.bytes.now batch.now.layout mapping.now.elements.table.now mapping.now.elements.source.now }
+    requires counted { mapping.now.elements.count ≡ batch.now.layout.sizes.elements }
+    requires in_bounds { 768 ≤ length first.old }
+    ensures { NotesSettled batch.now.layout.sizes.elements mapping.now.elements.table.now mapping.now.elements.source.now mapping.now.map.now (notes_in batch.now.layout batch.now.bytes.now) batch.now.layout.sizes.notes first.old first.new result }
 {
-    let s = l.sizes;
-    plan_notes::settle_notes(
-        b, l.noted, l.numbers, s.notes, table, source, map, s.elements, first,
-    )
+    plan_notes::settle_notes(&batch.noted(), &batch.numbers(), mapping, first)
 }
 
 // The notes settle, and the rewritten changes are put in running order: the plan, or 9 or 10 of a note.
 fn settle_and_order(
     choices: Choices,
-    b: &[u8],
-    l: Layout,
-    table: &[u32],
-    source: &[u32],
-    map: &[u32],
+    batch: &Batch,
+    mapping: &Mapping,
     changes: &[u32],
     c: usize,
     steps: usize,
@@ -210,12 +202,13 @@ fn settle_and_order(
     running: &mut [u32],
     first: &mut [u32],
 ) -> Result<Counts, Unplanned>
-    requires ready { Ready b.now l table.now source.now }
-    requires rewrote { Rewrote (meant choices) b.now l table.now source.now map.now c steps changes.now }
+    requires ready { Ready batch.now.bytes.now batch.now.layout mapping.now.elements.table.now mapping.now.elements.source.now }
+    requires counted { mapping.now.elements.count ≡ batch.now.layout.sizes.elements }
+    requires rewrote { Rewrote (meant choices) batch.now.bytes.now batch.now.layout mapping.now.elements.table.now mapping.now.elements.source.now mapping.now.map.now c steps changes.now }
     requires in_bounds { (256 ≤ length order.old) × (256 ≤ length running.old) × (768 ≤ length first.old) }
-    ensures { PlanMade (meant choices) b.now l table.now source.now changes.now running.new first.new result }
+    ensures { PlanMade (meant choices) batch.now.bytes.now batch.now.layout mapping.now.elements.table.now mapping.now.elements.source.now changes.now running.new first.new result }
 {
-    settle(b, l, table, source, map, first)?;
+    settle(batch, mapping, first)?;
     let runs = plan_postorder::running_order(changes, c, order, running);
     let discarded = count_discarded(changes, c);
     // Those withdrawn are counted last (`plan`).
@@ -228,36 +221,11 @@ fn settle_and_order(
     })
 }
 
-// Dependents are rewritten into `changes`, by the mappings and the fated rows of `sorted`: after how many climb steps.
-fn rewrite(
-    b: &[u8],
-    l: Layout,
-    table: &[u32],
-    source: &[u32],
-    sorted: &[u32],
-    c: usize,
-    map: &mut [u32],
-    changes: &mut [u32],
-) -> Result<usize, Refusal>
-    requires ready { Ready b.now l table.now source.now }
-    requires rows_fated { RowsFated l.sizes.elements (table_in l table.now source.now) (listed_in l b.now) c sorted.now }
-    requires in_bounds { (3584 ≤ length sorted.now) × (2048 ≤ length map.old) × (3584 ≤ length changes.old) }
-    ensures { Rewriting b.now l table.now source.now map.new (rows_of c sorted.now) c changes.new result }
-{
-    let s = l.sizes;
-    plan_mapping::fill_mapping(b, l.inputs, l.outputs, s.mappings, map);
-    plan_rewrite::rewrite_dependents(
-        table, source, map, s.elements, b, l.list, s.listed, sorted, c, changes,
-    )
-}
-
-// The second stage: dependents are rewritten, then the notes settle: the plan, or 9 or 10.
+// The second stage: dependents are rewritten into `rewritten`, by the mappings and the fated rows of `sorted`, then the notes settle: the plan, or 9 or 10.
 fn rewrite_and_settle(
     choices: Choices,
-    b: &[u8],
-    l: Layout,
-    table: &[u32],
-    source: &[u32],
+    batch: &Batch,
+    elements: &Elements,
     sorted: &[u32],
     c: usize,
     rewritten: &mut [u32],
@@ -266,14 +234,20 @@ fn rewrite_and_settle(
     map: &mut [u32],
     first: &mut [u32],
 ) -> Result<Counts, Unplanned>
-    requires ready { Ready b.now l table.now source.now }
-    requires changes_fated { ChangesFated (meant choices) b.now l table.now source.now sorted.now c }
+    requires ready { Ready batch.now.bytes.now batch.now.layout elements.now.table.now elements.now.source.now }
+    requires counted { elements.now.count ≡ batch.now.layout.sizes.elements }
+    requires changes_fated { ChangesFated (meant choices) batch.now.bytes.now batch.now.layout elements.now.table.now elements.now.source.now sorted.now c }
     requires in_bounds { (3584 ≤ length sorted.now) × (3584 ≤ length rewritten.old) × (256 ≤ length order.old) × (256 ≤ length running.old) × (2048 ≤ length map.old) × (768 ≤ length first.old) }
-    ensures { PlanMade (meant choices) b.now l table.now source.now rewritten.new running.new first.new result }
+    ensures { PlanMade (meant choices) batch.now.bytes.now batch.now.layout elements.now.table.now elements.now.source.now rewritten.new running.new first.new result }
 {
-    let k = rewrite(b, l, table, source, sorted, c, map, rewritten)?;
+    plan_mapping::fill_mapping(&batch.inputs(), &batch.outputs(), map);
+    let mapping = Mapping {
+        elements: *elements,
+        map,
+    };
+    let k = plan_rewrite::rewrite_dependents(&mapping, &batch.listed(), sorted, c, rewritten)?;
     settle_and_order(
-        choices, b, l, table, source, map, rewritten, c, k, order, running, first,
+        choices, batch, &mapping, rewritten, c, k, order, running, first,
     )
 }
 
@@ -281,10 +255,8 @@ fn rewrite_and_settle(
 // notes where they settle, or the first refusal out of 8, 9 and 10. Behind the change rows stands which changes are withdrawn.
 pub fn plan(
     choices: Choices,
-    b: &[u8],
-    l: Layout,
-    table: &[u32],
-    source: &[u32],
+    batch: &Batch,
+    elements: &Elements,
     recorded: &mut [u32],
     sorted: &mut [u32],
     changes: &mut [u32],
@@ -293,17 +265,16 @@ pub fn plan(
     map: &mut [u32],
     first: &mut [u32],
 ) -> Result<Counts, Unplanned>
-    requires ready { Ready b.now l table.now source.now }
+    requires ready { Ready batch.now.bytes.now batch.now.layout elements.now.table.now elements.now.source.now }
+    requires counted { elements.now.count ≡ batch.now.layout.sizes.elements }
     requires in_bounds { (3584 ≤ length recorded.old) × (3584 ≤ length sorted.old) × (3840 ≤ length changes.old) × (256 ≤ length order.old) × (256 ≤ length running.old) × (2048 ≤ length map.old) × (768 ≤ length first.old) }
-    ensures { Planning (meant choices) b.now l table.now source.now changes.new running.new first.new result }
+    ensures { Planning (meant choices) batch.now.bytes.now batch.now.layout elements.now.table.now elements.now.source.now changes.new running.new first.new result }
 {
     let mut withdrawn = [0u32; 256];
     let fated = judge_changes(
         choices,
-        b,
-        l,
-        table,
-        source,
+        batch,
+        elements,
         recorded,
         order,
         sorted,
@@ -311,7 +282,7 @@ pub fn plan(
     )?;
     let c = fated.staying;
     let counts = rewrite_and_settle(
-        choices, b, l, table, source, sorted, c, changes, order, running, map, first,
+        choices, batch, elements, sorted, c, changes, order, running, map, first,
     )?;
     words::copy_in(changes, WITHDRAWN, &withdrawn);
     Ok(Counts {

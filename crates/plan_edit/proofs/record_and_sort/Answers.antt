@@ -1,10 +1,19 @@
 -- `record_and_sort` meets its contract: what is recorded is sorted.
+use mathlib.Core.Path.{sym, ◌∙◌}
 use native.Mathlib.Omega.{arith}
-use Rattle.plan_edit.proofs.Sorting.{calls_stand, calls_fit, calls_few, rows_sorted}
+use Rattle.read_layout.specs.Layout.{arrays_at}
+use Rattle.plan_edit.proofs.Sorting.{calls_fit, calls_few, rows_sorted}
 use Rattle.plan_edit.proofs.record_and_sort.Goals as goal
 
 pub record_calls-c-requires : goal.record_calls-c-requires
-record_calls-c-requires c = let r = c.requires.ready in record { wellformed = r.formed; stands = calls_stand r; calls_in_bounds = omega (arith, calls_few r); fit = calls_fit r }
+unfolding arrays_at
+record_calls-c-requires c =
+    let r = c.requires.ready in
+    record {
+      few = (c.targets.ensures.1 ∙ sym c.calls.ensures.1, omega (arith, c.calls.ensures.1, calls_few r), omega (arith, c.listed.ensures.1, r.within.limits.listed), omega (arith, c.calls.ensures.1, calls_few r, c.requires.in_bounds.0));
+      fit = rw (c.calls.ensures.0, c.targets.ensures.0, c.listed.ensures.0, c.requires.counted) (calls_fit r);
+    }
 
 pub returns : goal.returns
-returns c = rows_sorted c.requires.ready _ _ _ _ _ c.record_calls-c.ensures c.sort_rows.ensures.out_after
+unfolding arrays_at
+returns c = rows_sorted c.requires.ready _ _ _ _ _ (rw (c.calls.ensures.0, c.targets.ensures.0, c.listed.ensures.0, c.calls.ensures.1, c.requires.counted) at c.record_calls-c.ensures) c.sort_rows.ensures.out_after
