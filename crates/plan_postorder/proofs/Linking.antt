@@ -5,8 +5,9 @@ use mathlib.Core.Bool.{Bool, true, false, cond}
 use mathlib.Core.List.{List, [], ◌∷◌}
 use Prim.Native.Nat.{ℕ, zero, suc, ◌+◌, ◌-◌, ◌*◌, ◌^◌, ◌≤◌, ◌<◌}
 use native.Mathlib.Omega.{arith}
-use lib.ListN.{length, get_or, set, take, drop, replicate, length-set, length-replicate, get_or-replicate, take-append-drop, drop_of_length-le}
-use lib.Seq.{drop-cons, get_or-take, get_or-set_same, get_or-set_other}
+use lib.ListN.{length, get_or, set, take, drop, replicate, length-set, length-replicate, get_or-replicate, take-append-drop}
+use lib.Seq.{drop-cons, drop-length, get_or-set_same, get_or-set_other}
+use Rattle.std.specs.Prelude.{None, Some}
 use lib.Dec.{eqb}
 use borrow.Author.Tests.{eqb-true, eqb-false, eq-eqb, ne_eqb}
 use Rattle.orders.specs.Lists.{All, pick, total}
@@ -20,7 +21,7 @@ use Rattle.record_changes.specs.ChangeRow.{row_of}
 use Rattle.record_changes.specs.ChangeRowLaws.{row_at}
 use Rattle.plan_sort.specs.Lists.{keep_cons}
 use Rattle.plan_sort.specs.Rows.{row_fate}
-use Rattle.plan_sort.specs.Sorting.{sort_from, comes_at, ranked_places, length_ranked}
+use Rattle.plan_sort.specs.Sorting.{sort_from, comes_at, ranked_places}
 use Rattle.plan_postorder.specs.Order.{owner_told, owned_at}
 use Rattle.plan_postorder.specs.Counting.{times, times_sorted}
 use Rattle.plan_postorder.specs.Links.{OwnerOf, Linked, Links, owned_by}
@@ -28,42 +29,48 @@ use Rattle.plan_postorder.specs.Links.{OwnerOf, Linked, Links, owned_by}
 -- ── Owners ──────────────────────────────────────────────────────────────────────────────────────────────────
 
 module _ (w : List ℕ) (k x : ℕ) (f : x ≡ get_or (drop (14 * k) w) 11 0) where
-  pub owner_none : x ≡ 0 → OwnerOf w k 0
+  pub owner_none : x ≡ 0 → OwnerOf w k (Some 0)
   unfolding owned_at owner_told row_fate row_at row_of owned
-  owner_none e = record { inside = omega arith; owns = λ p h. rw (← f, e) (go p) }
+  owner_none e = (omega arith, λ p h. rw (← f, e) (go p))
     where
       go : (p : ℕ) → owned (owner_told p) own ≡ eqb 0 p
       go zero = refl
       go (suc i) = sym (ne_eqb 0 (suc i) (λ e. omega arith))
 
   module _ (n : x ≡ 0 → ⊥) where
-    pub owner_discarded : (x ≡ 1 → ⊥) → OwnerOf w k 257
+    pub owner_discarded : (x ≡ 1 → ⊥) → OwnerOf w k None
     unfolding owned_at owner_told row_fate row_at row_of owned
-    owner_discarded m = record { inside = omega arith; owns = λ p h. rw (← f, ne_eqb x 0 n, ne_eqb x 1 m, ne_eqb 257 p (λ e. omega arith)) (go p (get_or (drop (14 * k) w) 12 0)) }
+    owner_discarded m = λ p h. rw (← f, ne_eqb x 0 n, ne_eqb x 1 m) (go p (get_or (drop (14 * k) w) 12 0))
       where
         go : (p y : ℕ) → owned (owner_told p) (discarded y) ≡ false
         go zero y = refl
         go (suc i) y = refl
 
     module _ (e : x ≡ 1) (y : ℕ) (g : y ≡ get_or (drop (14 * k) w) 12 0) where
-      -- o tells the owner y if it tells the same of each place below 256
-      dependent_of : (o : ℕ) → o ≤ 257 → ((i : ℕ) → i < 256 → eqb i y ≡ eqb o (suc i)) → eqb o 0 ≡ false → OwnerOf w k o
-      unfolding owned_at owner_told row_fate row_at row_of owned
-      dependent_of o h same z = record { inside = h; owns = λ p l. rw (← f, e, ← g) (go p l) }
-        where
-          go : (p : ℕ) → p ≤ 256 → owned (owner_told p) (dependent y) ≡ eqb o p
-          go zero l = sym z
-          go (suc i) l = same i (omega arith)
+      -- it is owned by the place y alone
+      dependent_of : (p : ℕ) → p ≤ 256 → owned_at w p k ≡ owned (owner_told p) (dependent y)
+      unfolding owned_at row_fate row_at row_of
+      dependent_of p l = rw (← f, e, ← g)
 
-      pub owner_dependent : y < 256 → OwnerOf w k (y + 1)
-      owner_dependent h = dependent_of (y + 1) (omega arith) (λ i l. go i (eqb i y) refl) (ne_eqb (y + 1) 0 (λ e. omega arith))
+      pub owner_dependent : y < 256 → OwnerOf w k (Some (y + 1))
+      unfolding owner_told owned
+      owner_dependent h = (omega arith, λ p l. dependent_of p l ∙ go p)
         where
-          go : (i : ℕ) (b : Bool) → eqb i y ≡ b → b ≡ eqb (y + 1) (suc i)
-          go i true e = sym (eq-eqb (y + 1) (suc i) (omega (arith, eqb-true i y e)))
-          go i false e = sym (ne_eqb (y + 1) (suc i) (λ q. eqb-false i y e (omega arith)))
+          same : (i : ℕ) (b : Bool) → eqb i y ≡ b → b ≡ eqb (y + 1) (suc i)
+          same i true e = sym (eq-eqb (y + 1) (suc i) (omega (arith, eqb-true i y e)))
+          same i false e = sym (ne_eqb (y + 1) (suc i) (λ q. eqb-false i y e (omega arith)))
 
-      pub owner_outside : 256 ≤ y → OwnerOf w k 257
-      owner_outside h = dependent_of 257 (omega arith) (λ i l. ne_eqb i y (λ e. omega arith) ∙ sym (ne_eqb 257 (suc i) (λ e. omega arith))) refl
+          go : (p : ℕ) → owned (owner_told p) (dependent y) ≡ eqb (y + 1) p
+          go zero = sym (ne_eqb (y + 1) 0 (λ e. omega arith))
+          go (suc i) = same i (eqb i y) refl
+
+      pub owner_outside : 256 ≤ y → OwnerOf w k None
+      unfolding owner_told owned
+      owner_outside h = λ p l. dependent_of p l ∙ go p l
+        where
+          go : (p : ℕ) → p ≤ 256 → owned (owner_told p) (dependent y) ≡ false
+          go zero l = refl
+          go (suc i) l = ne_eqb i y (λ e. omega arith)
 
 -- ── A turn ──────────────────────────────────────────────────────────────────────────────────────────────────
 
@@ -73,12 +80,12 @@ linked_set next k v x [] a h = h
 linked_set next k v x (q ∷ qs) a h = (h.0, h.1, rw (get_or-set_other next k q v 0 a.0) (linked_set next k v (get_or next q 0) qs a.1 h.2))
 
 -- one more place, before all
-links_cons : (w qs first next : List ℕ) (k o : ℕ) → Links (owned_by w qs) first next → k < 256 → All (λ q. q ≡ k → ⊥) qs → OwnerOf w k o
+links_cons : (w qs first next : List ℕ) (k o : ℕ) → Links (owned_by w qs) first next → k < 256 → All (λ q. q ≡ k → ⊥) qs → OwnerOf w k (Some o)
     → Links (owned_by w (k ∷ qs)) (set first o (k + 1)) (set next k (get_or first o 0))
 links_cons w qs first next k o v b a t = record {
   firsts = simp length-set v.firsts;
   nexts = simp length-set v.nexts;
-  told = λ p h. rw (keep_cons (owned_at w p) k qs, t.owns p h) (go p (v.told p h) (eqb o p) refl);
+  told = λ p h. rw (keep_cons (owned_at w p) k qs, t.1 p h) (go p (v.told p h) (eqb o p) refl);
 }
   where
     next' : List ℕ
@@ -92,8 +99,12 @@ links_cons w qs first next k o v b a t = record {
     go p h true e =
         let same : o ≡ p = eqb-true o p e in
         let after : get_or next' k 0 ≡ get_or first p 0 = get_or-set_same next k (get_or first o 0) 0 (omega (arith, v.nexts)) ∙ rw same in
-        (rw (← same, get_or-set_same first o (k + 1) 0 (omega (arith, v.firsts, t.inside))) (omega arith), b, rw after (stays p h))
+        (rw (← same, get_or-set_same first o (k + 1) 0 (omega (arith, v.firsts, t.0))) (omega arith), b, rw after (stays p h))
     go p h false e = rw (get_or-set_other first o p (k + 1) 0 (λ q. eqb-false o p e (sym q))) (stays p h)
+
+-- one that never runs is linked nowhere
+links_skip : (w qs first next : List ℕ) (k : ℕ) → Links (owned_by w qs) first next → OwnerOf w k None → Links (owned_by w (k ∷ qs)) first next
+links_skip w qs first next k v t = record { firsts = v.firsts; nexts = v.nexts; told = λ p h. rw (keep_cons (owned_at w p) k qs, t p h) (v.told p h) }
 
 -- a place that is not counted is not there
 times_none : (y : ℕ) (l : List ℕ) → times y l ≡ 0 → All (λ q. q ≡ y → ⊥) l
@@ -119,43 +130,49 @@ unfolding sort_from
 places_below comes m i zero h = tt
 places_below comes m i (suc n) h = All-perm (λ q. q < m) (insert_perm comes i (sort_from comes (suc i) n)) (omega arith, places_below comes m (suc i) n (omega arith))
 
--- the n ranked places from i on are linked
-pub record Linking (w : List ℕ) (n : ℕ) (first next : List ℕ) (i : ℕ) : Type 0 where
-  pub inside : i ≤ n
-  pub links : Links (owned_by w (drop i (ranked_places w n))) first next
+-- the ranked places from i on are linked
+pub record Linking (w ranked first next : List ℕ) (i : ℕ) : Type 0 where
+  pub inside : i ≤ length ranked
+  pub links : Links (owned_by w (drop i ranked)) first next
 
-pub linking_start : (w : List ℕ) (n : ℕ) (first next : List ℕ) → first ≡ replicate 258 0 → length next ≡ 256 → Linking w n first next n
+pub linking_start : (w ranked first next : List ℕ) → first ≡ replicate 257 0 → length next ≡ 256 → Linking w ranked first next (length ranked)
 unfolding keep pick
-linking_start w n first next e h = record {
+linking_start w ranked first next e h = record {
   inside = omega arith;
   links = record {
-    firsts = rw e (length-replicate {A = ℕ} 258 0);
+    firsts = rw e (length-replicate {A = ℕ} 257 0);
     nexts = h;
-    told = λ o b. rw (drop_of_length-le (ranked_places w n) {i = n} (omega (arith, length_ranked w n)), e) (get_or-replicate 258 o 0 0 (omega arith));
+    told = λ o b. rw (drop-length ranked, e) (get_or-replicate 257 o 0 0 (omega arith));
   };
 }
 
-pub linking_done : (w : List ℕ) (n : ℕ) (first next : List ℕ) (i : ℕ) → Linking w n first next i → i ≤ 0 → Links (owned_by w (ranked_places w n)) first next
-linking_done w n first next i v h = let z : i ≡ 0 = omega arith in rw z at v.links
+pub linking_done : (w ranked first next : List ℕ) (i : ℕ) → Linking w ranked first next i → i ≤ 0 → Links (owned_by w ranked) first next
+linking_done w ranked first next i v h = let z : i ≡ 0 = omega arith in rw z at v.links
 
-module _ {w : List ℕ} {n : ℕ} {first next : List ℕ} {i : ℕ} (v : Linking w n first next i) (ranked : List ℕ) (few : n ≤ 256)
-    (front : take n ranked ≡ ranked_places w n) (h : 0 < i) (k : ℕ) (q : k ≡ get_or ranked (i - 1) 0) where
-  here : drop (i - 1) (ranked_places w n) ≡ k ∷ drop i (ranked_places w n)
+module _ {w ranked first next : List ℕ} {i : ℕ} (v : Linking w ranked first next i) (few : length ranked ≤ 256) (e : ranked ≡ ranked_places w (length ranked)) (h : 0 < i) (k : ℕ) (q : k ≡ get_or ranked (i - 1) 0) where
+  here : drop (i - 1) ranked ≡ k ∷ drop i ranked
   here =
       let c : suc (i - 1) ≡ i = omega arith in
-      drop-cons (ranked_places w n) (i - 1) 0 (omega (arith, length_ranked w n, v.inside))
-      ∙ rw (c, ← front, get_or-take n ranked (i - 1) 0 (omega (arith, v.inside)), ← q)
+      drop-cons ranked (i - 1) 0 (omega (arith, v.inside)) ∙ rw (c, ← q)
 
   pub place_below : k < 256
   unfolding ranked_places
-  place_below = (rw here at (All-drop (λ q. q < 256) (i - 1) (ranked_places w n) (places_below (comes_at true w) 256 0 n (omega arith)))).0
+  place_below =
+      let low : All (λ q. q < 256) ranked = rw e (places_below (comes_at true w) 256 0 (length ranked) (omega arith)) in
+      (rw here at (All-drop (λ q. q < 256) (i - 1) ranked low)).0
 
   pub told_below : k + 1 < 2 ^ 32
   told_below = omega (arith, place_below)
 
-  behind : All (λ q. q ≡ k → ⊥) (drop i (ranked_places w n))
+  behind : All (λ q. q ≡ k → ⊥) (drop i ranked)
   unfolding ranked_places
-  behind = once_behind k (i - 1) (ranked_places w n) (drop i (ranked_places w n)) here (times_sorted (comes_at true w) 0 n k)
+  behind =
+      let once : times k ranked ≤ 1 = rw e (times_sorted (comes_at true w) 0 (length ranked) k) in
+      once_behind k (i - 1) ranked (drop i ranked) here once
 
-  pub linking_next : (o : ℕ) → OwnerOf w k o → Linking w n (set first o (k + 1)) (set next k (get_or first o 0)) (i - 1)
-  linking_next o t = record { inside = omega (arith, v.inside); links = rw here (links_cons w (drop i (ranked_places w n)) first next k o v.links place_below behind t) }
+  pub linking_next : {o : ℕ} → OwnerOf w k (Some o) → Linking w ranked (set first o (k + 1)) (set next k (get_or first o 0)) (i - 1)
+  linking_next {o} t = record { inside = omega (arith, v.inside); links = rw here (links_cons w (drop i ranked) first next k o v.links place_below behind t) }
+
+  -- one that never runs
+  pub linking_skip : OwnerOf w k None → Linking w ranked first next (i - 1)
+  linking_skip t = record { inside = omega (arith, v.inside); links = rw here (links_skip w (drop i ranked) first next k v.links t) }

@@ -191,12 +191,12 @@ chain_linked next (suc m) k [] h p = rw h
 chain_linked next zero k (q ∷ qs) h p = absurd (omega arith)
 chain_linked next (suc m) k (q ∷ qs) h p = rw (h.0, chain_linked next m (get_or next q 0) qs h.2 (omega arith))
 
-module _ (w first next : List ℕ) (n : ℕ) (v : Links (owned_by w (ranked_places w n)) first next) (few : n ≤ 256) where
-  abbrev ranked : List ℕ
-  ranked = ranked_places w n
+module _ (w first next ranked : List ℕ) (n : ℕ) (told : ranked ≡ ranked_places w n) (v : Links (owned_by w ranked) first next) (few : n ≤ 256) where
+  long : length ranked ≡ n
+  long = rw told (length_ranked w n)
 
   linked_kept : (o : ℕ) → o ≤ 256 → linked_to first next o ≡ owned_by w ranked o
-  linked_kept o h = chain_linked next 256 (get_or first o 0) (owned_by w ranked o) (v.told o h) (omega (arith, keep_length (owned_at w o) ranked, length_ranked w n))
+  linked_kept o h = chain_linked next 256 (get_or first o 0) (owned_by w ranked o) (v.told o h) (omega (arith, keep_length (owned_at w o) ranked, long))
 
   pub links_kept : Links (linked_to first next) first next
   links_kept = record { firsts = v.firsts; nexts = v.nexts; told = λ o h. rw (linked_kept o h) (v.told o h) }
@@ -213,17 +213,13 @@ module _ (w first next : List ℕ) (n : ℕ) (v : Links (owned_by w (ranked_plac
 
   -- what the links tell runs
   all_run : dependents first next 0 ≡ running_places w n
-  all_run = linked_runs_lem 257 0 (omega arith) ∙ runs_all w n 257 (omega arith)
+  all_run = linked_runs_lem 257 0 (omega arith) ∙ rw told (runs_all w n 257 (omega arith))
 
-  pub all_most : length (dependents first next 0) ≤ n
-  all_most = rw all_run (running_most w n)
+  pub all_most : length (dependents first next 0) ≤ length ranked
+  all_most = rw (all_run, long) (running_most w n)
 
   pub all_counted : (r : ℕ) → r ≡ 0 + length (dependents first next 0) → r ≡ length (running_places w n)
   all_counted r q = q ∙ rw all_run (zero-add (length (running_places w n)))
 
   pub all_written : (r : ℕ) (l₀ l : List ℕ) → l ≡ take 0 l₀ ++ (dependents first next 0 ++ drop r l₀) → l ≡ running_places w n ++ drop r l₀
   all_written r l₀ l q = q ∙ rw all_run
-
--- what is ranked stands in front
-pub ranked_front : (w ranked₀ ranked : List ℕ) (n : ℕ) → ranked ≡ ranked_places w n ++ drop n ranked₀ → take n ranked ≡ ranked_places w n
-ranked_front w ranked₀ ranked n e = rw e (take_at (ranked_places w n) (drop n ranked₀) n (length_ranked w n))

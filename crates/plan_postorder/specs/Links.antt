@@ -1,14 +1,14 @@
 -- The changes of each owner, linked: `first` tells the first change of an owner and `next` the one after a change, each as index + 1; 0 = none.
 -- Assumes nothing.
-use Rattle.std.specs.Prelude.{◌≡◌, ℕ, zero, suc, ◌≤◌, ◌<◌, length, get_or, eqb}
+use Rattle.std.specs.Prelude.{◌≡◌, ℕ, zero, suc, ◌≤◌, ◌<◌, length, get_or, eqb, false, Option, None, Some}
 use mathlib.Core.List.{List, [], ◌∷◌, ◌++◌, flat_map}
 use Rattle.definition.specs.Basics.{keep}
 use Rattle.plan_postorder.specs.Order.{owned_at}
 
--- o is the owner of the row at place k, index + 1; 0 = none, 257 if it is discarded or no place below 256 owns it
-pub record OwnerOf (w : List ℕ) (k o : ℕ) : Type 0 where
-  pub inside : o ≤ 257
-  pub owns : (p : ℕ) → p ≤ 256 → owned_at w p k ≡ eqb o p
+-- what is told of the owner of the row at place k: index + 1, 0 = none; None if it is discarded or no place below 256 owns it
+abbrev pub OwnerOf : List ℕ → ℕ → Option ℕ → Type 0
+OwnerOf w k None = (p : ℕ) → p ≤ 256 → owned_at w p k ≡ false
+OwnerOf w k (Some o) = (o ≤ 256) × ((p : ℕ) → p ≤ 256 → owned_at w p k ≡ eqb o p)
 
 -- the links from k on tell the places qs, all below 256
 abbrev pub Linked : List ℕ → ℕ → List ℕ → Type 0
@@ -17,7 +17,7 @@ Linked next k (q ∷ qs) = (k ≡ suc q) × (q < 256) × Linked next (get_or nex
 
 -- the places of each owner, as `below` lists them, are linked
 pub record Links (below : ℕ → List ℕ) (first next : List ℕ) : Type 0 where
-  pub firsts : length first ≡ 258
+  pub firsts : length first ≡ 257
   pub nexts : length next ≡ 256
   pub told : (o : ℕ) → o ≤ 256 → Linked next (get_or first o 0) (below o)
 

@@ -9,41 +9,38 @@ ghost use Rattle.plan_postorder.specs.Links.{OwnerOf, Links, owned_by, linked_to
 use record_changes::{Fate, field};
 use words::word;
 
-// Rust: PlanEntry::parent. The owner of the change at place `k`, index + 1; 0 = none, 257 of a change that never runs.
-fn owner_of(rows: &[u32], k: usize) -> usize
+// Rust: PlanEntry::parent. The owner of the change at place `k`, index + 1, 0 = none: the list of `first` into which it is linked. None of a change that never
+// runs.
+fn owner_of(rows: &[u32], k: usize) -> Option<usize>
     requires { k < 2 ^ 32 }
     ensures { OwnerOf rows.now k result }
 {
     let fate = field(rows, k, record_changes::FATE);
     if fate == Fate::Own as usize {
-        return 0;
+        return Some(0);
     }
     if fate != Fate::Dependent as usize {
-        return 257;
+        return None;
     }
     let owner = field(rows, k, record_changes::OWNER);
     if owner < 256 {
-        return owner + 1;
+        return Some(owner + 1);
     }
-    257
+    None
 }
 
 // Rust: `children` and `roots` in EditPlan::build. The ranked changes of each owner are linked, from the last to the first: `first` has the first one of
 // an owner and `next` the one after a change, index + 1; 0 = none. Links are made once, so that no owner looks through all changes.
-fn link_dependents(
-    rows: &[u32],
-    n: usize,
-    ranked: &[u32],
-    first: &mut [u32; 258],
-    next: &mut [u32; 256],
-)
-    requires n_bound { (n ≤ 256) × (n ≤ length ranked.now) × (take n ranked.now ≡ ranked_places rows.now n) }
-    requires first_value { (first.old ≡ replicate 258 0) × (length next.old ≡ 256) }
-    ensures { Links (owned_by rows.now (ranked_places rows.now n)) first.new next.new }
+fn link_dependents(rows: &[u32], ranked: &[u32], first: &mut [u32; 257], next: &mut [u32; 256])
+    requires ranked { (length ranked.now ≤ 256) × (ranked.now ≡ ranked_places rows.now (length ranked.now)) }
+    requires unlinked { (first.old ≡ replicate 257 0) × (length next.old ≡ 256) }
+    ensures { Links (owned_by rows.now ranked.now) first.new next.new }
 {
-    for i in (0..n).rev() {
+    for i in (0..ranked.len()).rev() {
         let k = word(ranked, i);
-        let owner = owner_of(rows, k);
+        let Some(owner) = owner_of(rows, k) else {
+            continue;
+        };
         next[k] = first[owner];
         first[owner] = (k + 1) as u32;
     }
@@ -51,8 +48,9 @@ fn link_dependents(
 
 // Rust: EditPlan::append_postorder. The changes of an owner (index + 1; 0 = none) are appended to `running` at `at`, each after its own dependents: these
 // edit the replacement before it goes in. Of all changes `left` are not yet visited, which falls with each call. Where the next one is to be appended.
+// A walk along links has no range to count over: its loop stays.
 fn append_postorder(
-    first: &[u32; 258],
+    first: &[u32; 257],
     next: &[u32; 256],
     owner: usize,
     left: usize,
@@ -76,16 +74,17 @@ fn append_postorder(
     end
 }
 
-// The places of the `n` changes in the order in which they run are written to `running`; `ranked` holds them as siblings run. How many run.
-pub fn running_order(rows: &[u32], n: usize, ranked: &mut [u32], running: &mut [u32]) -> usize
-    requires { (n ≤ 256) × (n ≤ length ranked.old) × (n ≤ length running.old) }
-    ensures value { result ≡ length (running_places rows.now n) }
-    ensures running_after { running.new ≡ running_places rows.now n ++ drop result running.old }
-    ensures ranked_after { ranked.new ≡ ranked_places rows.now n ++ drop n ranked.old }
+// The places of the changes, as many as `ranked` holds, in the order in which they run are written to `running`; `ranked` holds them as siblings run. How many
+// run.
+pub fn running_order(rows: &[u32], ranked: &mut [u32], running: &mut [u32]) -> usize
+    requires { (length ranked.old ≤ 256) × (length ranked.old ≤ length running.old) }
+    ensures value { result ≡ length (running_places rows.now (length ranked.old)) }
+    ensures running_after { running.new ≡ running_places rows.now (length ranked.old) ++ drop result running.old }
+    ensures ranked_after { ranked.new ≡ ranked_places rows.now (length ranked.old) }
 {
-    plan_sort::rank_changes(rows, n, ranked);
-    let mut first = [0u32; 258];
+    plan_sort::rank_changes(rows, ranked);
+    let mut first = [0u32; 257];
     let mut next = [0u32; 256];
-    link_dependents(rows, n, ranked, &mut first, &mut next);
-    append_postorder(&first, &next, 0, n, running, 0)
+    link_dependents(rows, ranked, &mut first, &mut next);
+    append_postorder(&first, &next, 0, ranked.len(), running, 0)
 }

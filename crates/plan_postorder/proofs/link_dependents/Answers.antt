@@ -1,5 +1,5 @@
 -- `link_dependents` meets its contract. The invariant: the ranked places from i on are linked.
-use Rattle.plan_postorder.proofs.Linking.{linking_start, linking_done, place_below, told_below, linking_next}
+use Rattle.plan_postorder.proofs.Linking.{linking_start, linking_done, place_below, told_below, linking_next, linking_skip}
 use borrow.Author.Rules.{rules}
 use Rattle.plan_postorder.proofs.link_dependents.Goals as goal
 
@@ -17,3 +17,6 @@ loop-i-preserved c = search (linking_next, rules)
 
 pub returns : goal.returns
 returns c = search (linking_done, rules)
+
+pub loop-i-preserved-in_default : goal.loop-i-preserved-in_default
+loop-i-preserved-in_default c = linking_skip c.loop-i.invariant c.requires.ranked.0 c.requires.ranked.1 (search rules) _ c.word-k.ensures.0 c.in_default.ensures
