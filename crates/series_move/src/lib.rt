@@ -13,66 +13,61 @@ ghost use Rattle.series_move.specs.Moved.{PathNow};
 ghost use Rattle.series_move.specs.Kept.{Here, Put};
 ghost use Rattle.series_move.specs.Packing.{Moving, Packs, bookmarks_after};
 
+mod run_end;
+
 use rows_path::resolve;
-use rows_syntax_node::{child_row, children_between, subtree};
+use rows_syntax_node::{Rows, child_row, children_between, subtree};
+pub use run_end::RunEnd;
 use series_check::{PATH, PATH_LENGTH, slot_at};
 use words::word;
 
 // ── One path ──
 
 // The path of an element that survives. Down its old path each element has a row in the source and a mark; a child's number is how many siblings stand between its parent's row and its own.
-fn write_path(
-    source: &[u32],
-    e: usize,
-    marks: &[u32],
-    rows: &[u32],
-    n: usize,
-    path: &[u32],
-    out: &mut [u32],
-)
-    requires survives { Survives source.now e marks.now rows.now n path.now }
+fn write_path(run: &RunEnd, path: &[u32], out: &mut [u32])
+    requires survives { Survives run.now.source.now run.now.elements run.now.marks.now run.now.rows.words.now run.now.rows.count path.now }
     requires path_in_bounds { length path.now ≤ length out.old }
-    ensures { (s : Survives source.now e marks.now rows.now n path.now) → take (length path.now) out.new ≡ s.now }
+    ensures { (s : Survives run.now.source.now run.now.elements run.now.marks.now run.now.rows.words.now run.now.rows.count path.now) → take (length path.now) out.new ≡ s.now }
 {
+    let old = Rows {
+        count: run.elements + 1,
+        words: run.source,
+    };
     let mut x = 1;
     for (j, number) in path.iter().enumerate() {
-        let y = child_row(source, e + 1, x, *number as usize);
-        let above = word(marks, x - 1);
-        let here = word(marks, y - 1);
-        out[j] = children_between(rows, n, above + 1, here) as u32;
+        let y = child_row(&old, x, *number as usize);
+        let above = word(run.marks, x - 1);
+        let here = word(run.marks, y - 1);
+        out[j] = children_between(&run.rows, above + 1, here) as u32;
         x = y;
     }
 }
 
 // The mark of the element to which a path leads, found in the batch's own rows: where it stands now, 0 where it is gone.
-fn mark_now(source: &[u32], e: usize, marks: &[u32], rows: &[u32], n: usize, path: &[u32]) -> usize
-    requires { Stands source.now e marks.now rows.now n path.now }
-    ensures { (s : Stands source.now e marks.now rows.now n path.now) → result ≡ mark_of s.stood.world.trees (moved_by s) }
+fn mark_now(run: &RunEnd, path: &[u32]) -> usize
+    requires { Stands run.now.source.now run.now.elements run.now.marks.now run.now.rows.words.now run.now.rows.count path.now }
+    ensures { (s : Stands run.now.source.now run.now.elements run.now.marks.now run.now.rows.words.now run.now.rows.count path.now) → result ≡ mark_of s.stood.world.trees (moved_by s) }
 {
-    let tree = subtree(source, e + 1, 1);
+    let old = Rows {
+        count: run.elements + 1,
+        words: run.source,
+    };
+    let tree = subtree(&old, 1);
     // It leads to an element.
     let found = resolve(tree, path).unwrap();
-    word(marks, found.row)
+    word(run.marks, found.row)
 }
 
 // The path now of the element to which a path leads; false where it is gone.
-fn path_now(
-    source: &[u32],
-    e: usize,
-    marks: &[u32],
-    rows: &[u32],
-    n: usize,
-    path: &[u32],
-    out: &mut [u32],
-) -> bool
-    requires stands { Stands source.now e marks.now rows.now n path.now }
+fn path_now(run: &RunEnd, path: &[u32], out: &mut [u32]) -> bool
+    requires stands { Stands run.now.source.now run.now.elements run.now.marks.now run.now.rows.words.now run.now.rows.count path.now }
     requires path_in_bounds { length path.now ≤ length out.old }
-    ensures { PathNow source.now e marks.now rows.now n path.now out.new result }
+    ensures { PathNow run.now.source.now run.now.elements run.now.marks.now run.now.rows.words.now run.now.rows.count path.now out.new result }
 {
-    if mark_now(source, e, marks, rows, n, path) == 0 {
+    if mark_now(run, path) == 0 {
         return false;
     }
-    write_path(source, e, marks, rows, n, path, out);
+    write_path(run, path, out);
     true
 }
 
@@ -91,25 +86,21 @@ fn put_bookmark(bookmarks: &mut [u32], to: usize, number: u32, path: &[u32])
 
 // The bookmark of slot `i` after a run: written to slot `to`, which is no later, or dropped. The slot for the next one.
 fn move_bookmark(
-    source: &[u32],
-    e: usize,
-    marks: &[u32],
-    rows: &[u32],
-    n: usize,
+    run: &RunEnd,
     bookmarks: &mut [u32],
     i: usize,
     to: usize,
     path: &mut [u32],
 ) -> usize
-    requires here { Here source.now e marks.now rows.now n (slot_at bookmarks.old i) }
+    requires here { Here run.now.source.now run.now.elements run.now.marks.now run.now.rows.words.now run.now.rows.count (slot_at bookmarks.old i) }
     requires i_in_bounds { (1 + 65 * (i + 1) ≤ length bookmarks.old) × (to ≤ i) × (i < 2 ^ 32) × (63 ≤ length path.old) }
-    ensures { (h : Here source.now e marks.now rows.now n (slot_at bookmarks.old i)) → Put bookmarks.old to (kept h.run.moves (bookmark_in (slot_at bookmarks.old i))) bookmarks.new result }
+    ensures { (h : Here run.now.source.now run.now.elements run.now.marks.now run.now.rows.words.now run.now.rows.count (slot_at bookmarks.old i)) → Put bookmarks.old to (kept h.run.moves (bookmark_in (slot_at bookmarks.old i))) bookmarks.new result }
 {
     let at = slot_at(i);
     let k = word(bookmarks, at + PATH_LENGTH);
     let from = at + PATH;
     let end = from + k;
-    if path_now(source, e, marks, rows, n, &bookmarks[from..end], path) {
+    if path_now(run, &bookmarks[from..end], path) {
         let number = bookmarks[at];
         put_bookmark(bookmarks, to, number, &path[..k]);
         return to + 1;
@@ -120,42 +111,26 @@ fn move_bookmark(
 // ── All bookmarks ──
 
 // The `k` bookmarks after a run: the survivors in their order, in the first slots. How many they are.
-fn pack_bookmarks(
-    source: &[u32],
-    e: usize,
-    marks: &[u32],
-    rows: &[u32],
-    n: usize,
-    bookmarks: &mut [u32],
-    k: usize,
-    path: &mut [u32],
-) -> usize
-    requires moving { Moving source.now e marks.now rows.now n bookmarks.old k }
+fn pack_bookmarks(run: &RunEnd, bookmarks: &mut [u32], k: usize, path: &mut [u32]) -> usize
+    requires moving { Moving run.now.source.now run.now.elements run.now.marks.now run.now.rows.words.now run.now.rows.count bookmarks.old k }
     requires k_in_bounds { (1 + 65 * k ≤ length bookmarks.old) × (k < 2 ^ 32) × (63 ≤ length path.old) }
-    ensures { (result ≤ k) × ((v : Moving source.now e marks.now rows.now n bookmarks.old k) → Packs v.run.moves bookmarks.old k bookmarks.new result) }
+    ensures { (result ≤ k) × ((v : Moving run.now.source.now run.now.elements run.now.marks.now run.now.rows.words.now run.now.rows.count bookmarks.old k) → Packs v.run.moves bookmarks.old k bookmarks.new result) }
 {
     let mut to = 0;
     for i in 0..k {
-        to = move_bookmark(source, e, marks, rows, n, bookmarks, i, to, path);
+        to = move_bookmark(run, bookmarks, i, to, path);
     }
     to
 }
 
 // The lent bookmarks after a run: their count, and the survivors in their order; beyond them what was held.
-pub fn move_bookmarks(
-    source: &[u32],
-    e: usize,
-    marks: &[u32],
-    rows: &[u32],
-    n: usize,
-    bookmarks: &mut [u32],
-)
-    requires moving { Moving source.now e marks.now rows.now n bookmarks.old (get_or bookmarks.old 0 0) }
+pub fn move_bookmarks(run: &RunEnd, bookmarks: &mut [u32])
+    requires moving { Moving run.now.source.now run.now.elements run.now.marks.now run.now.rows.words.now run.now.rows.count bookmarks.old (get_or bookmarks.old 0 0) }
     requires bookmarks_in_bounds { 1 + 65 * get_or bookmarks.old 0 0 ≤ length bookmarks.old }
-    ensures { (v : Moving source.now e marks.now rows.now n bookmarks.old (get_or bookmarks.old 0 0)) → bookmarks.new ≡ bookmarks_after v.run.moves bookmarks.old }
+    ensures { (v : Moving run.now.source.now run.now.elements run.now.marks.now run.now.rows.words.now run.now.rows.count bookmarks.old (get_or bookmarks.old 0 0)) → bookmarks.new ≡ bookmarks_after v.run.moves bookmarks.old }
 {
     let mut path = [0u32; 63];
     let k = word(bookmarks, 0);
-    let to = pack_bookmarks(source, e, marks, rows, n, bookmarks, k, &mut path);
+    let to = pack_bookmarks(run, bookmarks, k, &mut path);
     bookmarks[0] = to as u32;
 }

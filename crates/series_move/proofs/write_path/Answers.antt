@@ -7,11 +7,8 @@ use Rattle.series_move.proofs.write_path.Goals as goal
 pub loop-j-init : goal.loop-j-init
 loop-j-init c = writing_start _ _ _ _ _ _ _
 
-pub overflow_add-e : goal.overflow_add-e
-overflow_add-e c = omega (arith, c.requires.survives.stood.few)
-
 pub child_row-y-requires : goal.child_row-y-requires
-child_row-y-requires c = (c.requires.survives.stood.long_old, omega (arith, c.requires.survives.stood.few), (writing_here c.loop-j.invariant c.requires.survives).inside, omega arith)
+child_row-y-requires c = ((writing_here c.loop-j.invariant c.requires.survives).inside, omega arith)
 
 pub overflow_sub-x : goal.overflow_sub-x
 overflow_sub-x c = (writing_here c.loop-j.invariant c.requires.survives).pos
@@ -29,7 +26,7 @@ pub overflow_add-above : goal.overflow_add-above
 overflow_add-above c = omega (arith, c.word-above.ensures.1)
 
 pub children_between-requires : goal.children_between-requires
-children_between-requires c = (c.requires.survives.stood.long_new, omega (arith, c.requires.survives.stood.few_new), (writing_ordered c.loop-j.invariant c.requires.survives c.loop-j-test.true (refl, omega arith) c.child_row-y.ensures c.word-above.ensures c.word-here.ensures).0, (writing_ordered c.loop-j.invariant c.requires.survives c.loop-j-test.true (refl, omega arith) c.child_row-y.ensures c.word-above.ensures c.word-here.ensures).1)
+children_between-requires c = ((writing_ordered c.loop-j.invariant c.requires.survives c.loop-j-test.true (refl, omega arith) c.child_row-y.ensures c.word-above.ensures c.word-here.ensures).0, (writing_ordered c.loop-j.invariant c.requires.survives c.loop-j-test.true (refl, omega arith) c.child_row-y.ensures c.word-above.ensures c.word-here.ensures).1)
 
 pub overflow_cast-out : goal.overflow_cast-out
 overflow_cast-out c = omega (arith, c.children_between.ensures.few, (writing_ordered c.loop-j.invariant c.requires.survives c.loop-j-test.true (refl, omega arith) c.child_row-y.ensures c.word-above.ensures c.word-here.ensures).1, c.requires.survives.stood.few_new)

@@ -1,0 +1,19 @@
+// What a run leaves, to be read as one value.
+
+ghost use Rattle.std.specs.Prelude.{◌+◌, ◌*◌, ◌^◌, ◌≤◌, ◌<◌, length};
+
+use rows_syntax_node::Rows;
+
+// Where the elements of a batch stood, and where they stand.
+#[derive(Clone, Copy)]
+pub struct RunEnd<'a> {
+    // How many they are. Their rows stand in `source` behind that of the node above all trees.
+    pub elements: usize,
+    pub source: &'a [u32],
+    // The row of each of them now, 0 where it is gone.
+    pub marks: &'a [u32],
+    // The rows of the current trees.
+    pub rows: Rows<'a>,
+    pub ghost long: { 3 * (elements + 1) ≤ length source.now },
+    pub ghost few: { elements < 2 ^ 12 },
+}
