@@ -16,7 +16,7 @@ ghost use Rattle.series_tree.specs.New.{flat_in, new_in};
 
 use finish_arrays::{text_size, write_elements, write_text};
 use read_layout::Layout;
-use rows_syntax_node::{ROW_WORDS, subtree, text_bytes};
+use rows_syntax_node::{ROW_WORDS, Rows, subtree, text_bytes};
 use series_check::SIZES;
 use words::{read_word, write_word};
 
@@ -78,7 +78,11 @@ pub fn same_tree(b: &[u8], l: Layout, source: &[u32], tree: &[u8]) -> bool
     ensures { (a : Accepted) → accepted b.now ≡ gives a → result ≡ same_tree (flat_of (old_tree a.trees)) (tree_in (word tree.now) (word (drop 4 tree.now)) tree.now) }
 {
     let s = l.sizes;
-    let first = subtree(source, s.elements + 1, 1);
+    let old = Rows {
+        count: s.elements + 1,
+        words: source,
+    };
+    let first = subtree(&old, 1);
     let bytes = text_bytes(first);
     same_arrays(
         b,
@@ -94,11 +98,11 @@ pub fn same_tree(b: &[u8], l: Layout, source: &[u32], tree: &[u8]) -> bool
 // ── The new tree ──
 
 // 13: whether the new tree, from the rows of all trees as the run leaves them, takes more than `space` bytes.
-pub fn lacks_room(rows: &[u32], n: usize, text: &[u8], space: usize) -> bool
-    requires { (3 * n ≤ length rows.now) × (1 ≤ n) × (n < 2 ^ 16) × (bytes (first_rows text.now n rows.now) < 2 ^ 32) }
-    ensures { result ≡ ltb space (tree_bytes (length (new_in text.now n rows.now).kinds) (length (new_in text.now n rows.now).text)) }
+pub fn lacks_room(rows: &Rows, text: &[u8], space: usize) -> bool
+    requires { (1 ≤ rows.now.count) × (bytes (first_rows text.now rows.now.count rows.now.words.now) < 2 ^ 32) }
+    ensures { result ≡ ltb space (tree_bytes (length (new_in text.now rows.now.count rows.now.words.now).kinds) (length (new_in text.now rows.now.count rows.now.words.now).text)) }
 {
-    let tree = subtree(rows, n, 1);
+    let tree = subtree(rows, 1);
     let size = text_size(tree, text);
     space < SIZES + 8 * (tree.len() / ROW_WORDS) + size
 }
@@ -116,12 +120,12 @@ fn write_flat(memory: &mut [u8], tree: &[u32], size: usize, text: &[u8])
 }
 
 // The new tree, which is known to fit, is written to the front of `memory`; beyond it what was held.
-pub fn write_tree(memory: &mut [u8], rows: &[u32], n: usize, text: &[u8])
-    requires n_in_bounds { (3 * n ≤ length rows.now) × (1 ≤ n) × (n < 2 ^ 16) × (bytes (first_rows text.now n rows.now) < 2 ^ 32) }
-    requires rows_in_bounds { tree_bytes (length (new_in text.now n rows.now).kinds) (length (new_in text.now n rows.now).text) ≤ length memory.old }
-    ensures { memory.new ≡ over (tree_out (new_in text.now n rows.now)) memory.old }
+pub fn write_tree(memory: &mut [u8], rows: &Rows, text: &[u8])
+    requires some_rows { (1 ≤ rows.now.count) × (bytes (first_rows text.now rows.now.count rows.now.words.now) < 2 ^ 32) }
+    requires room { tree_bytes (length (new_in text.now rows.now.count rows.now.words.now).kinds) (length (new_in text.now rows.now.count rows.now.words.now).text) ≤ length memory.old }
+    ensures { memory.new ≡ over (tree_out (new_in text.now rows.now.count rows.now.words.now)) memory.old }
 {
-    let tree = subtree(rows, n, 1);
+    let tree = subtree(rows, 1);
     let size = text_size(tree, text);
     write_flat(memory, tree, size, text);
 }

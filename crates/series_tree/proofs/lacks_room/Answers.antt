@@ -5,7 +5,7 @@ use Rattle.finish_arrays.specs.NewTree.{tree_long, tree_bytes}
 use Rattle.series_tree.proofs.lacks_room.Goals as goal
 
 pub text_size-size-requires : goal.text_size-size-requires
-text_size-size-requires c = (omega (arith, tree_long c.subtree-tree.ensures c.requires.0 c.requires.1, c.requires.2), tree_bytes c.subtree-tree.ensures _ c.requires.3)
+text_size-size-requires c = (omega (arith, tree_long c.subtree-tree.ensures c.args.rows.now.long c.requires.0, c.args.rows.now.few), tree_bytes c.subtree-tree.ensures _ c.requires.1)
 
 pub returns : goal.returns
 returns c = room_told _ c.subtree-tree.ensures c.text_size-size.ensures _
