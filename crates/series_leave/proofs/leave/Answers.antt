@@ -1,10 +1,9 @@
 -- `leave` meets its contract.
-use native.Mathlib.Omega.{arith}
 use Rattle.series_leave.specs.Leaving.{leaving_fits, leaving_moves, leaving_slots, leaving_left}
 use Rattle.series_leave.proofs.leave.Goals as goal
 
 pub write_tree-requires : goal.write_tree-requires
-write_tree-requires c = record { n_in_bounds = (c.requires.left.long_new, c.requires.some_rows, omega (arith, c.requires.left.few_new), c.requires.few_bytes); rows_in_bounds = leaving_fits c.requires }
+write_tree-requires c = record { some_rows = (c.requires.some_rows, c.requires.few_bytes); room = leaving_fits c.requires }
 
 pub move_bookmarks-requires : goal.move_bookmarks-requires
 move_bookmarks-requires c = record { moving = leaving_moves c.requires; bookmarks_in_bounds = leaving_slots c.requires }
