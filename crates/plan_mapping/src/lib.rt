@@ -1,7 +1,7 @@
 // Mappings: the mapped node of an element, its place below another, and the climb from a replaced node to its replacement.
 #![tactic(auto)]
 
-ghost use Rattle.std.specs.Prelude.{◌≡◌, ◌+◌, ◌*◌, ◌≤◌, ◌<◌, length};
+ghost use Rattle.std.specs.Prelude.{◌≡◌, ◌+◌, ◌*◌, ◌<◌, length};
 ghost use Rattle.std.proofs.Math.Option.{get_or};
 ghost use mathlib.Core.List.{zip};
 ghost use Rattle.read_element_table.specs.Wellformed.{Lines};

@@ -3,7 +3,7 @@
 
 ghost use Rattle.std.specs.Prelude.{◌≡◌, cond, ◌+◌, ◌*◌, ◌≤◌, ◌<◌, length, get_or, eqb};
 ghost use Rattle.words.specs.List.{words_of};
-ghost use Rattle.read_element_table.specs.View.{view};
+ghost use Rattle.read_element_table.specs.Held.{view_of};
 ghost use Rattle.plan_mapping.specs.Mapped.{mapped_by};
 ghost use Rattle.record_changes.specs.ChangeRowLaws.{row_at};
 ghost use Rattle.record_rewritten.specs.Stated.{change_of, Dependent, NewEnds, Fated, Rewritable};
@@ -96,7 +96,7 @@ fn write_judged(
 ) -> Result<usize, Refusal>
     requires places { (i < 256) × (14 * i + 14 ≤ length out.old) × (steps ≤ 2 * elements.now.count) }
     requires new_ends { NewEnds elements.now.count (words_of listed.now) (row_at rows.now i) x y }
-    ensures { RowRewritten (judged_row (view elements.now.count elements.now.table.now elements.now.source.now) (words_of listed.now) (row_at rows.now i) (x, y, steps)) i out.old out.new result }
+    ensures { RowRewritten (judged_row (view_of elements.now) (words_of listed.now) (row_at rows.now i) (x, y, steps)) i out.old out.new result }
 {
     let operation = field(rows, i, record_changes::OPERATION);
     let list = field(rows, i, record_changes::LIST);
@@ -120,7 +120,7 @@ fn rewrite_dependent_target(
 ) -> Result<usize, Refusal>
     requires places { (i < 256) × (k < 256) × (14 * i + 14 ≤ length out.old) }
     requires dependent { Dependent mapping.now.elements.count (words_of listed.now) (row_at rows.now k) (row_at rows.now i) }
-    ensures { RowRewritten (rewrite_under (view mapping.now.elements.count mapping.now.elements.table.now mapping.now.elements.source.now) (mapped_by mapping.now.map.now) (words_of listed.now) (change_of (words_of listed.now) (row_at rows.now k)) (row_at rows.now i)) i out.old out.new result }
+    ensures { RowRewritten (rewrite_under (view_of mapping.now.elements) (mapped_by mapping.now.map.now) (words_of listed.now) (change_of (words_of listed.now) (row_at rows.now k)) (row_at rows.now i)) i out.old out.new result }
 {
     let e = upmap_dependent(mapping, listed, rows, i, k)?;
     write_judged(
@@ -145,7 +145,7 @@ fn rewrite_row(
 ) -> Result<usize, Refusal>
     requires places { 14 * i + 14 ≤ length out.old }
     requires fated { Fated mapping.now.elements.count (words_of listed.now) rows.now i }
-    ensures { RowRewritten (rewrite_at (view mapping.now.elements.count mapping.now.elements.table.now mapping.now.elements.source.now) (mapped_by mapping.now.map.now) (words_of listed.now) rows.now i) i out.old out.new result }
+    ensures { RowRewritten (rewrite_at (view_of mapping.now.elements) (mapped_by mapping.now.map.now) (words_of listed.now) rows.now i) i out.old out.new result }
 {
     if field(rows, i, record_changes::FATE) == Fate::Dependent as usize {
         let k = field(rows, i, record_changes::OWNER);

@@ -1,10 +1,10 @@
 // What is asked for and answered; the work slices: whether one is too short, and all of them cleared.
 #![tactic(auto)]
 
-ghost use Rattle.std.specs.Prelude.{◌≡◌, ◌∷◌, [], length, ltb};
+ghost use Rattle.std.specs.Prelude.{◌≡◌};
 ghost use Rattle.definition.specs.Answers.{too_short};
 ghost use Rattle.promises.specs.Lent.{held, Same};
-ghost use Rattle.promises.specs.Slices.{asked, needed, lengths, zeros, zeroed};
+ghost use Rattle.promises.specs.Slices.{needed, lengths, zeros, zeroed};
 
 // What is asked of a batch: its edit, where a node of tree 0 stands then, what becomes of each change, how much of the text is rewritten, or which elements of
 // tree 0 survive, and where.

@@ -5,10 +5,10 @@ ghost use Rattle.std.specs.Prelude.{◌≡◌, not, ◌≤◌, length};
 ghost use mathlib.Core.List.{zip};
 ghost use Rattle.definition.specs.Basics.{gives, any};
 ghost use Rattle.definition.specs.Refusals.{wrong_mapping};
-ghost use Rattle.read_element_table.specs.View.{view};
-ghost use Rattle.read_element_table.specs.Wellformed.{Wellformed};
+ghost use Rattle.read_element_table.specs.Held.{view_of};
 ghost use Rattle.refusals.specs.Numbers.{answered};
-ghost use Rattle.read_layout.specs.Layout.{Within, arrays_at, laid};
+ghost use Rattle.read_layout.specs.Held.{arrays_of};
+ghost use Rattle.read_layout.specs.Layout.{laid};
 ghost use Rattle.read_names.specs.Called.{calls_fit, word_too_many};
 ghost use Rattle.read_names.specs.Noted.{note_wrong};
 ghost use Rattle.read_batch.specs.Accepting.{named};
@@ -20,28 +20,28 @@ use refusals::Refusal;
 
 // Line 6, of a batch with this layout.
 fn calls_stand(batch: &Batch, elements: &Elements) -> bool
-    ensures { result ≡ calls_fit (view elements.now.count elements.now.table.now elements.now.source.now) (zip (arrays_at batch.now.layout batch.now.bytes.now).calls (arrays_at batch.now.layout batch.now.bytes.now).targets) (arrays_at batch.now.layout batch.now.bytes.now).listed }
+    ensures { result ≡ calls_fit (view_of elements.now) (zip (arrays_of batch.now).calls (arrays_of batch.now).targets) (arrays_of batch.now).listed }
 {
     read_names::calls_fit(&batch.calls(), &batch.targets(), &batch.listed(), elements)
 }
 
 // 16, of its calls.
 fn lists_stand(batch: &Batch) -> bool
-    ensures { result ≡ not (any word_too_many (arrays_at batch.now.layout batch.now.bytes.now).calls) }
+    ensures { result ≡ not (any word_too_many (arrays_of batch.now).calls) }
 {
     read_names::lists_fit(&batch.calls())
 }
 
 // Line 7, of its mappings.
 fn mappings_stand(batch: &Batch, elements: &Elements) -> bool
-    ensures { result ≡ not (any (wrong_mapping (view elements.now.count elements.now.table.now elements.now.source.now)) (zip (arrays_at batch.now.layout batch.now.bytes.now).inputs (arrays_at batch.now.layout batch.now.bytes.now).outputs)) }
+    ensures { result ≡ not (any (wrong_mapping (view_of elements.now)) (zip (arrays_of batch.now).inputs (arrays_of batch.now).outputs)) }
 {
     read_names::mappings_fit(&batch.inputs(), &batch.outputs(), elements)
 }
 
 // Line 7, of its notes.
 fn notes_stand(batch: &Batch) -> bool
-    ensures { result ≡ not (any (note_wrong batch.now.layout.sizes.elements) (zip (arrays_at batch.now.layout batch.now.bytes.now).noted (arrays_at batch.now.layout batch.now.bytes.now).numbers)) }
+    ensures { result ≡ not (any (note_wrong batch.now.layout.sizes.elements) (zip (arrays_of batch.now).noted (arrays_of batch.now).numbers)) }
 {
     read_names::notes_fit(
         &batch.noted(),
@@ -53,7 +53,7 @@ fn notes_stand(batch: &Batch) -> bool
 // Lines 6, 16 and 7.
 fn judge_names(batch: &Batch, elements: &Elements) -> Result<Layout, Refusal>
     requires { elements.now.count ≡ batch.now.layout.sizes.elements }
-    ensures { answered result ≡ named (arrays_at batch.now.layout batch.now.bytes.now) (view elements.now.count elements.now.table.now elements.now.source.now) batch.now.layout }
+    ensures { answered result ≡ named (arrays_of batch.now) (view_of elements.now) batch.now.layout }
 {
     if !calls_stand(batch, elements) {
         return Err(Refusal::Call);

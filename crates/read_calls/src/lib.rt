@@ -1,13 +1,12 @@
 // One call: what its word says, and its judgement by what the element table tells, for a batch's calls and for rewritten ones.
 #![tactic(auto)]
 
-ghost use Rattle.std.specs.Prelude.{◌≡◌, suc, ◌+◌, ◌*◌, ◌^◌, ◌≤◌, ◌<◌, length, get_or, eqb};
+ghost use Rattle.std.specs.Prelude.{◌≡◌, ◌+◌, ◌*◌, ◌≤◌, ◌<◌, length};
 ghost use mathlib.Core.List.{head_d};
 ghost use Rattle.words.specs.List.{words_of};
 ghost use Rattle.definition.specs.Elements.{is_node};
 ghost use Rattle.definition.specs.Refusals.{operation_of, count_of, rule_of};
-ghost use Rattle.read_element_table.specs.View.{view};
-ghost use Rattle.read_element_table.specs.Told.{child_count};
+ghost use Rattle.read_element_table.specs.Held.{view_of};
 ghost use Rattle.read_calls.specs.Fits.{word_fits, call_fits, run_fits};
 
 use read_element_table::{CHILD, Elements, PARENT, entry, is_node, is_root};
@@ -68,7 +67,7 @@ pub fn word_fits(operation: usize, count: usize, rule: usize) -> bool
 // What else is asked of a call of a known operation, by its target and the first listed element (any element if it lists none).
 pub fn call_fits(elements: &Elements, operation: usize, target: usize, first: usize) -> bool
     requires { (operation ≤ 6) × (target < elements.now.count) × (first < elements.now.count) }
-    ensures { result ≡ call_fits (view elements.now.count elements.now.table.now elements.now.source.now) operation target first }
+    ensures { result ≡ call_fits (view_of elements.now) operation target first }
 {
     match operation {
         0 => is_node(elements.source, target),

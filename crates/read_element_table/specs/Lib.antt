@@ -9,6 +9,7 @@
 --     Afters        word 6 is the element after the subtree, as the trees have it
 --     SourceRows    the rows are those of the trees
 --     Filled        the theorems for a batch
+--     Held          what the elements as one value tell
 pub mod View
 pub mod Wellformed
 pub mod Told
@@ -19,3 +20,4 @@ pub mod Sound
 pub mod Afters
 pub mod SourceRows
 pub mod Filled
+pub mod Held

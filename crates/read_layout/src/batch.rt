@@ -1,8 +1,7 @@
 // A batch whose arrays stand where its layout says, as one value.
 
 ghost use Rattle.std.specs.Prelude.{◌≡◌, ◌+◌, ◌*◌, ◌≤◌, length};
-ghost use Rattle.words.specs.List.{words_of};
-ghost use Rattle.read_layout.specs.Layout.{Within, arrays_at};
+ghost use Rattle.read_layout.specs.Layout.{Within};
 
 use crate::Layout;
 use words::WordList;
@@ -16,6 +15,9 @@ pub struct Batch<'a> {
 }
 
 impl<'a> Batch<'a> {
+    ghost use Rattle.words.specs.List.{words_of};
+    ghost use Rattle.read_layout.specs.Held.{arrays_of};
+
     // The `count` words of its bytes from `at` on.
     fn words_at(&self, at: usize, count: usize) -> WordList<'a>
         requires { at + 4 * count ≤ length self.now.bytes.now }
@@ -28,7 +30,7 @@ impl<'a> Batch<'a> {
     // The call words.
     #[tactic(auto, unfolding(crate::specs::Layout::arrays_at))]
     pub fn calls(&self) -> WordList<'a>
-        ensures { (words_of result ≡ (arrays_at self.now.layout self.now.bytes.now).calls) × (result.count ≡ self.now.layout.sizes.calls) }
+        ensures { (words_of result ≡ (arrays_of self.now).calls) × (result.count ≡ self.now.layout.sizes.calls) }
     {
         self.words_at(self.layout.words, self.layout.sizes.calls)
     }
@@ -36,7 +38,7 @@ impl<'a> Batch<'a> {
     // The targets of the calls.
     #[tactic(auto, unfolding(crate::specs::Layout::arrays_at))]
     pub fn targets(&self) -> WordList<'a>
-        ensures { (words_of result ≡ (arrays_at self.now.layout self.now.bytes.now).targets) × (result.count ≡ self.now.layout.sizes.calls) }
+        ensures { (words_of result ≡ (arrays_of self.now).targets) × (result.count ≡ self.now.layout.sizes.calls) }
     {
         self.words_at(self.layout.targets, self.layout.sizes.calls)
     }
@@ -44,7 +46,7 @@ impl<'a> Batch<'a> {
     // The elements that the calls list.
     #[tactic(auto, unfolding(crate::specs::Layout::arrays_at))]
     pub fn listed(&self) -> WordList<'a>
-        ensures { (words_of result ≡ (arrays_at self.now.layout self.now.bytes.now).listed) × (result.count ≡ self.now.layout.sizes.listed) }
+        ensures { (words_of result ≡ (arrays_of self.now).listed) × (result.count ≡ self.now.layout.sizes.listed) }
     {
         self.words_at(self.layout.list, self.layout.sizes.listed)
     }
@@ -52,7 +54,7 @@ impl<'a> Batch<'a> {
     // What is mapped.
     #[tactic(auto, unfolding(crate::specs::Layout::arrays_at))]
     pub fn inputs(&self) -> WordList<'a>
-        ensures { (words_of result ≡ (arrays_at self.now.layout self.now.bytes.now).inputs) × (result.count ≡ self.now.layout.sizes.mappings) }
+        ensures { (words_of result ≡ (arrays_of self.now).inputs) × (result.count ≡ self.now.layout.sizes.mappings) }
     {
         self.words_at(self.layout.inputs, self.layout.sizes.mappings)
     }
@@ -60,7 +62,7 @@ impl<'a> Batch<'a> {
     // What it is mapped to.
     #[tactic(auto, unfolding(crate::specs::Layout::arrays_at))]
     pub fn outputs(&self) -> WordList<'a>
-        ensures { (words_of result ≡ (arrays_at self.now.layout self.now.bytes.now).outputs) × (result.count ≡ self.now.layout.sizes.mappings) }
+        ensures { (words_of result ≡ (arrays_of self.now).outputs) × (result.count ≡ self.now.layout.sizes.mappings) }
     {
         self.words_at(self.layout.outputs, self.layout.sizes.mappings)
     }
@@ -68,7 +70,7 @@ impl<'a> Batch<'a> {
     // The elements that carry a note.
     #[tactic(auto, unfolding(crate::specs::Layout::arrays_at))]
     pub fn noted(&self) -> WordList<'a>
-        ensures { (words_of result ≡ (arrays_at self.now.layout self.now.bytes.now).noted) × (result.count ≡ self.now.layout.sizes.notes) }
+        ensures { (words_of result ≡ (arrays_of self.now).noted) × (result.count ≡ self.now.layout.sizes.notes) }
     {
         self.words_at(self.layout.noted, self.layout.sizes.notes)
     }
@@ -76,7 +78,7 @@ impl<'a> Batch<'a> {
     // The numbers of the notes.
     #[tactic(auto, unfolding(crate::specs::Layout::arrays_at))]
     pub fn numbers(&self) -> WordList<'a>
-        ensures { (words_of result ≡ (arrays_at self.now.layout self.now.bytes.now).numbers) × (result.count ≡ self.now.layout.sizes.notes) }
+        ensures { (words_of result ≡ (arrays_of self.now).numbers) × (result.count ≡ self.now.layout.sizes.notes) }
     {
         self.words_at(self.layout.numbers, self.layout.sizes.notes)
     }

@@ -6,7 +6,7 @@ ghost use mathlib.Core.List.{zip};
 ghost use Rattle.words.specs.List.{words_of};
 ghost use Rattle.definition.specs.Basics.{any};
 ghost use Rattle.definition.specs.Refusals.{count_of, call_of, wrong_call, wrong_mapping};
-ghost use Rattle.read_element_table.specs.View.{view};
+ghost use Rattle.read_element_table.specs.Held.{view_of};
 ghost use Rattle.read_names.specs.Called.{word_too_many, calls_fit};
 ghost use Rattle.read_names.specs.Noted.{note_wrong};
 
@@ -35,7 +35,7 @@ fn all_below(listed: &WordList, n: usize) -> bool
 #[tactic(auto, using(crate::proofs::Calling::wrong_word, crate::proofs::Calling::wrong_target, crate::proofs::Calling::wrong_listed, crate::proofs::Calling::call_judged))]
 fn call_stands(listed: &WordList, word: usize, target: usize, elements: &Elements) -> bool
     requires { listed.now.count ≡ count_of word }
-    ensures { result ≡ not (wrong_call (view elements.now.count elements.now.table.now elements.now.source.now) (call_of word target (words_of listed.now))) }
+    ensures { result ≡ not (wrong_call (view_of elements.now) (call_of word target (words_of listed.now))) }
 {
     let operation = read_calls::operation_of(word);
     let rule = read_calls::rule_of(word);
@@ -61,7 +61,7 @@ pub fn calls_fit(
     elements: &Elements,
 ) -> bool
     requires { targets.now.count ≡ calls.now.count }
-    ensures { result ≡ calls_fit (view elements.now.count elements.now.table.now elements.now.source.now) (zip (words_of calls.now) (words_of targets.now)) (words_of listed.now) }
+    ensures { result ≡ calls_fit (view_of elements.now) (zip (words_of calls.now) (words_of targets.now)) (words_of listed.now) }
 {
     let mut taken = 0;
     for i in 0..calls.count {
@@ -111,7 +111,7 @@ pub fn lists_fit(calls: &WordList) -> bool
 
 // Whether a mapping names two nodes, the output no root.
 fn mapping_fits(elements: &Elements, input: usize, output: usize) -> bool
-    ensures { result ≡ not (wrong_mapping (view elements.now.count elements.now.table.now elements.now.source.now) (input, output)) }
+    ensures { result ≡ not (wrong_mapping (view_of elements.now) (input, output)) }
 {
     input < elements.count
         && output < elements.count
@@ -124,7 +124,7 @@ fn mapping_fits(elements: &Elements, input: usize, output: usize) -> bool
 #[tactic(auto, using(crate::proofs::Passing::pairing_start, crate::proofs::Passing::pairing_met, crate::proofs::Passing::pairing_next, crate::proofs::Passing::pairing_all))]
 pub fn mappings_fit(inputs: &WordList, outputs: &WordList, elements: &Elements) -> bool
     requires { outputs.now.count ≡ inputs.now.count }
-    ensures { result ≡ not (any (wrong_mapping (view elements.now.count elements.now.table.now elements.now.source.now)) (zip (words_of inputs.now) (words_of outputs.now))) }
+    ensures { result ≡ not (any (wrong_mapping (view_of elements.now)) (zip (words_of inputs.now) (words_of outputs.now))) }
 {
     for i in 0..inputs.count {
         let input = inputs.get(i);

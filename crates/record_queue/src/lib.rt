@@ -1,11 +1,11 @@
 // Recording: from the calls of an accepted batch to change rows, editor after editor.
 #![tactic(auto)]
 
-ghost use Rattle.std.specs.Prelude.{◌≡◌, ◌+◌, ◌*◌, ◌^◌, ◌≤◌, ◌<◌, length, get_or, drop, unwrap_or, IfSome};
+ghost use Rattle.std.specs.Prelude.{◌≡◌, ◌+◌, ◌*◌, ◌^◌, ◌≤◌, ◌<◌, length, drop, unwrap_or, IfSome};
 ghost use mathlib.Core.List.{zip};
 ghost use Rattle.words.specs.List.{words_of};
 ghost use Rattle.definition.specs.Refusals.{count_of, call_of};
-ghost use Rattle.read_element_table.specs.View.{view};
+ghost use Rattle.read_element_table.specs.Held.{view_of};
 ghost use Rattle.record_changes.specs.ChangeRow.{rows_of};
 ghost use Rattle.record_changes.specs.ChangeRowLaws.{row_at};
 ghost use Rattle.record_changes.specs.Numbers.{row_with, NumbersFit};
@@ -134,7 +134,7 @@ fn record_call(
 ) -> Queue
     requires call_fits { CallFits elements.now.count (words_of own.now) at target × (own.now.count ≡ count_of word) }
     requires start_le_count { (q.start ≤ q.count) × (q.count < 256) × (14 * q.count + 14 ≤ length rows.old) }
-    ensures { CallPut (view elements.now.count elements.now.table.now elements.now.source.now) (words_of listed.now) at (call_of word target (words_of own.now)) q.start q.count rows.old result.start result.count rows.new }
+    ensures { CallPut (view_of elements.now) (words_of listed.now) at (call_of word target (words_of own.now)) q.start q.count rows.old result.start result.count rows.new }
 {
     let start = q.start;
     let count = q.count;
@@ -166,7 +166,7 @@ pub fn record_calls(
 ) -> usize
     requires few { (targets.now.count ≡ calls.now.count) × (calls.now.count ≤ 256) × (listed.now.count ≤ 1024) × (14 * calls.now.count ≤ length rows.old) }
     requires fit { Fit elements.now.count (zip (words_of calls.now) (words_of targets.now)) (words_of listed.now) }
-    ensures { RowsRecorded calls.now.count (change_rows (view elements.now.count elements.now.table.now elements.now.source.now) (calls_of (zip (words_of calls.now) (words_of targets.now)) (words_of listed.now))) rows.old result rows.new }
+    ensures { RowsRecorded calls.now.count (change_rows (view_of elements.now) (calls_of (zip (words_of calls.now) (words_of targets.now)) (words_of listed.now))) rows.old result rows.new }
 {
     let mut q = Queue { start: 0, count: 0 };
     let mut taken: usize = 0;

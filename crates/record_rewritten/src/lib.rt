@@ -3,7 +3,7 @@
 
 ghost use Rattle.std.specs.Prelude.{[], ◌∷◌, ◌≡◌, ◌+◌, ◌*◌, ◌≤◌, ◌<◌, length, drop};
 ghost use Rattle.std.proofs.Math.Seq.{paste};
-ghost use Rattle.read_element_table.specs.View.{view};
+ghost use Rattle.read_element_table.specs.Held.{view_of};
 ghost use Rattle.record_changes.specs.ChangeRow.{row_words};
 ghost use Rattle.record_changes.specs.ChangeRowLaws.{row_at};
 ghost use Rattle.record_rewritten.specs.Stated.{ChangedEnds, row_anew};
@@ -51,7 +51,7 @@ pub fn write_row(
     out: &mut [u32],
 )
     requires { (x < elements.now.count) × (y < elements.now.count) × (z < elements.now.count) × (i < 256) × (14 * i + 14 ≤ length out.old) }
-    ensures { out.new ≡ paste out.old (14 * i) (row_words (row_anew (view elements.now.count elements.now.table.now elements.now.source.now) (row_at rows.now i) x y z)) 14 }
+    ensures { out.new ≡ paste out.old (14 * i) (row_words (row_anew (view_of elements.now) (row_at rows.now i) x y z)) 14 }
 {
     let change = change_anew(rows, elements.count, i, x, y);
     let spot = record_changes::spot_of(change, z, elements);
