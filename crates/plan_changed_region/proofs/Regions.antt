@@ -9,6 +9,9 @@ use native.Mathlib.Numerals.{add-one}
 use native.Mathlib.Omega.{arith}
 use lib.ListN.{length, get_or, set, drop, replicate, length-set, take-append-drop}
 use lib.Seq.{set_out, drop-drop}
+use Rattle.std.specs.Prelude.{Some}
+use Rattle.std.specs.Prelude.{Option as Maybe}
+use Rattle.plan_sort.specs.Lists.{one_past}
 use lib.Dec.{leb, eqb}
 use borrow.Author.Tests.{eq-eqb, ne_eqb, le-leb, lt-leb}
 use Rattle.orders.specs.Lists.{All}
@@ -39,9 +42,9 @@ module _ (w : List ℕ) (j x : ℕ) (f : x ≡ get_or (drop (14 * j) w) 11 0) wh
   unfolding outer row_at row_of
   outer_none e = rw (← f, e)
 
-  pub outer_some : (x ≡ 0 → ⊥) → (y : ℕ) → y ≡ get_or (drop (14 * j) w) 12 0 → y + 1 ≡ outer (row_at w j)
+  pub outer_some : (x ≡ 0 → ⊥) → (y : ℕ) → y ≡ get_or (drop (14 * j) w) 12 0 → suc y ≡ outer (row_at w j)
   unfolding outer row_at row_of
-  outer_some n y g = rw (← f, ne_eqb x 0 n, ← g) (add-one y)
+  outer_some n y g = rw (← f, ne_eqb x 0 n, ← g)
 
 -- what is sought from `top` is to be found from p on
 pub record Popping (a b : ℕ) (w : List ℕ) (top p : ℕ) : Type 0 where
@@ -51,25 +54,28 @@ pub record Popping (a b : ℕ) (w : List ℕ) (top p : ℕ) : Type 0 where
 pub popping_start : (a b : ℕ) (w : List ℕ) (top : ℕ) → Popping a b w top top
 popping_start a b w top = record { inside = omega arith; same = refl }
 
-module _ {a b : ℕ} {w : List ℕ} {top p : ℕ} (v : Popping a b w top p) (out : Outward w top) (h : 0 < p) (r : Bool) (e : r ≡ contains (row_at w (p - 1)) a b) where
-  last : enclosing a b w p p ≡ cond r p (enclosing a b w (p - 1) (outer (row_at w (p - 1))))
-  last = let s : p ≡ suc (p - 1) = omega arith in ap (λ (i : ℕ). enclosing a b w i i) s ∙ (enclosing_here a b w (p - 1) ∙ rw (← e, ← s))
+module _ {a b : ℕ} {w : List ℕ} {top : ℕ} {g : Maybe ℕ} (v : Popping a b w top (one_past g)) (out : Outward w top) {j : ℕ} (is : g ≡ Some j) (r : Bool) (e : r ≡ contains (row_at w j) a b) where
+  here : Popping a b w top (suc j)
+  here = rw is at v
 
-  pub popping_found : r ≡ true → p ≡ enclosing a b w top top
-  popping_found t = sym (rw t at last) ∙ v.same
+  last : enclosing a b w (suc j) (suc j) ≡ cond r (suc j) (enclosing a b w j (outer (row_at w j)))
+  last = enclosing_here a b w j ∙ rw (← e)
 
-  module _ (t : r ≡ false) (q : ℕ) (u : q ≡ outer (row_at w (p - 1))) where
-    pub popping_falls : q < p
+  pub popping_found : r ≡ true → one_past g ≡ enclosing a b w top top
+  popping_found t = rw is (sym (rw t at last) ∙ here.same)
+
+  module _ (t : r ≡ false) (q : ℕ) (u : q ≡ outer (row_at w j)) where
+    pub popping_falls : q < one_past g
     unfolding Outward
-    popping_falls = omega (arith, out (p - 1) (omega (arith, v.inside)))
+    popping_falls = rw is (omega (arith, out j (omega (arith, here.inside)), u))
 
     pub popping_next : Popping a b w top q
     unfolding Outward
     popping_next =
-        let b = out (p - 1) (omega (arith, v.inside)) in
+        let low = out j (omega (arith, here.inside)) in
         record {
-          inside = omega (arith, v.inside);
-          same = rw u (sym (enclosing_lift _ _ w (p - 1) (outer (row_at w (p - 1))) b) ∙ (sym (rw t at last) ∙ v.same));
+          inside = omega (arith, here.inside);
+          same = rw u (sym (enclosing_lift _ _ w j (outer (row_at w j)) low) ∙ (sym (rw t at last) ∙ here.same));
         }
 
 pub popping_none : {a b : ℕ} {w : List ℕ} {top p : ℕ} → Popping a b w top p → p ≤ 0 → 0 ≡ enclosing a b w top top
@@ -137,9 +143,9 @@ module _ (w : List ℕ) (k p x : ℕ) (f : x ≡ get_or (drop (14 * k) w) 10 0) 
   unfolding row_at row_of
   last_around e = rw (← f, e)
 
-  pub last_itself : (x ≡ 0 → ⊥) → k + 1 ≡ cond (eqb (row_at w k).region 0) p (suc k)
+  pub last_itself : (x ≡ 0 → ⊥) → suc k ≡ cond (eqb (row_at w k).region 0) p (suc k)
   unfolding row_at row_of
-  last_itself n = rw (← f, ne_eqb x 0 n) (add-one k)
+  last_itself n = rw (← f, ne_eqb x 0 n)
 
 -- ── One change ──────────────────────────────────────────────────────────────────────────────────────────────
 

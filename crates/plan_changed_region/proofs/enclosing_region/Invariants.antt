@@ -1,8 +1,9 @@
+use Rattle.plan_sort.specs.Lists.{one_past}
 use Rattle.plan_changed_region.proofs.Regions.{Popping}
 use Rattle.plan_changed_region.proofs.enclosing_region.Given as goal
 
-abbrev pub invariant-loop-p : goal.invariant-loop-p
-invariant-loop-p l = Popping l.from l.to l.rows l.top l.p
+abbrev pub invariant-loop-region : goal.invariant-loop-region
+invariant-loop-region l = Popping l.from l.to l.rows l.top (one_past l.region)
 
-abbrev pub decreases-loop-p : goal.decreases-loop-p
-decreases-loop-p l = l.p
+abbrev pub decreases-loop-region : goal.decreases-loop-region
+decreases-loop-region l = one_past l.region

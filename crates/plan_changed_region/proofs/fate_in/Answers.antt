@@ -3,8 +3,8 @@ use Rattle.plan_changed_region.proofs.Regions.{fate_none, fate_under_discarded, 
 use borrow.Author.Rules.{rules}
 use Rattle.plan_changed_region.proofs.fate_in.Goals as goal
 
-pub returns-then-p-eq0 : goal.returns-then-p-eq0
-returns-then-p-eq0 c = search (fate_none, rules)
+pub returns-in_default : goal.returns-in_default
+returns-in_default c = search (fate_none, rules)
 
 pub returns-then-field : goal.returns-then-field
 returns-then-field c = search (fate_under_discarded, rules)

@@ -6,5 +6,5 @@ use Rattle.plan_changed_region.proofs.outer_region.Goals as goal
 pub returns-then-field : goal.returns-then-field
 returns-then-field c = search (outer_none, rules)
 
-pub returns-else-field : goal.returns-else-field
-returns-else-field c = search (outer_some, rules)
+pub returns : goal.returns
+returns c = search (outer_some, rules)
