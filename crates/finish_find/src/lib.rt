@@ -13,7 +13,7 @@ ghost use Rattle.finish_find.specs.OldStart.{TreesTold, PathFrom};
 
 use read_element_table::{AFTER, CHILD, PARENT, WORDS, entry};
 use rows_path::resolve;
-use rows_syntax_node::{ROW_WORDS, child_count, text_length};
+use rows_syntax_node::{ROW_WORDS, Rows, child_count, text_length};
 use words::word;
 
 // ── The old node ──
@@ -27,6 +27,7 @@ fn path_in_tree(table: &[u32], n: usize, k: usize, path: &mut [u32; 64]) -> usiz
     let mut at = k;
     let mut from: usize = 64;
     let mut parent = entry(table, k, PARENT);
+    // A climb has no bound to count to but its elements: as a range of 64 steps it would owe a case behind it that never comes.
     while parent != 0 {
         from -= 1;
         path[from] = table[WORDS * at + CHILD];
@@ -68,22 +69,22 @@ fn is_alike(kind: usize, start: usize, other: usize, sum: usize) -> bool
 
 // The number of the first node of tree 0 with this kind word and text start, from the rows of all trees and the row of its root. The tree ends where no
 // element is owed: each row is one owed less, and a node's row owes its children.
-pub fn find_in_tree(rows: &[u32], n: usize, root: usize, kind: usize, start: usize) -> Option<usize>
-    requires { (3 * n ≤ length rows.now) × (1 ≤ n) × (n < 2 ^ 16) × (root ≡ 1) }
-    ensures { (text : List ℕ) → result ≡ found (find_row (first_tree (first_rows text n rows.now)) kind start) }
+pub fn find_in_tree(rows: &Rows, root: usize, kind: usize, start: usize) -> Option<usize>
+    requires { (1 ≤ rows.now.count) × (root ≡ 1) }
+    ensures { (text : List ℕ) → result ≡ found (find_row (first_tree (first_rows text rows.now.count rows.now.words.now)) kind start) }
 {
     let mut sum = 0;
     let mut owed = 1;
-    for i in root..n {
+    for i in root..rows.count {
         if owed == 0 {
             return None;
         }
-        let other = word(rows, ROW_WORDS * i);
+        let other = word(rows.words, ROW_WORDS * i);
         if is_alike(kind, start, other, sum) {
             return Some(i - root);
         }
-        owed = owed - 1 + child_count(rows, i);
-        sum += text_length(rows, i);
+        owed = owed - 1 + child_count(rows.words, i);
+        sum += text_length(rows.words, i);
     }
     None
 }

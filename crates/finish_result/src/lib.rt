@@ -18,7 +18,7 @@ ghost use Rattle.finish_result.specs.Weighed.{Weighs};
 use finish_arrays::{fill_starts, text_size, write_elements, write_sizes, write_text};
 use finish_sort::{count_changed, count_notes, sort_changed, sort_notes};
 use refusals::Refusal;
-use rows_syntax_node::{ROW_WORDS, subtree};
+use rows_syntax_node::{ROW_WORDS, Rows, subtree};
 use run_annotations::{NOTE_WORDS, NUMBER, changed_row, changed_rule};
 use words::{word, write_word};
 
@@ -145,8 +145,7 @@ fn finish_tree(
 
 // The result as bytes, from the rows of all trees, the row of tree 0's root, the notes and the changed elements by their rows, as the run leaves them; their length, or 13.
 pub fn finish(
-    rows: &[u32],
-    n: usize,
+    rows: &Rows,
     root: usize,
     notes: &mut [u32],
     k: usize,
@@ -158,12 +157,12 @@ pub fn finish(
     climbs: usize,
     res: &mut [u8],
 ) -> Result<usize, Refusal>
-    requires n_in_bounds { (3 * n ≤ length rows.now) × (1 ≤ n) × (n < 2 ^ 16) × (n ≤ length starts.old + 1) × (bytes (first_rows text.now n rows.now) < 2 ^ 32) }
+    requires rows_in_bounds { (1 ≤ rows.now.count) × (rows.now.count ≤ length starts.old + 1) × (bytes (first_rows text.now rows.now.count rows.now.words.now) < 2 ^ 32) }
     requires k_in_bounds { (3 * k ≤ length notes.old) × (k < 2 ^ 16) × (c ≤ length changed.old) × (c < 2 ^ 16) × (discarded < 2 ^ 32) × (climbs < 2 ^ 32) }
     requires root_value { root ≡ 1 }
-    ensures { (marks : List ℕ) → Answered res.old (result_of discarded climbs (stored text.now n rows.now marks (notes_of k notes.old) (changed_in c changed.old))) res.new result }
+    ensures { (marks : List ℕ) → Answered res.old (result_of discarded climbs (stored text.now rows.now.count rows.now.words.now marks (notes_of k notes.old) (changed_in c changed.old))) res.new result }
 {
-    let tree = subtree(rows, n, root);
+    let tree = subtree(rows, root);
     fill_starts(tree, starts);
     let m = tree.len() / ROW_WORDS;
     finish_tree(
@@ -182,8 +181,7 @@ pub fn finish(
 
 // How many bytes the result has, from what the run leaves: told before anything is sorted or written.
 pub fn result_size(
-    rows: &[u32],
-    n: usize,
+    rows: &Rows,
     root: usize,
     notes: &[u32],
     k: usize,
@@ -191,11 +189,11 @@ pub fn result_size(
     c: usize,
     text: &[u8],
 ) -> usize
-    requires n_in_bounds { (3 * n ≤ length rows.now) × (1 ≤ n) × (n < 2 ^ 16) × (bytes (first_rows text.now n rows.now) < 2 ^ 32) × (3 * k ≤ length notes.now) × (k < 2 ^ 16) × (c ≤ length changed.now) × (c < 2 ^ 16) }
+    requires rows_in_bounds { (1 ≤ rows.now.count) × (bytes (first_rows text.now rows.now.count rows.now.words.now) < 2 ^ 32) × (3 * k ≤ length notes.now) × (k < 2 ^ 16) × (c ≤ length changed.now) × (c < 2 ^ 16) }
     requires root_value { root ≡ 1 }
-    ensures { Weighs text.now n rows.now (notes_of k notes.now) (changed_in c changed.now) result }
+    ensures { Weighs text.now rows.now.count rows.now.words.now (notes_of k notes.now) (changed_in c changed.now) result }
 {
-    let tree = subtree(rows, n, root);
+    let tree = subtree(rows, root);
     let elements = tree.len() / ROW_WORDS;
     let size = text_size(tree, text);
     let changes = count_changed(changed, c, elements + 1);
