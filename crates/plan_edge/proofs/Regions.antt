@@ -2,15 +2,18 @@
 -- Assumes nothing.
 use mathlib.Core.Path.{◌≡◌, refl, sym, ap, ◌∙◌}
 use mathlib.Core.Bool.{Bool, true, false, cond, not, ◌&&◌, ◌||◌}
-use mathlib.Core.List.{List, [], ◌∷◌, ◌++◌, map, append_assoc}
+use mathlib.Core.List.{List, [], ◌∷◌, ◌++◌, map, append_assoc, append-nil}
 use Prim.Native.Nat.{ℕ, zero, suc, ◌+◌, ◌-◌, ◌*◌, ◌≤◌, ◌<◌}
 use native.Mathlib.Nat.{sub-zero, sub_self}
 use native.Mathlib.Numerals.{add-one}
 use native.Mathlib.Omega.{arith}
 use lib.ListN.{length, get_or, set, drop, length-set, length-map}
-use lib.Seq.{drop-cons, set_at}
+use lib.Seq.{drop-cons, drop-length, set_at}
+use Rattle.std.specs.Prelude.{None, Some}
+use Rattle.std.specs.Prelude.{Option as Maybe}
+use Rattle.plan_sort.specs.Lists.{one_past}
 use lib.Dec.{ltb, eqb}
-use borrow.Author.Tests.{eq-eqb, ne_eqb, lt-ltb, le-ltb}
+use borrow.Author.Tests.{ne_eqb, lt-ltb, le-ltb}
 use Rattle.definition_laws.specs.Basics.{up_from, up_long}
 use Rattle.record_changes.specs.ChangeRow.{ChangeRow, row_of}
 use Rattle.record_changes.specs.ChangeRowLaws.{row_at}
@@ -31,24 +34,29 @@ module _ (w v : List ℕ) (k : ℕ) (a : Bool) (e : a ≡ of_root w (row_at v k)
 
 -- ── The innermost ───────────────────────────────────────────────────────────────────────────────────────────
 
-module _ (w v : List ℕ) (k j b : ℕ) (t : Bool) (e : t ≡ takes w j (row_at v j) k (row_at v k)) where
-  opens : innermost w v k j b ≡ cond t (cond (eqb b 0 || ltb (region_depth w (row_at v (b - 1))) (region_depth w (row_at v j))) (suc j) b) b
+module _ (w v : List ℕ) (k j : ℕ) (b : Maybe ℕ) (t : Bool) (e : t ≡ takes w j (row_at v j) k (row_at v k)) where
+  opens : innermost w v k j (one_past b) ≡ cond t (cond (eqb (one_past b) 0 || ltb (region_depth w (row_at v (one_past b - 1))) (region_depth w (row_at v j))) (suc j) (one_past b)) (one_past b)
   unfolding innermost
   opens = rw e
 
-  pub untaken : t ≡ false → b ≡ innermost w v k j b
+  pub untaken : t ≡ false → one_past b ≡ innermost w v k j (one_past b)
   untaken q = rw (opens, q)
 
   module _ (q : t ≡ true) where
-    pub last_taken : b ≡ 0 → j + 1 ≡ innermost w v k j b
-    last_taken z = rw (opens, q, eq-eqb b 0 z) (add-one j)
+    pub last_taken : b ≡ None → suc j ≡ innermost w v k j (one_past b)
+    last_taken z = rw (opens, q, z)
 
-    module _ (z : b ≡ 0 → ⊥) (x y : ℕ) (f : x ≡ region_depth w (row_at v (b - 1))) (g : y ≡ region_depth w (row_at v j)) where
-      pub further_in : x < y → j + 1 ≡ innermost w v k j b
-      further_in h = rw (opens, q, ne_eqb b 0 z, ← f, ← g, lt-ltb x y h) (add-one j)
+    module _ {i : ℕ} (z : b ≡ Some i) (x y : ℕ) (f : x ≡ region_depth w (row_at v i)) (g : y ≡ region_depth w (row_at v j)) where
+      before : innermost w v k j (one_past b) ≡ cond (ltb x y) (suc j) (one_past b)
+      before =
+          let p : suc i - 1 ≡ i = omega arith in
+          rw (opens, q, z, ne_eqb (suc i) 0 (λ u. omega arith), p, ← f, ← g)
 
-      pub no_further : y ≤ x → b ≡ innermost w v k j b
-      no_further h = rw (opens, q, ne_eqb b 0 z, ← f, ← g, le-ltb x y h)
+      pub further_in : x < y → suc j ≡ innermost w v k j (one_past b)
+      further_in h = rw (before, lt-ltb x y h)
+
+      pub no_further : y ≤ x → one_past b ≡ innermost w v k j (one_past b)
+      no_further h = rw (before, le-ltb x y h)
 
 -- a root's replacement belongs to none
 root_untaken : (w : List ℕ) (j k : ℕ) (r c : ChangeRow) → of_root w c ≡ true → takes w j r k c ≡ false
@@ -111,7 +119,7 @@ module _ (w v R₀ : List ℕ) (n : ℕ) where
   finding_start = record { inside = omega arith; long = refl; same = refl }
 
   module _ {R : List ℕ} {k : ℕ} (s : Finding w v R₀ n R k) where
-    pub finding_next : n ≤ length R₀ → k < n → (r : ℕ) → r ≡ region_from w v k 0 n → Finding w v R₀ n (set R k r) (k + 1)
+    pub finding_next : n ≡ length R₀ → k < n → (r : ℕ) → r ≡ region_from w v k 0 n → Finding w v R₀ n (set R k r) (k + 1)
     finding_next fits h r e = rw (add-one k) (record {
       inside = omega arith;
       long = simp length-set s.long;
@@ -124,6 +132,9 @@ module _ (w v R₀ : List ℕ) (n : ℕ) where
         f : ℕ → ℕ
         f i = region_from w v i 0 n
 
-    pub finding_done : n ≤ k → R ≡ regions_of w v n ++ drop n R₀
+    pub finding_done : n ≡ length R₀ → n ≤ k → R ≡ regions_of w v n
     unfolding regions_of
-    finding_done h = let z : k ≡ n = omega (arith, s.inside) in s.same ∙ rw z
+    finding_done fits h =
+        let z : k ≡ n = omega (arith, s.inside) in
+        let none : drop n R₀ ≡ [] = rw fits (drop-length R₀) in
+        s.same ∙ rw (z, none, append-nil)

@@ -2,12 +2,12 @@
 -- Assumes nothing.
 use mathlib.Core.Path.{◌≡◌, refl, sym, ap, ◌∙◌}
 use mathlib.Core.Bool.{Bool, true, false, cond}
-use mathlib.Core.List.{List, [], ◌∷◌, ◌++◌, map}
+use mathlib.Core.List.{List, ◌++◌}
 use Prim.Native.Nat.{ℕ, zero, suc, ◌+◌, ◌-◌, ◌*◌, ◌^◌, ◌≤◌, ◌<◌}
-use native.Mathlib.Nat.{zero-add}
+use native.Mathlib.Nat.{zero-add, sub-zero}
 use native.Mathlib.Numerals.{add-one}
 use native.Mathlib.Omega.{arith}
-use lib.ListN.{length, get_or, set, drop, replicate, take-append-drop}
+use lib.ListN.{length, get_or, set, drop, take-append-drop}
 use lib.Seq.{drop-drop, get_or-drop, get_or-set_other}
 use lib.Dec.{eqb}
 use borrow.Author.Tests.{eq-eqb, ne_eqb}
@@ -21,38 +21,42 @@ use Rattle.plan_edge.proofs.Regions.{up_more}
 
 -- ── Regions one around another ──────────────────────────────────────────────────────────────────────────────
 
--- what is asked of the change at k is to be told by the change at `at`
-pub record Following (v R : List ℕ) (most k at left : ℕ) : Type 0 where
+-- what is asked of the change at k is to be told by the change at `at`, which i regions are around
+pub record Following (v R : List ℕ) (most k at i : ℕ) : Type 0 where
+  pub inside : i ≤ most
   pub low : at < 2 ^ 32
-  pub same : is_discarded v R left at ≡ is_discarded v R most k
+  pub same : is_discarded v R (most - i) at ≡ is_discarded v R most k
 
 module _ (v R : List ℕ) (most k : ℕ) where
-  pub following_start : k < 2 ^ 32 → Following v R most k k most
-  following_start h = record { low = h; same = refl }
+  pub following_start : k < 2 ^ 32 → Following v R most k k 0
+  following_start h = record { inside = omega arith; low = h; same = rw (sub-zero most) }
 
-  module _ {at left : ℕ} (s : Following v R most k at left) where
-    pub following_done : left ≤ 0 → false ≡ is_discarded v R most k
+  module _ {at i : ℕ} (s : Following v R most k at i) where
+    pub following_done : most ≤ i → false ≡ is_discarded v R most k
     unfolding is_discarded
-    following_done h = let z : left ≡ 0 = omega arith in ap (λ (m : ℕ). is_discarded v R m at) (sym z) ∙ s.same
+    following_done h = let z : most - i ≡ 0 = omega arith in ap (λ (m : ℕ). is_discarded v R m at) (sym z) ∙ s.same
 
-    module _ (h : 0 < left) (p : ℕ) (e : p ≡ get_or R at 0) where
-      opens : is_discarded v R most k ≡ cond (eqb p 0) false (cond (eqb (row_at v (p - 1)).region 2) (is_discarded v R (left - 1) (p - 1)) true)
+    module _ (h : i < most) (p : ℕ) (e : p ≡ get_or R at 0) where
+      opens : is_discarded v R most k ≡ cond (eqb p 0) false (cond (eqb (row_at v (p - 1)).region 2) (is_discarded v R (most - (i + 1)) (p - 1)) true)
       unfolding is_discarded
-      opens = let z : left ≡ suc (left - 1) = omega arith in sym s.same ∙ (ap (λ (m : ℕ). is_discarded v R m at) z ∙ rw e)
+      opens = let z : most - i ≡ suc (most - (i + 1)) = omega arith in sym s.same ∙ (ap (λ (m : ℕ). is_discarded v R m at) z ∙ rw e)
 
-      pub none_around : p ≡ 0 → false ≡ is_discarded v R most k
-      none_around z = rw (opens, z)
+      pub none_around : p < 1 → false ≡ is_discarded v R most k
+      none_around l = let z : p ≡ 0 = omega arith in rw (opens, z)
 
-      module _ (z : p ≡ 0 → ⊥) (g : ℕ) (f : g ≡ get_or (drop (14 * (p - 1)) v) 10 0) where
-        kind : (row_at v (p - 1)).region ≡ g
+      module _ {j : ℕ} (l : 1 ≤ p) (q : j ≡ p - 1) (g : ℕ) (f : g ≡ get_or (drop (14 * j) v) 10 0) where
+        kind : (row_at v j).region ≡ g
         unfolding row_at row_of
         kind = sym f
 
-        pub discards : (g ≡ 2 → ⊥) → true ≡ is_discarded v R most k
-        discards q = rw (opens, ne_eqb p 0 z, ap (λ (x : ℕ). eqb x 2) kind, ne_eqb g 2 q)
+        around : is_discarded v R most k ≡ cond (eqb g 2) (is_discarded v R (most - (i + 1)) j) true
+        around = opens ∙ rw (ne_eqb p 0 (λ z. omega arith), ← q, ap (λ (x : ℕ). eqb x 2) kind)
 
-        pub following_next : g ≡ 2 → p < 2 ^ 32 → Following v R most k (p - 1) (left - 1)
-        following_next q l = record { low = omega arith; same = rw (opens, ne_eqb p 0 z, ap (λ (x : ℕ). eqb x 2) kind, eq-eqb g 2 q) }
+        pub discards : (g ≡ 2 → ⊥) → true ≡ is_discarded v R most k
+        discards n = rw (around, ne_eqb g 2 n)
+
+        pub following_next : g ≡ 2 → p < 2 ^ 32 → Following v R most k j (i + 1)
+        following_next n b = record { inside = omega arith; low = omega arith; same = rw (around, eq-eqb g 2 n) }
 
 -- ── A fate ──────────────────────────────────────────────────────────────────────────────────────────────────
 
@@ -162,28 +166,8 @@ module _ (w v₀ R : List ℕ) (n : ℕ) where
         let z : k ≡ n = omega (arith, s.inside) in
         sym (take-append-drop (14 * n) v) ∙ rw (← z, ← s.passed, ← s.rest, rows_written k v (omega (arith, s.long)))
 
--- ── Regions in a longer slice ───────────────────────────────────────────────────────────────────────────────
+-- ── The rule ────────────────────────────────────────────────────────────────────────────────────────────────
 
-none_behind : (l z : List ℕ) → ((j : ℕ) → get_or z j 0 ≡ 0) → (j : ℕ) → get_or (l ++ z) j 0 ≡ get_or l j 0
-none_behind [] z h j = h j
-none_behind (x ∷ l) z h zero = refl
-none_behind (x ∷ l) z h (suc j) = none_behind l z h j
-
-zeros : (m j : ℕ) → ◌≡◌ {A = ℕ} (get_or (replicate m 0) j 0) 0
-zeros zero j = refl
-zeros (suc m) zero = refl
-zeros (suc m) (suc j) = zeros m j
-
-pub all_stated : (w v : List ℕ) (n m : ℕ) (R v' : List ℕ) → R ≡ regions_of w v n ++ drop n (replicate m 0) → v' ≡ rows_words (fated_rows w v R n) ++ drop (14 * n) v → v' ≡ rows_words (edge_rows w n v) ++ drop (14 * n) v
-unfolding edge_rows fated_rows up_from
-all_stated w v n m R v' e q = q ∙ ap (λ l. rows_words l ++ drop (14 * n) v) (go 0 n)
-  where
-    S : List ℕ
-    S = regions_of w v n
-
-    same : (j : ℕ) → get_or R j 0 ≡ get_or S j 0
-    same j = ap (λ (l : List ℕ). get_or l j 0) e ∙ none_behind S (drop n (replicate m 0)) (λ i. get_or-drop n (replicate m 0) i 0 ∙ zeros m (n + i)) j
-
-    go : (i k : ℕ) → map (fated_at w v R) (up_from i k) ≡ map (fated_at w v S) (up_from i k)
-    go i zero = refl
-    go i (suc k) = rw (fate_same v v R S (λ j. refl) same w i refl, go (suc i) k)
+pub all_stated : (w v : List ℕ) (n : ℕ) (R v' : List ℕ) → R ≡ regions_of w v n → length R ≡ n → v' ≡ rows_words (fated_rows w v R (length R)) ++ drop (14 * length R) v → v' ≡ rows_words (edge_rows w n v) ++ drop (14 * n) v
+unfolding edge_rows
+all_stated w v n R v' e l q = q ∙ rw (l, e)

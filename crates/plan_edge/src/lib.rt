@@ -5,6 +5,7 @@ ghost use Rattle.std.specs.Prelude.{◌≡◌, false, ◌++◌, suc, ◌+◌, �
 ghost use Rattle.record_changes.specs.ChangeRow.{rows_of, fate_of};
 ghost use Rattle.record_changes.specs.Numbers.{fate_number};
 ghost use Rattle.record_changes.specs.ChangeRowLaws.{row_at, rows_words};
+ghost use Rattle.plan_sort.specs.Lists.{one_past};
 ghost use Rattle.plan_changed_region.specs.Stacks.{stated};
 ghost use Rattle.plan_edge.specs.Rule.{parent_or_root, target_parent, of_root, in_run, removes, only_in, is_run_of, inside, takes, region_depth, innermost, region_from, regions_of, is_discarded, fate_at, fated_rows, edge_rows};
 
@@ -168,49 +169,57 @@ fn region_depth(rows: &[u32], table: &[u32], k: usize) -> usize
     field(rows, k, record_changes::DEPTH)
 }
 
-// The innermost region that takes that change, of those from place `j` on, if it is `b` of those behind: by place, index + 1; 0 = none.
-fn innermost_of(rows: &[u32], table: &[u32], k: usize, p: usize, j: usize, b: usize) -> usize
-    requires k_bound { (k < 2 ^ 32) × (j < 256) × (b ≤ 256) }
+// The innermost region that takes that change, of those from place `j` on, if it is `behind` of those behind.
+fn innermost_of(
+    rows: &[u32],
+    table: &[u32],
+    k: usize,
+    p: usize,
+    j: usize,
+    behind: Option<usize>,
+) -> Option<usize>
+    requires k_bound { (k < 2 ^ 32) × (j < 256) × (one_past behind ≤ 256) }
     requires k_value { (of_root table.now (row_at rows.now k) ≡ false) × (p ≡ target_parent table.now (row_at rows.now k)) }
-    ensures { (result ≡ innermost table.now rows.now k j b) × (result ≤ 256) }
+    ensures { (one_past result ≡ innermost table.now rows.now k j (one_past behind)) × (one_past result ≤ 256) }
 {
     if !takes_change(rows, table, k, p, j) {
-        return b;
+        return behind;
     }
-    if b == 0 {
-        return j + 1;
-    }
-    let behind = region_depth(rows, table, b - 1);
+    let Some(i) = behind else {
+        return Some(j);
+    };
+    let there = region_depth(rows, table, i);
     let here = region_depth(rows, table, j);
-    if behind < here {
-        return j + 1;
+    if there < here {
+        return Some(j);
     }
-    b
+    behind
 }
 
 // The region of the change at place `k` among `n`. From the last to the first: so among equals the last stays.
-fn region_of(rows: &[u32], n: usize, table: &[u32], k: usize) -> usize
+fn region_of(rows: &[u32], n: usize, table: &[u32], k: usize) -> Option<usize>
     requires { (n ≤ 256) × (k < 2 ^ 32) }
-    ensures { (result ≡ region_from table.now rows.now k 0 n) × (result ≤ 256) }
+    ensures { (one_past result ≡ region_from table.now rows.now k 0 n) × (one_past result ≤ 256) }
 {
     if of_root(rows, table, k) {
-        return 0;
+        return None;
     }
     let p = target_parent(rows, table, k);
-    let mut b = 0;
+    let mut region = None;
     for j in (0..n).rev() {
-        b = innermost_of(rows, table, k, p, j, b);
+        region = innermost_of(rows, table, k, p, j, region);
     }
-    b
+    region
 }
 
-// The region of each of `n` changes.
-fn find_regions(rows: &[u32], n: usize, table: &[u32], regions: &mut [u32])
-    requires { (n ≤ 256) × (n ≤ length regions.old) }
-    ensures { regions.new ≡ regions_of table.now rows.now n ++ drop n regions.old }
+// The region of each change, as many as `regions` holds: index + 1, 0 = none.
+fn find_regions(rows: &[u32], table: &[u32], regions: &mut [u32])
+    requires { length regions.old ≤ 256 }
+    ensures { regions.new ≡ regions_of table.now rows.now (length regions.old) }
 {
+    let n = regions.len();
     for k in 0..n {
-        regions[k] = region_of(rows, n, table, k) as u32;
+        regions[k] = region_of(rows, n, table, k).map_or(0, |j| j as u32 + 1);
     }
 }
 
@@ -222,15 +231,14 @@ fn is_discarded(rows: &[u32], regions: &[u32], most: usize, k: usize) -> bool
     ensures { result ≡ is_discarded rows.now regions.now most k }
 {
     let mut at = k;
-    for _left in (0..most).rev() {
-        let p = word_or_zero(regions, at);
-        if p == 0 {
+    for _ in 0..most {
+        let Some(j) = word_or_zero(regions, at).checked_sub(1) else {
             return false;
-        }
-        if field(rows, p - 1, record_changes::REGION) != Region::NodeByNode as usize {
+        };
+        if field(rows, j, record_changes::REGION) != Region::NodeByNode as usize {
             return true;
         }
-        at = p - 1;
+        at = j;
     }
     false
 }
@@ -259,12 +267,12 @@ fn state_fate(rows: &mut [u32], table: &[u32], regions: &[u32], k: usize)
     record_changes::write_fate(rows, k, fate, owner);
 }
 
-// The fates of `n` changes, by the region of each.
-fn state_fates(rows: &mut [u32], n: usize, table: &[u32], regions: &[u32])
-    requires { (14 * n ≤ length rows.old) × (n ≤ 256) }
-    ensures { rows.new ≡ rows_words (fated_rows table.now rows.old regions.now n) ++ drop (14 * n) rows.old }
+// The fates of the changes, by the region of each.
+fn state_fates(rows: &mut [u32], table: &[u32], regions: &[u32])
+    requires { (14 * length regions.now ≤ length rows.old) × (length regions.now ≤ 256) }
+    ensures { rows.new ≡ rows_words (fated_rows table.now rows.old regions.now (length regions.now)) ++ drop (14 * length regions.now) rows.old }
 {
-    for k in 0..n {
+    for k in 0..regions.len() {
         state_fate(rows, table, regions, k);
     }
 }
@@ -274,7 +282,8 @@ pub fn plan_edge_fates(rows: &mut [u32], n: usize, table: &[u32])
     requires { (14 * n ≤ length rows.old) × (n ≤ 256) }
     ensures { rows.new ≡ rows_words (edge_rows table.now n rows.old) ++ drop (14 * n) rows.old }
 {
-    let mut regions = [0u32; 256];
-    find_regions(rows, n, table, &mut regions);
-    state_fates(rows, n, table, &regions);
+    let mut all = [0u32; 256];
+    let regions = &mut all[..n];
+    find_regions(rows, table, regions);
+    state_fates(rows, table, regions);
 }

@@ -3,17 +3,17 @@ use Rattle.plan_edge.proofs.Stating.{following_start, following_next, following_
 use borrow.Author.Rules.{rules}
 use Rattle.plan_edge.proofs.is_discarded.Goals as goal
 
-pub loop-left-init : goal.loop-left-init
-loop-left-init c = search (following_start, rules)
+pub loop-init : goal.loop-init
+loop-init c = search (following_start, rules)
 
-pub returns-then-p-eq0 : goal.returns-then-p-eq0
-returns-then-p-eq0 c = search (none_around, rules)
+pub returns-in_default : goal.returns-in_default
+returns-in_default c = search (none_around, rules)
 
 pub returns-then-field : goal.returns-then-field
-returns-then-field c = search (discards, rules)
+returns-then-field c = discards _ _ _ _ c.loop.invariant (search rules) _ c.word_or_zero.ensures.0 (search rules) (search rules) _ c.field.ensures.0 c.if-field.true
 
-pub loop-left-preserved : goal.loop-left-preserved
-loop-left-preserved c = search (following_next, rules)
+pub loop-preserved : goal.loop-preserved
+loop-preserved c = following_next _ _ _ _ c.loop.invariant (search rules) _ c.word_or_zero.ensures.0 (search rules) (search rules) _ c.field.ensures.0 c.if-field.false c.word_or_zero.ensures.1
 
 pub returns : goal.returns
 returns c = search (following_done, rules)
