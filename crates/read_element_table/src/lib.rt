@@ -4,13 +4,14 @@
 ghost use Rattle.std.specs.Prelude.{◌≡◌, cond, suc, ◌+◌, ◌*◌, ◌^◌, ◌≤◌, ◌<◌, eqb, length, get_or};
 ghost use Rattle.std.proofs.Math.Seq.{paste};
 ghost use Rattle.definition.specs.Elements.{is_node};
-ghost use Rattle.read_spelling.specs.Spelling.{elements_at};
+ghost use Rattle.read_spelling.specs.Held.{elements_of};
 ghost use Rattle.read_element_table.specs.Told.{child_count};
 ghost use Rattle.read_element_table.specs.Filling.{Accepted, Filled, ended, table_of, rows_from};
 
 mod elements;
 
 pub use elements::Elements;
+use read_spelling::Columns;
 use rows_syntax_node::{KIND, MEASURE, ROW_WORDS};
 
 // How many words an element has, and which they are (specs/View.antt).
@@ -63,21 +64,14 @@ fn close(table: &mut [u32], owner: usize, end: usize, after: usize)
     table[at + AFTER] = after as u32;
 }
 
-// The words of all elements in the table, and their rows behind the first row of the source. Each turn closes the innermost open element,
-// if all its children have come, or opens the next one; closing gives its words 5 and 6, which hold `s` and `i` till then.
-fn fill_elements(
-    b: &[u8],
-    kinds: usize,
-    measures: usize,
-    n: usize,
-    trees: usize,
-    table: &mut [u32],
-    source: &mut [u32],
-)
-    requires n_in_bounds { (kinds + 4 * n ≤ length b.now) × (measures + 4 * n ≤ length b.now) × (n ≤ 2048) × (8 * n ≤ length table.old) × (3 * (n + 1) ≤ length source.old) }
-    requires accepted { Accepted trees (elements_at b.now kinds measures n) }
-    ensures table_after { table.new ≡ paste table.old 0 (table_of trees (elements_at b.now kinds measures n)) (8 * n) }
-    ensures source_after { source.new ≡ paste source.old 3 (rows_from 0 (elements_at b.now kinds measures n)) (3 * n) }
+// The words of all elements in the table, and their rows behind the first row of the source. Each turn closes the innermost open element, if all its
+// children have come, or opens the next one; closing gives its words 5 and 6, which hold `s` and `i` till then. So it is a `while`: a `for` over elements
+// would need a second loop inside.
+fn fill_elements(columns: &Columns, trees: usize, table: &mut [u32], source: &mut [u32])
+    requires in_bounds { (columns.now.count ≤ 2048) × (8 * columns.now.count ≤ length table.old) × (3 * (columns.now.count + 1) ≤ length source.old) }
+    requires accepted { Accepted trees (elements_of columns.now) }
+    ensures table_after { table.new ≡ paste table.old 0 (table_of trees (elements_of columns.now)) (8 * columns.now.count) }
+    ensures source_after { source.new ≡ paste source.old 3 (rows_from 0 (elements_of columns.now)) (3 * columns.now.count) }
 {
     let left = trees;
     let owner = 0;
@@ -95,8 +89,8 @@ fn fill_elements(
             close(table, x.owner, at, i);
             d = top;
         } else {
-            let k = words::read_word(b, kinds + 4 * i);
-            let m = words::read_word(b, measures + 4 * i);
+            let k = words::read_word(columns.bytes, columns.kinds + 4 * i);
+            let m = words::read_word(columns.bytes, columns.measures + 4 * i);
             let s = if_root(d, 0, at);
             let t = if_root(d, x.next, tree);
             words::store(table, WORDS * i, &[o, x.owner, x.next, d, s, s, i, t]);
@@ -119,22 +113,14 @@ fn fill_elements(
     }
 }
 
-// The element table and the rows of a batch that line 5 accepts, with the row of the node above all trees.
-pub fn fill(
-    b: &[u8],
-    kinds: usize,
-    measures: usize,
-    n: usize,
-    trees: usize,
-    table: &mut [u32],
-    source: &mut [u32],
-)
-    requires n_in_bounds { (kinds + 4 * n ≤ length b.now) × (measures + 4 * n ≤ length b.now) × (n ≤ 2048) × (8 * n ≤ length table.old) × (3 * (n + 1) ≤ length source.old) × (trees ≤ 16) }
-    requires accepted { Accepted trees (elements_at b.now kinds measures n) }
-    ensures { Filled trees n (elements_at b.now kinds measures n) table.old source.old table.new source.new }
+// The element table and the rows of elements that line 5 accepts, with the row of the node above all trees.
+pub fn fill(columns: &Columns, trees: usize, table: &mut [u32], source: &mut [u32])
+    requires in_bounds { (columns.now.count ≤ 2048) × (8 * columns.now.count ≤ length table.old) × (3 * (columns.now.count + 1) ≤ length source.old) × (trees ≤ 16) }
+    requires accepted { Accepted trees (elements_of columns.now) }
+    ensures { Filled trees columns.now.count (elements_of columns.now) table.old source.old table.new source.new }
 {
     words::store(source, 0, &[0x8000_0000, trees, 0]);
-    fill_elements(b, kinds, measures, n, trees, table, source);
+    fill_elements(columns, trees, table, source);
 }
 
 // ── What is read of it ──

@@ -1,8 +1,13 @@
 // Line 5: whether the elements of a batch spell trees.
 #![tactic(auto)]
 
-ghost use Rattle.std.specs.Prelude.{◌≡◌, ◌+◌, ◌*◌, ◌≤◌, ◌<◌, length};
-ghost use Rattle.read_spelling.specs.Spelling.{children_of, length_of, stands as stands_at, elements_at, accepts};
+ghost use Rattle.std.specs.Prelude.{◌≡◌, ◌≤◌, ◌<◌};
+ghost use Rattle.read_spelling.specs.Spelling.{children_of, length_of, stands as stands_at, accepts};
+ghost use Rattle.read_spelling.specs.Held.{elements_of};
+
+mod columns;
+
+pub use columns::Columns;
 
 // How many children an element has.
 pub fn children_of(kind: usize, measure: usize) -> usize
@@ -40,11 +45,10 @@ pub fn stands(kind: usize, depth: usize) -> bool
     1 < depth
 }
 
-// Line 5: whether the `n` elements whose kind words and measures stand at `kinds` and `measures` spell `trees` trees with `bytes` bytes of text.
-// Each turn closes the innermost open element, if all its children have come, or opens the next one: a token has none.
-pub fn spells(b: &[u8], kinds: usize, measures: usize, n: usize, trees: usize, bytes: usize) -> bool
-    requires { (kinds + 4 * n ≤ length b.now) × (measures + 4 * n ≤ length b.now) × (n ≤ 4096) }
-    ensures { result ≡ accepts trees bytes (elements_at b.now kinds measures n) }
+// Line 5: whether elements spell `trees` trees with `bytes` bytes of text. Each turn closes the innermost open element, if all its children have come,
+// or opens the next one: a token has none. So it is a `while`: a `for` over elements would need a second loop inside.
+pub fn spells(columns: &Columns, trees: usize, bytes: usize) -> bool
+    ensures { result ≡ accepts trees bytes (elements_of columns.now) }
 {
     let mut left = [0usize; 65];
     left[0] = trees;
@@ -57,11 +61,11 @@ pub fn spells(b: &[u8], kinds: usize, measures: usize, n: usize, trees: usize, b
         if x == 0 {
             d = top;
         } else {
-            if n <= i {
+            if columns.count <= i {
                 return false;
             }
-            let k = words::read_word(b, kinds + 4 * i);
-            let m = words::read_word(b, measures + 4 * i);
+            let k = words::read_word(columns.bytes, columns.kinds + 4 * i);
+            let m = words::read_word(columns.bytes, columns.measures + 4 * i);
             if !stands(k, d) {
                 return false;
             }
@@ -72,7 +76,7 @@ pub fn spells(b: &[u8], kinds: usize, measures: usize, n: usize, trees: usize, b
             i += 1;
         }
     }
-    if i < n {
+    if i < columns.count {
         return false;
     }
     sum == bytes

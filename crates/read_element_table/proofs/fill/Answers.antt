@@ -5,4 +5,4 @@ use Rattle.read_element_table.proofs.fill.Goals as goal
 pub returns : goal.returns
 returns c =
     let f = c.fill_elements in
-    record { words = f.ensures.table_after; rows = rows_behind _ _ _ _ _ _ c.requires.n_in_bounds.4 c.store.ensures f.ensures.source_after }
+    record { words = f.ensures.table_after; rows = rows_behind _ _ _ _ _ _ c.requires.in_bounds.2 c.store.ensures f.ensures.source_after }

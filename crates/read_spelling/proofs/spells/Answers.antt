@@ -2,7 +2,6 @@
 use borrow.Author.Rules.{rules}
 use native.Mathlib.Omega.{arith}
 use mathlib.Core.Path.{sym, ◌∙◌}
-use Prim.Native.Nat.{◌-◌}
 use Rattle.read_spelling.specs.SpellingLaws.{stands_shallow}
 use Rattle.read_spelling.proofs.Reading.{reading_start, reading_close, reading_long, reading_end, reading_short, reading_wrong, reading_open}
 use Rattle.read_spelling.proofs.spells.Goals as goal
@@ -13,8 +12,8 @@ loop-d-init c = search (reading_start, rules)
 pub loop-d-preserved-then-x-eq0 : goal.loop-d-preserved-then-x-eq0
 loop-d-preserved-then-x-eq0 c = search (reading_close, rules)
 
-pub returns-then-n-i : goal.returns-then-n-i
-returns-then-n-i c = search (reading_short, rules)
+pub returns-then-columns-i : goal.returns-then-columns-i
+returns-then-columns-i c = search (reading_short, rules)
 
 pub returns-then-not-stands : goal.returns-then-not-stands
 returns-then-not-stands c = search (reading_wrong, rules)
@@ -32,8 +31,8 @@ loop-d-preserved c =
     let s = c.stands in
     reading_open l.invariant (omega arith) c.if-x-eq0.false (omega arith) k.ensures.0 m.ensures.0 s.ensures c.if-not-stands.false c.children_of.ensures c.length_of-sum.ensures.0 c.length_of-sum.ensures.1 m.ensures.1
 
-pub returns-then-i-n : goal.returns-then-i-n
-returns-then-i-n c = search (reading_long, rules)
+pub returns-then-i-columns : goal.returns-then-i-columns
+returns-then-i-columns c = search (reading_long, rules)
 
 pub returns : goal.returns
 returns c = search (reading_end, rules)
