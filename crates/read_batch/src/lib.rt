@@ -16,6 +16,7 @@ ghost use Rattle.read_batch.specs.Leaving.{Judged};
 
 use read_element_table::Elements;
 use read_layout::{Batch, Layout};
+use read_spelling::Columns;
 use refusals::Refusal;
 
 // Line 6, of a batch with this layout.
@@ -76,13 +77,18 @@ fn judge(batch: &Batch, table: &mut [u32], source: &mut [u32]) -> Result<Layout,
     requires in_bounds { (16384 ≤ length table.old) × (6147 ≤ length source.old) }
     ensures { Judged batch.now.bytes.now table.old source.old table.new source.new result }
 {
-    let b = batch.bytes;
     let l = batch.layout;
     let count = l.sizes.elements;
-    if !read_spelling::spells(b, l.kinds, l.measures, count, l.sizes.trees, l.sizes.text) {
+    let columns = Columns {
+        bytes: batch.bytes,
+        kinds: l.kinds,
+        measures: l.measures,
+        count,
+    };
+    if !read_spelling::spells(&columns, l.sizes.trees, l.sizes.text) {
         return Err(Refusal::Spelling);
     }
-    read_element_table::fill(b, l.kinds, l.measures, count, l.sizes.trees, table, source);
+    read_element_table::fill(&columns, l.sizes.trees, table, source);
     let elements = Elements {
         count,
         table,

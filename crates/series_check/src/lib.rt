@@ -17,6 +17,7 @@ ghost use Rattle.series_check.specs.Judged.{judged, Remains};
 mod bookmarks;
 
 use bookmarks::Bookmarks;
+use read_spelling::Columns;
 use refusals::Refusal;
 use rows_path::resolve;
 use rows_syntax_node::ROW_WORDS;
@@ -137,7 +138,13 @@ fn judge_memory(
     requires { (8 + 8 * n + b ≤ length tree.now) × (n ≤ 4096) × (b ≤ 16384) × (12288 ≤ length rows.old) }
     ensures { Remains tree.now n b bookmarks.now.words.now bookmarks.now.count result }
 {
-    if !read_spelling::spells(tree, SIZES, SIZES + 4 * n, n, 1, b) {
+    let columns = Columns {
+        bytes: tree,
+        kinds: SIZES,
+        measures: SIZES + 4 * n,
+        count: n,
+    };
+    if !read_spelling::spells(&columns, 1, b) {
         return Err(Refusal::Spelling);
     }
     if MOST_BOOKMARKS < bookmarks.count {

@@ -1,12 +1,27 @@
 // Line 5 and the element table on document 01's printed case: tree 0 is a node of the tokens "a" and "b", tree 1 a node of the token "c".
 #![tactic(auto)]
 
+ghost use Rattle.std.specs.Prelude.{◌≡◌};
+
+use read_spelling::Columns;
 use std::io;
 
 const KINDS_AND_MEASURES: [u8; 40] = [
     1, 0, 0, 0x80, 2, 0, 0, 0, 3, 0, 0, 0, 1, 0, 0, 0x80, 4, 0, 0, 0, 2, 0, 0, 0, 1, 0, 0, 0, 1, 0,
     0, 0, 1, 0, 0, 0, 1, 0, 0, 0,
 ];
+
+// Its elements: five kind words, and five measures behind them.
+fn columns(bytes: &[u8; 40]) -> Columns<'_>
+    ensures { result.count ≡ 5 }
+{
+    Columns {
+        bytes,
+        kinds: 0,
+        measures: 20,
+        count: 5,
+    }
+}
 
 fn print_words(rt: &impl Print, words: &[u32]) -> io::Result<()> {
     for word in words {
@@ -17,7 +32,7 @@ fn print_words(rt: &impl Print, words: &[u32]) -> io::Result<()> {
 
 // Whether the elements spell so many trees with so many bytes of text.
 fn print_answer(rt: &impl Print, trees: usize, bytes: usize) -> io::Result<()> {
-    if read_spelling::spells(&KINDS_AND_MEASURES, 0, 20, 5, trees, bytes) {
+    if read_spelling::spells(&columns(&KINDS_AND_MEASURES), trees, bytes) {
         println!(rt; "spelled")
     } else {
         println!(rt; "refused")
@@ -33,11 +48,11 @@ fn answers(rt: &impl Print) -> io::Result<()> {
 
 // The table and the rows, each with one word beyond that stays.
 fn tables(rt: &impl Print) -> io::Result<()> {
-    let b = KINDS_AND_MEASURES;
+    let columns = columns(&KINDS_AND_MEASURES);
     let mut table = [7u32; 41];
     let mut source = [7u32; 19];
-    if read_spelling::spells(&b, 0, 20, 5, 2, 3) {
-        read_element_table::fill(&b, 0, 20, 5, 2, &mut table, &mut source);
+    if read_spelling::spells(&columns, 2, 3) {
+        read_element_table::fill(&columns, 2, &mut table, &mut source);
         print_words(rt, &table)?;
         print_words(rt, &source)?;
     }

@@ -6,4 +6,4 @@ use borrow.Author.Rules.{rules}
 use Rattle.try_table.proofs.tables.Goals as goal
 
 pub fill-requires : goal.fill-requires
-fill-requires g c = record { n_in_bounds = search rules; accepted = record { bytes = 3; few = omega arith; accepted = sym c.spells.ensures ∙ c.if-spells.true } }
+fill-requires g c = record { in_bounds = search rules; accepted = record { bytes = 3; few = omega arith; accepted = sym c.spells.ensures ∙ c.if-spells.true } }
