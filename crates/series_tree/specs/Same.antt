@@ -1,19 +1,19 @@
 -- 22: tree 0 of a batch is the tree left before. "Trees are equal .. if kind words, measures and text agree in preorder"
 -- Assumes nothing.
-use Rattle.std.specs.Prelude.{◌≡◌, Bool, not, ◌&&◌, List, [], ◌∷◌, ℕ, suc, ◌+◌, ◌-◌, ◌*◌, ◌/◌, ◌^◌, ◌≤◌, ◌<◌, eqb, get_or, take, drop}
+use Rattle.std.specs.Prelude.{◌≡◌, Bool, not, ◌&&◌, List, [], ◌∷◌, ◌++◌, ℕ, suc, ◌+◌, ◌-◌, ◌*◌, ◌/◌, ◌^◌, ◌≤◌, ◌<◌, eqb, take, drop}
 use Rattle.std.proofs.Math.Path.{refl, sym}
-use Rattle.std.proofs.Common.{ap, ◌∙◌, drop-drop}
+use Rattle.std.proofs.Common.{ap, ◌∙◌, drop-drop, append-nil, eqb-true}
 use Rattle.std.proofs.Math.Bool.{true, false}
-use Rattle.std.proofs.Math.Numerals.{add-one}
 use native.Mathlib.Omega.{arith}
-use Rattle.std.proofs.Math.ListN.{length, length-drop, drop_of_length-le}
-use Rattle.std.proofs.Math.Seq.{drop-cons, length-take-le}
-use borrow.Author.Tests.{eq-eqb, ne_eqb, not-true, not-false}
+use Rattle.std.proofs.Math.ListN.{length, length-drop}
+use Rattle.std.proofs.Math.Seq.{length-take-le}
+use borrow.Author.Tests.{eq-eqb, not-true, not-false}
 use Rattle.definition.specs.Basics.{gives}
-use Rattle.definition.specs.Words.{word, words}
+use Rattle.definition.specs.Words.{word, words, written}
 use Rattle.definition.specs.Refusals.{Accepted, accepted}
 use Rattle.definition_laws.specs.Answers.{gives_inj}
-use Rattle.words.specs.Bytes.{length_words, get_d_words}
+use Rattle.words.specs.Bytes.{Bytes as Octets, length_words, drop_bytes, words_small, words_written, written_words}
+use Rattle.orders.specs.ListLaws.{bool_absurd, both_true}
 use Rattle.rows_syntax_node.specs.Promises.{Part, Bytes}
 use Rattle.read_layout.specs.declared.Layout.{Layout}
 use Rattle.check_laws.specs.Check.{Flat, same_bytes}
@@ -36,40 +36,50 @@ differ_length (x ∷ l) (y ∷ m) h = rw (differ_length l m (λ e. h (ap suc e))
     none true = refl
     none false = refl
 
--- the first k of n words are the same
-pub record Comparing (a : List ℕ) (i : ℕ) (b : List ℕ) (j n k : ℕ) : Type 0 where
-  pub bound : k ≤ n
-  pub verdict : same_bytes (words n (drop i a)) (words n (drop j b)) ≡ same_bytes (drop k (words n (drop i a))) (drop k (words n (drop j b)))
+same_equal : (l m : List ℕ) → same_bytes l m ≡ true → l ≡ m
+unfolding same_bytes
+same_equal [] [] e = refl
+same_equal [] (y ∷ m) e = bool_absurd e refl
+same_equal (x ∷ l) [] e = bool_absurd e refl
+same_equal (x ∷ l) (y ∷ m) e =
+    let w = both_true (eqb x y) (same_bytes l m) e in
+    let p : x ≡ y = eqb-true x y w.0 in
+    let q : l ≡ m = same_equal l m w.1 in
+    cc
 
-pub comparing_start : (a : List ℕ) (i : ℕ) (b : List ℕ) (j n : ℕ) → Comparing a i b j n 0
-comparing_start a i b j n = record { bound = omega arith; verdict = refl }
+same_self : (l : List ℕ) → same_bytes l l ≡ true
+unfolding same_bytes
+same_self [] = refl
+same_self (x ∷ l) = rw (eq-eqb x x refl, same_self l) refl
 
-module _ {a : List ℕ} {i : ℕ} {b : List ℕ} {j n k : ℕ} (v : Comparing a i b j n k) where
-  word_at : (l : List ℕ) (at : ℕ) → k < n → get_or (words n (drop at l)) k 0 ≡ word (drop (at + 4 * k) l)
-  word_at l at h = get_d_words n (drop at l) k h ∙ ap word (drop-drop (4 * k) at l)
+module _ (n : ℕ) (l : List ℕ) (h : 4 * n ≤ length l) (b : Octets l) where
+  -- the words at the front are those of its bytes alone
+  words_front : words n (take (4 * n) l) ≡ words n l
+  words_front =
+      let e : written (words n l) ++ [] ≡ take (4 * n) l = append-nil (written (words n l)) ∙ written_words n l h b in
+      ap (λ (x : List ℕ). words n x) (sym e) ∙ (ap (λ (k : ℕ). words k (written (words n l) ++ [])) (sym (length_words n l)) ∙ words_written (words n l) [] (words_small n l b))
 
-  turn : k < n → same_bytes (words n (drop i a)) (words n (drop j b)) ≡ (eqb (word (drop (i + 4 * k) a)) (word (drop (j + 4 * k) b)) && same_bytes (drop (k + 1) (words n (drop i a))) (drop (k + 1) (words n (drop j b))))
-  unfolding same_bytes
-  turn h =
-      v.verdict
-      ∙ rw (
-        drop-cons (words n (drop i a)) k 0 (omega (arith, length_words n (drop i a))),
-        drop-cons (words n (drop j b)) k 0 (omega (arith, length_words n (drop j b))),
-        add-one k,
-        word_at a i h,
-        word_at b j h,
-      )
+-- words are the same just where their bytes are
+same_words : (n : ℕ) (l m : List ℕ) → 4 * n ≤ length l → 4 * n ≤ length m → Octets l → Octets m → same_bytes (take (4 * n) l) (take (4 * n) m) ≡ same_bytes (words n l) (words n m)
+same_words n l m h k b c = go (same_bytes (take (4 * n) l) (take (4 * n) m)) (same_bytes (words n l) (words n m)) refl refl
+  where
+    go : (x y : Bool) → same_bytes (take (4 * n) l) (take (4 * n) m) ≡ x → same_bytes (words n l) (words n m) ≡ y → same_bytes (take (4 * n) l) (take (4 * n) m) ≡ same_bytes (words n l) (words n m)
+    go true true e f = e ∙ sym f
+    go false false e f = e ∙ sym f
+    go true false e f =
+        let w : words n l ≡ words n m = sym (words_front n l h b) ∙ (ap (words n) (same_equal (take (4 * n) l) (take (4 * n) m) e) ∙ words_front n m k c) in
+        bool_absurd (ap (same_bytes (words n l)) (sym w) ∙ same_self (words n l)) f
+    go false true e f =
+        let w : take (4 * n) l ≡ take (4 * n) m = sym (written_words n l h b) ∙ (ap written (same_equal (words n l) (words n m) f) ∙ written_words n m k c) in
+        bool_absurd (ap (same_bytes (take (4 * n) l)) (sym w) ∙ same_self (take (4 * n) l)) e
 
-  module _ (h : k < n) {x y : ℕ} (ex : (x ≡ word (drop (i + 4 * k) a)) × (x < 2 ^ 32)) (ey : (y ≡ word (drop (j + 4 * k) b)) × (y < 2 ^ 32)) where
-    pub comparing_other : (x ≡ y → ⊥) → false ≡ same_bytes (words n (drop i a)) (words n (drop j b))
-    comparing_other d = sym (turn h ∙ rw (ne_eqb (word (drop (i + 4 * k) a)) (word (drop (j + 4 * k) b)) (λ e. d (ex.0 ∙ (e ∙ sym ey.0)))))
-
-    pub comparing_next : x ≡ y → Comparing a i b j n (k + 1)
-    comparing_next e = record { bound = omega arith; verdict = turn h ∙ rw (eq-eqb (word (drop (i + 4 * k) a)) (word (drop (j + 4 * k) b)) (sym ex.0 ∙ (e ∙ ey.0))) }
-
-  pub comparing_end : n ≤ k → true ≡ same_bytes (words n (drop i a)) (words n (drop j b))
-  unfolding same_bytes
-  comparing_end h = sym (v.verdict ∙ rw (drop_of_length-le (words n (drop i a)) {i = k} (omega (arith, length_words n (drop i a))), drop_of_length-le (words n (drop j b)) {i = k} (omega (arith, length_words n (drop j b)))))
+-- the same of words that stand in some bytes
+pub words_told : (a : List ℕ) (i : ℕ) (b : List ℕ) (j n : ℕ) {r : Bool} → r ≡ same_bytes (take (i + 4 * n - i) (drop i a)) (take (j + 4 * n - j) (drop j b)) → i + 4 * n ≤ length a → j + 4 * n ≤ length b → Octets a → Octets b
+    → r ≡ same_bytes (words n (drop i a)) (words n (drop j b))
+words_told a i b j n e h k f g =
+    let x : i + 4 * n - i ≡ 4 * n = omega arith in
+    let y : j + 4 * n - j ≡ 4 * n = omega arith in
+    e ∙ rw (x, y) (same_words n (drop i a) (drop j b) (omega (arith, length-drop i a)) (omega (arith, length-drop j b)) (drop_bytes i a f) (drop_bytes j b g))
 
 -- ── Arrays ──────────────────────────────────────────────────────────────────────────────────────────────────
 

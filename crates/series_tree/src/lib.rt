@@ -14,6 +14,7 @@ ghost use Rattle.series_laws.specs.Lent.{tree_in, tree_bytes, tree_out, over};
 ghost use Rattle.series_tree.specs.Old.{Read, flat_at};
 ghost use Rattle.series_tree.specs.New.{flat_in, new_in};
 
+use check_clauses::same_bytes;
 use finish_arrays::{text_size, write_elements, write_text};
 use read_layout::Layout;
 use rows_syntax_node::{ROW_WORDS, Rows, subtree, text_bytes};
@@ -22,19 +23,12 @@ use words::{read_word, write_word};
 
 // ── 22 ──
 
-// Whether the `n` words at `i` of some bytes are those at `j` of others.
+// Whether the `n` words at `i` of some bytes are those at `j` of others: just where their bytes are.
 fn same_words(a: &[u8], i: usize, b: &[u8], j: usize, n: usize) -> bool
     requires { (i + 4 * n ≤ length a.now) × (j + 4 * n ≤ length b.now) }
     ensures { result ≡ same_bytes (words n (drop i a.now)) (words n (drop j b.now)) }
 {
-    for k in 0..n {
-        let x = read_word(a, i + 4 * k);
-        let y = read_word(b, j + 4 * k);
-        if x != y {
-            return false;
-        }
-    }
-    true
+    same_bytes(&a[i..i + 4 * n], &b[j..j + 4 * n])
 }
 
 // Whether a tree of `size` elements and `bytes` bytes of text, at these places of a batch, is that of a memory.
@@ -68,7 +62,7 @@ fn same_arrays(
     let end = text + bytes;
     let from = SIZES + 8 * n;
     let to = from + m;
-    check_clauses::same_bytes(&b[text..end], &tree[from..to])
+    same_bytes(&b[text..end], &tree[from..to])
 }
 
 // 22: whether tree 0 of an accepted batch is the tree left before.

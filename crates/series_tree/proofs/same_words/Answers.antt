@@ -1,15 +1,8 @@
 -- `same_words` meets its contract.
-use Rattle.series_tree.specs.Same.{comparing_start, comparing_other, comparing_next, comparing_end}
+use native.Mathlib.Omega.{arith}
+use Rattle.series_tree.specs.Same.{words_told}
 use Rattle.series_tree.proofs.same_words.Goals as goal
 
-pub loop-k-init : goal.loop-k-init
-loop-k-init c = comparing_start _ _ _ _ _
-
-pub returns-then-x-y : goal.returns-then-x-y
-returns-then-x-y c = comparing_other c.loop-k.invariant c.loop-k-test.true c.read_word-x.ensures c.read_word-y.ensures c.if-x-y.true
-
-pub loop-k-preserved : goal.loop-k-preserved
-loop-k-preserved c = comparing_next c.loop-k.invariant c.loop-k-test.true c.read_word-x.ensures c.read_word-y.ensures c.if-x-y.false
-
 pub returns : goal.returns
-returns c = comparing_end c.loop-k.invariant c.loop-k-test.false
+returns c =
+    words_told c.args.a.now c.args.i c.args.b.now c.args.j c.args.n c.same_bytes.ensures c.requires.0 c.requires.1 (λ k. omega (arith, c.type_inv.a k)) (λ k. omega (arith, c.type_inv.b k))
