@@ -249,15 +249,15 @@ module _ {rows : List ℕ} {n root : ℕ} {tree : List ℕ} (p : Part rows n roo
   tree_within h = omega (arith, tree_rows [], tree_few (first_rows [] n rows), length_first [] n rows h)
 
 -- the marks of the old tree's elements
-module _ {source : List ℕ} {e root : ℕ} {old : List ℕ} (p : Part source (e + 1) root old) (q : root ≡ 1) (h : 3 * (e + 1) ≤ length source) (marks : List ℕ) (k : e ≤ length marks) where
+module _ {source : List ℕ} {c root : ℕ} {old : List ℕ} (p : Part source c root old) (q : root ≡ 1) (h : 3 * c ≤ length source) (marks : List ℕ) (k : c ≤ length marks + 1) where
   pub marks_cut : length old / 3 ≡ length (take (length old / 3) marks)
   marks_cut = sym (length-take-le (length old / 3) marks (omega (arith, tree_within p q h)))
 
-  pub marks_few : e < 2 ^ 12 → length (take (length old / 3) marks) < 2 ^ 16
+  pub marks_few : c ≤ 2 ^ 12 → length (take (length old / 3) marks) < 2 ^ 16
   marks_few l = omega (arith, marks_cut, tree_within p q h)
 
   pub kept_told : {rows : List ℕ} {n : ℕ} {new held out : List ℕ} {r : Result Told Refusal} → Part rows n root new → Tells (tell_pairs (length held) (pairs_from (length new / 3 + 1) 0 (take (length old / 3) marks))) held r out → (before after : List ℕ)
-      → Tells (tell_pairs (length held) (kept_rows (first_rows before (e + 1) source) (first_rows after n rows) marks)) held r out
+      → Tells (tell_pairs (length held) (kept_rows (first_rows before c source) (first_rows after n rows) marks)) held r out
   unfolding kept_rows
   kept_told {rows} {n} {new} v t before after =
       let end : length new / 3 + 1 ≡ rows_after (first_rows after n rows) 1 1 = omega (arith, tree_rows v q after, tree_end (first_rows after n rows)) in

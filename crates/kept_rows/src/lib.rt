@@ -11,7 +11,7 @@ ghost use Rattle.kept_rows.specs.Promises.{Counts, PairWritten, tell_pairs};
 
 use promises::Told;
 use refusals::Refusal;
-use rows_syntax_node::{ROW_WORDS, subtree};
+use rows_syntax_node::{ROW_WORDS, Rows, subtree};
 use words::write_word;
 
 // How many pairs an element with this mark makes: 1 where it stands at one of the rows 1 up to `end`, else 0. (Tests as in `write_pair`: their two facts prove both alike.)
@@ -79,21 +79,19 @@ fn hand_out(marks: &[u32], end: usize, res: &mut [u8]) -> Result<Told, Refusal>
     Ok(Told::Bytes(8 * count))
 }
 
-// THE SURVIVING PAIRS, from the rows of the batch's `e` elements behind that of the node above them all, the marks of the elements, the rows of all trees as the run leaves
-// them, and the row of tree 0's root in both; or 13.
+// THE SURVIVING PAIRS, from the batch's own rows, which are that of the node above all its elements and theirs, the marks of the elements, the rows of all trees as the run
+// leaves them, and the row of tree 0's root in both; or 13.
 pub fn kept(
-    source: &[u32],
-    e: usize,
+    own: &Rows,
     marks: &[u32],
-    rows: &[u32],
-    n: usize,
+    rows: &Rows,
     root: usize,
     res: &mut [u8],
 ) -> Result<Told, Refusal>
-    requires { (3 * (e + 1) ≤ length source.now) × (e < 2 ^ 12) × (e ≤ length marks.now) × (3 * n ≤ length rows.now) × (1 ≤ n) × (n < 2 ^ 16) × (root ≡ 1) }
-    ensures { (before after : List ℕ) → Tells (tell_pairs (length res.old) (kept_rows (first_rows before (e + 1) source.now) (first_rows after n rows.now) marks.now)) res.old result res.new }
+    requires { (1 ≤ own.now.count) × (own.now.count ≤ 2 ^ 12) × (own.now.count ≤ length marks.now + 1) × (1 ≤ rows.now.count) × (root ≡ 1) }
+    ensures { (before after : List ℕ) → Tells (tell_pairs (length res.old) (kept_rows (first_rows before own.now.count own.now.words.now) (first_rows after rows.now.count rows.now.words.now) marks.now)) res.old result res.new }
 {
-    let old = subtree(source, e + 1, root).len() / ROW_WORDS;
-    let end = subtree(rows, n, root).len() / ROW_WORDS + 1;
+    let old = subtree(own, root).len() / ROW_WORDS;
+    let end = subtree(rows, root).len() / ROW_WORDS + 1;
     hand_out(&marks[..old], end, res)
 }
