@@ -13,6 +13,7 @@ use read_element_table::{CHILD, Elements, PARENT, entry, is_node, is_root};
 use words::WordList;
 
 // The operation of a call word.
+#[tactic(auto, unfolding(definition::specs::Refusals::operation_of))]
 pub fn operation_of(word: usize) -> usize
     ensures { result ≡ operation_of word }
 {
@@ -20,6 +21,7 @@ pub fn operation_of(word: usize) -> usize
 }
 
 // How many elements a call word says that the call lists.
+#[tactic(auto, unfolding(definition::specs::Refusals::count_of))]
 pub fn count_of(word: usize) -> usize
     ensures { result ≡ count_of word }
 {
@@ -27,6 +29,7 @@ pub fn count_of(word: usize) -> usize
 }
 
 // The number of the rule that queued a call, by its word.
+#[tactic(auto, unfolding(definition::specs::Refusals::rule_of))]
 pub fn rule_of(word: usize) -> usize
     ensures { result ≡ rule_of word }
 {
@@ -42,6 +45,7 @@ pub fn first_listed(listed: &WordList) -> usize
 }
 
 // Whether `x` and `y` are children of one parent (or both roots), and `y` does not come before `x`. It asks less than `Elements` has: the two elements' words alone.
+#[tactic(auto, using(crate::proofs::Judging::run_in_order, crate::proofs::Judging::run_apart))]
 pub fn run_fits(table: &[u32], x: usize, y: usize) -> bool
     requires { (8 * x + 8 ≤ length table.now) × (8 * y + 8 ≤ length table.now) }
     ensures { result ≡ run_fits table.now x y }
@@ -52,6 +56,7 @@ pub fn run_fits(table: &[u32], x: usize, y: usize) -> bool
 
 // An operation stays a number here and below, since a call word may hold any, and callers pass what they read.
 // Whether a call word names a known operation, which may list `count` elements and carry the rule number `rule`.
+#[tactic(auto, using(crate::proofs::Judging::count_one, crate::proofs::Judging::count_none, crate::proofs::Judging::count_some, crate::proofs::Judging::start_alone, crate::proofs::Judging::start_lists, crate::proofs::Judging::count_any))]
 pub fn word_fits(operation: usize, count: usize, rule: usize) -> bool
     ensures { result ≡ word_fits operation count rule }
 {
@@ -65,6 +70,7 @@ pub fn word_fits(operation: usize, count: usize, rule: usize) -> bool
 }
 
 // What else is asked of a call of a known operation, by its target and the first listed element (any element if it lists none).
+#[tactic(auto, using(crate::proofs::Judging::fits_first_child, crate::proofs::Judging::fits_editor, crate::proofs::Judging::fits_root_by, crate::proofs::Judging::fits_root, crate::proofs::Judging::fits_run, crate::proofs::Judging::fits_rest))]
 pub fn call_fits(elements: &Elements, operation: usize, target: usize, first: usize) -> bool
     requires { (operation ≤ 6) × (target < elements.now.count) × (first < elements.now.count) }
     ensures { result ≡ call_fits (view_of elements.now) operation target first }

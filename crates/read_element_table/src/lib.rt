@@ -123,7 +123,7 @@ pub fn fill(columns: &Columns, trees: usize, table: &mut [u32], source: &mut [u3
     fill_elements(columns, trees, table, source);
 }
 
-// ── What is read of it ──
+// ── What is read of it: by its slice alone, since each asks for one element's words, which is less than `Elements` has ──
 
 // Word `k` of element `e`.
 pub fn entry(table: &[u32], e: usize, k: usize) -> usize
@@ -134,6 +134,7 @@ pub fn entry(table: &[u32], e: usize, k: usize) -> usize
 }
 
 // Word `k` of the row of element `e`.
+#[tactic(auto, using(crate::proofs::Reading::row_at_lem))]
 pub fn row_word(source: &[u32], e: usize, k: usize) -> usize
     requires { (k < 3) × (3 * e + 6 ≤ length source.now) }
     ensures { (result ≡ get_or source.now (3 * suc e + k) 0) × (result < 2 ^ 32) }
@@ -142,6 +143,7 @@ pub fn row_word(source: &[u32], e: usize, k: usize) -> usize
 }
 
 // Whether element `e` is a node.
+#[tactic(auto, using(crate::proofs::Reading::kind_at))]
 pub fn is_node(source: &[u32], e: usize) -> bool
     requires { 3 * e + 6 ≤ length source.now }
     ensures { result ≡ is_node (get_or source.now (3 * suc e) 0) }
@@ -150,6 +152,7 @@ pub fn is_node(source: &[u32], e: usize) -> bool
 }
 
 // Whether element `e` is a root.
+#[tactic(auto, using(crate::proofs::Reading::root_at))]
 pub fn is_root(table: &[u32], e: usize) -> bool
     requires { 8 * e + 8 ≤ length table.now }
     ensures { result ≡ eqb (get_or table.now (8 * e + 1) 0) 0 }
@@ -158,6 +161,7 @@ pub fn is_root(table: &[u32], e: usize) -> bool
 }
 
 // How many children element `e` has.
+#[tactic(auto, using(crate::proofs::Reading::count_of_node, crate::proofs::Reading::count_of_token))]
 pub fn child_count(source: &[u32], e: usize) -> usize
     requires { 3 * e + 6 ≤ length source.now }
     ensures { result ≡ child_count source.now e }
