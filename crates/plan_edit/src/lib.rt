@@ -99,7 +99,7 @@ fn record_and_sort(
         elements,
         recorded,
     );
-    plan_sort::sort_rows(recorded, c, order, sorted);
+    plan_sort::sort_rows(recorded, &mut order[..c], sorted);
     c
 }
 
@@ -209,7 +209,7 @@ fn settle_and_order(
     ensures { PlanMade (meant choices) batch.now.bytes.now batch.now.layout mapping.now.elements.table.now mapping.now.elements.source.now changes.now running.new first.new result }
 {
     settle(batch, mapping, first)?;
-    let runs = plan_postorder::running_order(changes, c, order, running);
+    let runs = plan_postorder::running_order(changes, &mut order[..c], running);
     let discarded = count_discarded(changes, c);
     // Those withdrawn are counted last (`plan`).
     Ok(Counts {

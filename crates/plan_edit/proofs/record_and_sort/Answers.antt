@@ -1,6 +1,7 @@
 -- `record_and_sort` meets its contract: what is recorded is sorted.
 use mathlib.Core.Path.{sym, ◌∙◌}
 use native.Mathlib.Omega.{arith}
+use lib.Seq.{length-take-le}
 use Rattle.read_layout.specs.Layout.{arrays_at}
 use Rattle.plan_edit.proofs.Sorting.{calls_fit, calls_few, rows_sorted}
 use Rattle.plan_edit.proofs.record_and_sort.Goals as goal
@@ -16,4 +17,4 @@ record_calls-c-requires c =
 
 pub returns : goal.returns
 unfolding arrays_at
-returns c = rows_sorted c.requires.ready _ _ _ _ _ (rw (c.calls.ensures.0, c.targets.ensures.0, c.listed.ensures.0, c.calls.ensures.1, c.requires.counted) at c.record_calls-c.ensures) c.sort_rows.ensures.out_after
+returns c = rows_sorted c.requires.ready _ _ _ _ _ (rw (c.calls.ensures.0, c.targets.ensures.0, c.listed.ensures.0, c.calls.ensures.1, c.requires.counted) at c.record_calls-c.ensures) (rw (length-take-le c.record_calls-c.result c.args.order.now (omega (arith, c.record_calls-c.ensures.few, c.calls.ensures.1, calls_few c.requires.ready, c.requires.in_bounds.1))) at c.sort_rows.ensures.out_after)

@@ -1,4 +1,6 @@
 -- `settle_and_order` meets its contract. One law for each answer.
+use native.Mathlib.Omega.{arith}
+use lib.Seq.{length-take-le}
 use Rattle.std.proofs.lemmas.Result.{err_from_is_err_and}
 use Rattle.plan_edit.proofs.Settling.{notes_refused, plan_made}
 use Rattle.plan_edit.proofs.settle_and_order.Goals as goal
@@ -9,4 +11,6 @@ returns-in_err-settle c =
     rw (p.1, p.2) (notes_refused c.requires.ready c.requires.rewrote c.settle.ensures _ c.in_err-settle.was _ _)
 
 pub returns : goal.returns
-returns c = plan_made c.requires.ready c.requires.rewrote c.settle.ensures c.in_ok-settle.was _ c.running_order-runs.ensures.value c.running_order-runs.ensures.running_after c.count_discarded-discarded.ensures
+returns c =
+    let many = length-take-le c.args.c c.args.order.now (omega (arith, c.requires.rewrote.few, c.requires.in_bounds.0)) in
+    plan_made c.requires.ready c.requires.rewrote c.settle.ensures c.in_ok-settle.was _ (rw many at c.running_order-runs.ensures.value) (rw many at c.running_order-runs.ensures.running_after) c.count_discarded-discarded.ensures
