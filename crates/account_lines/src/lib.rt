@@ -10,7 +10,7 @@ ghost use Rattle.account_lines.specs.Lines.{fate_in, said_rows, tell_in};
 
 use edit_print::{put_digits, put_line};
 use promises::Told;
-use record_changes::field;
+use record_changes::{Fate, field};
 use refusals::Refusal;
 
 // The line of change `n` is written at `at`, by its fate and the number of its owner.
@@ -19,10 +19,10 @@ fn put_fate(out: &mut [u8], at: usize, n: usize, fate: usize, owner: usize) -> u
     ensures { Put out.old at (fate_line (n, fate_in fate owner)) out.new result }
 {
     let to = put_digits(out, at, n, 10);
-    if fate == 0 {
+    if fate == Fate::Own as usize {
         return put_line(out, to, b" own", &[]);
     }
-    if fate == 1 {
+    if fate == Fate::Dependent as usize {
         return put_line(out, to, b" dependent", &[owner]);
     }
     put_line(out, to, b" discarded", &[owner])

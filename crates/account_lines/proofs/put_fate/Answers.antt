@@ -6,14 +6,14 @@ use Rattle.account_lines.proofs.put_fate.Goals as goal
 pub put_line-requires : goal.put_line-requires
 put_line-requires c = search (own_room, rules)
 
-pub returns-then-fate-eq0 : goal.returns-then-fate-eq0
-returns-then-fate-eq0 c = search (own_put, rules)
+pub returns-then-fate : goal.returns-then-fate
+returns-then-fate c = search (own_put, rules)
 
-pub put_line-requires-then-fate-eq1 : goal.put_line-requires-then-fate-eq1
-put_line-requires-then-fate-eq1 c = search (named_room, rules)
+pub put_line-requires-then-fate-2 : goal.put_line-requires-then-fate-2
+put_line-requires-then-fate-2 c = search (named_room, rules)
 
-pub returns-then-fate-eq1 : goal.returns-then-fate-eq1
-returns-then-fate-eq1 c = search (dependent_put, rules)
+pub returns-then-fate-2 : goal.returns-then-fate-2
+returns-then-fate-2 c = search (dependent_put, rules)
 
 pub put_line-requires-2 : goal.put_line-requires-2
 put_line-requires-2 c = search (named_room, rules)
