@@ -82,6 +82,7 @@ fn one_tree(run: &[u32]) -> bool
 }
 
 // Whether the rows are those of one tree.
+#[tactic(auto, using(crate::proofs::Turns::from_the_first))]
 fn spells_tree(rows: &Rows) -> bool
     ensures { OneTree (take (3 * rows.now.count) rows.now.words.now) result }
 {
@@ -123,6 +124,7 @@ fn room(long: usize, e: usize, splices: &Splices) -> bool
 // ── The verdict ──
 
 // Refused if the rows are not those of one tree, then if a splice does not fit it, then if two are not apart.
+#[tactic(auto, using(crate::proofs::Turns::no_tree, crate::proofs::Turns::unfit, crate::proofs::Turns::fits_rows, crate::proofs::Turns::not_apart, crate::proofs::Turns::all_fitted))]
 fn fitted(rows: &Rows, list: &SpliceList) -> Result<(), SpliceRefusal>
     ensures { Fitted rows.now.words.now rows.now.count list.now.splices.words.now list.now.prepared.now list.now.splices.count (refusal_in result) }
 {

@@ -63,6 +63,7 @@ fn make_plain(rows: &mut [u32], n: usize)
 }
 
 // The first `n` rows with such third words, and zeros behind them, up to the word `to`.
+#[tactic(auto, using(crate::proofs::Turns::tidied))]
 fn tidy(rows: &mut [u32], n: usize, to: usize)
     requires { (3 * n ≤ to) × (to ≤ length rows.old) × (n < 2 ^ 16) }
     ensures { rows.new ≡ filled (take (3 * n) (plain n rows.old)) to rows.old }

@@ -35,6 +35,7 @@ fn left_of(splices: &Splices, i: usize, j: usize) -> bool
 }
 
 // The number of trees that splice `j` brings.
+#[tactic(auto, using(crate::proofs::Turns::part_trees))]
 fn trees_of(list: &SpliceList, j: usize) -> usize
     requires { (j < list.now.splices.count) × Stocked list.now.splices.words.now list.now.prepared.now j }
     ensures { TreesOf list.now.splices.words.now list.now.prepared.now j result }
@@ -75,6 +76,7 @@ fn moves_left(list: &SpliceList, e: usize, i: usize) -> Moves
 }
 
 // The present start of the run of splice `i`.
+#[tactic(auto, using(crate::proofs::Turns::started))]
 fn start_now(list: &SpliceList, e: usize, i: usize) -> usize
     requires { (e < 2 ^ 16) × (i < list.now.splices.count) × BoundedTo e list.now.splices.words.now list.now.prepared.now i }
     ensures { Started list.now.splices.words.now list.now.prepared.now i result }
@@ -105,7 +107,8 @@ fn parent_now(n: usize, marks: &[u32], splices: &Splices, i: usize) -> usize
     word(marks, splices.get(i).parent)
 }
 
-// Where splice `i` goes, those before it being done.
+// Where splice `i` goes, those before it being done. Not the run's `find_gap`, which goes by an operation and the element table.
+#[tactic(auto, using(crate::proofs::Turns::gap_told))]
 fn gap_now(rows: &Rows, marks: &[u32], list: &SpliceList, i: usize) -> Gap
     requires marks_below { (length marks.now < 2 ^ 16) × All (λ m. m < rows.now.count) marks.now }
     requires i_in_bounds { (i < list.now.splices.count) × BoundedTo (length marks.now) list.now.splices.words.now list.now.prepared.now i }
