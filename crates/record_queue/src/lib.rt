@@ -47,12 +47,12 @@ fn meets(rows: &[u32], k: usize, target: usize) -> bool
     is_single(words::word(rows, WORDS * k))
 }
 
-// The place of the first row that a change of this target, whose operation merges, meets, from `start` on.
-fn single_place(rows: &[u32], start: usize, count: usize, target: usize) -> Option<usize>
-    requires { (start ≤ count) × (count ≤ 256) × (14 * count ≤ length rows.now) }
-    ensures { (unwrap_or result count ≡ start + place (meets_single target) (drop start (rows_of count rows.now))) × IfSome result (λ k. k < count) }
+// The place of the first row of the present editor that a change of this target, whose operation merges, meets.
+fn single_place(rows: &[u32], q: Queue, target: usize) -> Option<usize>
+    requires { (q.start ≤ q.count) × (q.count ≤ 256) × (14 * q.count ≤ length rows.now) }
+    ensures { (unwrap_or result q.count ≡ q.start + place (meets_single target) (drop q.start (rows_of q.count rows.now))) × IfSome result (λ k. k < q.count) }
 {
-    for k in start..count {
+    for k in q.start..q.count {
         if meets(rows, k, target) {
             return Some(k);
         }
@@ -60,21 +60,15 @@ fn single_place(rows: &[u32], start: usize, count: usize, target: usize) -> Opti
     None
 }
 
-// The place of the first row that a change of this operation and target meets, from `start` on.
-fn place_of(
-    rows: &[u32],
-    start: usize,
-    count: usize,
-    operation: usize,
-    target: usize,
-) -> Option<usize>
-    requires { (start ≤ count) × (count ≤ 256) × (14 * count ≤ length rows.now) }
-    ensures { (unwrap_or result count ≡ start + place (meets_by operation target) (drop start (rows_of count rows.now))) × IfSome result (λ k. k < count) }
+// The place of the first row of the present editor that a change of this operation and target meets.
+fn place_of(rows: &[u32], q: Queue, operation: usize, target: usize) -> Option<usize>
+    requires { (q.start ≤ q.count) × (q.count ≤ 256) × (14 * q.count ≤ length rows.now) }
+    ensures { (unwrap_or result q.count ≡ q.start + place (meets_by operation target) (drop q.start (rows_of q.count rows.now))) × IfSome result (λ k. k < q.count) }
 {
     if !is_single(operation) {
         return None;
     }
-    single_place(rows, start, count, target)
+    single_place(rows, q, target)
 }
 
 // Whether a later change of this operation, whose first element stands at `at` in the batch's list, has no effect on the row at place `k`, which it meets: a
@@ -96,29 +90,28 @@ fn is_idle(listed: &WordList, rows: &[u32], k: usize, operation: usize, at: usiz
     listed.get(words::word(rows, WORDS * k + LIST)) == listed.get(at)
 }
 
-// Rust: SyntaxEditor::replace, SyntaxEditor::delete, which look for a replacement of the same element. A change is recorded among the rows from `start`
-// on, over the one it meets unless it has no effect on that; how many rows there are then.
+// Rust: SyntaxEditor::replace, SyntaxEditor::delete, which look for a replacement of the same element. A change is recorded among the rows of the present
+// editor, over the one it meets unless it has no effect on that; how many rows there are then.
 fn record_change(
     listed: &WordList,
     rows: &mut [u32],
-    start: usize,
-    count: usize,
+    q: Queue,
     m: Numbers,
     s: Spot,
     rule: usize,
 ) -> usize
-    requires { (start ≤ count) × (count < 256) × (14 * count + 14 ≤ length rows.old) × NumbersFit m × SpotFits s × (rule < 2 ^ 32) }
-    ensures { Put (words_of listed.now) (row_with m s rule) start count rows.old result rows.new }
+    requires { (q.start ≤ q.count) × (q.count < 256) × (14 * q.count + 14 ≤ length rows.old) × NumbersFit m × SpotFits s × (rule < 2 ^ 32) }
+    ensures { Put (words_of listed.now) (row_with m s rule) q.start q.count rows.old result rows.new }
 {
-    let Some(k) = place_of(rows, start, count, m.operation, m.target) else {
-        record_changes::write_row(rows, count, m, s, rule);
-        return count + 1;
+    let Some(k) = place_of(rows, q, m.operation, m.target) else {
+        record_changes::write_row(rows, q.count, m, s, rule);
+        return q.count + 1;
     };
     if is_idle(listed, rows, k, m.operation, m.list) {
-        return count;
+        return q.count;
     }
     record_changes::write_row(rows, k, m, s, rule);
-    count
+    q.count
 }
 
 // The call of a call word is recorded, whose `own` elements stand at `at` in the batch's list: the present editor's first row, and how many rows there are.
@@ -136,14 +129,12 @@ fn record_call(
     requires start_le_count { (q.start ≤ q.count) × (q.count < 256) × (14 * q.count + 14 ≤ length rows.old) }
     ensures { CallPut (view_of elements.now) (words_of listed.now) at (call_of word target (words_of own.now)) q.start q.count rows.old result.start result.count rows.new }
 {
-    let start = q.start;
-    let count = q.count;
     let operation = read_calls::operation_of(word);
     // A call 6 starts a further editor: it is no change, so no `Operation`.
     if operation == 6 {
         return Queue {
-            start: count,
-            count,
+            start: q.count,
+            ..q
         };
     }
     let rule = read_calls::rule_of(word);
@@ -151,8 +142,8 @@ fn record_call(
     let c = record_changes::change_of(operation, target, at, own.count, first);
     let s = record_changes::spot_of(c, first, elements);
     let m = record_changes::numbers_of(c);
-    let next = record_change(listed, rows, start, count, m, s, rule);
-    Queue { start, count: next }
+    let count = record_change(listed, rows, q, m, s, rule);
+    Queue { count, ..q }
 }
 
 // Rust: SyntaxEditor::merge, which appends the queue of a further editor without merging. The calls of an accepted batch are recorded, by their call words,

@@ -12,12 +12,12 @@ spot_of-s-requires c =
     let own = c.args.own.now in
     let fits = c.requires.call_fits.0 in (first_below own fits c.first_listed-first.ensures, call_named own fits c.first_listed-first.ensures _ c.change_of-c.ensures)
 
-pub record_change-next-requires : goal.record_change-next-requires
-record_change-next-requires c =
+pub record_change-count-requires : goal.record_change-count-requires
+record_change-count-requires c =
     let pre = c.requires.start_le_count in
     let numbers = call_numbers c.args.own.now c.requires.call_fits.0 c.first_listed-first.ensures _ c.change_of-c.ensures c.args.elements.now.formed c.numbers_of-m.ensures in
     (pre.0, pre.1, pre.2, numbers, c.spot_of-s.ensures.1, rule_fits _ c.rule_of-rule.ensures)
 
 pub returns : goal.returns
 returns c =
-    call_put _ _ _ _ _ _ _ _ _ _ c.operation_of-operation.ensures _ _ _ _ _ _ _ _ c.if-operation-eq6.false c.requires.start_le_count.0 (sym (length_of c.args.own.now)) c.rule_of-rule.ensures c.first_listed-first.ensures c.change_of-c.ensures c.numbers_of-m.ensures c.spot_of-s.ensures.0 c.record_change-next.ensures
+    call_put _ _ _ _ _ _ _ _ _ _ c.operation_of-operation.ensures _ _ _ _ _ _ _ _ c.if-operation-eq6.false c.requires.start_le_count.0 (sym (length_of c.args.own.now)) c.rule_of-rule.ensures c.first_listed-first.ensures c.change_of-c.ensures c.numbers_of-m.ensures c.spot_of-s.ensures.0 c.record_change-count.ensures
