@@ -7,7 +7,7 @@ use mathlib.Core.List.{List, ◌++◌}
 use Prim.Native.Nat.{ℕ, ◌+◌, ◌-◌, ◌*◌, ◌≤◌, ◌<◌}
 use native.Mathlib.Omega.{arith}
 use lib.ListN.{length, take, drop, length-append}
-use lib.Seq.{length-take-le, take-append-le}
+use lib.Seq.{take-append-le}
 use Rattle.orders.specs.Lists.{All}
 use Rattle.definition.specs.Basics.{refused, gives, ◌>>=◌, refuse}
 use Rattle.definition.specs.Choices as definition
@@ -76,10 +76,6 @@ performs_overlap {h} {b} j k o = record {
   marked = λ d i. absurd (let z : ◌≡◌ {A = ℕ} 0 1 = cc in omega arith);
   recounts = λ d i. absurd (let z : ◌≡◌ {A = ℕ} 0 1 = cc in omega arith);
 }
-
--- a part of n words from the front
-pub part_long : (n : ℕ) (l : List ℕ) → n ≤ length l → length (take (n - 0) l) ≡ n
-part_long n l h = length-take-le (n - 0) l (omega arith) ∙ omega arith
 
 -- the words that an accepted batch leaves tell of its elements
 told_of : {b : List ℕ} {l : Layout} {t s : List ℕ} → LaidOut b l t s → Told b t s l.sizes.elements

@@ -17,7 +17,8 @@ pub use plan_edit::Unplanned;
 use plan_edit::{Counts, plan};
 use promises::Work;
 use read_batch::accept;
-use read_layout::Layout;
+use read_element_table::Elements;
+use read_layout::Batch;
 use refusals::Refusal;
 use run_annotations::NOTE_WORDS;
 use run_execute::execute;
@@ -39,11 +40,9 @@ pub struct Ended {
 // The steps of the plan, over marks for just the batch's elements.
 fn run_plan(
     choices: Choices,
-    b: &[u8],
-    l: Layout,
+    batch: &Batch,
+    elements: &Elements,
     c: Counts,
-    table: &[u32],
-    source: &[u32],
     changes: &[u32],
     running: &[u32],
     first: &[u32],
@@ -54,14 +53,16 @@ fn run_plan(
     rows: &mut [u32],
     prepared: &mut [u32],
 ) -> Result<Ended, Unplanned>
-    requires laid_out { LaidOut b.now l table.now source.now }
-    requires planning { Planning (meant choices) b.now l table.now source.now changes.now running.now first.now (Ok c) }
-    requires in_bounds { (6147 ≤ length source.now) × (256 ≤ length running.now) × (768 ≤ length first.now) }
-    requires marks_len { (length marks.old ≡ l.sizes.elements) × (3072 ≤ length notes.old) × (3072 ≤ length incoming.old) × (1024 ≤ length changed.old) × (12291 ≤ length rows.old) × (12288 ≤ length prepared.old) }
-    ensures { Performs (meant choices) b.now table.now source.now changes.now rows.new notes.new changed.new marks.new result }
+    requires laid_out { LaidOut batch.now.bytes.now batch.now.layout elements.now.table.now elements.now.source.now }
+    requires counted { elements.now.count ≡ batch.now.layout.sizes.elements }
+    requires planning { Planning (meant choices) batch.now.bytes.now batch.now.layout elements.now.table.now elements.now.source.now changes.now running.now first.now (Ok c) }
+    requires in_bounds { (6147 ≤ length elements.now.source.now) × (256 ≤ length running.now) × (768 ≤ length first.now) }
+    requires marks_len { (length marks.old ≡ elements.now.count) × (3072 ≤ length notes.old) × (3072 ≤ length incoming.old) × (1024 ≤ length changed.old) × (12291 ≤ length rows.old) × (12288 ≤ length prepared.old) }
+    ensures { Performs (meant choices) batch.now.bytes.now elements.now.table.now elements.now.source.now changes.now rows.new notes.new changed.new marks.new result }
 {
     // As many as a call may list.
     let mut sizes = [0u32; 41];
+    let l = batch.layout;
     let s = l.sizes;
     let settled = NOTE_WORDS * s.notes;
     let listed = l.list;
@@ -75,10 +76,10 @@ fn run_plan(
         prepared,
         &mut sizes,
         incoming,
-        table,
-        source,
+        elements.table,
+        elements.source,
         &first[..settled],
-        &b[listed..end],
+        &batch.bytes[listed..end],
         changes,
         &running[..runs],
     )?;
@@ -98,10 +99,8 @@ fn run_plan(
 // The plan of an accepted batch, and its steps. Before the first step the rows, the prepared rows, the changed rows and the marks serve planning.
 pub fn plan_and_run(
     choices: Choices,
-    b: &[u8],
-    l: Layout,
-    table: &[u32],
-    source: &[u32],
+    batch: &Batch,
+    elements: &Elements,
     changes: &mut [u32],
     notes: &mut [u32],
     incoming: &mut [u32],
@@ -110,21 +109,18 @@ pub fn plan_and_run(
     rows: &mut [u32],
     prepared: &mut [u32],
 ) -> Result<Ended, Unplanned>
-    requires laid_out { LaidOut b.now l table.now source.now }
-    requires in_bounds { (6147 ≤ length source.now) × (3840 ≤ length changes.old) }
+    requires laid_out { LaidOut batch.now.bytes.now batch.now.layout elements.now.table.now elements.now.source.now }
+    requires counted { elements.now.count ≡ batch.now.layout.sizes.elements }
+    requires in_bounds { (6147 ≤ length elements.now.source.now) × (3840 ≤ length changes.old) }
     requires in_bounds_2 { (2048 ≤ length marks.old) × (3072 ≤ length notes.old) × (3072 ≤ length incoming.old) × (1024 ≤ length changed.old) × (12291 ≤ length rows.old) × (12288 ≤ length prepared.old) }
-    ensures { Performs (meant choices) b.now table.now source.now changes.new rows.new notes.new changed.new marks.new result }
+    ensures { Performs (meant choices) batch.now.bytes.now elements.now.table.now elements.now.source.now changes.new rows.new notes.new changed.new marks.new result }
 {
     let mut running = [0u32; 256];
     let mut first = [0u32; 768];
-    let s = l.sizes;
-    let elements = s.elements;
     let c = plan(
         choices,
-        b,
-        l,
-        table,
-        source,
+        batch,
+        elements,
         rows,
         prepared,
         changes,
@@ -135,18 +131,16 @@ pub fn plan_and_run(
     )?;
     run_plan(
         choices,
-        b,
-        l,
+        batch,
+        elements,
         c,
-        table,
-        source,
         changes,
         &running,
         &first,
         notes,
         incoming,
         changed,
-        &mut marks[0..elements],
+        &mut marks[..elements.count],
         rows,
         prepared,
     )
@@ -172,13 +166,17 @@ pub fn perform(choices: Choices, b: &[u8], work: &mut Work) -> Result<Ended, Unp
     refused_first(choices, work)?;
     let table = &mut *work.table;
     let source = &mut *work.source;
-    let l = accept(b, table, source)?;
-    plan_and_run(
-        choices,
-        b,
-        l,
+    let layout = accept(b, table, source)?;
+    let batch = Batch { bytes: b, layout };
+    let elements = Elements {
+        count: layout.sizes.elements,
         table,
         source,
+    };
+    plan_and_run(
+        choices,
+        &batch,
+        &elements,
         work.changes,
         work.notes,
         work.incoming,

@@ -16,10 +16,16 @@ returns-in_err-refused_first-clause-performs c =
 pub accept-requires : goal.accept-requires
 accept-requires c = let v = long_enough _ _ _ _ _ _ _ _ _ (early_passed _ _ c.refused_first.ensures c.in_ok-refused_first.was).1 in (v.0.0, v.0.1)
 
+pub invariant_of-batch : goal.invariant_of-batch
+invariant_of-batch c = record { within = (c.accept.ensures.left _ c.in_ok-layout.was).within }
+
+pub invariant_of-elements : goal.invariant_of-elements
+invariant_of-elements c = record { formed = (c.accept.ensures.left _ c.in_ok-layout.was).formed }
+
 pub plan_and_run-requires-clause-laid_out : goal.plan_and_run-requires-clause-laid_out
 plan_and_run-requires-clause-laid_out c =
     let r = (long_enough _ _ _ _ _ _ _ _ _ (early_passed _ _ c.refused_first.ensures c.in_ok-refused_first.was).1).0 in
-    judged_laid c.accept.ensures _ c.in_ok-l.was r.0 r.1
+    judged_laid c.accept.ensures _ c.in_ok-layout.was r.0 r.1
 
 pub plan_and_run-requires-clause-in_bounds : goal.plan_and_run-requires-clause-in_bounds
 plan_and_run-requires-clause-in_bounds c =
@@ -29,11 +35,11 @@ plan_and_run-requires-clause-in_bounds c =
 pub plan_and_run-requires-clause-in_bounds_2 : goal.plan_and_run-requires-clause-in_bounds_2
 plan_and_run-requires-clause-in_bounds_2 c = (long_enough _ _ _ _ _ _ _ _ _ (early_passed _ _ c.refused_first.ensures c.in_ok-refused_first.was).1).1
 
-pub returns-in_err-l-clause-performs : goal.returns-in_err-l-clause-performs
-returns-in_err-l-clause-performs c =
+pub returns-in_err-layout-clause-performs : goal.returns-in_err-layout-clause-performs
+returns-in_err-layout-clause-performs c =
     let w = early_passed _ _ c.refused_first.ensures c.in_ok-refused_first.was in
-    let p = err_from_is_err_and c.from_residual-in_err-l.result c.from_residual-in_err-l.ensures.1 in
-    rw (p.1, p.2) (long w.0 w.1 (judged_stops c.accept.ensures _ c.in_err-l.was))
+    let p = err_from_is_err_and c.from_residual-in_err-layout.result c.from_residual-in_err-layout.ensures.1 in
+    rw (p.1, p.2) (long w.0 w.1 (judged_stops c.accept.ensures _ c.in_err-layout.was))
 
 pub returns-clause-performs : goal.returns-clause-performs
 returns-clause-performs c = let w = early_passed _ _ c.refused_first.ensures c.in_ok-refused_first.was in long w.0 w.1 c.plan_and_run.ensures
