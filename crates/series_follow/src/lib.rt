@@ -19,7 +19,8 @@ use choices::Choices;
 use edit_perform::{Ended, Unplanned, plan_and_run, refused_first};
 use promises::Work;
 use read_batch::accept;
-use read_layout::Layout;
+use read_element_table::Elements;
+use read_layout::{Batch, Layout};
 use refusals::Refusal;
 use series_check::judge;
 use series_tree::same_tree;
@@ -61,13 +62,17 @@ pub fn perform(
     judge(MOST_LATER, tree, bookmarks, work.rows)?;
     let table = &mut *work.table;
     let source = &mut *work.source;
-    let l = accept_same(b, tree, table, source)?;
-    plan_and_run(
-        choices,
-        b,
-        l,
+    let layout = accept_same(b, tree, table, source)?;
+    let batch = Batch { bytes: b, layout };
+    let elements = Elements {
+        count: layout.sizes.elements,
         table,
         source,
+    };
+    plan_and_run(
+        choices,
+        &batch,
+        &elements,
         work.changes,
         work.notes,
         work.incoming,

@@ -30,8 +30,14 @@ accept_same-requires-clause-in_bounds_2 c =
     let P = before_passes _ _ _ (before_judged _ _ _ c.refused_first.ensures c.in_ok-refused_first.was _ c.judge.ensures) c.in_ok-judge.was in
     lent_within most_later _ _ P.lent
 
+pub invariant_of-batch : goal.invariant_of-batch
+invariant_of-batch c = record { within = (c.accept_same.ensures.left _ c.in_ok-layout.was).leaves.within }
+
+pub invariant_of-elements : goal.invariant_of-elements
+invariant_of-elements c = record { formed = (c.accept_same.ensures.left _ c.in_ok-layout.was).leaves.formed }
+
 pub plan_and_run-requires-clause-laid_out : goal.plan_and_run-requires-clause-laid_out
-plan_and_run-requires-clause-laid_out c = c.accept_same.ensures.left _ c.in_ok-l.was
+plan_and_run-requires-clause-laid_out c = c.accept_same.ensures.left _ c.in_ok-layout.was
 
 pub plan_and_run-requires-clause-in_bounds : goal.plan_and_run-requires-clause-in_bounds
 plan_and_run-requires-clause-in_bounds c = let v = long_enough _ _ _ _ _ _ _ _ _ (early_passed _ _ c.refused_first.ensures c.in_ok-refused_first.was).1 in (omega (arith, c.accept_same.auto.source, v.0.1), v.0.2)
@@ -39,13 +45,13 @@ plan_and_run-requires-clause-in_bounds c = let v = long_enough _ _ _ _ _ _ _ _ _
 pub plan_and_run-requires-clause-in_bounds_2 : goal.plan_and_run-requires-clause-in_bounds_2
 plan_and_run-requires-clause-in_bounds_2 c = let v = long_enough _ _ _ _ _ _ _ _ _ (early_passed _ _ c.refused_first.ensures c.in_ok-refused_first.was).1 in (v.1.0, v.1.1, v.1.2, v.1.3, omega (arith, c.judge.auto.rows, v.1.4), v.1.5)
 
-pub returns-in_err-l-clause-performs : goal.returns-in_err-l-clause-performs
-returns-in_err-l-clause-performs c =
-    let p = err_from_is_err_and c.from_residual-in_err-l.result c.from_residual-in_err-l.ensures.1 in
+pub returns-in_err-layout-clause-performs : goal.returns-in_err-layout-clause-performs
+returns-in_err-layout-clause-performs c =
+    let p = err_from_is_err_and c.from_residual-in_err-layout.result c.from_residual-in_err-layout.ensures.1 in
     let P = before_passes _ _ _ (before_judged _ _ _ c.refused_first.ensures c.in_ok-refused_first.was _ c.judge.ensures) c.in_ok-judge.was in
-    rw (p.1, p.2) (performs_unaccepted P _ _ (c.accept_same.ensures.refuses _ c.in_err-l.was))
+    rw (p.1, p.2) (performs_unaccepted P _ _ (c.accept_same.ensures.refuses _ c.in_err-layout.was))
 
 pub returns-clause-performs : goal.returns-clause-performs
 returns-clause-performs c =
     let P = before_passes _ _ _ (before_judged _ _ _ c.refused_first.ensures c.in_ok-refused_first.was _ c.judge.ensures) c.in_ok-judge.was in
-    performs_on P _ (c.accept_same.ensures.left _ c.in_ok-l.was) (c.accept_same.ensures.same _ c.in_ok-l.was) _ c.plan_and_run.ensures
+    performs_on P _ (c.accept_same.ensures.left _ c.in_ok-layout.was) (c.accept_same.ensures.same _ c.in_ok-layout.was) _ c.plan_and_run.ensures
