@@ -1,5 +1,7 @@
 // The state of a run: where the root of tree 0 stands, and how much is held; lent to each splice step, which rows, marks, notes and changed elements
 // go through together. 12 is decided before anything is written.
+// These four stay slices here and in the crates above: a step reads several of them at once, which the borrow checker does not cover through one `&mut`
+// value that holds them (tried).
 #![tactic(auto)]
 
 ghost use Rattle.std.specs.Prelude.{◌≡◌, List, ℕ, ◌+◌, ◌-◌, ◌*◌, ◌/◌, ◌^◌, ◌≤◌, ◌<◌, length};
@@ -74,29 +76,8 @@ fn splice_store(
     }
 }
 
-// The same of the root of tree 0: what comes in stands where it stood.
-fn replace_store(
-    s: TreeState,
-    rows: &mut [u32],
-    marks: &mut [u32],
-    notes: &mut [u32],
-    changed: &mut [u32],
-    g: Gap,
-    recorded: usize,
-    parts: &Parts,
-    bytes: usize,
-) -> TreeState
-    requires fact { Open s rows.old marks.old notes.old changed.old g recorded (length parts.now.sizes.now) }
-    requires run_in_bounds { (3 * (s.rows - (g.to - g.from)) + length parts.now.run.now ≤ length rows.old) × (3 * (length (pick (moved_note g.from g.to (length parts.now.run.now / 3)) (notes_of s.notes notes.old)) + parts.now.count) ≤ length notes.old) }
-    requires from_value { g.from ≡ s.root }
-    ensures { StoreSpliced s rows.old marks.old notes.old changed.old g recorded parts.now.run.now parts.now.sizes.now parts.now.notes.now parts.now.count bytes rows.new marks.new notes.new changed.new result }
-{
-    let t = splice_store(s, rows, marks, notes, changed, g, recorded, parts, bytes);
-    TreeState { root: g.from, ..t }
-}
-
 // ── The state, lent to each splice step ──
-// Two thin functions over `&mut TreeState`: the splice by value does the work. Above each stands one by value, and the run calls that.
+// Two thin functions over `&mut TreeState`: the splice by value does the work.
 
 // Rust: TreeState::splice. The state is lent, and the answer of the function by value is stored in it.
 fn splice(
@@ -117,7 +98,7 @@ fn splice(
     *t = splice_store(*t, rows, marks, notes, changed, g, recorded, parts, bytes);
 }
 
-// Rust: TreeState::replace_root.
+// Rust: TreeState::replace_root. What comes in stands where the root of tree 0 stood.
 fn replace_root(
     t: &mut TreeState,
     rows: &mut [u32],
@@ -134,54 +115,8 @@ fn replace_root(
     requires from_value { g.from ≡ t.old.root }
     ensures { StoreSpliced t.old rows.old marks.old notes.old changed.old g recorded parts.now.run.now parts.now.sizes.now parts.now.notes.now parts.now.count bytes rows.new marks.new notes.new changed.new t.new }
 {
-    *t = replace_store(*t, rows, marks, notes, changed, g, recorded, parts, bytes);
-}
-
-// `splice` by value: a local state is lent, and comes back.
-fn spliced(
-    s: TreeState,
-    rows: &mut [u32],
-    marks: &mut [u32],
-    notes: &mut [u32],
-    changed: &mut [u32],
-    g: Gap,
-    recorded: usize,
-    parts: &Parts,
-    bytes: usize,
-) -> TreeState
-    requires fact { Open s rows.old marks.old notes.old changed.old g recorded (length parts.now.sizes.now) }
-    requires run_in_bounds { (3 * (s.rows - (g.to - g.from)) + length parts.now.run.now ≤ length rows.old) × (3 * (length (pick (moved_note g.from g.to (length parts.now.run.now / 3)) (notes_of s.notes notes.old)) + parts.now.count) ≤ length notes.old) }
-    ensures { StoreSpliced s rows.old marks.old notes.old changed.old g recorded parts.now.run.now parts.now.sizes.now parts.now.notes.now parts.now.count bytes rows.new marks.new notes.new changed.new result }
-{
-    let mut t = s;
-    splice(
-        &mut t, rows, marks, notes, changed, g, recorded, parts, bytes,
-    );
-    t
-}
-
-// `replace_root` by value.
-fn root_replaced(
-    s: TreeState,
-    rows: &mut [u32],
-    marks: &mut [u32],
-    notes: &mut [u32],
-    changed: &mut [u32],
-    g: Gap,
-    recorded: usize,
-    parts: &Parts,
-    bytes: usize,
-) -> TreeState
-    requires fact { Open s rows.old marks.old notes.old changed.old g recorded (length parts.now.sizes.now) }
-    requires run_in_bounds { (3 * (s.rows - (g.to - g.from)) + length parts.now.run.now ≤ length rows.old) × (3 * (length (pick (moved_note g.from g.to (length parts.now.run.now / 3)) (notes_of s.notes notes.old)) + parts.now.count) ≤ length notes.old) }
-    requires from_value { g.from ≡ s.root }
-    ensures { StoreSpliced s rows.old marks.old notes.old changed.old g recorded parts.now.run.now parts.now.sizes.now parts.now.notes.now parts.now.count bytes rows.new marks.new notes.new changed.new result }
-{
-    let mut t = s;
-    replace_root(
-        &mut t, rows, marks, notes, changed, g, recorded, parts, bytes,
-    );
-    t
+    *t = splice_store(*t, rows, marks, notes, changed, g, recorded, parts, bytes);
+    t.root = g.from;
 }
 
 // One step of the run: the root of tree 0 is replaced, or another gap gives way.
@@ -200,10 +135,17 @@ fn splice_held(
     requires run_in_bounds { (3 * (s.rows - (g.to - g.from)) + length parts.now.run.now ≤ length rows.old) × (3 * (length (pick (moved_note g.from g.to (length parts.now.run.now / 3)) (notes_of s.notes notes.old)) + parts.now.count) ≤ length notes.old) }
     ensures { StoreSpliced s rows.old marks.old notes.old changed.old g recorded parts.now.run.now parts.now.sizes.now parts.now.notes.now parts.now.count bytes rows.new marks.new notes.new changed.new result }
 {
+    let mut t = s;
     if g.from == s.root {
-        return root_replaced(s, rows, marks, notes, changed, g, recorded, parts, bytes);
+        replace_root(
+            &mut t, rows, marks, notes, changed, g, recorded, parts, bytes,
+        );
+        return t;
     }
-    spliced(s, rows, marks, notes, changed, g, recorded, parts, bytes)
+    splice(
+        &mut t, rows, marks, notes, changed, g, recorded, parts, bytes,
+    );
+    t
 }
 
 // ── Refusal 12 ──
