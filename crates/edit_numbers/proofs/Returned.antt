@@ -23,7 +23,7 @@ use Rattle.refusals.specs.declared.Refusal.{Refusal}
 use Rattle.promises_read.specs.Refused.{By, edit_numbers, find_numbers, account_numbers, by_number, by_more, edited_by, found_by, accounted_by, shared_by, kept_by}
 use Rattle.promises_read.specs.Pairs.{pairs_short}
 use Rattle.edit_numbers.specs.Bounded.{edited_short, found_short, accounted_short, shared_few}
-use Rattle.edit_numbers.specs.Told.{number_of, Small, number_read, Near, place_number}
+use Rattle.edit_numbers.specs.Told.{number_of, Small, number_read, Near, found_number}
 use Rattle.edit_numbers.specs.Returned.{returned, returned_element, Returns, ReturnsElement, ReturnsAccount, ReturnsKept, returned_share, ReturnsShare}
 
 -- ── The promises ────────────────────────────────────────────────────────────────────────────────────────────
@@ -113,7 +113,7 @@ module _ {h : Choices} {b held holds : List ℕ} {n : ℕ} {work left : List (Li
 
   -- and its number is what is promised
   pub find_returned : (z : ℤ) → z ≡ number_of (answered r) → ReturnsElement h b n work (to_z w64 (of_z w64 z)) left
-  unfolding number_of of_place place returned_element place_number
+  unfolding number_of of_place place returned_element found_number
   find_returned z q =
       let (a, e, k) = serves_finds h s in
       record { element = ap (λ (y : ℤ). to_z w64 (of_z w64 y)) q ∙ (number_read (answered r) find_small ∙ (ap number_of place_told ∙ go y)); zeros = k.zeros; inserts = k.inserts }

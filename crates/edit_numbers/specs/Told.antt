@@ -13,9 +13,9 @@ unfoldable pub share_word : ℕ → ℕ → ℕ
 share_word q m = 65536 * q + m
 
 -- an element's number, −1000 for none
-unfoldable pub place_number : Option ℕ → ℤ
-place_number None = neg_ℤ (pos 1000)
-place_number (Some n) = pos n
+unfoldable pub found_number : Option ℕ → ℤ
+found_number None = neg_ℤ (pos 1000)
+found_number (Some n) = pos n
 
 -- it is small
 unfoldable pub Near : Option ℕ → Type 0
@@ -26,7 +26,7 @@ Near (Some n) = n ≤ 134217728
 unfoldable pub number_of : Answer Told → ℤ
 number_of (refused n) = neg_ℤ (pos n)
 number_of (gives (Bytes n)) = pos n
-number_of (gives (Place e)) = place_number e
+number_of (gives (Place e)) = found_number e
 number_of (gives (Of q m)) = pos (share_word q m)
 
 -- what an outcome tells is small
@@ -42,7 +42,7 @@ share_small q m h = omega (arith, h.0, h.1)
 
 -- the number is read back as it was written
 pub number_read : (o : Answer Told) → Small o → to_z w64 (of_z w64 (number_of o)) ≡ number_of o
-unfolding Small number_of Near place_number
+unfolding Small number_of Near found_number
 number_read (refused n) h = neg_told n h
 number_read (gives (Bytes n)) h = pos_told n h
 number_read (gives (Place None)) h = neg_told 1000 (omega arith)

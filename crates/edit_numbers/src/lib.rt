@@ -3,7 +3,7 @@
 
 ghost use Rattle.std.specs.Prelude.{◌≡◌, ◌≤◌, ◌<◌, pos, neg_ℤ};
 ghost use Rattle.refusals.specs.Numbers.{answered};
-ghost use Rattle.edit_numbers.specs.Told.{Near, Small, number_of, place_number, share_word};
+ghost use Rattle.edit_numbers.specs.Told.{Near, Small, number_of, found_number, share_word};
 ghost use Rattle.edit_numbers.specs.ReturnedBatch.{Few, length_number};
 
 use promises::Told;
@@ -38,10 +38,10 @@ fn share_number(quotient: usize, remainder: usize) -> i64
 }
 
 // An element's number, -1000 for none.
-#[tactic(auto, unfolding(crate::specs::Told::Near, crate::specs::Told::place_number))]
-fn place_number(place: Option<usize>) -> i64
+#[tactic(auto, unfolding(crate::specs::Told::Near, crate::specs::Told::found_number))]
+fn found_number(place: Option<usize>) -> i64
     requires { Near place }
-    ensures { result ≡ place_number place }
+    ensures { result ≡ found_number place }
 {
     match place {
         None => -1000,
@@ -58,7 +58,7 @@ pub fn number_of(told: Result<Told, Refusal>) -> i64
     match told {
         Err(refusal) => negative(refusal.number()),
         Ok(Told::Bytes(n)) => positive(n),
-        Ok(Told::Place(place)) => place_number(place),
+        Ok(Told::Place(place)) => found_number(place),
         Ok(Told::Of(q, m)) => share_number(q, m),
     }
 }
