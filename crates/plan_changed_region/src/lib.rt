@@ -1,5 +1,6 @@
 // What becomes of each change: own, dependent or discarded, by the regions of earlier changes. The region around a change is the one that its fate
 // names, so the rows' own words hold the stacks: a stack is the place of its last region, and each region's owner is the one below.
+// Rows have their count beside them: record_changes says why.
 #![tactic(auto)]
 
 ghost use Rattle.std.specs.Prelude.{◌≡◌, cond, ◌++◌, suc, ◌+◌, ◌-◌, ◌*◌, ◌^◌, ◌≤◌, ◌<◌, length, get_or, set, drop, eqb};

@@ -1,7 +1,7 @@
 // The row of a dependent with the ends that it has in the replacement: written as recording writes rows, with fate, owner and rule number kept.
 #![tactic(auto)]
 
-ghost use Rattle.std.specs.Prelude.{[], ◌∷◌, ◌≡◌, ◌+◌, ◌*◌, ◌≤◌, ◌<◌, length, drop};
+ghost use Rattle.std.specs.Prelude.{[], ◌∷◌, ◌≡◌, ℕ, ◌+◌, ◌*◌, ◌≤◌, ◌<◌, length, drop};
 ghost use Rattle.std.proofs.Math.Seq.{paste};
 ghost use Rattle.read_element_table.specs.Held.{view_of};
 ghost use Rattle.record_changes.specs.ChangeRow.{row_words};
@@ -12,9 +12,9 @@ use read_element_table::Elements;
 use record_changes::{Change, Listed};
 
 // The change at place `i` of `rows` with the target `x` and the end `y`.
-fn change_anew(rows: &[u32], n: usize, i: usize, x: usize, y: usize) -> Change
-    requires { (n ≤ 2048) × (x < n) × (y < n) × (i < 256) }
-    ensures { ChangedEnds n (row_at rows.now i) x y result }
+fn change_anew(rows: &[u32], i: usize, x: usize, y: usize) -> Change
+    requires { i < 256 }
+    ensures { (n : ℕ) → n ≤ 2048 → x < n → y < n → ChangedEnds n (row_at rows.now i) x y result }
 {
     let operation = record_changes::field(rows, i, record_changes::OPERATION);
     let listed = Listed {
@@ -53,7 +53,7 @@ pub fn write_row(
     requires { (x < elements.now.count) × (y < elements.now.count) × (z < elements.now.count) × (i < 256) × (14 * i + 14 ≤ length out.old) }
     ensures { out.new ≡ paste out.old (14 * i) (row_words (row_anew (view_of elements.now) (row_at rows.now i) x y z)) 14 }
 {
-    let change = change_anew(rows, elements.count, i, x, y);
+    let change = change_anew(rows, i, x, y);
     let spot = record_changes::spot_of(change, z, elements);
     record_changes::write_row(out, i, record_changes::numbers_of(change), spot, 0);
     copy_fate(rows, i, out);

@@ -4,4 +4,4 @@ use Rattle.record_rewritten.proofs.Writing.{change_read}
 use Rattle.record_rewritten.proofs.change_anew.Goals as goal
 
 pub returns : goal.returns
-returns c = search (change_read, rules)
+returns c = λ n few hx hy. search (change_read, rules)
