@@ -28,6 +28,7 @@ fn too_short(old: &[u32], new: &[u32], partners: &[u32], marks: &[u32]) -> bool
 }
 
 // Every work slice becomes zeros.
+#[tactic(auto, using(crate::proofs::Ways::cleared))]
 fn clear_work(old: &mut [u32], new: &mut [u32], partners: &mut [u32], marks: &mut [u32])
     ensures { (old.new ∷ new.new ∷ partners.new ∷ marks.new ∷ []) ≡ zeroed (old.old ∷ new.old ∷ partners.old ∷ marks.old ∷ []) }
 {

@@ -92,6 +92,7 @@ fn all_alike(
 }
 
 // 4, of one pair: both have no parent, or their parents are a pair.
+#[tactic(auto, using(crate::proofs::Ways::meet_root, crate::proofs::Ways::meet_none, crate::proofs::Ways::meet_some))]
 fn parents_meet(old: &[u32], new: &[u32], partners: &[u32], x: usize, y: usize) -> bool
     requires { (4 * x + 4 ≤ length old.now) × Climbs new.now (length partners.now) y }
     ensures { result ≡ parents_meet old.now new.now partners.now (x, y) }
@@ -139,6 +140,7 @@ fn rising(partners: &[u32]) -> bool
 }
 
 // 6, of one new element: with a partner it is not marked; without one it is, or its parent has none either.
+#[tactic(auto, using(crate::proofs::Ways::with_partner, crate::proofs::Ways::marked_one, crate::proofs::Ways::unmarked_root, crate::proofs::Ways::unmarked_below))]
 fn accounted(new: &[u32], partners: &[u32], marks: &[u32], y: usize) -> bool
     requires { (y < length partners.now) × (y < length marks.now) × Climbs new.now (length partners.now) y }
     ensures { result ≡ accounted_in new.now partners.now marks.now y }
@@ -158,6 +160,7 @@ fn accounted(new: &[u32], partners: &[u32], marks: &[u32], y: usize) -> bool
 }
 
 // 6, of all `n` new elements.
+#[tactic(auto, using(crate::proofs::Turns::counting_no, crate::proofs::Turns::counting_next, crate::proofs::Turns::counting_end))]
 fn all_accounted(new: &[u32], partners: &[u32], marks: &[u32], n: usize) -> bool
     requires { (n ≤ length partners.now) × (n ≤ length marks.now) × Linked new.now n }
     ensures { result ≡ each (accounted_in new.now partners.now marks.now) 0 n }

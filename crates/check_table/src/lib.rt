@@ -18,6 +18,7 @@ pub const END: usize = 2;
 pub const PARENT: usize = 3;
 
 // Word `k` of element `e`. Beside `read_element_table::entry`, whose elements have eight words: each is one look-up by its own definition.
+#[tactic(auto, unfolding(check_model::specs::Clauses::entry))]
 pub fn entry(table: &[u32], e: usize, k: usize) -> usize
     requires { (k < 4) × (4 * e + 4 ≤ length table.now) }
     ensures { (result ≡ word_of table.now e k) × (result < 2 ^ 32) }

@@ -12,6 +12,7 @@ ghost use Rattle.edit_print.specs.Lines.{Put, spaced, line_of, pairs_at, pair_li
 use result_laws::ARRAYS;
 
 // One byte is written at `at`.
+#[tactic(auto, using(crate::proofs::Turns::put_one))]
 fn put(out: &mut [u8], at: usize, byte: u8) -> usize
     requires { at < length out.old }
     ensures { Put out.old at (byte ∷ []) out.new result }
@@ -67,6 +68,7 @@ pub fn put_line(out: &mut [u8], at: usize, name: &[u8], ns: &[usize]) -> usize
 }
 
 // A digit in hexadecimal. By hand: `char::from_digit` answers an `Option` of a `char`, to be turned into a byte: no plainer.
+#[tactic(auto, using(crate::proofs::Turns::low_digit, crate::proofs::Turns::high_digit))]
 fn hex_digit(n: u8) -> u8
     requires { n < 16 }
     ensures { result ≡ hex_digit n }

@@ -38,6 +38,7 @@ pub struct DrawnCall {
 }
 
 // What the generator holds after a draw.
+#[tactic(auto, unfolding(load_laws::specs::Load::next))]
 pub fn next(present: u32) -> u32
     ensures { result ≡ next_of present }
 {
@@ -52,6 +53,7 @@ pub fn drawn(present: u32) -> u32
 }
 
 // Separator i.
+#[tactic(auto, unfolding(load_laws::specs::Load::separator))]
 fn separator(i: u32) -> u32
     requires { i < 128 }
     ensures { result ≡ separator_of i }
@@ -60,6 +62,7 @@ fn separator(i: u32) -> u32
 }
 
 // Block i.
+#[tactic(auto, unfolding(load_laws::specs::Load::block))]
 pub fn block(i: u32) -> u32
     requires { i < 128 }
     ensures { result ≡ block_of i }
@@ -68,6 +71,7 @@ pub fn block(i: u32) -> u32
 }
 
 // Token j of block i.
+#[tactic(auto, unfolding(load_laws::specs::Load::block_token))]
 fn block_token(i: u32, j: u32) -> u32
     requires { (i < 128) × (j < 4) }
     ensures { result ≡ block_token i j }
@@ -76,6 +80,7 @@ fn block_token(i: u32, j: u32) -> u32
 }
 
 // Donor d.
+#[tactic(auto, unfolding(load_laws::specs::Load::donor))]
 fn donor(d: u32) -> u32
     requires { d < 16 }
     ensures { result ≡ donor_of d }
@@ -156,6 +161,7 @@ fn listing_two(rule: u32, operation: u32, target: u32, first: u32, second: u32) 
 }
 
 // Call 0, 1 or 2, from draw 1.
+#[tactic(auto, using(crate::proofs::Ways::first_0, crate::proofs::Ways::first_1, crate::proofs::Ways::first_2))]
 pub fn first_call(i: u32, d: u32) -> DrawnCall
     requires { (i < 3) × (d < 65536) }
     ensures { Called result (get_or (first_calls d) i none) }
@@ -168,6 +174,7 @@ pub fn first_call(i: u32, d: u32) -> DrawnCall
 }
 
 // A call in block b. Only a later one deletes it. `later` is the definition's, by whose `free_call` it is promised; two functions would write seven of eight arms twice.
+#[tactic(auto, using(crate::proofs::Ways::free_0, crate::proofs::Ways::free_1, crate::proofs::Ways::free_3, crate::proofs::Ways::free_4, crate::proofs::Ways::free_6, crate::proofs::Ways::free_7, crate::proofs::Ways::free_else))]
 fn free_call(later: bool, b: u32, what: u32, place: u32) -> DrawnCall
     requires { (b < 128) × (place < 65536) }
     ensures { Called result (free_call later b what place) }
@@ -187,6 +194,7 @@ fn free_call(later: bool, b: u32, what: u32, place: u32) -> DrawnCall
 }
 
 // The only call in block b.
+#[tactic(auto, using(crate::proofs::Ways::own_0, crate::proofs::Ways::own_1))]
 fn own_call(b: u32, what: u32, place: u32) -> DrawnCall
     requires { (b < 128) × (place < 65536) }
     ensures { Called result (own_call b what place) }
@@ -201,6 +209,7 @@ fn own_call(b: u32, what: u32, place: u32) -> DrawnCall
 }
 
 // Call i, from 3 on, from its two draws.
+#[tactic(auto, using(crate::proofs::Ways::at_low, crate::proofs::Ways::at_editor, crate::proofs::Ways::at_high, crate::proofs::Ways::at_own))]
 pub fn call_at(i: u32, what: u32, place: u32) -> DrawnCall
     requires { (i < 96) × (place < 65536) }
     ensures { Called result (call_at i what place) }

@@ -42,6 +42,7 @@ pub fn write_load(start: u32, out: &mut [u8]) -> usize
 }
 
 // What is printed of an argument is written at the front of `out`: nothing of one that tells no starting number.
+#[tactic(auto, using(crate::specs::Responds::respond_number, crate::specs::Responds::respond_none))]
 pub fn respond(argument: &[u8], out: &mut [u8]) -> usize
     requires { 8632 ≤ length out.old }
     ensures { Puts (told (start_of argument.now)) out.new result }

@@ -52,6 +52,7 @@ fn notes_stand(batch: &Batch) -> bool
 }
 
 // Lines 6, 16 and 7.
+#[tactic(auto, using(crate::proofs::Judging::wrong_calls, crate::proofs::Judging::long_lists, crate::proofs::Judging::wrong_mappings, crate::proofs::Judging::wrong_notes, crate::proofs::Judging::none_wrong))]
 fn judge_names(batch: &Batch, elements: &Elements) -> Result<Layout, Refusal>
     requires { elements.now.count ≡ batch.now.layout.sizes.elements }
     ensures { answered result ≡ named (arrays_of batch.now) (view_of elements.now) batch.now.layout }

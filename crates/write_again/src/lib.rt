@@ -8,6 +8,7 @@ use read_layout::Sizes;
 use refusals::Refusal;
 
 // Each call word as its operation, its count and its rule number.
+#[tactic(auto, unfolding(definition::specs::Refusals::operation_of, definition::specs::Refusals::count_of, definition::specs::Refusals::rule_of))]
 fn part_words(words: &[u32], operations: &mut [u32], counts: &mut [u32], rules: &mut [u32])
     requires { (length words.now ≤ length operations.old) × (length words.now ≤ length counts.old) × (length words.now ≤ length rules.old) }
 {

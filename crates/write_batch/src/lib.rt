@@ -19,6 +19,7 @@ fn too_short(draft: &[u8], table: &[u32], source: &[u32]) -> bool
 }
 
 // Every work slice becomes zeros.
+#[tactic(auto, using(crate::proofs::Ways::cleared))]
 fn clear_work(draft: &mut [u8], table: &mut [u32], source: &mut [u32])
     ensures { (draft.new ∷ table.new ∷ source.new ∷ []) ≡ zeroed (draft.old ∷ table.old ∷ source.old ∷ []) }
 {

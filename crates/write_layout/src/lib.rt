@@ -111,6 +111,7 @@ fn append_words(draft: &mut [u8], at: usize, s: &[u32]) -> usize
 }
 
 // Two arrays, one behind the other.
+#[tactic(auto, using(crate::proofs::Ways::room_next, crate::specs::Appending::appended_on))]
 fn append_two(draft: &mut [u8], at: usize, s: &[u32], t: &[u32]) -> usize
     requires { at + 4 * length s.now + 4 * length t.now ≤ length draft.old }
     ensures { Appended draft.old at (written s.now ++ written t.now) draft.new result }
@@ -120,6 +121,7 @@ fn append_two(draft: &mut [u8], at: usize, s: &[u32], t: &[u32]) -> usize
 }
 
 // The seven sizes come first.
+#[tactic(auto, unfolding(definition::specs::Writing::seven_sizes))]
 fn append_sizes(draft: &mut [u8], s: Sizes) -> usize
     requires limits { Limits s }
     requires in_bounds { 28 ≤ length draft.old }
@@ -138,6 +140,7 @@ fn append_sizes(draft: &mut [u8], s: Sizes) -> usize
 }
 
 // The word of call `i`.
+#[tactic(auto, unfolding(definition::specs::Refusals::call_word))]
 fn call_word(operations: &[u32], counts: &[u32], rules: &[u32], i: usize) -> usize
     requires { (i < length operations.now) × (i < length counts.now) × (i < length rules.now) }
     ensures { result ≡ call_word (get_or operations.now i 0) (get_or counts.now i 0) (get_or rules.now i 0) }
@@ -184,6 +187,7 @@ fn append_queue(
 }
 
 // Mappings and notes.
+#[tactic(auto, using(crate::proofs::Ways::room_two, crate::specs::Appending::appended_on))]
 fn append_names(
     draft: &mut [u8],
     at: usize,
@@ -200,6 +204,7 @@ fn append_names(
 }
 
 // The text ends it.
+#[tactic(auto, using(crate::proofs::Ways::text_appended))]
 fn append_text(draft: &mut [u8], at: usize, text: &[u8]) -> usize
     requires { at + length text.now ≤ length draft.old }
     ensures { Appended draft.old at text.now draft.new result }
