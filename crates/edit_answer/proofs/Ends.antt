@@ -175,16 +175,10 @@ module _ {h : Choices} {b rows t s : List ℕ} {d : Ended} (v : RowsAtEnd h b ro
 
   module _ (q : o ≡ true) (low : k < d.elements) (kind start : ℕ) (e : kind ≡ get_or s (3 * suc k + 0) 0) (f : start ≡ (row (view d.elements t s) k).start) (r : prelude.Option ℕ)
       (g : (text : List ℕ) → r ≡ found_by (find_row (first_tree (first_rows text d.rows rows)) kind start)) where
-    meant : (o : Option ℕ) → r ≡ found_by o → gives o ≡ found h b k → (r ≡ None → gives (Place None) ≡ of_place (found h b k)) × ((x : ℕ) → r ≡ Some x → gives (Place (Some x)) ≡ of_place (found h b k))
+    meant : (o : Option ℕ) → r ≡ found_by o → gives o ≡ found h b k → gives (Place r) ≡ of_place (found h b k)
     unfolding found_by of_place place
-    meant none i j = ((λ z. ap of_place j), λ x z. absurd (let y : ◌≡◌ {A = ℕ} 0 1 = cc in omega arith))
-    meant (some y) i j = ((λ z. absurd (let y : ◌≡◌ {A = ℕ} 0 1 = cc in omega arith)), λ x z. let m : x ≡ y = cc in rw m (ap of_place j))
+    meant none i j = rw i (ap of_place j)
+    meant (some y) i j = rw i (ap of_place j)
 
-    told : (r ≡ None → gives (Place None) ≡ of_place (found h b k)) × ((x : ℕ) → r ≡ Some x → gives (Place (Some x)) ≡ of_place (found h b k))
-    told = meant (find_row (first_tree (first_rows (drop d.text b) d.rows rows)) kind start) (g (drop d.text b)) (old_node_lem v w k (sym p ∙ q) low kind start (e ∙ ap (λ (i : ℕ). get_or s i 0) (add-zero (3 * suc k))) f)
-
-    pub found_none : r ≡ None → gives (Place None) ≡ of_place (found h b k)
-    found_none = told.0
-
-    pub found_there : (x : ℕ) → r ≡ Some x → gives (Place (Some x)) ≡ of_place (found h b k)
-    found_there = told.1
+    pub found_told : gives (Place r) ≡ of_place (found h b k)
+    found_told = meant (find_row (first_tree (first_rows (drop d.text b) d.rows rows)) kind start) (g (drop d.text b)) (old_node_lem v w k (sym p ∙ q) low kind start (e ∙ ap (λ (i : ℕ). get_or s i 0) (add-zero (3 * suc k))) f)

@@ -4,7 +4,6 @@
 ghost use Rattle.std.specs.Prelude.{◌≡◌, ◌≤◌, ◌<◌, length};
 ghost use Rattle.choices.specs.Meant.{meant};
 ghost use Rattle.read_element_table.specs.View.{view};
-ghost use Rattle.read_element_table.specs.Wellformed.{Wellformed};
 ghost use Rattle.definition.specs.Basics.{gives};
 ghost use Rattle.edit_perform.specs.AtEnd.{AtEnd, Told as ElementsTold, Recounted};
 ghost use Rattle.promises.specs.Promises.{found};
@@ -17,7 +16,9 @@ use choices::Choices;
 use edit_perform::Ended;
 use plan_edit::Unplanned;
 use promises::{Job, Told};
+use read_element_table::Elements;
 use refusals::Refusal;
+use rows_syntax_node::Rows;
 pub use share_rows::Thousandths;
 
 // How many bytes the edit program's result buffer has.
@@ -40,9 +41,12 @@ fn write_answer(
 {
     let from = d.text;
     let text = &batch[from..];
+    let all = Rows {
+        count: d.rows,
+        words: rows,
+    };
     let n = finish_result::finish(
-        rows,
-        d.rows,
+        &all,
         d.root,
         notes,
         d.notes,
@@ -57,15 +61,15 @@ fn write_answer(
     Ok(Told::Bytes(n))
 }
 
-// Whether element `k` of `n` is a node of tree 0.
-fn is_old_node(table: &[u32], source: &[u32], n: usize, k: usize) -> bool
-    requires { Wellformed n table.now source.now × (k < n) }
-    ensures { result ≡ old_node (view n table.now source.now) k }
+// Whether element `k` is a node of tree 0.
+fn is_old_node(elements: &Elements, k: usize) -> bool
+    requires { k < elements.now.count }
+    ensures { result ≡ old_node (view elements.now.count elements.now.table.now elements.now.source.now) k }
 {
-    if !read_element_table::is_node(source, k) {
+    if !read_element_table::is_node(elements.source, k) {
         return false;
     }
-    read_element_table::entry(table, k, read_element_table::TREE) == 0
+    read_element_table::entry(elements.table, k, read_element_table::TREE) == 0
 }
 
 // Where element `k` stands in the new tree, from the rows that the run of the batch leaves.
@@ -86,12 +90,21 @@ fn find_from(
     if n <= k {
         return Told::Place(None);
     }
-    if !is_old_node(table, source, n, k) {
+    let elements = Elements {
+        count: n,
+        table,
+        source,
+    };
+    if !is_old_node(&elements, k) {
         return Told::Place(None);
     }
     let kind = read_element_table::row_word(source, k, rows_syntax_node::KIND);
     let start = finish_find::old_start(table, source, n, k);
-    Told::Place(finish_find::find_in_tree(rows, d.rows, d.root, kind, start))
+    let all = Rows {
+        count: d.rows,
+        words: rows,
+    };
+    Told::Place(finish_find::find_in_tree(&all, d.root, kind, start))
 }
 
 // The account from what the run of the batch leaves, or 13: where the edit program's buffer could not hold the result, or where this one cannot hold the account.
@@ -110,9 +123,11 @@ fn account_from(
 {
     let from = d.text;
     let text = &batch[from..];
-    let size = finish_result::result_size(
-        rows, d.rows, d.root, notes, d.notes, changed, d.changed, text,
-    );
+    let all = Rows {
+        count: d.rows,
+        words: rows,
+    };
+    let size = finish_result::result_size(&all, d.root, notes, d.notes, changed, d.changed, text);
     if PROGRAM_ROOM < size {
         return Err(Refusal::ShortResult);
     }
@@ -134,7 +149,11 @@ fn share_from(
     ensures { gives result ≡ of_share (share (meant choices) batch.now) }
 {
     let c = d.changed;
-    let s = share_rows::share(rows, d.rows, d.root, &changed[..c]);
+    let all = Rows {
+        count: d.rows,
+        words: rows,
+    };
+    let s = share_rows::share(&all, d.root, &changed[..c]);
     Told::Of(s.quotient, s.remainder)
 }
 
@@ -151,8 +170,18 @@ fn kept_from(
     requires { ToKeep (meant choices) batch.now source.now marks.now rows.now d }
     ensures { Tells (reached (meant choices) asked.Kept batch.now (length res.old)) res.old result res.new }
 {
-    kept_rows::kept(source, d.elements, marks, rows, d.rows, d.root, res)
+    let own = Rows {
+        count: d.elements + 1,
+        words: source,
+    };
+    let all = Rows {
+        count: d.rows,
+        words: rows,
+    };
+    kept_rows::kept(&own, marks, &all, d.root, res)
 }
+
+// The two below take the job, since one public `serve` serves all jobs: what they share, the plan and the run, is done before, and only here do their ways part.
 
 // What the job answers where the changes at the places `j` and `k` overlap: the account tells them, every other job is refused by 8.
 fn overlapping(job: Job, j: usize, k: usize, res: &mut [u8]) -> Result<Told, Refusal>

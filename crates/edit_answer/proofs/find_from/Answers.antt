@@ -2,7 +2,7 @@
 use native.Mathlib.Omega.{arith}
 use borrow.Author.Rules.{rules}
 use Rattle.edit_answer.specs.AtEnd.{trees_told}
-use Rattle.edit_answer.proofs.Ends.{none_numbered, none_asked, asked_old, found_none, found_there}
+use Rattle.edit_answer.proofs.Ends.{none_numbered, none_asked, asked_old, found_told}
 use Rattle.edit_answer.proofs.find_from.Goals as goal
 
 pub returns-then-n-k : goal.returns-then-n-k
@@ -14,8 +14,5 @@ returns-then-not-is_old_node c = search (none_asked, rules)
 pub old_start-start-requires : goal.old_start-start-requires
 old_start-start-requires c = search (trees_told, asked_old, rules)
 
-pub returns-in-None : goal.returns-in-None
-returns-in-None c = found_none c.requires.rows_at_end c.requires.told _ _ c.is_old_node.ensures c.if-not-is_old_node.false (omega (arith, c.if-n-k.false)) _ _ c.row_word-kind.ensures.0 c.old_start-start.ensures _ c.find_in_tree.ensures c.in-None.is
-
-pub returns-in-Some : goal.returns-in-Some
-returns-in-Some c = found_there c.requires.rows_at_end c.requires.told _ _ c.is_old_node.ensures c.if-not-is_old_node.false (omega (arith, c.if-n-k.false)) _ _ c.row_word-kind.ensures.0 c.old_start-start.ensures _ c.find_in_tree.ensures _ c.in-Some.is
+pub returns : goal.returns
+returns c = found_told c.requires.rows_at_end c.requires.told _ _ c.is_old_node.ensures c.if-not-is_old_node.false (omega (arith, c.if-n-k.false)) _ _ c.row_word-kind.ensures.0 c.old_start-start.ensures _ c.find_in_tree.ensures

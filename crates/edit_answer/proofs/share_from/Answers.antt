@@ -1,7 +1,6 @@
 -- `share_from` meets its contract: the share of what the run leaves is the batch's.
 use mathlib.Core.Path.{sym}
 use mathlib.Core.List.{[]}
-use native.Mathlib.Omega.{arith}
 use lib.Seq.{length-take-le}
 use Rattle.edit_answer.proofs.Ends.{few_used, share_answers}
 use Rattle.edit_answer.proofs.share_from.Goals as goal
@@ -12,7 +11,7 @@ slice_bounds-share-end c = sym (length-take-le _ _ c.requires.changed_within)
 pub share-s-requires : goal.share-s-requires
 share-s-requires c =
     let v = c.requires in
-    (v.rows_within, v.some_rows, omega (arith, v.few_rows), v.few_bytes [], few_used v, v.place)
+    (v.some_rows, v.few_bytes [], few_used v, v.place)
 
 pub returns : goal.returns
 returns c = share_answers c.requires c.share-s.ensures

@@ -5,7 +5,7 @@ use Rattle.edit_answer.proofs.Ends.{whole_rest, answered_13, answered_bytes}
 use Rattle.edit_answer.proofs.write_answer.Goals as goal
 
 pub finish-requires : goal.finish-requires
-finish-requires c = let v = c.requires in record { n_in_bounds = (v.at_end.rows_within, v.at_end.some_rows, omega (arith, v.at_end.few_rows), omega (arith, v.at_end.few_rows, v.in_bounds), v.at_end.few_bytes _); k_in_bounds = (v.at_end.notes_within, v.at_end.few_notes, v.at_end.changed_within, v.at_end.few_changed, v.at_end.few_discarded, v.at_end.few_climbs); root_value = v.at_end.place }
+finish-requires c = let v = c.requires in record { rows_in_bounds = (v.at_end.some_rows, omega (arith, v.at_end.few_rows, v.in_bounds), v.at_end.few_bytes _); k_in_bounds = (v.at_end.notes_within, v.at_end.few_notes, v.at_end.changed_within, v.at_end.few_changed, v.at_end.few_discarded, v.at_end.few_climbs); root_value = v.at_end.place }
 
 pub returns-in_err-n : goal.returns-in_err-n
 returns-in_err-n c =
