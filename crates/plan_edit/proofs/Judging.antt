@@ -1,13 +1,13 @@
 -- The first stage: two changes overlap, or the sorted rows get their fates; refusal 8.
 -- Assumes nothing.
 use mathlib.Core.Bool.{Bool, true, false, cond}
-use mathlib.Core.List.{List, [], ◌∷◌, ◌++◌, map, append_assoc}
+use mathlib.Core.List.{List, [], ◌∷◌, ◌++◌, map, append_assoc, append-nil}
 use mathlib.Core.Option.{Option, none, some}
 use mathlib.Core.Path.{◌≡◌, refl, sym, ap, ◌∙◌, subst}
 use Prim.Native.Nat.{ℕ, zero, suc, ◌+◌, ◌-◌, ◌*◌, ◌≤◌, ◌<◌}
 use native.Mathlib.Omega.{arith}
 use lib.Dec.{eqb}
-use lib.ListN.{length, take, drop, get_or, set, replicate, length-map, length-append, length-replicate, replicate-append-replicate}
+use lib.ListN.{length, take, drop, get_or, set, replicate, length-map, length-append, length-replicate, replicate-append-replicate, drop_of_length-le}
 use lib.Seq.{paste, take_all, take_at, drop_at, take-take, take-append-le, length-take-le, length-paste}
 use borrow.Author.Tests.{eqb-true, eqb-false, eq-eqb, ne_eqb}
 use Rattle.orders.specs.Lists.{All}
@@ -134,12 +134,16 @@ module _ (h : Choices) (t : List ℕ) (n : ℕ) (v : List ℕ) where
       }
 
   -- on, what the words of the rows and of the table tell
-  pub left_on : {p p' v' : List ℕ} {r : ℕ} → ¬ (h.stronger ≡ 0) → Withdrawn t n v v' p p' r → LeftBy h t n v v' p' r
+  pub left_on : (p : List ℕ) {q v' : List ℕ} {r : ℕ} → ¬ (h.stronger ≡ 0) → n ≤ length p → Withdrawn t (length (take n p)) v v' (take n p) q r → LeftBy h t n v v' (q ++ drop n p) r
   unfolding rule_words withdrawals
-  left_on {p} {p'} z W =
-      let front : take n p' ≡ withdrawals t v n = ap (take n) W.places ∙ take_at (withdrawals t v n) (drop n p) n (length-map (up_from 0 n) (withdrawn_at t v (kept t v n)) ∙ up_long 0 n) in
+  left_on p {q} {v'} {r} z fits W' =
+      let long : length (take n p) ≡ n = length-take-le n p fits in
+      let W : Withdrawn t n v v' (take n p) q r = rw long at W' in
+      let none : drop n (take n p) ≡ [] = drop_of_length-le (take n p) {i = n} (omega (arith, long)) in
+      let whole : q ≡ withdrawals t v n = W.places ∙ rw (none, append-nil) in
       let many : length (withdrawals t v n) ≡ n = length-map (up_from 0 n) (withdrawn_at t v (kept t v n)) ∙ up_long 0 n in
-      record { words = front ∙ rw (ne_eqb h.stronger 0 z) refl; long = omega (arith, ap length W.places, length-append (withdrawals t v n) (drop n p), many); rows = W.rows ∙ rw front; few = W.few }
+      let front : take n (q ++ drop n p) ≡ withdrawals t v n = ap (λ (x : List ℕ). take n (x ++ drop n p)) whole ∙ take_at (withdrawals t v n) (drop n p) n many in
+      record { words = front ∙ rw (ne_eqb h.stronger 0 z) refl; long = omega (arith, ap length whole, length-append q (drop n p), many); rows = W.rows ∙ rw front; few = W.few }
 
 -- the words tell what the definition withdraws, and the rows of the others are left
 module _ (h : Choices) {b : List ℕ} {l : Layout} {t s : List ℕ} (r : Ready b l t s) {n : ℕ} {v : List ℕ} (S : Sorted b l t s n v) where

@@ -131,7 +131,7 @@ fn leave_weaker(
     if choices.stronger == 0 {
         return n;
     }
-    plan_withdraw::withdraw(sorted, n, table, withdrawn)
+    plan_withdraw::withdraw(sorted, table, &mut withdrawn[..n])
 }
 
 // Of `n` sorted changes `c` stay: each gets its fate, unless two of these overlap, told by their numbers.
