@@ -217,18 +217,14 @@ module _ {d : List ℕ} {at : ℕ} {l : List ℕ} {to : ℕ} where
   changed_end : (b : List ℕ) (from n : ℕ) → Put d at (flat_map changed_line (pairs_at b from n)) l to → to ≤ at + 30 * n
   changed_end b from n p = omega (arith, p.end, texts_length changed_line 30 changed_length (pairs_at b from n), ap (λ x. 30 * x) (pairs_length b from n))
 
-  -- behind the elements there is room for the text, a part of the bytes from `from` on
-  pub tree_room : (b : List ℕ) (n from t : ℕ) → at + 24 * n + (2 * t + 6) ≤ length d → from + t ≤ length b → length l ≡ length d → Put d at (flat_map element_line (pairs_at b 24 n)) l to
-      → to + 2 * length (take (from + t - from) (drop from b)) + 6 ≤ length l
-  tree_room b n from t h k e p =
-      let f : from + t - from ≡ t = omega arith in
-      rw f (omega (arith, part_length t from b, elements_end b 24 n p))
+  -- behind the elements there is room for the text
+  pub tree_room : (b : List ℕ) (from n : ℕ) (text : List ℕ) → at + 24 * n + (2 * length text + 6) ≤ length d → length l ≡ length d → Put d at (flat_map element_line (pairs_at b from n)) l to
+      → to + 2 * length text + 6 ≤ length l
+  tree_room b from n text h e p = omega (arith, elements_end b from n p)
 
-  pub tree_put : (b : List ℕ) (n from t : ℕ) {l' : List ℕ} {to' : ℕ} → at + 24 * n + (2 * t + 6) ≤ length d → Put d at (flat_map element_line (pairs_at b 24 n)) l to
-      → Put l to (text_line (take (from + t - from) (drop from b))) l' to' → Put d at (flat_map element_line (pairs_at b 24 n) ++ text_line (take t (drop from b))) l' to'
-  tree_put b n from t h p q =
-      let e : from + t - from ≡ t = omega arith in
-      put_more p (rw e at q) (omega (arith, elements_end b 24 n p))
+  pub tree_put : (b : List ℕ) (from n : ℕ) (text : List ℕ) {l' : List ℕ} {to' : ℕ} → at + 24 * n + (2 * length text + 6) ≤ length d → Put d at (flat_map element_line (pairs_at b from n)) l to
+      → Put l to (text_line text) l' to' → Put d at (flat_map element_line (pairs_at b from n) ++ text_line text) l' to'
+  tree_put b from n text h p q = put_more p q (omega (arith, elements_end b from n p))
 
   pub found_room : (b : List ℕ) (from c m : ℕ) → at + 30 * c + 27 * m ≤ length d → length l ≡ length d → Put d at (flat_map changed_line (pairs_at b from c)) l to → to + 27 * m ≤ length l
   found_room b from c m h e p = omega (arith, changed_end b from c p)
@@ -263,11 +259,18 @@ module _ (b d : List ℕ) (n t c m x y : ℕ) {l : List ℕ} {to : ℕ} (q : Fit
   sized_end : to ≤ 69
   sized_end = omega (arith, p.end, line_of_length (111 ∷ 107 ∷ []) (n ∷ t ∷ c ∷ m ∷ x ∷ y ∷ []))
 
-  -- behind the sizes there is room for the elements and the text
-  pub sized_room : length l ≡ length d → to + 24 * n + (2 * t + 6) ≤ length l
-  sized_room e = omega (arith, sized_end, q.fits)
+  -- where the text stands
+  abbrev texts : ℕ
+  texts = 24 + 8 * n + 8 * c + 8 * m
 
-  module _ {l₂ : List ℕ} {to₂ : ℕ} (p₂ : Put l to (flat_map element_line (pairs_at b 24 n) ++ text_line (take t (drop (24 + 8 * n + 8 * c + 8 * m) b))) l₂ to₂) where
+  -- behind the sizes there is room for the elements and the text
+  pub sized_room : length l ≡ length d → to + 24 * n + (2 * length (take (texts + t - texts) (drop texts b)) + 6) ≤ length l
+  sized_room e = let f : texts + t - texts ≡ t = omega arith in rw f (omega (arith, sized_end, q.fits, part_length t texts b))
+
+  module _ {l₂ : List ℕ} {to₂ : ℕ} (p₂' : Put l to (flat_map element_line (pairs_at b 24 n) ++ text_line (take (texts + t - texts) (drop texts b))) l₂ to₂) where
+    p₂ : Put l to (flat_map element_line (pairs_at b 24 n) ++ text_line (take t (drop texts b))) l₂ to₂
+    p₂ = let f : texts + t - texts ≡ t = omega arith in rw f at p₂'
+
     treed_end : to₂ ≤ 75 + 24 * n + 2 * t
     treed_end =
         let text = take t (drop (24 + 8 * n + 8 * c + 8 * m) b) in

@@ -1,14 +1,18 @@
 // What the edit program prints of an answer, written into a lent slice.
 #![tactic(auto)]
 
-ghost use Rattle.std.specs.Prelude.{◌≡◌, ◌+◌, ◌*◌, ◌≤◌, ◌<◌, ◌^◌, length, take, drop};
+ghost use Rattle.std.specs.Prelude.{◌≡◌, ◌+◌, ◌*◌, ◌≤◌, ◌<◌, ◌^◌, length};
 ghost use mathlib.Core.List.{◌∷◌, [], ◌++◌, flat_map};
 ghost use Rattle.definition.specs.Printed.{digits, hex_digit, hex, element_line, text_line, print};
 ghost use Rattle.definition.specs.Basics.{refused, gives};
 ghost use Rattle.result_laws.specs.Decoded.{told, decoded};
 ghost use Rattle.edit_print.specs.Printable.{Fits, Printable};
-ghost use Rattle.edit_print.specs.Lines.{Put, spaced, line_of, pairs_at, pair_line, changed_line, note_line};
+ghost use Rattle.edit_print.specs.Lines.{Put, spaced, line_of, pair_line, changed_line, note_line};
+ghost use Rattle.edit_print.specs.Held.{pairs_of};
 
+mod pairs;
+
+use pairs::Pairs;
 use result_laws::ARRAYS;
 
 // One byte is written at `at`.
@@ -121,51 +125,52 @@ fn put_element(out: &mut [u8], at: usize, kind: usize, measure: usize) -> usize
     put_line(out, at, b"n", &[kind % 65536, measure])
 }
 
-// The lines of `n` elements are written at `at`; their kind words stand at `from`, their measures behind those.
-fn put_elements(out: &mut [u8], at: usize, b: &[u8], from: usize, n: usize) -> usize
-    requires { (from + 8 * n ≤ length b.now) × (at + 24 * n ≤ length out.old) }
-    ensures { Put out.old at (flat_map element_line (pairs_at b.now from n)) out.new result }
+// The lines of elements, each a kind word and a measure, are written at `at`.
+fn put_elements(out: &mut [u8], at: usize, elements: &Pairs) -> usize
+    requires { at + 24 * elements.now.count ≤ length out.old }
+    ensures { Put out.old at (flat_map element_line (pairs_of elements.now)) out.new result }
 {
+    let measures = elements.at + 4 * elements.count;
     let mut to = at;
-    for i in 0..n {
-        let kind = words::read_word(b, from + 4 * i);
-        let measure = words::read_word(b, from + 4 * n + 4 * i);
+    for i in 0..elements.count {
+        let kind = words::read_word(elements.bytes, elements.at + 4 * i);
+        let measure = words::read_word(elements.bytes, measures + 4 * i);
         to = put_element(out, to, kind, measure);
     }
     to
 }
 
-// `n` lines of a name and two numbers are written at `at`; the first numbers stand at `from`, the second ones behind those.
-fn put_pairs(out: &mut [u8], at: usize, name: &[u8], b: &[u8], from: usize, n: usize) -> usize
-    requires { (from + 8 * n ≤ length b.now) × (at + (length name.now + 23) * n ≤ length out.old) }
-    ensures { Put out.old at (flat_map (pair_line name.now) (pairs_at b.now from n)) out.new result }
+// For each pair a line of a name and its two numbers is written at `at`.
+fn put_pairs(out: &mut [u8], at: usize, name: &[u8], pairs: &Pairs) -> usize
+    requires { at + (length name.now + 23) * pairs.now.count ≤ length out.old }
+    ensures { Put out.old at (flat_map (pair_line name.now) (pairs_of pairs.now)) out.new result }
 {
+    let seconds = pairs.at + 4 * pairs.count;
     let mut to = at;
-    for i in 0..n {
-        let first = words::read_word(b, from + 4 * i);
-        let second = words::read_word(b, from + 4 * n + 4 * i);
+    for i in 0..pairs.count {
+        let first = words::read_word(pairs.bytes, pairs.at + 4 * i);
+        let second = words::read_word(pairs.bytes, seconds + 4 * i);
         to = put_line(out, to, name, &[first, second]);
     }
     to
 }
 
-// The elements' lines and the text's are written at `at`; the text stands at `from`.
-fn put_tree(out: &mut [u8], at: usize, b: &[u8], n: usize, from: usize, t: usize) -> usize
-    requires { (24 + 8 * n ≤ from) × (from + t ≤ length b.now) × (at + 24 * n + (2 * t + 6) ≤ length out.old) }
-    ensures { Put out.old at (flat_map element_line (pairs_at b.now 24 n) ++ text_line (take t (drop from b.now))) out.new result }
+// The elements' lines and the text's are written at `at`.
+fn put_tree(out: &mut [u8], at: usize, elements: &Pairs, text: &[u8]) -> usize
+    requires { at + 24 * elements.now.count + (2 * length text.now + 6) ≤ length out.old }
+    ensures { Put out.old at (flat_map element_line (pairs_of elements.now) ++ text_line text.now) out.new result }
 {
-    let to = put_elements(out, at, b, ARRAYS, n);
-    let end = from + t;
-    put_text(out, to, &b[from..end])
+    let to = put_elements(out, at, elements);
+    put_text(out, to, text)
 }
 
-// The lines of changed elements and notes are written at `at`; their numbers stand at `from`.
-fn put_found(out: &mut [u8], at: usize, b: &[u8], from: usize, c: usize, m: usize) -> usize
-    requires { (from + 8 * c + 8 * m ≤ length b.now) × (at + 30 * c + 27 * m ≤ length out.old) }
-    ensures { Put out.old at (flat_map changed_line (pairs_at b.now from c) ++ flat_map note_line (pairs_at b.now (from + 8 * c) m)) out.new result }
+// The lines of changed elements and notes are written at `at`.
+fn put_found(out: &mut [u8], at: usize, changed: &Pairs, notes: &Pairs) -> usize
+    requires { at + 30 * changed.now.count + 27 * notes.now.count ≤ length out.old }
+    ensures { Put out.old at (flat_map changed_line (pairs_of changed.now) ++ flat_map note_line (pairs_of notes.now)) out.new result }
 {
-    let to = put_pairs(out, at, b"changed", b, from, c);
-    put_pairs(out, to, b"note", b, from + 8 * c, m)
+    let to = put_pairs(out, at, b"changed", changed);
+    put_pairs(out, to, b"note", notes)
 }
 
 // What is printed of the result that the sizes and the arrays in `b` tell is written at the front.
@@ -182,9 +187,28 @@ fn put_result(
     requires { Fits (length b.now) (length out.old) n t c m }
     ensures { Put out.old 0 (print (gives (told b.now n t c m discarded climbs))) out.new result }
 {
+    let changed_at = ARRAYS + 8 * n;
+    let notes_at = changed_at + 8 * c;
+    let text_at = notes_at + 8 * m;
+    let end = text_at + t;
+    let elements = Pairs {
+        bytes: b,
+        at: ARRAYS,
+        count: n,
+    };
+    let changed = Pairs {
+        bytes: b,
+        at: changed_at,
+        count: c,
+    };
+    let notes = Pairs {
+        bytes: b,
+        at: notes_at,
+        count: m,
+    };
     let sized = put_line(out, 0, b"ok", &[n, t, c, m, discarded, climbs]);
-    let treed = put_tree(out, sized, b, n, ARRAYS + 8 * n + 8 * c + 8 * m, t);
-    put_found(out, treed, b, ARRAYS + 8 * n, c, m)
+    let treed = put_tree(out, sized, &elements, &b[text_at..end]);
+    put_found(out, treed, &changed, &notes)
 }
 
 // What is printed of the result whose bytes are `b` is written at the front.

@@ -1,6 +1,5 @@
 -- `put_result` meets its contract.
 use mathlib.Core.Path.{◌≡◌}
-use native.Mathlib.Omega.{arith}
 use borrow.Author.Rules.{rules}
 use lib.ListN.{length}
 use Rattle.edit_print.proofs.Turns.{result_put, sized_room, treed_room}
@@ -15,7 +14,7 @@ put_found-requires c =
     let a = c.args in
     let q = c.requires in
     let e : length c.put_tree-treed.new.out ≡ length a.out.now = search rules in
-    (omega (arith, q.whole), treed_room a.b.now a.out.now a.n a.t a.c a.m a.discarded a.climbs q c.put_line-sized.ensures c.put_tree-treed.ensures e)
+    treed_room a.b.now a.out.now a.n a.t a.c a.m a.discarded a.climbs q c.put_line-sized.ensures c.put_tree-treed.ensures e
 
 pub returns : goal.returns
 returns c = search (result_put, rules)
