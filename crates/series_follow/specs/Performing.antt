@@ -11,7 +11,7 @@ use Rattle.definition.specs.Refusals.{Accepted, accepted}
 use Rattle.definition.specs.Running.{World}
 use Rattle.definition.specs.Answers.{too_short, with_choices, Plan, plan, ran}
 use Rattle.definition_laws.specs.Answers.{gives_inj, refused_gives, given}
-use Rattle.refusals.specs.Numbers.{number, answered}
+use Rattle.refusals.specs.Numbers.{number}
 use Rattle.refusals.specs.declared.Refusal.{Refusal}
 use Rattle.promises.specs.Slices.{needed, lengths}
 use Rattle.promises.specs.Promises.{with_long}
@@ -66,14 +66,13 @@ ended_run h b e q =
 
 -- ── Before line 2 ───────────────────────────────────────────────────────────────────────────────────────────
 
-module _ (h : Choices) (work : List (ℕ × ℕ)) (l : Lent) {c : Result (Unit {0}) Refusal} (e : answered c ≡ before h work) where
-  pub before_first : (f : Refusal) → c ≡ Err f → answered (Err f) ≡ judged (with_choices h work (lent most_later l))
-  unfolding judged answered
-  before_first f i = sym (ap judged (stopped_early h work (lent most_later l) (number f) (sym e ∙ ap answered i)))
+module _ (h : Choices) (work : List (ℕ × ℕ)) (l : Lent) {c : Answer (Unit {0})} (e : c ≡ before h work) where
+  pub before_first : (n : ℕ) → c ≡ refused n → c ≡ judged (with_choices h work (lent most_later l))
+  unfolding judged
+  before_first n i = i ∙ sym (ap judged (stopped_early h work (lent most_later l) n (sym e ∙ i)))
 
-  pub before_judged : c ≡ Ok tt → (r : Result (Unit {0}) Refusal) → answered r ≡ judged (lent most_later l) → answered r ≡ judged (with_choices h work (lent most_later l))
-  unfolding answered
-  before_judged i r q = let (c, t) = nothing_wrong h work (sym e ∙ ap answered i) in q ∙ ap judged (sym (with_long h work (lent most_later l) c t))
+  pub before_judged : c ≡ gives tt → {o : Answer (Unit {0})} → o ≡ judged (lent most_later l) → o ≡ judged (with_choices h work (lent most_later l))
+  before_judged i q = let (x, t) = nothing_wrong h work (sym e ∙ i) in q ∙ ap judged (sym (with_long h work (lent most_later l) x t))
 
 -- nothing refuses before line 2
 pub record Passes (h : Choices) (work : List (List ℕ)) (l : Lent) : Type 0 where
@@ -82,29 +81,29 @@ pub record Passes (h : Choices) (work : List (List ℕ)) (l : Lent) : Type 0 whe
   pub memory : Memory
   pub lent : lent most_later l ≡ gives memory
 
-module _ (h : Choices) (work : List (List ℕ)) (l : Lent) {r : Result (Unit {0}) Refusal} (e : answered r ≡ judged (with_choices h (lengths needed work) (lent most_later l))) where
+module _ (h : Choices) (work : List (List ℕ)) (l : Lent) {o : Answer (Unit {0})} (e : o ≡ judged (with_choices h (lengths needed work) (lent most_later l))) where
   -- what a refusal tells
-  pub before_stops : (f : Refusal) → r ≡ Err f → (b : List ℕ) (room : ℕ) → followed h (lengths needed work) l b room ≡ refused (number f)
+  pub before_stops : (n : ℕ) → o ≡ refused n → (b : List ℕ) (room : ℕ) → followed h (lengths needed work) l b room ≡ refused n
   unfolding followed ◌>>=◌
-  before_stops f i b room = go (before h (lengths needed work)) refl
+  before_stops n i b room = go (before h (lengths needed work)) refl
     where
       rest : Memory → Answer Step
       rest m = step h m b >>= λ s. fits room (length l.tree) s
 
-      stopped : with_choices h (lengths needed work) (lent most_later l) ≡ refused (number f)
-      stopped = judged_err (with_choices h (lengths needed work) (lent most_later l)) f e i
+      stopped : with_choices h (lengths needed work) (lent most_later l) ≡ refused n
+      stopped = judged_err (with_choices h (lengths needed work) (lent most_later l)) n e i
 
-      go : (o : Answer (Unit {0})) → before h (lengths needed work) ≡ o → with_choices h (lengths needed work) (lent most_later l >>= rest) ≡ refused (number f)
+      go : (o : Answer (Unit {0})) → before h (lengths needed work) ≡ o → with_choices h (lengths needed work) (lent most_later l >>= rest) ≡ refused n
       go (refused k) q =
           let x = stopped_early h (lengths needed work) (lent most_later l) k q in
           stopped_early h (lengths needed work) (lent most_later l >>= rest) k q ∙ ap refused (refused_inj (sym x ∙ stopped))
       go (gives u) q =
           let (c, t) = nothing_wrong h (lengths needed work) q in
-          let x : lent most_later l ≡ refused (number f) = sym (with_long h (lengths needed work) (lent most_later l) c t) ∙ stopped in
+          let x : lent most_later l ≡ refused n = sym (with_long h (lengths needed work) (lent most_later l) c t) ∙ stopped in
           with_long h (lengths needed work) (lent most_later l >>= rest) c t ∙ rw x refl
 
   -- and none
-  pub before_passes : r ≡ Ok tt → Passes h work l
+  pub before_passes : o ≡ gives tt → Passes h work l
   before_passes i = go (before h (lengths needed work)) refl
     where
       some : (m : Memory) × (with_choices h (lengths needed work) (lent most_later l) ≡ gives m)
@@ -145,8 +144,9 @@ stops f e = record {
   ends = λ d i. absurd (let z : ◌≡◌ {A = ℕ} 0 1 = cc in omega arith);
 }
 
-pub performs_early : {h : Choices} {work : List (List ℕ)} {l : Lent} {b t s rows notes changed marks : List ℕ} {r : Result (Unit {0}) Refusal} → answered r ≡ judged (with_choices h (lengths needed work) (lent most_later l)) → (f : Refusal) → r ≡ Err f → PerformsOn h work l b t s rows notes changed marks (Err (Refused f))
-performs_early {h} {work} {l} {b} e f i = stops f (λ room. before_stops h work l e f i b room)
+-- the answer is the definition's; what is performed has the refusal of that number
+pub performs_early : {h : Choices} {work : List (List ℕ)} {l : Lent} {b t s rows notes changed marks : List ℕ} {o : Answer (Unit {0})} → o ≡ judged (with_choices h (lengths needed work) (lent most_later l)) → (f : Refusal) → o ≡ refused (number f) → PerformsOn h work l b t s rows notes changed marks (Err (Refused f))
+performs_early {h} {work} {l} {b} e f i = stops f (λ room. before_stops h work l e (number f) i b room)
 
 module _ {h : Choices} {work : List (List ℕ)} {l : Lent} (P : Passes h work l) (b : List ℕ) where
   followed_on : (room : ℕ) → reached_on h l b room ≡ followed h (lengths needed work) l b room
