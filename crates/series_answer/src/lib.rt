@@ -12,17 +12,19 @@ use choices::Choices;
 use edit_perform::{Ended, Unplanned};
 use finish_result::finish;
 use refusals::Refusal;
+use rows_syntax_node::Rows;
 use series_leave::leave;
+use series_move::RunEnd;
 use series_tree::lacks_room;
 
 // At the end of the run: 13 where the memory or the result slice is too short, before anything is written; else both are written, and the result has so many bytes. `starts` is for where each element's text starts.
-fn answer_end(
+fn answer_end<'a>(
     choices: Choices,
     batch: &[u8],
     d: Ended,
-    source: &[u32],
-    marks: &[u32],
-    rows: &[u32],
+    source: &'a [u32],
+    marks: &'a [u32],
+    rows: &'a [u32],
     notes: &mut [u32],
     changed: &mut [u32],
     starts: &mut [u32],
@@ -35,12 +37,15 @@ fn answer_end(
 {
     let from = d.text;
     let text = &batch[from..];
-    if lacks_room(rows, d.rows, text, tree.len()) {
+    let new = Rows {
+        count: d.rows,
+        words: rows,
+    };
+    if lacks_room(&new, text, tree.len()) {
         return Err(Refusal::ShortResult);
     }
     let n = finish(
-        rows,
-        d.rows,
+        &new,
         d.root,
         notes,
         d.notes,
@@ -52,20 +57,24 @@ fn answer_end(
         d.climbs,
         res,
     )?;
-    leave(
-        source, d.elements, marks, rows, d.rows, text, tree, bookmarks,
-    );
+    let run = RunEnd {
+        elements: d.elements,
+        source,
+        marks,
+        rows: new,
+    };
+    leave(&run, text, tree, bookmarks);
     Ok(n)
 }
 
 // What is answered from what is performed: its refusal, 8 where two changes overlap, or what follows from the end of the run.
-pub fn answer(
+pub fn answer<'a>(
     choices: Choices,
     batch: &[u8],
     done: Result<Ended, Unplanned>,
-    source: &[u32],
-    marks: &[u32],
-    rows: &[u32],
+    source: &'a [u32],
+    marks: &'a [u32],
+    rows: &'a [u32],
     notes: &mut [u32],
     changed: &mut [u32],
     starts: &mut [u32],

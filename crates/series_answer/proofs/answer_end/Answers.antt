@@ -4,19 +4,25 @@ use Rattle.std.proofs.lemmas.Result.{err_from_is_err_and}
 use Rattle.series_answer.specs.Ends.{rest_told, ends_full, ends_leaving, ends_short, ends_written}
 use Rattle.series_answer.proofs.answer_end.Goals as goal
 
+pub invariant_of-new : goal.invariant_of-new
+invariant_of-new c = let A = c.requires.ends.ends in record { long = A.rows_within; few = omega (arith, A.few_rows) }
+
 pub lacks_room-requires : goal.lacks_room-requires
-lacks_room-requires c = let A = c.requires.ends.ends in (A.rows_within, A.some_rows, omega (arith, A.few_rows), A.few_bytes _)
+lacks_room-requires c = let A = c.requires.ends.ends in (A.some_rows, A.few_bytes _)
 
 pub returns-then-lacks_room : goal.returns-then-lacks_room
 returns-then-lacks_room c = ends_full c.requires _ (rest_told c.args.d.text c.args.batch.now) c.lacks_room.ensures c.if-lacks_room.true _
 
 pub finish-requires : goal.finish-requires
-finish-requires c = let v = c.requires in let A = v.ends.ends in record { n_in_bounds = (A.rows_within, A.some_rows, omega (arith, A.few_rows), omega (arith, A.few_rows, v.room), A.few_bytes _); k_in_bounds = (A.notes_within, A.few_notes, A.changed_within, A.few_changed, A.few_discarded, A.few_climbs); root_value = A.place }
+finish-requires c = let v = c.requires in let A = v.ends.ends in record { rows_in_bounds = (A.some_rows, omega (arith, A.few_rows, v.room), A.few_bytes _); k_in_bounds = (A.notes_within, A.few_notes, A.changed_within, A.few_changed, A.few_discarded, A.few_climbs); root_value = A.place }
 
 pub returns-in_err-n : goal.returns-in_err-n
 returns-in_err-n c =
     let p = err_from_is_err_and c.from_residual.result c.from_residual.ensures.1 in
     rw (p.1, p.2) (ends_short c.requires _ (rest_told c.args.d.text c.args.batch.now) c.lacks_room.ensures c.if-lacks_room.false _ c.finish.ensures _ c.in_err-n.was)
+
+pub invariant_of-run : goal.invariant_of-run
+invariant_of-run c = let T = c.requires.ends.tells in record { long = omega (arith, T.formed.long); few = omega (arith, T.formed.lines.few) }
 
 pub leave-requires : goal.leave-requires
 leave-requires c = ends_leaving c.requires _ (rest_told c.args.d.text c.args.batch.now) c.lacks_room.ensures c.if-lacks_room.false
