@@ -104,6 +104,7 @@ fn record_and_sort(
 }
 
 // What becomes of each of `c` sorted changes, by the edge rule: the words FATE and OWNER of its row.
+#[tactic(auto, using(crate::proofs::Judging::left_by_0, crate::proofs::Judging::left_by_1))]
 fn state_fates(choices: Choices, sorted: &mut [u32], c: usize, table: &[u32])
     requires { (14 * c ≤ length sorted.old) × (c ≤ 256) }
     ensures { sorted.new ≡ rows_words (rule_rows (meant choices) table.now c sorted.old) ++ drop (14 * c) sorted.old }
