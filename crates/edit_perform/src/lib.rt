@@ -37,15 +37,21 @@ pub struct Ended {
     pub climbs: usize,
 }
 
+// A plan in words: the change rows, the places in running order, the notes where they settle.
+#[derive(Clone, Copy)]
+struct Plan<'a> {
+    counts: Counts,
+    changes: &'a [u32],
+    running: &'a [u32],
+    first: &'a [u32],
+}
+
 // The steps of the plan, over marks for just the batch's elements.
 fn run_plan(
     choices: Choices,
     batch: &Batch,
     elements: &Elements,
-    c: Counts,
-    changes: &[u32],
-    running: &[u32],
-    first: &[u32],
+    plan: &Plan,
     notes: &mut [u32],
     incoming: &mut [u32],
     changed: &mut [u32],
@@ -55,10 +61,10 @@ fn run_plan(
 ) -> Result<Ended, Unplanned>
     requires laid_out { LaidOut batch.now.bytes.now batch.now.layout elements.now.table.now elements.now.source.now }
     requires counted { elements.now.count ≡ batch.now.layout.sizes.elements }
-    requires planning { Planning (meant choices) batch.now.bytes.now batch.now.layout elements.now.table.now elements.now.source.now changes.now running.now first.now (Ok c) }
-    requires in_bounds { (6147 ≤ length elements.now.source.now) × (256 ≤ length running.now) × (768 ≤ length first.now) }
+    requires planning { Planning (meant choices) batch.now.bytes.now batch.now.layout elements.now.table.now elements.now.source.now plan.now.changes.now plan.now.running.now plan.now.first.now (Ok plan.now.counts) }
+    requires in_bounds { (6147 ≤ length elements.now.source.now) × (256 ≤ length plan.now.running.now) × (768 ≤ length plan.now.first.now) }
     requires marks_len { (length marks.old ≡ elements.now.count) × (3072 ≤ length notes.old) × (3072 ≤ length incoming.old) × (1024 ≤ length changed.old) × (12291 ≤ length rows.old) × (12288 ≤ length prepared.old) }
-    ensures { Performs (meant choices) batch.now.bytes.now elements.now.table.now elements.now.source.now changes.now rows.new notes.new changed.new marks.new result }
+    ensures { Performs (meant choices) batch.now.bytes.now elements.now.table.now elements.now.source.now plan.now.changes.now rows.new notes.new changed.new marks.new result }
 {
     // As many as a call may list.
     let mut sizes = [0u32; 41];
@@ -67,7 +73,8 @@ fn run_plan(
     let settled = NOTE_WORDS * s.notes;
     let listed = l.list;
     let end = listed + 4 * s.listed;
-    let runs = c.runs;
+    let counts = plan.counts;
+    let runs = counts.runs;
     let t = execute(
         rows,
         marks,
@@ -78,21 +85,21 @@ fn run_plan(
         incoming,
         elements.table,
         elements.source,
-        &first[..settled],
+        &plan.first[..settled],
         &batch.bytes[listed..end],
-        changes,
-        &running[..runs],
+        plan.changes,
+        &plan.running[..runs],
     )?;
     Ok(Ended {
         text: l.text,
         elements: s.elements,
-        recorded: c.recorded,
+        recorded: counts.recorded,
         root: t.root,
         rows: t.rows,
         notes: t.notes,
         changed: t.changed,
-        discarded: c.discarded,
-        climbs: c.climbs,
+        discarded: counts.discarded,
+        climbs: counts.climbs,
     })
 }
 
@@ -117,7 +124,7 @@ pub fn plan_and_run(
 {
     let mut running = [0u32; 256];
     let mut first = [0u32; 768];
-    let c = plan(
+    let counts = plan(
         choices,
         batch,
         elements,
@@ -129,14 +136,17 @@ pub fn plan_and_run(
         marks,
         &mut first,
     )?;
+    let planned = Plan {
+        counts,
+        changes,
+        running: &running,
+        first: &first,
+    };
     run_plan(
         choices,
         batch,
         elements,
-        c,
-        changes,
-        &running,
-        &first,
+        &planned,
         notes,
         incoming,
         changed,
