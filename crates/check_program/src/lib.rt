@@ -19,32 +19,32 @@ use std::io::{Read, Write};
 fn judge_lists(
     lists: &[u32],
     texts: &[u8],
-    a: usize,
-    b: usize,
-    c: usize,
-    d: usize,
-    e: usize,
-    g: usize,
+    old_kinds: usize,
+    old_measures: usize,
+    old_text: usize,
+    new_kinds: usize,
+    new_measures: usize,
+    pairs: usize,
 ) -> Result<Verdict, Refusal>
-    requires { (a + b + d + e + g + g ≤ length lists.now) × (length lists.now ≤ 65536) × (c ≤ length texts.now) }
-    ensures { answer_of result ≡ checked (claims_from lists.now texts.now a b c d e g) }
+    requires { (old_kinds + old_measures + new_kinds + new_measures + pairs + pairs ≤ length lists.now) × (length lists.now ≤ 65536) × (old_text ≤ length texts.now) }
+    ensures { answer_of result ≡ checked (claims_from lists.now texts.now old_kinds old_measures old_text new_kinds new_measures pairs) }
 {
     let mut old = [0u32; 16384];
     let mut new = [0u32; 16384];
     let mut partners = [0u32; 4096];
     let mut marks = [0u32; 4096];
-    let from = a + b;
-    let measures = from + d;
-    let olds = measures + e;
-    let news = olds + g;
-    let changed = news + g;
+    let from = old_kinds + old_measures;
+    let measures = from + new_kinds;
+    let olds = measures + new_measures;
+    let news = olds + pairs;
+    let changed = news + pairs;
     check_claim::check(
-        &lists[..a],
-        &lists[a..from],
-        &texts[..c],
+        &lists[..old_kinds],
+        &lists[old_kinds..from],
+        &texts[..old_text],
         &lists[from..measures],
         &lists[measures..olds],
-        &texts[c..],
+        &texts[old_text..],
         &lists[olds..news],
         &lists[news..changed],
         &lists[changed..],
@@ -63,22 +63,31 @@ fn judge(claim: &[u8]) -> Result<Verdict, Refusal>
     if claim.len() < 32 {
         return Err(Refusal::ShortBatch);
     }
-    let a = words::read_word(claim, 0);
-    let b = words::read_word(claim, 4);
-    let c = words::read_word(claim, 8);
-    let d = words::read_word(claim, 12);
-    let e = words::read_word(claim, 16);
-    let f = words::read_word(claim, 20);
-    let g = words::read_word(claim, 24);
-    let h = words::read_word(claim, 28);
-    let n = a + b + d + e + 2 * g + h;
-    if claim.len() != 32 + 4 * n + c + f {
+    let old_kinds = words::read_word(claim, 0);
+    let old_measures = words::read_word(claim, 4);
+    let old_text = words::read_word(claim, 8);
+    let new_kinds = words::read_word(claim, 12);
+    let new_measures = words::read_word(claim, 16);
+    let new_text = words::read_word(claim, 20);
+    let pairs = words::read_word(claim, 24);
+    let changed = words::read_word(claim, 28);
+    let n = old_kinds + old_measures + new_kinds + new_measures + 2 * pairs + changed;
+    if claim.len() != 32 + 4 * n + old_text + new_text {
         return Err(Refusal::Length);
     }
     let mut lists = [0u32; 65536];
     words::read_words(claim, 32, n, &mut lists, 0);
     let at = 32 + 4 * n;
-    judge_lists(&lists[..n], &claim[at..], a, b, c, d, e, g)
+    judge_lists(
+        &lists[..n],
+        &claim[at..],
+        old_kinds,
+        old_measures,
+        old_text,
+        new_kinds,
+        new_measures,
+        pairs,
+    )
 }
 
 // What is printed of a verdict is written at the front of `out`.

@@ -14,13 +14,13 @@ returns-then-claim-lt32 c = short_claim _ (omega arith)
 
 pub returns-then-claim-n : goal.returns-then-claim-n
 unfolding answer_of number
-returns-then-claim-n c = other_length _ (omega arith) c.read_word-a.ensures.0 c.read_word-b.ensures.0 c.read_word-c.ensures.0 c.read_word-d.ensures.0 c.read_word-e.ensures.0 c.read_word-f.ensures.0 c.read_word-g.ensures.0 c.read_word-h.ensures.0 c.if-claim-n.true
+returns-then-claim-n c = other_length _ (omega arith) c.read_word-old_kinds.ensures.0 c.read_word-old_measures.ensures.0 c.read_word-old_text.ensures.0 c.read_word-new_kinds.ensures.0 c.read_word-new_measures.ensures.0 c.read_word-new_text.ensures.0 c.read_word-pairs.ensures.0 c.read_word-changed.ensures.0 c.if-claim-n.true
 
 pub returns : goal.returns
 returns c =
-    let n : ℕ = c.read_word-a.result + c.read_word-b.result + c.read_word-d.result + c.read_word-e.result + 2 * c.read_word-g.result + c.read_word-h.result in
+    let n : ℕ = c.read_word-old_kinds.result + c.read_word-old_measures.result + c.read_word-new_kinds.result + c.read_word-new_measures.result + 2 * c.read_word-pairs.result + c.read_word-changed.result in
     let x = c.args.claim.now in
-    right_length x (omega arith) c.read_word-a.ensures.0 c.read_word-b.ensures.0 c.read_word-c.ensures.0 c.read_word-d.ensures.0 c.read_word-e.ensures.0 c.read_word-f.ensures.0 c.read_word-g.ensures.0 c.read_word-h.ensures.0 (omega arith)
+    right_length x (omega arith) c.read_word-old_kinds.ensures.0 c.read_word-old_measures.ensures.0 c.read_word-old_text.ensures.0 c.read_word-new_kinds.ensures.0 c.read_word-new_measures.ensures.0 c.read_word-new_text.ensures.0 c.read_word-pairs.ensures.0 c.read_word-changed.ensures.0 (omega arith)
     (front_words n _ (replicate 65536 0) _ c.read_words.ensures (omega arith))
     (texts_left x (32 + 4 * n) (length x - (32 + 4 * n)) (omega arith))
     c.judge_lists.ensures

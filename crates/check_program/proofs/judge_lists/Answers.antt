@@ -11,9 +11,9 @@ pub returns : goal.returns
 returns c =
     let l = c.args.lists.now in
     let t = c.args.texts.now in
-    let i = c.args.a + c.args.b in
-    let j = i + c.args.d in
-    let k = j + c.args.e in
-    let m = k + c.args.g in
-    let n = m + c.args.g in
-    parts_claimed l t c.args.a c.args.b c.args.c c.args.d c.args.e c.args.g (i - c.args.a) (j - i) (k - j) (length t - c.args.c) (m - k) (n - m) (length l - n) (whole c.check.ensures (search rules) (search rules) (search rules) (search rules)) (omega arith) (omega arith) (omega arith) (omega arith) (omega arith) (omega arith) (omega arith)
+    let i = c.args.old_kinds + c.args.old_measures in
+    let j = i + c.args.new_kinds in
+    let k = j + c.args.new_measures in
+    let m = k + c.args.pairs in
+    let n = m + c.args.pairs in
+    parts_claimed l t c.args.old_kinds c.args.old_measures c.args.old_text c.args.new_kinds c.args.new_measures c.args.pairs (i - c.args.old_kinds) (j - i) (k - j) (length t - c.args.old_text) (m - k) (n - m) (length l - n) (whole c.check.ensures (search rules) (search rules) (search rules) (search rules)) (omega arith) (omega arith) (omega arith) (omega arith) (omega arith) (omega arith) (omega arith)
