@@ -177,36 +177,48 @@ fn put_found(out: &mut [u8], at: usize, changed: &Pairs, notes: &Pairs) -> usize
 fn put_result(
     out: &mut [u8],
     b: &[u8],
-    n: usize,
-    t: usize,
-    c: usize,
-    m: usize,
+    element_count: usize,
+    text_length: usize,
+    changed_count: usize,
+    note_count: usize,
     discarded: usize,
     climbs: usize,
 ) -> usize
-    requires { Fits (length b.now) (length out.old) n t c m }
-    ensures { Put out.old 0 (print (gives (told b.now n t c m discarded climbs))) out.new result }
+    requires { Fits (length b.now) (length out.old) element_count text_length changed_count note_count }
+    ensures { Put out.old 0 (print (gives (told b.now element_count text_length changed_count note_count discarded climbs))) out.new result }
 {
-    let changed_at = ARRAYS + 8 * n;
-    let notes_at = changed_at + 8 * c;
-    let text_at = notes_at + 8 * m;
-    let end = text_at + t;
+    let changed_at = ARRAYS + 8 * element_count;
+    let notes_at = changed_at + 8 * changed_count;
+    let text_at = notes_at + 8 * note_count;
+    let end = text_at + text_length;
     let elements = Pairs {
         bytes: b,
         at: ARRAYS,
-        count: n,
+        count: element_count,
     };
     let changed = Pairs {
         bytes: b,
         at: changed_at,
-        count: c,
+        count: changed_count,
     };
     let notes = Pairs {
         bytes: b,
         at: notes_at,
-        count: m,
+        count: note_count,
     };
-    let sized = put_line(out, 0, b"ok", &[n, t, c, m, discarded, climbs]);
+    let sized = put_line(
+        out,
+        0,
+        b"ok",
+        &[
+            element_count,
+            text_length,
+            changed_count,
+            note_count,
+            discarded,
+            climbs,
+        ],
+    );
     let treed = put_tree(out, sized, &elements, &b[text_at..end]);
     put_found(out, treed, &changed, &notes)
 }
@@ -216,13 +228,22 @@ pub fn print_result(out: &mut [u8], b: &[u8]) -> usize
     requires { Printable b.now (length out.old) }
     ensures { Put out.old 0 (print (gives (decoded b.now))) out.new result }
 {
-    let n = words::read_word(b, result_laws::ELEMENTS);
-    let t = words::read_word(b, result_laws::TEXT);
-    let c = words::read_word(b, result_laws::CHANGED);
-    let m = words::read_word(b, result_laws::NOTES);
+    let element_count = words::read_word(b, result_laws::ELEMENTS);
+    let text_length = words::read_word(b, result_laws::TEXT);
+    let changed_count = words::read_word(b, result_laws::CHANGED);
+    let note_count = words::read_word(b, result_laws::NOTES);
     let discarded = words::read_word(b, result_laws::DISCARDED);
     let climbs = words::read_word(b, result_laws::CLIMBS);
-    put_result(out, b, n, t, c, m, discarded, climbs)
+    put_result(
+        out,
+        b,
+        element_count,
+        text_length,
+        changed_count,
+        note_count,
+        discarded,
+        climbs,
+    )
 }
 
 // What is printed of a refusal is written at the front.

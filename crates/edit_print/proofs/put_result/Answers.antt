@@ -14,7 +14,7 @@ put_found-requires c =
     let a = c.args in
     let q = c.requires in
     let e : length c.put_tree-treed.new.out ≡ length a.out.now = search rules in
-    treed_room a.b.now a.out.now a.n a.t a.c a.m a.discarded a.climbs q c.put_line-sized.ensures c.put_tree-treed.ensures e
+    treed_room a.b.now a.out.now a.element_count a.text_length a.changed_count a.note_count a.discarded a.climbs q c.put_line-sized.ensures c.put_tree-treed.ensures e
 
 pub returns : goal.returns
 returns c = search (result_put, rules)
