@@ -40,9 +40,9 @@ pub start_short : (l : Lent) (rows : List ℕ) → length rows < 12288 → answe
 unfolding started with_work too_short lengths start_needs zip any refuse ◌>>=◌ judged answered number
 start_short l rows h = rw (lt-ltb (length rows) 12288 h)
 
-pub start_long : (l : Lent) (rows : List ℕ) (r : Result (Unit {0}) Refusal) → 12288 ≤ length rows → answered r ≡ judged (lent most_at_start l) → answered r ≡ judged (started (lengths start_needs (rows ∷ [])) l)
+pub start_long : (l : Lent) (rows : List ℕ) (o : Answer (Unit {0})) → 12288 ≤ length rows → o ≡ judged (lent most_at_start l) → o ≡ judged (started (lengths start_needs (rows ∷ [])) l)
 unfolding started with_work too_short lengths start_needs zip any refuse ◌>>=◌
-start_long l rows r h e = e ∙ sym (ap judged (rw (le-ltb (length rows) 12288 h)))
+start_long l rows o h e = e ∙ sym (ap judged (rw (le-ltb (length rows) 12288 h)))
 
 -- the work slice is cleared whatever was told
 pub start_told : {l : Lent} {rows out : List ℕ} {r : Result (Unit {0}) Refusal} {n : ℕ} → answered r ≡ judged (started (lengths start_needs (rows ∷ [])) l) → n ≡ length rows → out ≡ replicate n 0 → Starts l rows r out
