@@ -33,7 +33,7 @@ pub fn upmap_node_single(map: &[u32], n: usize, e: usize) -> usize
 }
 
 // Rust: `to_first_upmap` in SyntaxMapping::upmap_child. How many child numbers lead from `x` down to `e`; none if `e` is neither `x` nor below it. They are
-// written to `place`, upward, and so read backward.
+// written to `place`, upward, and so read backward. The table with its count, and no `Elements`: it asks for `Lines` alone, of any rows.
 pub fn place_below(
     table: &[u32],
     n: usize,
@@ -60,7 +60,7 @@ pub fn place_below(
 }
 
 // Rust: SyntaxMapping::upmap_to_ancestor. The climb from `input`, or its mapped node, to the first parent that is `output`. The child numbers met are
-// written to `trail`, upward: how many. Where the Rust would climb for ever, more than `n` steps must repeat: 10.
+// written to `trail`, upward: how many. Where the Rust would climb for ever, more than `n` steps must repeat: 10. By the table too (`place_below`).
 pub fn upmap_to_ancestor(
     table: &[u32],
     map: &[u32],
