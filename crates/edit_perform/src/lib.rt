@@ -103,7 +103,8 @@ fn run_plan(
     })
 }
 
-// The plan of an accepted batch, and its steps. Before the first step the rows, the prepared rows, the changed rows and the marks serve planning.
+// The plan of an accepted batch, and its steps. Before the first step the rows, the prepared rows, the changed rows and the marks serve planning. Slices, and no
+// `Work`: some are read beside others that are written, which the borrow checker does not cover through one `&mut Work` (tried).
 pub fn plan_and_run(
     choices: Choices,
     batch: &Batch,
