@@ -28,6 +28,7 @@ fn contains_range(rows: &[u32], j: usize, from: usize, to: usize) -> bool
 }
 
 // The place of the region around the change at place `j`.
+#[tactic(auto, using(crate::proofs::Regions::outer_none, crate::proofs::Regions::outer_some))]
 fn outer_region(rows: &[u32], j: usize) -> Option<usize>
     requires { j < 2 ^ 32 }
     ensures { one_past result ≡ outer (row_at rows.now j) }
@@ -56,6 +57,7 @@ fn enclosing_region(rows: &[u32], top: usize, from: usize, to: usize) -> Option<
 
 // Rust: NestedChanges. The fate of a change by the region around it. Only a node that is replaced by a node, and is not discarded itself, has one counterpart
 // into which inner targets can be mapped; else inner changes are dropped.
+#[tactic(auto, using(crate::proofs::Regions::fate_none, crate::proofs::Regions::fate_under_discarded, crate::proofs::Regions::fate_dependent, crate::proofs::Regions::fate_discarded))]
 fn fate_in(rows: &[u32], around: Option<usize>) -> Fate
     requires { one_past around ≤ 256 }
     ensures { fate_number result ≡ fate_of (fate (stack_to rows.now (one_past around) (one_past around))) }
@@ -74,6 +76,7 @@ fn fate_in(rows: &[u32], around: Option<usize>) -> Fate
 }
 
 // The fate of the change at place `k`, by the region around it, is written into its row.
+#[tactic(auto, using(crate::proofs::Regions::stated_by))]
 fn state_fate(rows: &mut [u32], k: usize, around: Option<usize>)
     requires { (14 * k + 14 ≤ length rows.old) × (k < 256) × (one_past around ≤ k) }
     ensures { rows.new ≡ stated rows.old k (fate (stack_to rows.old k (one_past around))) }
@@ -83,6 +86,7 @@ fn state_fate(rows: &mut [u32], k: usize, around: Option<usize>)
 }
 
 // The last region of a tree becomes `top`, stored as index + 1, 0 = none.
+#[tactic(auto, using(crate::proofs::Regions::set_past))]
 fn set_top(tops: &mut [u32], tree: usize, top: Option<usize>)
     requires { one_past top < 2 ^ 32 }
     ensures { tops.new ≡ set tops.old tree (one_past top) }
@@ -93,6 +97,7 @@ fn set_top(tops: &mut [u32], tree: usize, top: Option<usize>)
 }
 
 // Rust: ChangedRegion::for_change, pushed if there is one. The last region of its tree after the change at place `k`, by the region around it.
+#[tactic(auto, using(crate::proofs::Regions::last_around, crate::proofs::Regions::last_itself))]
 fn last_region(rows: &[u32], k: usize, around: Option<usize>) -> Option<usize>
     requires { (k < 256) × (one_past around ≤ k) }
     ensures { (one_past result ≡ cond (eqb (row_at rows.now k).region 0) (one_past around) (suc k)) × (one_past result ≤ 256) }
@@ -119,6 +124,7 @@ fn region_around(rows: &[u32], k: usize, tops: &[u32]) -> Option<usize>
 }
 
 // The change at place `k` gets its fate, and the stack of its tree becomes what it leaves.
+#[tactic(auto, using(crate::proofs::Regions::rows_next, crate::proofs::Regions::tops_after))]
 fn plan_change(rows: &mut [u32], k: usize, tops: &mut [u32])
     requires { (14 * k + 14 ≤ length rows.old) × (k < 256) × All (λ q. q ≤ k) tops.old × Outward rows.old k }
     ensures rows_after { rows.new ≡ next_rows rows.old tops.old k }

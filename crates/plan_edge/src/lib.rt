@@ -24,6 +24,7 @@ fn entry(table: &[u32], e: usize, k: usize) -> usize
 }
 
 // The parent of `x`; of a root, the root.
+#[tactic(auto, using(crate::proofs::Tests::root_itself, crate::proofs::Tests::parent_below))]
 fn parent_or_root(table: &[u32], x: usize) -> usize
     requires { x < 2 ^ 32 }
     ensures { result ≡ parent_or_root table.now x }
@@ -53,6 +54,7 @@ fn in_run(table: &[u32], x: usize, y: usize, e: usize) -> bool
 // ── What a region takes ──
 
 // Rust: Change::target_parent.
+#[tactic(auto, using(crate::proofs::Tests::first_child_parent, crate::proofs::Tests::other_target_parent))]
 fn target_parent(rows: &[u32], table: &[u32], k: usize) -> usize
     requires { k < 2 ^ 32 }
     ensures { result ≡ target_parent table.now (row_at rows.now k) }
@@ -65,6 +67,7 @@ fn target_parent(rows: &[u32], table: &[u32], k: usize) -> usize
 }
 
 // Whether the change at place `k` is a root's replacement.
+#[tactic(auto, using(crate::proofs::Tests::no_replacement, crate::proofs::Tests::replacement_of))]
 fn of_root(rows: &[u32], table: &[u32], k: usize) -> bool
     requires { k < 2 ^ 32 }
     ensures { result ≡ of_root table.now (row_at rows.now k) }
@@ -110,6 +113,7 @@ fn only_in(rows: &[u32], table: &[u32], x: usize, y: usize, k: usize) -> bool
 }
 
 // Whether the change at place `k` is a run from `x` to `y`.
+#[tactic(auto, using(crate::proofs::Tests::no_run, crate::proofs::Tests::other_start, crate::proofs::Tests::same_start))]
 fn is_run_of(rows: &[u32], x: usize, y: usize, k: usize) -> bool
     requires { k < 2 ^ 32 }
     ensures { result ≡ is_run_of x y (row_at rows.now k) }
@@ -143,6 +147,7 @@ fn is_inside(rows: &[u32], table: &[u32], j: usize, k: usize) -> bool
 }
 
 // Whether the change at place `k`, no root's replacement and with the target parent `p`, belongs to the region of the one at place `j`.
+#[tactic(auto, using(crate::proofs::Tests::no_region, crate::proofs::Tests::removes_parent, crate::proofs::Tests::or_inside))]
 fn takes_change(rows: &[u32], table: &[u32], k: usize, p: usize, j: usize) -> bool
     requires j_bound { (j < 2 ^ 32) × (k < 2 ^ 32) }
     requires k_value { (of_root table.now (row_at rows.now k) ≡ false) × (p ≡ target_parent table.now (row_at rows.now k)) }
@@ -160,6 +165,7 @@ fn takes_change(rows: &[u32], table: &[u32], k: usize, p: usize, j: usize) -> bo
 // ── The innermost ──
 
 // The depth by which regions are compared: that of the target parent, 0 for a root's replacement.
+#[tactic(auto, using(crate::proofs::Regions::root_depth, crate::proofs::Regions::parent_depth_lem))]
 fn region_depth(rows: &[u32], table: &[u32], k: usize) -> usize
     requires { k < 2 ^ 32 }
     ensures { (result ≡ region_depth table.now (row_at rows.now k)) × (result < 2 ^ 32) }
@@ -245,6 +251,7 @@ fn is_discarded(rows: &[u32], regions: &[u32], most: usize, k: usize) -> bool
 }
 
 // The fate of the change at place `k`.
+#[tactic(auto, using(crate::proofs::Stating::own_fate, crate::proofs::Stating::discarded_fate, crate::proofs::Stating::dependent_fate))]
 fn fate_of(rows: &[u32], table: &[u32], regions: &[u32], k: usize) -> Fate
     requires { k < 2 ^ 32 }
     ensures { fate_number result ≡ fate_of (fate_at table.now rows.now regions.now k) }
@@ -259,6 +266,7 @@ fn fate_of(rows: &[u32], table: &[u32], regions: &[u32], k: usize) -> Fate
 }
 
 // The fate of the change at place `k` is written into its row.
+#[tactic(auto, using(crate::proofs::Stating::stated_by))]
 fn state_fate(rows: &mut [u32], table: &[u32], regions: &[u32], k: usize)
     requires { (14 * k + 14 ≤ length rows.old) × (k < 256) }
     ensures { rows.new ≡ stated rows.old k (fate_at table.now rows.old regions.now k) }

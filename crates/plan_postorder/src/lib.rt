@@ -11,6 +11,7 @@ use words::word;
 
 // Rust: PlanEntry::parent. The owner of the change at place `k`, index + 1, 0 = none: the list of `first` into which it is linked. None of a change that never
 // runs.
+#[tactic(auto, using(crate::proofs::Linking::owner_none, crate::proofs::Linking::owner_discarded, crate::proofs::Linking::owner_dependent, crate::proofs::Linking::owner_outside))]
 fn owner_of(rows: &[u32], k: usize) -> Option<usize>
     requires { k < 2 ^ 32 }
     ensures { OwnerOf rows.now k result }
