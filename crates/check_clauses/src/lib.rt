@@ -9,7 +9,10 @@ ghost use Rattle.check_model.specs.Clauses.{entry as word_of, marked, alike as a
 ghost use Rattle.check_model.specs.Pairing.{Below};
 ghost use Rattle.check_clauses.specs.Asked.{PairsUp, Reaches, Reached, Climbs, Linked, Climbed, Ready};
 
+mod pairs;
+
 use check_table::{END, KIND, PARENT, START};
+pub use pairs::{Pairs, Side};
 
 // 19: whether a number of the list is none of `n` elements.
 pub fn beyond(list: &[u32], n: usize) -> bool
@@ -19,12 +22,12 @@ pub fn beyond(list: &[u32], n: usize) -> bool
 }
 
 // Each pair's old element + 1 is written as the partner of its new one; false where that has one already.
-pub fn pair_up(olds: &[u32], news: &[u32], partners: &mut [u32]) -> bool
-    requires { (length news.now ≡ length olds.now) × Below 4096 olds.now × Below (length partners.old) news.now }
-    ensures { PairsUp (zip olds.now news.now) partners.old result partners.new }
+pub fn pair_up(pairs: &Pairs, partners: &mut [u32]) -> bool
+    requires { Below 4096 pairs.now.olds.now × Below (length partners.old) pairs.now.news.now }
+    ensures { PairsUp (zip pairs.now.olds.now pairs.now.news.now) partners.old result partners.new }
 {
-    for (i, x) in olds.iter().enumerate() {
-        let y = news[i] as usize;
+    for (i, x) in pairs.olds.iter().enumerate() {
+        let y = pairs.news[i] as usize;
         if partners[y] != 0 {
             return false;
         }
@@ -51,40 +54,33 @@ pub fn same_bytes(a: &[u8], b: &[u8]) -> bool
 }
 
 // 3, of one pair: equal kind words and, for tokens, equal text.
-fn alike(old: &[u32], new: &[u32], old_text: &[u8], new_text: &[u8], x: usize, y: usize) -> bool
-    requires { Reaches old.now (length old_text.now) x × Reaches new.now (length new_text.now) y }
-    ensures { result ≡ alike_in old.now new.now old_text.now new_text.now (x, y) }
+fn alike(old: &Side, new: &Side, x: usize, y: usize) -> bool
+    requires { Reaches old.now.table.now (length old.now.text.now) x × Reaches new.now.table.now (length new.now.text.now) y }
+    ensures { result ≡ alike_in old.now.table.now new.now.table.now old.now.text.now new.now.text.now (x, y) }
 {
-    let kind = check_table::entry(old, x, KIND);
-    if kind != check_table::entry(new, y, KIND) {
+    let kind = check_table::entry(old.table, x, KIND);
+    if kind != check_table::entry(new.table, y, KIND) {
         return false;
     }
     if 0x8000_0000 <= kind {
         return true;
     }
-    let a = check_table::entry(old, x, START);
-    let b = check_table::entry(old, x, END);
-    let c = check_table::entry(new, y, START);
-    let d = check_table::entry(new, y, END);
-    same_bytes(&old_text[a..b], &new_text[c..d])
+    let a = check_table::entry(old.table, x, START);
+    let b = check_table::entry(old.table, x, END);
+    let c = check_table::entry(new.table, y, START);
+    let d = check_table::entry(new.table, y, END);
+    same_bytes(&old.text[a..b], &new.text[c..d])
 }
 
 // 3, of all pairs.
-fn all_alike(
-    olds: &[u32],
-    news: &[u32],
-    old: &[u32],
-    new: &[u32],
-    old_text: &[u8],
-    new_text: &[u8],
-) -> bool
-    requires { (length news.now ≡ length olds.now) × Reached old.now (length old_text.now) olds.now × Reached new.now (length new_text.now) news.now }
-    ensures { result ≡ every (alike_in old.now new.now old_text.now new_text.now) (zip olds.now news.now) }
+fn all_alike(pairs: &Pairs, old: &Side, new: &Side) -> bool
+    requires { Reached old.now.table.now (length old.now.text.now) pairs.now.olds.now × Reached new.now.table.now (length new.now.text.now) pairs.now.news.now }
+    ensures { result ≡ every (alike_in old.now.table.now new.now.table.now old.now.text.now new.now.text.now) (zip pairs.now.olds.now pairs.now.news.now) }
 {
-    for (i, x) in olds.iter().enumerate() {
+    for (i, x) in pairs.olds.iter().enumerate() {
         let x = *x as usize;
-        let y = news[i] as usize;
-        if !alike(old, new, old_text, new_text, x, y) {
+        let y = pairs.news[i] as usize;
+        if !alike(old, new, x, y) {
             return false;
         }
     }
@@ -109,13 +105,13 @@ fn parents_meet(old: &[u32], new: &[u32], partners: &[u32], x: usize, y: usize) 
 }
 
 // 4, of all pairs.
-fn all_parents_meet(olds: &[u32], news: &[u32], old: &[u32], new: &[u32], partners: &[u32]) -> bool
-    requires { (length news.now ≡ length olds.now) × Climbed old.now olds.now × Climbed new.now news.now × Below (length partners.now) news.now }
-    ensures { result ≡ every (parents_meet old.now new.now partners.now) (zip olds.now news.now) }
+fn all_parents_meet(pairs: &Pairs, old: &[u32], new: &[u32], partners: &[u32]) -> bool
+    requires { Climbed old.now pairs.now.olds.now × Climbed new.now pairs.now.news.now × Below (length partners.now) pairs.now.news.now }
+    ensures { result ≡ every (parents_meet old.now new.now partners.now) (zip pairs.now.olds.now pairs.now.news.now) }
 {
-    for (i, x) in olds.iter().enumerate() {
+    for (i, x) in pairs.olds.iter().enumerate() {
         let x = *x as usize;
-        let y = news[i] as usize;
+        let y = pairs.news[i] as usize;
         if !parents_meet(old, new, partners, x, y) {
             return false;
         }
@@ -175,30 +171,27 @@ fn all_accounted(new: &[u32], partners: &[u32], marks: &[u32], n: usize) -> bool
 
 // All clauses, where `pair_up` found no new element twice and wrote the partners, and `mark_all` the marks, of `n` new elements.
 pub fn judge(
-    olds: &[u32],
-    news: &[u32],
-    old: &[u32],
-    new: &[u32],
-    old_text: &[u8],
-    new_text: &[u8],
+    pairs: &Pairs,
+    old: &Side,
+    new: &Side,
     partners: &[u32],
     marks: &[u32],
     n: usize,
 ) -> bool
-    requires { Ready olds.now news.now old.now new.now (length old_text.now) (length new_text.now) (length partners.now) (length marks.now) n }
-    ensures { result ≡ judged_by old.now new.now old_text.now new_text.now n (zip olds.now news.now) partners.now marks.now }
+    requires { Ready pairs.now.olds.now pairs.now.news.now old.now.table.now new.now.table.now (length old.now.text.now) (length new.now.text.now) (length partners.now) (length marks.now) n }
+    ensures { result ≡ judged_by old.now.table.now new.now.table.now old.now.text.now new.now.text.now n (zip pairs.now.olds.now pairs.now.news.now) partners.now marks.now }
 {
     if words::word(partners, 0) != 1 {
         return false;
     }
-    if !all_alike(olds, news, old, new, old_text, new_text) {
+    if !all_alike(pairs, old, new) {
         return false;
     }
-    if !all_parents_meet(olds, news, old, new, partners) {
+    if !all_parents_meet(pairs, old.table, new.table, partners) {
         return false;
     }
     if !rising(&partners[..n]) {
         return false;
     }
-    all_accounted(new, partners, marks, n)
+    all_accounted(new.table, partners, marks, n)
 }

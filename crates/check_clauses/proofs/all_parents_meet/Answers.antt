@@ -9,10 +9,10 @@ pub loop-i-init : goal.loop-i-init
 loop-i-init c = asking_start _ _ _
 
 pub returns-then-not-parents_meet : goal.returns-then-not-parents_meet
-returns-then-not-parents_meet c = asking_no _ _ _ c.loop-i.invariant c.requires.0 (omega arith) refl refl c.parents_meet.ensures c.if-not-parents_meet.true
+returns-then-not-parents_meet c = asking_no _ _ _ c.loop-i.invariant c.args.pairs.now.alike (omega arith) refl refl c.parents_meet.ensures c.if-not-parents_meet.true
 
 pub loop-i-preserved : goal.loop-i-preserved
-loop-i-preserved c = asking_next _ _ _ c.loop-i.invariant c.requires.0 (omega arith) refl refl c.parents_meet.ensures c.if-not-parents_meet.false
+loop-i-preserved c = asking_next _ _ _ c.loop-i.invariant c.args.pairs.now.alike (omega arith) refl refl c.parents_meet.ensures c.if-not-parents_meet.false
 
 pub returns : goal.returns
 returns c = search (asking_end, rules)

@@ -3,4 +3,4 @@ use Rattle.check_model.specs.Clauses.{parents_meet}
 use Rattle.check_clauses.proofs.all_parents_meet.Given as goal
 
 abbrev pub invariant-loop-i : goal.invariant-loop-i
-invariant-loop-i l = Asking (parents_meet l.old l.new l.partners) l.olds l.news l.i
+invariant-loop-i l = Asking (parents_meet l.old l.new l.partners) l.pairs.olds.now l.pairs.news.now l.i

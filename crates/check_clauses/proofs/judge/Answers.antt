@@ -11,7 +11,7 @@ pub returns-then-not-all_alike : goal.returns-then-not-all_alike
 returns-then-not-all_alike c = not_alike _ _ _ _ _ _ _ _ c.word.ensures.0 (omega arith) c.all_alike.ensures c.if-not-all_alike.true
 
 pub all_parents_meet-requires : goal.all_parents_meet-requires
-all_parents_meet-requires c = let p = c.requires in (p.alike, reached_climbed p.old_reached, reached_climbed p.new_reached, p.below)
+all_parents_meet-requires c = let p = c.requires in (reached_climbed p.old_reached, reached_climbed p.new_reached, p.below)
 
 pub returns-then-not-all_parents_meet : goal.returns-then-not-all_parents_meet
 returns-then-not-all_parents_meet c = not_meet _ _ _ _ _ _ _ _ c.word.ensures.0 (omega arith) c.all_alike.ensures c.if-not-all_alike.false c.all_parents_meet.ensures c.if-not-all_parents_meet.true
