@@ -11,6 +11,10 @@ ghost use Rattle.check_claim.specs.Promise.{checker_needs, claims_in, Checks, to
 ghost use Rattle.check_model.specs.Pairing.{Below};
 ghost use Rattle.check_claim.specs.Judging.{answer_of, big_sizes, sizes_refusal, ReadsBoth, Telling, WritesClaims, naming, judging};
 
+mod claims;
+
+use check_clauses::{Pairs, Side};
+pub use claims::{Claims, Tree};
 use refusals::Refusal;
 
 // Whether the output is accepted.
@@ -38,39 +42,30 @@ fn clear_work(old: &mut [u32], new: &mut [u32], partners: &mut [u32], marks: &mu
     marks.fill(0);
 }
 
-// 3, of a tree whose lists have these lengths.
-fn too_big(kinds: usize, measures: usize, text: usize) -> bool
-    ensures { result ≡ big_sizes kinds measures text }
+// 3, of a tree.
+fn too_big(tree: &Tree) -> bool
+    ensures { result ≡ big_sizes (length tree.now.kinds.now) (length tree.now.measures.now) (length tree.now.text.now) }
 {
-    4096 < kinds || 4096 < measures || 16384 < text
+    4096 < tree.kinds.len() || 4096 < tree.measures.len() || 16384 < tree.text.len()
 }
 
-// 3 and 4, of lists of these lengths.
-fn size_refusal(
-    kinds: usize,
-    measures: usize,
-    text: usize,
-    new_kinds: usize,
-    new_measures: usize,
-    new_text: usize,
-    olds: usize,
-    news: usize,
-) -> Result<(), Refusal>
-    ensures { let number = sizes_refusal kinds measures text new_kinds new_measures new_text olds news in answered result ≡ refuse number (ltb 0 number) }
+// 3 and 4.
+fn judge_sizes(claims: &Claims) -> Result<(), Refusal>
+    ensures { let number = sizes_of (claimed claims.now) in answered result ≡ refuse number (ltb 0 number) }
 {
-    if too_big(kinds, measures, text) {
+    if too_big(&claims.old) {
         return Err(Refusal::Size);
     }
-    if too_big(new_kinds, new_measures, new_text) {
+    if too_big(&claims.new) {
         return Err(Refusal::Size);
     }
-    if kinds != measures {
+    if claims.old.kinds.len() != claims.old.measures.len() {
         return Err(Refusal::Length);
     }
-    if new_kinds != new_measures {
+    if claims.new.kinds.len() != claims.new.measures.len() {
         return Err(Refusal::Length);
     }
-    if olds != news {
+    if claims.olds.len() != claims.news.len() {
         return Err(Refusal::Length);
     }
     Ok(())

@@ -3,7 +3,7 @@
 use mathlib.Core.Path.{◌≡◌, refl, sym, ap, ◌∙◌}
 use mathlib.Core.Bool.{Bool, true, false, ◌&&◌, ◌||◌}
 use mathlib.Core.List.{List, [], ◌∷◌, zip}
-use Prim.Native.Nat.{ℕ, zero, suc, ◌+◌, ◌-◌, ◌≤◌, ◌<◌}
+use Prim.Native.Nat.{ℕ, zero, suc, ◌+◌, ◌-◌, ◌*◌, ◌≤◌, ◌<◌}
 use native.Mathlib.Numerals.{add-one}
 use native.Mathlib.Omega.{arith}
 use borrow.Author.Tests.{eq-eqb, ne_eqb, lt-ltb, le-ltb}
@@ -13,11 +13,12 @@ use lib.Pointwise.{pointwise}
 use Rattle.std.specs.List.{list_any}
 use lib.Seq.{drop-cons}
 use Rattle.orders.specs.Lists.{any}
-use Rattle.orders.specs.ListLaws.{bool_absurd}
+use Rattle.orders.specs.ListLaws.{bool_absurd, All-at}
 use Rattle.check_laws.specs.Check.{every, same_bytes}
 use Rattle.check_model.specs.Clauses.{partnered, fresh, marked, rises, each}
 use Rattle.check_model.proofs.Pairing.{pairs_from, pairs_more, pairs_none}
-use Rattle.check_clauses.specs.Asked.{PairsUp}
+use Rattle.check_model.specs.Pairing.{Below}
+use Rattle.check_clauses.specs.Asked.{PairsUp, Reaches, Climbs, Climbed, Reached}
 
 -- ── Some number of a list passes a test ─────────────────────────────────────────────────────────────────────
 
@@ -170,3 +171,20 @@ module _ (l : List ℕ) where
 
       pub rising_next : (w ≡ 0 → ⊥) → last < w → {last' : ℕ} → last' ≡ w → Rising last' (i + 1)
       rising_next z k q = record { inside = omega arith; verdict = rising_turn ∙ (rises_step last w _ z ∙ rw (lt-ltb last w k, q)) }
+
+-- ── An element of a list that is asked of ───────────────────────────────────────────────────────────────────
+
+pub below_at : {n : ℕ} (list : List ℕ) (i : ℕ) {x : ℕ} → i < length list → x ≡ get_or list i 0 → Below n list → x < n
+below_at {n} list i h e b = rw e (All-at (λ y. y < n) 0 list i h b)
+
+module _ {table list : List ℕ} {i x : ℕ} (h : i < length list) (e : x ≡ get_or list i 0) where
+  pub climbed_long : Climbed table list → 4 * x + 4 ≤ length table
+  climbed_long c = omega (arith, c.linked.long, below_at list i h e c.below)
+
+  pub climbed_at : {elements : ℕ} → Climbed table list → Below elements list → Climbs table elements x
+  climbed_at c b = record { long = climbed_long c; parent = omega (arith, c.linked.before x (below_at list i h e c.below), below_at list i h e b) }
+
+  pub reached_at : {bytes : ℕ} → Reached table bytes list → Reaches table bytes x
+  reached_at r =
+      let low = below_at list i h e r.below in
+      record { long = omega (arith, r.long, low); starts = r.sound.starts x low; ends = r.sound.ends x low }

@@ -26,8 +26,8 @@ pub fn pair_up(pairs: &Pairs, partners: &mut [u32]) -> bool
     requires { Below 4096 pairs.now.olds.now × Below (length partners.old) pairs.now.news.now }
     ensures { PairsUp (zip pairs.now.olds.now pairs.now.news.now) partners.old result partners.new }
 {
-    for (i, x) in pairs.olds.iter().enumerate() {
-        let y = pairs.news[i] as usize;
+    for (x, y) in pairs.olds.iter().zip(pairs.news) {
+        let y = *y as usize;
         if partners[y] != 0 {
             return false;
         }
@@ -77,10 +77,8 @@ fn all_alike(pairs: &Pairs, old: &Side, new: &Side) -> bool
     requires { Reached old.now.table.now (length old.now.text.now) pairs.now.olds.now × Reached new.now.table.now (length new.now.text.now) pairs.now.news.now }
     ensures { result ≡ every (alike_in old.now.table.now new.now.table.now old.now.text.now new.now.text.now) (zip pairs.now.olds.now pairs.now.news.now) }
 {
-    for (i, x) in pairs.olds.iter().enumerate() {
-        let x = *x as usize;
-        let y = pairs.news[i] as usize;
-        if !alike(old, new, x, y) {
+    for (x, y) in pairs.olds.iter().zip(pairs.news) {
+        if !alike(old, new, *x as usize, *y as usize) {
             return false;
         }
     }
@@ -109,10 +107,8 @@ fn all_parents_meet(pairs: &Pairs, old: &[u32], new: &[u32], partners: &[u32]) -
     requires { Climbed old.now pairs.now.olds.now × Climbed new.now pairs.now.news.now × Below (length partners.now) pairs.now.news.now }
     ensures { result ≡ every (parents_meet old.now new.now partners.now) (zip pairs.now.olds.now pairs.now.news.now) }
 {
-    for (i, x) in pairs.olds.iter().enumerate() {
-        let x = *x as usize;
-        let y = pairs.news[i] as usize;
-        if !parents_meet(old, new, partners, x, y) {
+    for (x, y) in pairs.olds.iter().zip(pairs.news) {
+        if !parents_meet(old, new, partners, *x as usize, *y as usize) {
             return false;
         }
     }
