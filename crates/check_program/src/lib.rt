@@ -9,7 +9,7 @@ ghost use Rattle.edit_print.specs.Lines.{Put};
 ghost use Rattle.program_input.specs.Told.{Writes, enough};
 ghost use Rattle.check_program.specs.Responds.{answered, judged_in_room};
 
-use check_claim::Verdict;
+use check_claim::{Claims, Tree, Verdict};
 use program_input::Program;
 use refusals::Refusal;
 use std::io;
@@ -38,21 +38,22 @@ fn judge_lists(
     let olds = measures + new_measures;
     let news = olds + pairs;
     let changed = news + pairs;
-    check_claim::check(
-        &lists[..old_kinds],
-        &lists[old_kinds..from],
-        &texts[..old_text],
-        &lists[from..measures],
-        &lists[measures..olds],
-        &texts[old_text..],
-        &lists[olds..news],
-        &lists[news..changed],
-        &lists[changed..],
-        &mut old,
-        &mut new,
-        &mut partners,
-        &mut marks,
-    )
+    let claims = Claims {
+        old: Tree {
+            kinds: &lists[..old_kinds],
+            measures: &lists[old_kinds..from],
+            text: &texts[..old_text],
+        },
+        new: Tree {
+            kinds: &lists[from..measures],
+            measures: &lists[measures..olds],
+            text: &texts[old_text..],
+        },
+        olds: &lists[olds..news],
+        news: &lists[news..changed],
+        changed: &lists[changed..],
+    };
+    check_claim::check(&claims, &mut old, &mut new, &mut partners, &mut marks)
 }
 
 // 2 and 4 of the layout, then the verdict on the claims.

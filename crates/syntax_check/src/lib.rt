@@ -7,7 +7,7 @@ ghost use Rattle.check_claim.specs.Judging.{answer_of};
 ghost use Rattle.check_claim.specs.Promise.{claims_in};
 ghost use Rattle.syntax_check.specs.Returned.{verdict_number, check_numbers, ReturnsVerdict};
 
-use check_claim::Verdict;
+use check_claim::{Claims, Tree, Verdict};
 use refusals::Refusal;
 
 // The number of a verdict.
@@ -42,20 +42,21 @@ pub extern "C" fn syntax_check(
 ) -> i64
     ensures { ReturnsVerdict (claims_in old_kinds.now old_measures.now old_text.now new_kinds.now new_measures.now new_text.now olds.now news.now changed.now) (old.old ∷ new.old ∷ partners.old ∷ marks.old ∷ []) result (old.new ∷ new.new ∷ partners.new ∷ marks.new ∷ []) }
 {
-    let verdict = check_claim::check(
-        old_kinds,
-        old_measures,
-        old_text,
-        new_kinds,
-        new_measures,
-        new_text,
+    let claims = Claims {
+        old: Tree {
+            kinds: old_kinds,
+            measures: old_measures,
+            text: old_text,
+        },
+        new: Tree {
+            kinds: new_kinds,
+            measures: new_measures,
+            text: new_text,
+        },
         olds,
         news,
         changed,
-        old,
-        new,
-        partners,
-        marks,
-    );
+    };
+    let verdict = check_claim::check(&claims, old, new, partners, marks);
     verdict_number(verdict)
 }

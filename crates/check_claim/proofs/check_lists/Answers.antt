@@ -1,5 +1,5 @@
 -- `check_lists` meets its contract.
-use Rattle.check_claim.specs.Promise.{claims_in}
+use Rattle.check_claim.specs.Held.{claimed}
 use Rattle.check_claim.proofs.Ways.{long_enough, refused_1, refused_size, fits, refused_5, old_telling, new_telling, all_judged}
 use Rattle.check_claim.specs.Judging.{answer_of}
 use Rattle.refusals.specs.Numbers.{number}
@@ -20,7 +20,7 @@ returns-in_err-size_refusal c =
 pub read_both-requires : goal.read_both-requires
 read_both-requires c =
     let s = long_enough _ _ _ _ _ c.too_short.ensures c.if-too_short.false in
-    let f = fits (claims_in c.args.old_kinds.now c.args.old_measures.now c.args.old_text.now c.args.new_kinds.now c.args.new_measures.now c.args.new_text.now c.args.olds.now c.args.news.now c.args.changed.now) _ _ _ _ c.too_short.ensures c.if-too_short.false c.size_refusal.ensures c.in_ok-size_refusal.was in record { old_measures_len = (f.old_alike, f.old_few, f.old_short, s.0); new_measures_len = (f.new_alike, f.new_few, f.new_short, s.1) }
+    let f = fits (claimed c.args.claims.now) _ _ _ _ c.too_short.ensures c.if-too_short.false c.size_refusal.ensures c.in_ok-size_refusal.was in record { old_measures_len = (f.old_alike, f.old_few, f.old_short, s.0); new_measures_len = (f.new_alike, f.new_few, f.new_short, s.1) }
 
 pub returns-then-not-read_both : goal.returns-then-not-read_both
 unfolding answer_of number
@@ -30,8 +30,8 @@ returns-then-not-read_both c =
 pub judge_claims-requires : goal.judge_claims-requires
 judge_claims-requires c =
     let s = long_enough _ _ _ _ _ c.too_short.ensures c.if-too_short.false in
-    let f = fits (claims_in c.args.old_kinds.now c.args.old_measures.now c.args.old_text.now c.args.new_kinds.now c.args.new_measures.now c.args.new_text.now c.args.olds.now c.args.news.now c.args.changed.now) _ _ _ _ c.too_short.ensures c.if-too_short.false c.size_refusal.ensures c.in_ok-size_refusal.was in
-    (f.pairs, old_telling (claims_in c.args.old_kinds.now c.args.old_measures.now c.args.old_text.now c.args.new_kinds.now c.args.new_measures.now c.args.new_text.now c.args.olds.now c.args.news.now c.args.changed.now) _ _ _ _ c.too_short.ensures c.if-too_short.false c.size_refusal.ensures c.in_ok-size_refusal.was c.read_both.ensures c.if-not-read_both.false (omega (arith, s.0)), new_telling (claims_in c.args.old_kinds.now c.args.old_measures.now c.args.old_text.now c.args.new_kinds.now c.args.new_measures.now c.args.new_text.now c.args.olds.now c.args.news.now c.args.changed.now) _ _ _ _ c.too_short.ensures c.if-too_short.false c.size_refusal.ensures c.in_ok-size_refusal.was c.read_both.ensures c.if-not-read_both.false (omega (arith, s.1)), s.2, s.3)
+    let f = fits (claimed c.args.claims.now) _ _ _ _ c.too_short.ensures c.if-too_short.false c.size_refusal.ensures c.in_ok-size_refusal.was in
+    (f.pairs, old_telling (claimed c.args.claims.now) _ _ _ _ c.too_short.ensures c.if-too_short.false c.size_refusal.ensures c.in_ok-size_refusal.was c.read_both.ensures c.if-not-read_both.false (omega (arith, s.0)), new_telling (claimed c.args.claims.now) _ _ _ _ c.too_short.ensures c.if-too_short.false c.size_refusal.ensures c.in_ok-size_refusal.was c.read_both.ensures c.if-not-read_both.false (omega (arith, s.1)), s.2, s.3)
 
 pub returns : goal.returns
 returns c =

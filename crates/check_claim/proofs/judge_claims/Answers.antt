@@ -9,14 +9,14 @@ unfolding answer_of number
 returns-then-names_none c = refused_19 _ _ _ _ _ _ _ _ _ _ _ c.names_none.ensures c.if-names_none.true
 
 pub write_claims-requires : goal.write_claims-requires
-write_claims-requires c = let p = c.requires in let (a, b, d) = claims_fit _ _ _ _ _ _ _ c.names_none.ensures c.if-names_none.false p.1.few p.2.few p.3 p.4 in (p.0, a, b, d)
+write_claims-requires c = let p = c.requires in let (a, b, d) = claims_fit _ _ _ _ _ _ _ c.names_none.ensures c.if-names_none.false p.1.few p.2.few p.3 p.4 in (a, b, d)
 
 pub returns-then-not-write_claims : goal.returns-then-not-write_claims
 unfolding answer_of
 returns-then-not-write_claims c = paired_twice _ _ _ _ _ _ _ _ _ _ _ c.names_none.ensures c.if-names_none.false c.write_claims.ensures c.if-not-write_claims.true
 
 pub judge-requires : goal.judge-requires
-judge-requires c = let p = c.requires in ready _ _ c.args.old_text.now c.args.new_text.now _ _ _ _ _ _ _ c.names_none.ensures c.if-names_none.false c.write_claims.ensures c.if-not-write_claims.false p.0 p.1 p.2 p.3 p.4
+judge-requires c = let p = c.requires in ready _ _ c.args.claims.now.old.text.now c.args.claims.now.new.text.now _ _ _ _ _ _ _ c.names_none.ensures c.if-names_none.false c.write_claims.ensures c.if-not-write_claims.false p.0 p.1 p.2 p.3 p.4
 
 pub returns-then-judge : goal.returns-then-judge
 unfolding answer_of

@@ -9,14 +9,14 @@ returns-then-too_big c = big_old _ _ _ _ _ _ _ _ c.too_big.ensures c.if-too_big.
 pub returns-then-too_big-2 : goal.returns-then-too_big-2
 returns-then-too_big-2 c = big_new _ _ _ _ _ _ _ _ c.too_big.ensures c.if-too_big.false c.too_big-2.ensures c.if-too_big-2.true
 
-pub returns-then-kinds-measures : goal.returns-then-kinds-measures
-returns-then-kinds-measures c = differ_old _ _ _ _ _ _ _ _ c.too_big.ensures c.if-too_big.false c.too_big-2.ensures c.if-too_big-2.false c.if-kinds-measures.true
+pub returns-then-claims : goal.returns-then-claims
+returns-then-claims c = differ_old _ _ _ _ _ _ _ _ c.too_big.ensures c.if-too_big.false c.too_big-2.ensures c.if-too_big-2.false c.if-claims.true
 
-pub returns-then-new_kinds-new_measures : goal.returns-then-new_kinds-new_measures
-returns-then-new_kinds-new_measures c = differ_new _ _ _ _ _ _ _ _ c.too_big.ensures c.if-too_big.false c.too_big-2.ensures c.if-too_big-2.false (omega arith) c.if-new_kinds-new_measures.true
+pub returns-then-claims-2 : goal.returns-then-claims-2
+returns-then-claims-2 c = differ_new _ _ _ _ _ _ _ _ c.too_big.ensures c.if-too_big.false c.too_big-2.ensures c.if-too_big-2.false (omega arith) c.if-claims-2.true
 
-pub returns-then-olds-news : goal.returns-then-olds-news
-returns-then-olds-news c = differ_pairs _ _ _ _ _ _ _ _ c.too_big.ensures c.if-too_big.false c.too_big-2.ensures c.if-too_big-2.false (omega arith) (omega arith) c.if-olds-news.true
+pub returns-then-claims-3 : goal.returns-then-claims-3
+returns-then-claims-3 c = differ_pairs _ _ _ _ _ _ _ _ c.too_big.ensures c.if-too_big.false c.too_big-2.ensures c.if-too_big-2.false (omega arith) (omega arith) c.if-claims-3.true
 
 pub returns : goal.returns
 returns c = none_wrong _ _ _ _ _ _ _ _ c.too_big.ensures c.if-too_big.false c.too_big-2.ensures c.if-too_big-2.false (omega arith) (omega arith) (omega arith)
