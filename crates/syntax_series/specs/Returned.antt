@@ -128,8 +128,8 @@ module _ {l : Lent} {rows left : List ℕ} {r : Result (Unit {0}) Refusal} (s : 
   begun = started (lengths start_needs (rows ∷ [])) l
 
   refused_by : (f : Refusal) → r ≡ Err f → number f ≡ number_of begun
-  unfolding number_of
-  refused_by f i = sym (rw (judged_err begun f s.answer i) refl)
+  unfolding number_of answered_by
+  refused_by f i = sym (rw (judged_err begun (number f) s.answer (ap answered_by i)) refl)
 
   pub start_small : (f : Refusal) → r ≡ Err f → Few (answered_by (Err f))
   unfolding Few answered_by
@@ -137,9 +137,9 @@ module _ {l : Lent} {rows left : List ℕ} {r : Result (Unit {0}) Refusal} (s : 
 
   -- it may begin
   pub start_begun : r ≡ Ok tt → ReturnsStart l rows (pos 0) left
-  unfolding number_of
+  unfolding number_of answered_by
   start_begun i =
-      let (m, q) = judged_ok begun s.answer i in
+      let (m, q) = judged_ok begun s.answer (ap answered_by i) in
       record { answer = sym (ap (λ (k : ℕ). neg_ℤ (pos k)) (ap number_of q)); zeros = s.zeros }
 
   -- it may not
