@@ -26,6 +26,7 @@ pub struct Queue {
 }
 
 // Whether an operation is 2 or 3: only these merge (Rust: Change::Replace, which is both).
+#[tactic(auto, using(crate::proofs::Recordings::single_replace, crate::proofs::Recordings::single_delete))]
 fn is_single(operation: usize) -> bool
     ensures { result ≡ is_single operation }
 {
@@ -36,6 +37,7 @@ fn is_single(operation: usize) -> bool
 }
 
 // Whether the row at place `k` and a later change of this target, whose operation merges, merge.
+#[tactic(auto, using(crate::proofs::Recordings::meets_other, crate::proofs::Recordings::meets_target))]
 fn meets(rows: &[u32], k: usize, target: usize) -> bool
     requires { (14 * k + 14 ≤ length rows.now) × (k < 2 ^ 32) }
     ensures { result ≡ meets_single target (row_at rows.now k) }
@@ -48,6 +50,7 @@ fn meets(rows: &[u32], k: usize, target: usize) -> bool
 }
 
 // The place of the first row of the present editor that a change of this target, whose operation merges, meets.
+#[tactic(auto, using(crate::proofs::Recordings::seeking_start, crate::proofs::Recordings::seeking_found, crate::proofs::Recordings::seeking_next, crate::proofs::Recordings::seeking_none))]
 fn single_place(rows: &[u32], q: Queue, target: usize) -> Option<usize>
     requires { (q.start ≤ q.count) × (q.count ≤ 256) × (14 * q.count ≤ length rows.now) }
     ensures { (unwrap_or result q.count ≡ q.start + place (meets_single target) (drop q.start (rows_of q.count rows.now))) × IfSome result (λ k. k < q.count) }
@@ -61,6 +64,7 @@ fn single_place(rows: &[u32], q: Queue, target: usize) -> Option<usize>
 }
 
 // The place of the first row of the present editor that a change of this operation and target meets.
+#[tactic(auto, using(crate::proofs::Recordings::place_neither, crate::proofs::Recordings::place_single))]
 fn place_of(rows: &[u32], q: Queue, operation: usize, target: usize) -> Option<usize>
     requires { (q.start ≤ q.count) × (q.count ≤ 256) × (14 * q.count ≤ length rows.now) }
     ensures { (unwrap_or result q.count ≡ q.start + place (meets_by operation target) (drop q.start (rows_of q.count rows.now))) × IfSome result (λ k. k < q.count) }
@@ -73,6 +77,7 @@ fn place_of(rows: &[u32], q: Queue, operation: usize, target: usize) -> Option<u
 
 // Whether a later change of this operation, whose first element stands at `at` in the batch's list, has no effect on the row at place `k`, which it meets: a
 // delete stays, and so does a replacement by the same element.
+#[tactic(auto, using(crate::proofs::Recordings::idle_delete, crate::proofs::Recordings::idle_others, crate::proofs::Recordings::idle_deleting, crate::proofs::Recordings::idle_same))]
 fn is_idle(listed: &WordList, rows: &[u32], k: usize, operation: usize, at: usize) -> bool
     requires { (14 * k + 14 ≤ length rows.now) × (k < 2 ^ 32) }
     ensures { result ≡ idle_by (words_of listed.now) operation at (row_at rows.now k) }
