@@ -25,6 +25,7 @@ fn change_anew(rows: &[u32], i: usize, x: usize, y: usize) -> Change
 }
 
 // Fate, owner and rule number of the row at place `i` of `rows`, written at the same place of `out`.
+#[tactic(auto, using(crate::proofs::Writing::fate_copied))]
 fn copy_fate(rows: &[u32], i: usize, out: &mut [u32])
     requires { (i < 256) × (14 * i + 14 ≤ length out.old) }
     ensures { out.new ≡ paste out.old (14 * i + 11) ((row_at rows.now i).fate ∷ (row_at rows.now i).owner ∷ (row_at rows.now i).rule ∷ []) 3 }
