@@ -24,22 +24,14 @@ const NONE: usize = 0xffff_ffff;
 // A case that the input does not hold whole.
 const MISSING: Case = Case {
     agrees: false,
-    again: Again::Otherwise,
+    again: Ok(false),
 };
 
-// What a batch comes to when it is taken apart and written again: it comes out byte for byte, is refused, or comes out otherwise.
-#[derive(Clone, Copy)]
-enum Again {
-    Same,
-    Refused(Refusal),
-    Otherwise,
-}
-
-// Whether a case is as recorded, and what its batch comes to when it is written again.
+// Whether a case is as recorded; whether its batch comes out byte for byte when it is taken apart and written again, or its refusal.
 #[derive(Clone, Copy)]
 struct Case {
     agrees: bool,
-    again: Again,
+    again: Result<bool, Refusal>,
 }
 
 // How many cases are not as recorded; how many batches come out byte for byte, are refused 14, and stay whole: no lists are laid out as they are, since their
@@ -203,33 +195,22 @@ fn all_found<R: Read>(
     Ok(all)
 }
 
-// What a batch comes to when it is taken apart and written again.
-fn rewrite(batch: &[u8]) -> Again {
+// Whether a batch comes out byte for byte when it is taken apart and written again, and the destination holds beyond it what it held.
+fn rewrite(batch: &[u8]) -> Result<bool, Refusal> {
     let mut destination = [BYTE; 49184];
-    match write_again(batch, &mut destination) {
-        Err(refusal) => Again::Refused(refusal),
-        Ok(n) => came_out(n, &destination, batch),
-    }
-}
-
-// Whether the destination holds the batch, and beyond it what it held.
-fn came_out(n: usize, destination: &[u8], batch: &[u8]) -> Again {
-    if n == batch.len() && holds(destination, batch) {
-        Again::Same
-    } else {
-        Again::Otherwise
-    }
+    let n = write_again(batch, &mut destination)?;
+    Ok(n == batch.len() && holds(&destination, batch))
 }
 
 // Whether a batch with this recorded refusal comes to what it is to come to: 2 and 4 keep it whole, 5 to 7 and 16 make it 14, and so does 3, unless 4 keeps it whole;
 // any other comes out byte for byte.
-fn is_due(refusal: usize, again: Again) -> bool {
+fn is_due(refusal: usize, again: Result<bool, Refusal>) -> bool {
     match again {
-        Again::Same => !matches!(refusal, 2..=7 | 16),
-        Again::Refused(Refusal::ShortBatch) => refusal == 2,
-        Again::Refused(Refusal::Length) => matches!(refusal, 3 | 4),
-        Again::Refused(Refusal::Lists) => matches!(refusal, 3 | 5..=7 | 16),
-        _ => false,
+        Ok(same) => same && !matches!(refusal, 2..=7 | 16),
+        Err(Refusal::ShortBatch) => refusal == 2,
+        Err(Refusal::Length) => matches!(refusal, 3 | 4),
+        Err(Refusal::Lists) => matches!(refusal, 3 | 5..=7 | 16),
+        Err(_) => false,
     }
 }
 
@@ -292,10 +273,10 @@ fn next_batch<R: Read>(from: &mut R, choices: Choices) -> io::Result<Case> {
 }
 
 // Whether a batch stays whole, since no lists are laid out as it is.
-fn is_whole(again: Again) -> bool {
+fn is_whole(again: Result<bool, Refusal>) -> bool {
     matches!(
         again,
-        Again::Refused(Refusal::ShortBatch | Refusal::Size | Refusal::Length)
+        Err(Refusal::ShortBatch | Refusal::Size | Refusal::Length)
     )
 }
 
@@ -313,8 +294,8 @@ fn replay<R: io::Read, W: Write>(from: &mut R, to: &mut W, cases: usize) -> io::
             writeln!(to, "differs: {i}")?;
         }
         missed += usize::from(!case.agrees);
-        same += usize::from(matches!(case.again, Again::Same));
-        refused += usize::from(matches!(case.again, Again::Refused(Refusal::Lists)));
+        same += usize::from(matches!(case.again, Ok(true)));
+        refused += usize::from(matches!(case.again, Err(Refusal::Lists)));
         whole += usize::from(is_whole(case.again));
     }
     Ok(Counts {
