@@ -14,7 +14,7 @@ ghost use Rattle.run_execute.specs.Running.{lists_all, RanSteps, Began, Ran};
 use refusals::Refusal;
 use rows_syntax_node::{ROW_WORDS, number_from, text_bytes};
 use run_annotations::NOTE_WORDS;
-use run_step::step;
+use run_step::{Task, step};
 use run_tree_state::TreeState;
 use words::copy_in;
 
@@ -58,20 +58,16 @@ fn run_steps(
     prepared: &mut [u32],
     sizes: &mut [u32],
     incoming: &mut [u32],
-    table: &[u32],
-    source: &[u32],
-    first: &[u32],
-    listed: &[u8],
-    changes: &[u32],
+    task: &Task,
     running: &[u32],
     start: TreeState,
 ) -> Result<TreeState, Refusal>
-    requires standing { Standing (length marks.old) table.now source.now first.now start rows.old marks.old notes.old changed.old }
+    requires standing { Standing (length marks.old) task.now.table.now task.now.source.now task.now.first.now start rows.old marks.old notes.old changed.old }
     requires in_bounds { (12291 ≤ length rows.old) × (3072 ≤ length notes.old) × (12288 ≤ length prepared.old) × (most_listed ≤ length sizes.old) × (3072 ≤ length incoming.old) }
-    requires listed_len_bound { (length listed.now ≤ 4096) × All (λ e. e < length marks.old) (words_in listed.now) }
-    requires all { All (λ k. Performs (length marks.old) (view (length marks.old) table.now source.now) (words_in listed.now) (row_at changes.now k)) running.now }
-    requires running_in_bounds { start.changed + lists_all (view (length marks.old) table.now source.now) (words_in listed.now) changes.now running.now ≤ length changed.old }
-    ensures { RanSteps table.now source.now first.now (words_in listed.now) changes.now running.now start rows.old marks.old notes.old changed.old rows.new marks.new notes.new changed.new result }
+    requires listed_len_bound { (length task.now.listed.now ≤ 4096) × All (λ e. e < length marks.old) (words_in task.now.listed.now) }
+    requires all { All (λ k. Performs (length marks.old) (view (length marks.old) task.now.table.now task.now.source.now) (words_in task.now.listed.now) (row_at task.now.changes.now k)) running.now }
+    requires running_in_bounds { start.changed + lists_all (view (length marks.old) task.now.table.now task.now.source.now) (words_in task.now.listed.now) task.now.changes.now running.now ≤ length changed.old }
+    ensures { RanSteps task.now.table.now task.now.source.now task.now.first.now (words_in task.now.listed.now) task.now.changes.now running.now start rows.old marks.old notes.old changed.old rows.new marks.new notes.new changed.new result }
 {
     let mut s = start;
     for k in running {
@@ -83,11 +79,7 @@ fn run_steps(
             prepared,
             sizes,
             incoming,
-            table,
-            source,
-            first,
-            listed,
-            changes,
+            task,
             *k as usize,
             s,
         )?;
@@ -105,23 +97,18 @@ pub fn execute(
     prepared: &mut [u32],
     sizes: &mut [u32],
     incoming: &mut [u32],
-    table: &[u32],
-    source: &[u32],
-    first: &[u32],
-    listed: &[u8],
-    changes: &[u32],
+    task: &Task,
     running: &[u32],
 ) -> Result<TreeState, Refusal>
-    requires begun { Begun (length marks.old) table.now source.now first.now }
+    requires begun { Begun (length marks.old) task.now.table.now task.now.source.now task.now.first.now }
     requires in_bounds { (12291 ≤ length rows.old) × (3072 ≤ length notes.old) × (12288 ≤ length prepared.old) × (most_listed ≤ length sizes.old) × (3072 ≤ length incoming.old) }
-    requires listed_len_bound { (length listed.now ≤ 4096) × All (λ e. e < length marks.old) (words_in listed.now) }
-    requires all { All (λ k. Performs (length marks.old) (view (length marks.old) table.now source.now) (words_in listed.now) (row_at changes.now k)) running.now }
-    requires running_in_bounds { lists_all (view (length marks.old) table.now source.now) (words_in listed.now) changes.now running.now ≤ length changed.old }
-    ensures { Ran (length marks.old) table.now source.now first.now (words_in listed.now) changes.now running.now rows.new marks.new notes.new changed.new result }
+    requires listed_len_bound { (length task.now.listed.now ≤ 4096) × All (λ e. e < length marks.old) (words_in task.now.listed.now) }
+    requires all { All (λ k. Performs (length marks.old) (view (length marks.old) task.now.table.now task.now.source.now) (words_in task.now.listed.now) (row_at task.now.changes.now k)) running.now }
+    requires running_in_bounds { lists_all (view (length marks.old) task.now.table.now task.now.source.now) (words_in task.now.listed.now) task.now.changes.now running.now ≤ length changed.old }
+    ensures { Ran (length marks.old) task.now.table.now task.now.source.now task.now.first.now (words_in task.now.listed.now) task.now.changes.now running.now rows.new marks.new notes.new changed.new result }
 {
-    let s = begin(rows, marks, notes, source, first);
+    let s = begin(rows, marks, notes, task.source, task.first);
     run_steps(
-        rows, marks, notes, changed, prepared, sizes, incoming, table, source, first, listed,
-        changes, running, s,
+        rows, marks, notes, changed, prepared, sizes, incoming, task, running, s,
     )
 }

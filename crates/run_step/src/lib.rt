@@ -12,6 +12,8 @@ ghost use Rattle.run_prepare.specs.Parts.{words_in};
 ghost use Rattle.run_step.specs.Standing.{Standing};
 ghost use Rattle.run_step.specs.Stepping.{SteppedAt, Performs, lists_in, Stepped};
 
+mod task;
+
 use record_changes::field;
 use refusals::Refusal;
 use rows_syntax_node::{ROW_WORDS, Rows};
@@ -19,6 +21,7 @@ use run_change::{change_gap, depth_above, recorded_by};
 use run_prepare::prepare;
 use run_tree_state::{Parts, TreeState, apply};
 use run_tree_store::{Gap, Trees};
+pub use task::Task;
 
 // The gap gives way to what the listed elements yield.
 fn step_at(
@@ -29,8 +32,7 @@ fn step_at(
     prepared: &mut [u32],
     sizes: &mut [u32],
     incoming: &mut [u32],
-    source: &[u32],
-    first: &[u32],
+    task: &Task,
     list: &[u8],
     s: TreeState,
     g: Gap,
@@ -40,10 +42,10 @@ fn step_at(
     requires fact { Open s rows.old marks.old notes.old changed.old g recorded (length list.now / 4) }
     requires in_bounds { (12291 ≤ length rows.old) × (3072 ≤ length notes.old) × (above ≤ 64) }
     requires bytes_bound { (s.bytes ≤ 16384) × ((text : List ℕ) → s.bytes ≡ bytes_of (first_rows text s.rows rows.old)) }
-    requires marks_len_bound { (length marks.old ≤ 2048) × (3 * length marks.old + 3 ≤ length source.now) × (length first.now ≤ 768) }
+    requires marks_len_bound { (length marks.old ≤ 2048) × (3 * length marks.old + 3 ≤ length task.now.source.now) × (length task.now.first.now ≤ 768) }
     requires list_len_bound { (length list.now ≤ 4 * most_listed) × All (λ e. e < length marks.old) (words_in list.now) }
     requires in_bounds_2 { (12288 ≤ length prepared.old) × (most_listed ≤ length sizes.old) × (3072 ≤ length incoming.old) }
-    ensures { SteppedAt s rows.old marks.old notes.old changed.old source.now first.now g above recorded (words_in list.now) rows.new marks.new notes.new changed.new result }
+    ensures { SteppedAt s rows.old marks.old notes.old changed.old task.now.source.now task.now.first.now g above recorded (words_in list.now) rows.new marks.new notes.new changed.new result }
 {
     let held = Rows {
         count: s.rows,
@@ -51,7 +53,16 @@ fn step_at(
     };
     let trees = Trees { rows: held, marks };
     let Some(made) = prepare(
-        &trees, source, first, notes, s.notes, list, g.from, prepared, sizes, incoming,
+        &trees,
+        task.source,
+        task.first,
+        notes,
+        s.notes,
+        list,
+        g.from,
+        prepared,
+        sizes,
+        incoming,
     ) else {
         return Err(Refusal::Large);
     };
@@ -75,33 +86,29 @@ pub fn step(
     prepared: &mut [u32],
     sizes: &mut [u32],
     incoming: &mut [u32],
-    table: &[u32],
-    source: &[u32],
-    first: &[u32],
-    listed: &[u8],
-    changes: &[u32],
+    task: &Task,
     k: usize,
     s: TreeState,
 ) -> Result<TreeState, Refusal>
-    requires standing { Standing (length marks.old) table.now source.now first.now s rows.old marks.old notes.old changed.old }
+    requires standing { Standing (length marks.old) task.now.table.now task.now.source.now task.now.first.now s rows.old marks.old notes.old changed.old }
     requires in_bounds { (12291 ≤ length rows.old) × (3072 ≤ length notes.old) × (12288 ≤ length prepared.old) × (most_listed ≤ length sizes.old) × (3072 ≤ length incoming.old) }
-    requires listed_len_bound { (length listed.now ≤ 4096) × All (λ e. e < length marks.old) (words_in listed.now) × (k < 2 ^ 32) }
-    requires performs { Performs (length marks.old) (view (length marks.old) table.now source.now) (words_in listed.now) (row_at changes.now k) }
-    requires k_in_bounds { s.changed + lists_in (view (length marks.old) table.now source.now) (words_in listed.now) (row_at changes.now k) ≤ length changed.old }
-    ensures { Stepped table.now source.now first.now (words_in listed.now) (row_at changes.now k) s rows.old marks.old notes.old changed.old rows.new marks.new notes.new changed.new result }
+    requires listed_len_bound { (length task.now.listed.now ≤ 4096) × All (λ e. e < length marks.old) (words_in task.now.listed.now) × (k < 2 ^ 32) }
+    requires performs { Performs (length marks.old) (view (length marks.old) task.now.table.now task.now.source.now) (words_in task.now.listed.now) (row_at task.now.changes.now k) }
+    requires k_in_bounds { s.changed + lists_in (view (length marks.old) task.now.table.now task.now.source.now) (words_in task.now.listed.now) (row_at task.now.changes.now k) ≤ length changed.old }
+    ensures { Stepped task.now.table.now task.now.source.now task.now.first.now (words_in task.now.listed.now) (row_at task.now.changes.now k) s rows.old marks.old notes.old changed.old rows.new marks.new notes.new changed.new result }
 {
     let held = Rows {
         count: s.rows,
         words: rows,
     };
     let trees = Trees { rows: held, marks };
-    let Some(g) = change_gap(&trees, table, changes, k) else {
+    let Some(g) = change_gap(&trees, task.table, task.changes, k) else {
         return Err(Refusal::Gone);
     };
-    let above = depth_above(table, marks.len(), changes, k);
-    let recorded = recorded_by(changes, k);
-    let from = 4 * field(changes, k, record_changes::LIST);
-    let to = from + 4 * field(changes, k, record_changes::COUNT);
+    let above = depth_above(task.table, marks.len(), task.changes, k);
+    let recorded = recorded_by(task.changes, k);
+    let from = 4 * field(task.changes, k, record_changes::LIST);
+    let to = from + 4 * field(task.changes, k, record_changes::COUNT);
     step_at(
         rows,
         marks,
@@ -110,9 +117,8 @@ pub fn step(
         prepared,
         sizes,
         incoming,
-        source,
-        first,
-        &listed[from..to],
+        task,
+        &task.listed[from..to],
         s,
         g,
         above,

@@ -6,7 +6,7 @@ use Rattle.run_step.proofs.Steps.{made_small, asks_apply, step_done, step_refuse
 use Rattle.run_step.proofs.step_at.Goals as goal
 
 pub prepare-requires : goal.prepare-requires
-prepare-requires c = let p = c.requires in let q = asks_prepare c.args.list.now p.fact c.args.source.now c.args.first.now c.args.prepared.now c.args.sizes.now c.args.incoming.now p.marks_len_bound p.list_len_bound p.in_bounds_2 in record { n_in_bounds = p.fact.few; marks_len_bound = q.0; first_len_bound = q.1; all = q.2; at_bound = q.3 }
+prepare-requires c = let p = c.requires in let q = asks_prepare c.args.list.now p.fact c.args.task.now.source.now c.args.task.now.first.now c.args.prepared.now c.args.sizes.now c.args.incoming.now p.marks_len_bound p.list_len_bound p.in_bounds_2 in record { n_in_bounds = p.fact.few; marks_len_bound = q.0; first_len_bound = q.1; all = q.2; at_bound = q.3 }
 
 pub overflow_mul-end : goal.overflow_mul-end
 overflow_mul-end c = let a = made_small c.requires.fact c.args.list.now c.prepare.ensures c.in-Some.is in omega (arith, a.0)
