@@ -21,7 +21,7 @@ use read_element_table::Elements;
 use read_layout::Batch;
 use refusals::Refusal;
 use run_annotations::NOTE_WORDS;
-use run_execute::execute;
+use run_execute::{Task, execute};
 
 // What a run leaves: where the batch's text starts, how many elements it has, how many changes are recorded (withdrawn ones among them), where the root of tree 0 stands, the rows, notes and changed elements that are held, and two numbers of the result.
 #[derive(Clone, Copy)]
@@ -75,6 +75,13 @@ fn run_plan(
     let end = listed + 4 * s.listed;
     let counts = plan.counts;
     let runs = counts.runs;
+    let task = Task {
+        table: elements.table,
+        source: elements.source,
+        first: &plan.first[..settled],
+        listed: &batch.bytes[listed..end],
+        changes: plan.changes,
+    };
     let t = execute(
         rows,
         marks,
@@ -83,11 +90,7 @@ fn run_plan(
         prepared,
         &mut sizes,
         incoming,
-        elements.table,
-        elements.source,
-        &plan.first[..settled],
-        &batch.bytes[listed..end],
-        plan.changes,
+        &task,
         &plan.running[..runs],
     )?;
     Ok(Ended {

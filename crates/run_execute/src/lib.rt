@@ -14,7 +14,8 @@ ghost use Rattle.run_execute.specs.Running.{lists_all, RanSteps, Began, Ran};
 use refusals::Refusal;
 use rows_syntax_node::{ROW_WORDS, number_from, text_bytes};
 use run_annotations::NOTE_WORDS;
-use run_step::{Task, step};
+pub use run_step::Task;
+use run_step::step;
 use run_tree_state::TreeState;
 use words::copy_in;
 

@@ -3,7 +3,7 @@ use mathlib.Core.Path.{sym, ◌∙◌}
 use native.Mathlib.Omega.{arith}
 use lib.Seq.{length-take-le}
 use Rattle.std.proofs.lemmas.Result.{err_from_is_err_and}
-use Rattle.edit_perform.proofs.Stages.{notes_within, list_within, runs_within, may_begin, may_list, may_run, may_record, steps_refused, steps_ended}
+use Rattle.edit_perform.proofs.Stages.{list_within, runs_within, may_begin, may_list, may_run, may_record, steps_refused, steps_ended}
 use Rattle.edit_perform.proofs.run_plan.Goals as goal
 
 pub overflow_mul-settled : goal.overflow_mul-settled
@@ -15,20 +15,17 @@ overflow_mul-end c = let v = c.requires in omega (arith, v.laid_out.leaves.withi
 pub overflow_add-end : goal.overflow_add-end
 overflow_add-end c = let v = c.requires in let y = c.args.batch in let q = list_within v.laid_out v.planning _ (v.marks_len.0 ∙ v.counted) in omega (arith, c.well_formed)
 
+pub slice_bounds-task-count : goal.slice_bounds-task-count
+slice_bounds-task-count c = omega arith
+
+pub slice_bounds-task-start : goal.slice_bounds-task-start
+slice_bounds-task-start c = omega arith
+
+pub slice_bounds-task-end-2 : goal.slice_bounds-task-end-2
+slice_bounds-task-end-2 c = let v = c.requires in list_within v.laid_out v.planning _ (v.marks_len.0 ∙ v.counted)
+
 pub slice_bounds-execute-end-2 : goal.slice_bounds-execute-end-2
-slice_bounds-execute-end-2 c = let v = c.requires in sym (length-take-le _ _ (notes_within v.laid_out v.planning _ (v.marks_len.0 ∙ v.counted) v.in_bounds.2))
-
-pub slice_bounds-execute-count : goal.slice_bounds-execute-count
-slice_bounds-execute-count c = omega arith
-
-pub slice_bounds-execute-start : goal.slice_bounds-execute-start
-slice_bounds-execute-start c = omega arith
-
-pub slice_bounds-execute-end-3 : goal.slice_bounds-execute-end-3
-slice_bounds-execute-end-3 c = let v = c.requires in list_within v.laid_out v.planning _ (v.marks_len.0 ∙ v.counted)
-
-pub slice_bounds-execute-end-4 : goal.slice_bounds-execute-end-4
-slice_bounds-execute-end-4 c = let v = c.requires in sym (length-take-le _ _ (runs_within v.laid_out v.planning _ (v.marks_len.0 ∙ v.counted) v.in_bounds.1))
+slice_bounds-execute-end-2 c = let v = c.requires in sym (length-take-le _ _ (runs_within v.laid_out v.planning _ (v.marks_len.0 ∙ v.counted) v.in_bounds.1))
 
 pub execute-requires : goal.execute-requires
 execute-requires c = let v = c.requires in let r = v.in_bounds in let w = v.marks_len in record { begun = may_begin v.laid_out v.planning _ (v.marks_len.0 ∙ v.counted) r.0 r.2; in_bounds = (w.4, w.1, w.5, omega arith, w.2); listed_len_bound = may_list v.laid_out v.planning _ (v.marks_len.0 ∙ v.counted); all = may_run v.laid_out v.planning _ (v.marks_len.0 ∙ v.counted); running_in_bounds = may_record v.laid_out v.planning _ (v.marks_len.0 ∙ v.counted) _ w.3 }
