@@ -1,1 +1,2 @@
--- Nothing beside the proofs of the functions.
+-- Comparing   words in bytes compared one by one
+pub mod Comparing
