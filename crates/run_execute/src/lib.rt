@@ -1,4 +1,5 @@
 // The run: from the batch's own trees, the performed changes step by step.
+// The slices that are lent to be written stay apart, as run_tree_state says.
 #![tactic(auto)]
 
 ghost use Rattle.std.specs.Prelude.{◌≡◌, ◌+◌, ◌*◌, ◌≤◌, ◌<◌, length};

@@ -1,4 +1,5 @@
 // What the listed elements of a step yield: their rows one behind another, the number of rows of each, and the notes that come along.
+// The slices that are lent to be written stay apart, as run_tree_state says.
 #![tactic(auto)]
 
 ghost use Rattle.std.specs.Prelude.{◌+◌, ◌*◌, ◌/◌, ◌≤◌, ◌<◌, length, get_or};

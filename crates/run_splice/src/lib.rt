@@ -1,4 +1,5 @@
 // One splice of what is held, slice by slice: rows and marks, notes, changed elements.
+// The slices stay apart, as run_tree_state says.
 #![tactic(auto)]
 
 ghost use Rattle.std.specs.Prelude.{◌≡◌, ◌+◌, ◌-◌, ◌*◌, ◌%◌, ◌^◌, ◌≤◌, ◌<◌, length, get_or};

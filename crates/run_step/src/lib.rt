@@ -1,4 +1,5 @@
 // One step of the run over all that is held.
+// The slices that are lent to be written stay apart, as run_tree_state says.
 #![tactic(auto)]
 
 ghost use Rattle.std.specs.Prelude.{◌≡◌, List, ℕ, ◌+◌, ◌*◌, ◌/◌, ◌^◌, ◌≤◌, ◌<◌, length};
