@@ -16,7 +16,8 @@ use refusals::Refusal;
 // ── One call for all ──
 
 // THE CALL for every job: refusals 17, 18 and 1, the run of the batch, what the job answers from what the run leaves, and every work slice cleared. What the
-// job writes stands at the front of `result`; the work slices end as zeros.
+// job writes stands at the front of `result`; the work slices end as zeros. The job is a value, since refusals and the order of what is written and cleared are then
+// promised once; a type for each job would have that promise once for each.
 pub fn serve(
     choices: Choices,
     job: Job,

@@ -3,7 +3,7 @@
 
 ghost use Rattle.std.specs.Prelude.{◌≡◌, ◌≤◌, ◌<◌, length};
 ghost use Rattle.choices.specs.Meant.{meant};
-ghost use Rattle.read_element_table.specs.View.{view};
+ghost use Rattle.read_element_table.specs.Held.{view_of};
 ghost use Rattle.definition.specs.Basics.{gives};
 ghost use Rattle.edit_perform.specs.AtEnd.{AtEnd, Told as ElementsTold, Recounted};
 ghost use Rattle.promises.specs.Promises.{found};
@@ -64,7 +64,7 @@ fn write_answer(
 // Whether element `k` is a node of tree 0.
 fn is_old_node(elements: &Elements, k: usize) -> bool
     requires { k < elements.now.count }
-    ensures { result ≡ old_node (view elements.now.count elements.now.table.now elements.now.source.now) k }
+    ensures { result ≡ old_node (view_of elements.now) k }
 {
     if !read_element_table::is_node(elements.source, k) {
         return false;

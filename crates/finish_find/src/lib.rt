@@ -37,7 +37,8 @@ fn path_in_tree(table: &[u32], n: usize, k: usize, path: &mut [u32; 64]) -> usiz
     from
 }
 
-// Where the text of element `k` of tree 0 starts there: what resolving its path gives, in the batch's own rows.
+// Where the text of element `k` of tree 0 starts there: what resolving its path gives, in the batch's own rows. It takes slices: what it asks of
+// them names the trees themselves, which are data, so that no field of `Elements` says it.
 pub fn old_start(table: &[u32], source: &[u32], n: usize, k: usize) -> usize
     requires trees_told { TreesTold n table.now source.now }
     requires k_lt_n { (k < n) × (tree_of (view n table.now source.now) k ≡ 0) }
