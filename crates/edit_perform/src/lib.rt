@@ -13,8 +13,8 @@ ghost use Rattle.edit_perform.specs.Beginning.{LaidOut};
 ghost use Rattle.edit_perform.specs.AtEnd.{Performs, PerformsWith};
 
 use choices::Choices;
-pub use plan_edit::Unplanned;
 use plan_edit::{Counts, plan};
+pub use plan_edit::{Accepted, Unplanned};
 use promises::Work;
 use read_batch::accept;
 use read_element_table::Elements;
@@ -49,8 +49,7 @@ struct Plan<'a> {
 // The steps of the plan, over marks for just the batch's elements.
 fn run_plan(
     choices: Choices,
-    batch: &Batch,
-    elements: &Elements,
+    accepted: &Accepted,
     plan: &Plan,
     notes: &mut [u32],
     incoming: &mut [u32],
@@ -59,16 +58,15 @@ fn run_plan(
     rows: &mut [u32],
     prepared: &mut [u32],
 ) -> Result<Ended, Unplanned>
-    requires laid_out { LaidOut batch.now.bytes.now batch.now.layout elements.now.table.now elements.now.source.now }
-    requires counted { elements.now.count ≡ batch.now.layout.sizes.elements }
-    requires planning { Planning (meant choices) batch.now.bytes.now batch.now.layout elements.now.table.now elements.now.source.now plan.now.changes.now plan.now.running.now plan.now.first.now (Ok plan.now.counts) }
-    requires in_bounds { (6147 ≤ length elements.now.source.now) × (256 ≤ length plan.now.running.now) × (768 ≤ length plan.now.first.now) }
-    requires marks_len { (length marks.old ≡ elements.now.count) × (3072 ≤ length notes.old) × (3072 ≤ length incoming.old) × (1024 ≤ length changed.old) × (12291 ≤ length rows.old) × (12288 ≤ length prepared.old) }
-    ensures { Performs (meant choices) batch.now.bytes.now elements.now.table.now elements.now.source.now plan.now.changes.now rows.new notes.new changed.new marks.new result }
+    requires laid_out { LaidOut accepted.now.batch.bytes.now accepted.now.batch.layout accepted.now.elements.table.now accepted.now.elements.source.now }
+    requires planning { Planning (meant choices) accepted.now.batch.bytes.now accepted.now.batch.layout accepted.now.elements.table.now accepted.now.elements.source.now plan.now.changes.now plan.now.running.now plan.now.first.now (Ok plan.now.counts) }
+    requires in_bounds { (6147 ≤ length accepted.now.elements.source.now) × (256 ≤ length plan.now.running.now) × (768 ≤ length plan.now.first.now) }
+    requires marks_len { (length marks.old ≡ accepted.now.elements.count) × (3072 ≤ length notes.old) × (3072 ≤ length incoming.old) × (1024 ≤ length changed.old) × (12291 ≤ length rows.old) × (12288 ≤ length prepared.old) }
+    ensures { Performs (meant choices) accepted.now.batch.bytes.now accepted.now.elements.table.now accepted.now.elements.source.now plan.now.changes.now rows.new notes.new changed.new marks.new result }
 {
     // As many as a call may list.
     let mut sizes = [0u32; 41];
-    let l = batch.layout;
+    let l = accepted.batch.layout;
     let s = l.sizes;
     let settled = NOTE_WORDS * s.notes;
     let listed = l.list;
@@ -76,10 +74,10 @@ fn run_plan(
     let counts = plan.counts;
     let runs = counts.runs;
     let task = Task {
-        table: elements.table,
-        source: elements.source,
+        table: accepted.elements.table,
+        source: accepted.elements.source,
         first: &plan.first[..settled],
-        listed: &batch.bytes[listed..end],
+        listed: &accepted.batch.bytes[listed..end],
         changes: plan.changes,
     };
     let t = execute(
@@ -107,11 +105,10 @@ fn run_plan(
 }
 
 // The plan of an accepted batch, and its steps. Before the first step the rows, the prepared rows, the changed rows and the marks serve planning. Slices, and no
-// `Work`: some are read beside others that are written, which the borrow checker does not cover through one `&mut Work` (tried).
+// `Work`: the accepted batch reads two of the work slices, so that the whole of them cannot be lent beside it.
 pub fn plan_and_run(
     choices: Choices,
-    batch: &Batch,
-    elements: &Elements,
+    accepted: &Accepted,
     changes: &mut [u32],
     notes: &mut [u32],
     incoming: &mut [u32],
@@ -120,18 +117,16 @@ pub fn plan_and_run(
     rows: &mut [u32],
     prepared: &mut [u32],
 ) -> Result<Ended, Unplanned>
-    requires laid_out { LaidOut batch.now.bytes.now batch.now.layout elements.now.table.now elements.now.source.now }
-    requires counted { elements.now.count ≡ batch.now.layout.sizes.elements }
-    requires in_bounds { (6147 ≤ length elements.now.source.now) × (3840 ≤ length changes.old) }
+    requires laid_out { LaidOut accepted.now.batch.bytes.now accepted.now.batch.layout accepted.now.elements.table.now accepted.now.elements.source.now }
+    requires in_bounds { (6147 ≤ length accepted.now.elements.source.now) × (3840 ≤ length changes.old) }
     requires in_bounds_2 { (2048 ≤ length marks.old) × (3072 ≤ length notes.old) × (3072 ≤ length incoming.old) × (1024 ≤ length changed.old) × (12291 ≤ length rows.old) × (12288 ≤ length prepared.old) }
-    ensures { Performs (meant choices) batch.now.bytes.now elements.now.table.now elements.now.source.now changes.new rows.new notes.new changed.new marks.new result }
+    ensures { Performs (meant choices) accepted.now.batch.bytes.now accepted.now.elements.table.now accepted.now.elements.source.now changes.new rows.new notes.new changed.new marks.new result }
 {
     let mut running = [0u32; 256];
     let mut first = [0u32; 768];
     let counts = plan(
         choices,
-        batch,
-        elements,
+        accepted,
         rows,
         prepared,
         changes,
@@ -148,13 +143,12 @@ pub fn plan_and_run(
     };
     run_plan(
         choices,
-        batch,
-        elements,
+        accepted,
         &planned,
         notes,
         incoming,
         changed,
-        &mut marks[..elements.count],
+        &mut marks[..accepted.elements.count],
         rows,
         prepared,
     )
@@ -181,16 +175,17 @@ pub fn perform(choices: Choices, b: &[u8], work: &mut Work) -> Result<Ended, Unp
     let table = &mut *work.table;
     let source = &mut *work.source;
     let layout = accept(b, table, source)?;
-    let batch = Batch { bytes: b, layout };
-    let elements = Elements {
-        count: layout.sizes.elements,
-        table,
-        source,
+    let accepted = Accepted {
+        batch: Batch { bytes: b, layout },
+        elements: Elements {
+            count: layout.sizes.elements,
+            table,
+            source,
+        },
     };
     plan_and_run(
         choices,
-        &batch,
-        &elements,
+        &accepted,
         work.changes,
         work.notes,
         work.incoming,

@@ -13,6 +13,9 @@ ghost use Rattle.plan_edit.specs.Stages.{Sorted, LeftBy, rule_rows, RowsJudged, 
 ghost use Rattle.plan_edit.specs.Answers.{PlanMade, Planning};
 ghost use Rattle.plan_edit.specs.declared.Unplanned.TheVariants.{Refused, Overlap as Overlapping};
 
+mod accepted;
+
+pub use accepted::Accepted;
 use choices::Choices;
 use plan_overlap::Overlap;
 use plan_upmap::Mapping;
@@ -81,22 +84,21 @@ fn count_discarded(rows: &[u32], c: usize) -> usize
 
 // The calls are recorded, and their rows written to `sorted` in sorted order. How many there are.
 fn record_and_sort(
-    batch: &Batch,
-    elements: &Elements,
+    accepted: &Accepted,
     recorded: &mut [u32],
     order: &mut [u32],
     sorted: &mut [u32],
 ) -> usize
-    requires ready { Ready batch.now.bytes.now batch.now.layout elements.now.table.now elements.now.source.now }
-    requires counted { elements.now.count ≡ batch.now.layout.sizes.elements }
+    requires ready { Ready accepted.now.batch.bytes.now accepted.now.batch.layout accepted.now.elements.table.now accepted.now.elements.source.now }
     requires in_bounds { (3584 ≤ length recorded.old) × (256 ≤ length order.old) × (3584 ≤ length sorted.old) }
-    ensures { Sorted batch.now.bytes.now batch.now.layout elements.now.table.now elements.now.source.now result sorted.new }
+    ensures { Sorted accepted.now.batch.bytes.now accepted.now.batch.layout accepted.now.elements.table.now accepted.now.elements.source.now result sorted.new }
 {
+    let batch = &accepted.batch;
     let c = record_queue::record_calls(
         &batch.calls(),
         &batch.targets(),
         &batch.listed(),
-        elements,
+        &accepted.elements,
         recorded,
     );
     plan_sort::sort_rows(recorded, &mut order[..c], sorted);
@@ -164,21 +166,20 @@ fn judge_rest(
 // others overlap, `sorted` holds their rows with what becomes of each.
 pub fn judge_changes(
     choices: Choices,
-    batch: &Batch,
-    elements: &Elements,
+    accepted: &Accepted,
     recorded: &mut [u32],
     order: &mut [u32],
     sorted: &mut [u32],
     withdrawn: &mut [u32],
 ) -> Result<Fated, Overlap>
-    requires ready { Ready batch.now.bytes.now batch.now.layout elements.now.table.now elements.now.source.now }
-    requires counted { elements.now.count ≡ batch.now.layout.sizes.elements }
+    requires ready { Ready accepted.now.batch.bytes.now accepted.now.batch.layout accepted.now.elements.table.now accepted.now.elements.source.now }
     requires in_bounds { (3584 ≤ length recorded.old) × (256 ≤ length order.old) × (3584 ≤ length sorted.old) × (withdrawn.old ≡ replicate 256 0) }
-    ensures { ChangesJudged (meant choices) batch.now.bytes.now batch.now.layout elements.now.table.now elements.now.source.now sorted.new withdrawn.new result }
+    ensures { ChangesJudged (meant choices) accepted.now.batch.bytes.now accepted.now.batch.layout accepted.now.elements.table.now accepted.now.elements.source.now sorted.new withdrawn.new result }
 {
-    let n = record_and_sort(batch, elements, recorded, order, sorted);
-    let c = leave_weaker(choices, sorted, n, elements.table, withdrawn);
-    judge_rest(choices, sorted, n, c, elements.table, withdrawn)
+    let table = accepted.elements.table;
+    let n = record_and_sort(accepted, recorded, order, sorted);
+    let c = leave_weaker(choices, sorted, n, table, withdrawn);
+    judge_rest(choices, sorted, n, c, table, withdrawn)
 }
 
 // The notes of a batch settle, and are written to `first`.
@@ -225,8 +226,7 @@ fn settle_and_order(
 // The second stage: dependents are rewritten into `rewritten`, by the mappings and the fated rows of `sorted`, then the notes settle: the plan, or 9 or 10.
 fn rewrite_and_settle(
     choices: Choices,
-    batch: &Batch,
-    elements: &Elements,
+    accepted: &Accepted,
     sorted: &[u32],
     c: usize,
     rewritten: &mut [u32],
@@ -235,15 +235,15 @@ fn rewrite_and_settle(
     map: &mut [u32],
     first: &mut [u32],
 ) -> Result<Counts, Unplanned>
-    requires ready { Ready batch.now.bytes.now batch.now.layout elements.now.table.now elements.now.source.now }
-    requires counted { elements.now.count ≡ batch.now.layout.sizes.elements }
-    requires changes_fated { ChangesFated (meant choices) batch.now.bytes.now batch.now.layout elements.now.table.now elements.now.source.now sorted.now c }
+    requires ready { Ready accepted.now.batch.bytes.now accepted.now.batch.layout accepted.now.elements.table.now accepted.now.elements.source.now }
+    requires changes_fated { ChangesFated (meant choices) accepted.now.batch.bytes.now accepted.now.batch.layout accepted.now.elements.table.now accepted.now.elements.source.now sorted.now c }
     requires in_bounds { (3584 ≤ length sorted.now) × (3584 ≤ length rewritten.old) × (256 ≤ length order.old) × (256 ≤ length running.old) × (2048 ≤ length map.old) × (768 ≤ length first.old) }
-    ensures { PlanMade (meant choices) batch.now.bytes.now batch.now.layout elements.now.table.now elements.now.source.now rewritten.new running.new first.new result }
+    ensures { PlanMade (meant choices) accepted.now.batch.bytes.now accepted.now.batch.layout accepted.now.elements.table.now accepted.now.elements.source.now rewritten.new running.new first.new result }
 {
+    let batch = &accepted.batch;
     plan_mapping::fill_mapping(&batch.inputs(), &batch.outputs(), map);
     let mapping = Mapping {
-        elements: *elements,
+        elements: accepted.elements,
         map,
     };
     let k = plan_rewrite::rewrite_dependents(&mapping, &batch.listed(), sorted, c, rewritten)?;
@@ -256,8 +256,7 @@ fn rewrite_and_settle(
 // notes where they settle, or the first refusal out of 8, 9 and 10. Behind the change rows stands which changes are withdrawn.
 pub fn plan(
     choices: Choices,
-    batch: &Batch,
-    elements: &Elements,
+    accepted: &Accepted,
     recorded: &mut [u32],
     sorted: &mut [u32],
     changes: &mut [u32],
@@ -266,24 +265,15 @@ pub fn plan(
     map: &mut [u32],
     first: &mut [u32],
 ) -> Result<Counts, Unplanned>
-    requires ready { Ready batch.now.bytes.now batch.now.layout elements.now.table.now elements.now.source.now }
-    requires counted { elements.now.count ≡ batch.now.layout.sizes.elements }
+    requires ready { Ready accepted.now.batch.bytes.now accepted.now.batch.layout accepted.now.elements.table.now accepted.now.elements.source.now }
     requires in_bounds { (3584 ≤ length recorded.old) × (3584 ≤ length sorted.old) × (3840 ≤ length changes.old) × (256 ≤ length order.old) × (256 ≤ length running.old) × (2048 ≤ length map.old) × (768 ≤ length first.old) }
-    ensures { Planning (meant choices) batch.now.bytes.now batch.now.layout elements.now.table.now elements.now.source.now changes.new running.new first.new result }
+    ensures { Planning (meant choices) accepted.now.batch.bytes.now accepted.now.batch.layout accepted.now.elements.table.now accepted.now.elements.source.now changes.new running.new first.new result }
 {
     let mut withdrawn = [0u32; 256];
-    let fated = judge_changes(
-        choices,
-        batch,
-        elements,
-        recorded,
-        order,
-        sorted,
-        &mut withdrawn,
-    )?;
+    let fated = judge_changes(choices, accepted, recorded, order, sorted, &mut withdrawn)?;
     let c = fated.staying;
     let counts = rewrite_and_settle(
-        choices, batch, elements, sorted, c, changes, order, running, map, first,
+        choices, accepted, sorted, c, changes, order, running, map, first,
     )?;
     words::copy_in(changes, WITHDRAWN, &withdrawn);
     Ok(Counts {

@@ -18,7 +18,8 @@ use read_element_table::Elements;
 use record_changes::{LIST, Numbers, Operation, Spot, TARGET, WORDS};
 use words::WordList;
 
-// The rows so far: where the present editor's start, and how many there are.
+// The rows so far: where the present editor's start, and how many there are. That it starts among them stays a clause: the loop that carries a queue from call to
+// call would owe a field anew at each turn (tried).
 #[derive(Clone, Copy)]
 pub struct Queue {
     pub start: usize,

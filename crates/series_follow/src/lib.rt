@@ -16,7 +16,7 @@ ghost use Rattle.series_follow.specs.Accepting.{AcceptsOn};
 ghost use Rattle.series_follow.specs.Performing.{PerformsOn};
 
 use choices::Choices;
-use edit_perform::{Ended, Unplanned, plan_and_run, refused_first};
+use edit_perform::{Accepted, Ended, Unplanned, plan_and_run, refused_first};
 use promises::Work;
 use read_batch::accept;
 use read_element_table::Elements;
@@ -63,16 +63,17 @@ pub fn perform(
     let table = &mut *work.table;
     let source = &mut *work.source;
     let layout = accept_same(b, tree, table, source)?;
-    let batch = Batch { bytes: b, layout };
-    let elements = Elements {
-        count: layout.sizes.elements,
-        table,
-        source,
+    let accepted = Accepted {
+        batch: Batch { bytes: b, layout },
+        elements: Elements {
+            count: layout.sizes.elements,
+            table,
+            source,
+        },
     };
     plan_and_run(
         choices,
-        &batch,
-        &elements,
+        &accepted,
         work.changes,
         work.notes,
         work.incoming,

@@ -16,11 +16,11 @@ returns-in_err-refused_first-clause-performs c =
 pub accept-requires : goal.accept-requires
 accept-requires c = let v = long_enough _ _ _ _ _ _ _ _ _ (early_passed _ _ c.refused_first.ensures c.in_ok-refused_first.was).1 in (v.0.0, v.0.1)
 
-pub invariant_of-batch : goal.invariant_of-batch
-invariant_of-batch c = record { within = (c.accept.ensures.left _ c.in_ok-layout.was).within }
+pub invariant_of-accepted : goal.invariant_of-accepted
+invariant_of-accepted c = record { within = (c.accept.ensures.left _ c.in_ok-layout.was).within }
 
-pub invariant_of-elements : goal.invariant_of-elements
-invariant_of-elements c = record { formed = (c.accept.ensures.left _ c.in_ok-layout.was).formed }
+pub invariant_of-accepted-2 : goal.invariant_of-accepted-2
+invariant_of-accepted-2 c = record { formed = (c.accept.ensures.left _ c.in_ok-layout.was).formed }
 
 pub plan_and_run-requires-clause-laid_out : goal.plan_and_run-requires-clause-laid_out
 plan_and_run-requires-clause-laid_out c =

@@ -13,7 +13,7 @@ pub overflow_mul-end : goal.overflow_mul-end
 overflow_mul-end c = let v = c.requires in omega (arith, v.laid_out.leaves.within.limits.listed)
 
 pub overflow_add-end : goal.overflow_add-end
-overflow_add-end c = let v = c.requires in let y = c.args.batch in let q = list_within v.laid_out v.planning _ (v.marks_len.0 ∙ v.counted) in omega (arith, c.well_formed)
+overflow_add-end c = let v = c.requires in let y = c.args.accepted.now.batch in let q = list_within v.laid_out v.planning _ (v.marks_len.0 ∙ c.args.accepted.now.counted) in omega (arith, c.well_formed)
 
 pub slice_bounds-task-count : goal.slice_bounds-task-count
 slice_bounds-task-count c = omega arith
@@ -22,18 +22,18 @@ pub slice_bounds-task-start : goal.slice_bounds-task-start
 slice_bounds-task-start c = omega arith
 
 pub slice_bounds-task-end-2 : goal.slice_bounds-task-end-2
-slice_bounds-task-end-2 c = let v = c.requires in list_within v.laid_out v.planning _ (v.marks_len.0 ∙ v.counted)
+slice_bounds-task-end-2 c = let v = c.requires in list_within v.laid_out v.planning _ (v.marks_len.0 ∙ c.args.accepted.now.counted)
 
 pub slice_bounds-execute-end-2 : goal.slice_bounds-execute-end-2
-slice_bounds-execute-end-2 c = let v = c.requires in sym (length-take-le _ _ (runs_within v.laid_out v.planning _ (v.marks_len.0 ∙ v.counted) v.in_bounds.1))
+slice_bounds-execute-end-2 c = let v = c.requires in sym (length-take-le _ _ (runs_within v.laid_out v.planning _ (v.marks_len.0 ∙ c.args.accepted.now.counted) v.in_bounds.1))
 
 pub execute-requires : goal.execute-requires
-execute-requires c = let v = c.requires in let r = v.in_bounds in let w = v.marks_len in record { begun = may_begin v.laid_out v.planning _ (v.marks_len.0 ∙ v.counted) r.0 r.2; in_bounds = (w.4, w.1, w.5, omega arith, w.2); listed_len_bound = may_list v.laid_out v.planning _ (v.marks_len.0 ∙ v.counted); all = may_run v.laid_out v.planning _ (v.marks_len.0 ∙ v.counted); running_in_bounds = may_record v.laid_out v.planning _ (v.marks_len.0 ∙ v.counted) _ w.3 }
+execute-requires c = let v = c.requires in let r = v.in_bounds in let w = v.marks_len in record { begun = may_begin v.laid_out v.planning _ (v.marks_len.0 ∙ c.args.accepted.now.counted) r.0 r.2; in_bounds = (w.4, w.1, w.5, omega arith, w.2); listed_len_bound = may_list v.laid_out v.planning _ (v.marks_len.0 ∙ c.args.accepted.now.counted); all = may_run v.laid_out v.planning _ (v.marks_len.0 ∙ c.args.accepted.now.counted); running_in_bounds = may_record v.laid_out v.planning _ (v.marks_len.0 ∙ c.args.accepted.now.counted) _ w.3 }
 
 pub returns-in_err-t : goal.returns-in_err-t
 returns-in_err-t c =
     let p = err_from_is_err_and c.from_residual.result c.from_residual.ensures.1 in
-    let v = c.requires in rw (p.1, p.2) (steps_refused v.laid_out v.planning _ (v.marks_len.0 ∙ v.counted) v.in_bounds.0 v.in_bounds.2 c.execute.ensures _ c.in_err-t.was)
+    let v = c.requires in rw (p.1, p.2) (steps_refused v.laid_out v.planning _ (v.marks_len.0 ∙ c.args.accepted.now.counted) v.in_bounds.0 v.in_bounds.2 c.execute.ensures _ c.in_err-t.was)
 
 pub returns : goal.returns
-returns c = let v = c.requires in steps_ended v.laid_out v.planning _ (v.marks_len.0 ∙ v.counted) v.in_bounds.0 v.in_bounds.2 c.execute.ensures _ c.in_ok-t.was (omega (arith, c.execute.auto.notes, v.marks_len.1))
+returns c = let v = c.requires in steps_ended v.laid_out v.planning _ (v.marks_len.0 ∙ c.args.accepted.now.counted) v.in_bounds.0 v.in_bounds.2 c.execute.ensures _ c.in_ok-t.was (omega (arith, c.execute.auto.notes, v.marks_len.1))

@@ -13,7 +13,7 @@ returns-in_err-fated c =
 pub rewrite_and_settle-requires : goal.rewrite_and_settle-requires
 rewrite_and_settle-requires c =
     let p = c.requires in
-    let J = judged_fates _ _ c.judge_changes.ensures c.in_ok-fated.was in record { ready = p.ready; counted = p.counted; changes_fated = J.0; in_bounds = (search rules, search rules, search rules, p.in_bounds.4, p.in_bounds.5, p.in_bounds.6) }
+    let J = judged_fates _ _ c.judge_changes.ensures c.in_ok-fated.was in record { ready = p.ready; changes_fated = J.0; in_bounds = (search rules, search rules, search rules, p.in_bounds.4, p.in_bounds.5, p.in_bounds.6) }
 
 pub returns-in_err-counts : goal.returns-in_err-counts
 returns-in_err-counts c =

@@ -12,9 +12,9 @@ record_calls-c-requires c =
     let r = c.requires.ready in
     record {
       few = (c.targets.ensures.1 ∙ sym c.calls.ensures.1, omega (arith, c.calls.ensures.1, calls_few r), omega (arith, c.listed.ensures.1, r.within.limits.listed), omega (arith, c.calls.ensures.1, calls_few r, c.requires.in_bounds.0));
-      fit = rw (c.calls.ensures.0, c.targets.ensures.0, c.listed.ensures.0, c.requires.counted) (calls_fit r);
+      fit = rw (c.calls.ensures.0, c.targets.ensures.0, c.listed.ensures.0, c.args.accepted.now.counted) (calls_fit r);
     }
 
 pub returns : goal.returns
 unfolding arrays_at
-returns c = rows_sorted c.requires.ready _ _ _ _ _ (rw (c.calls.ensures.0, c.targets.ensures.0, c.listed.ensures.0, c.calls.ensures.1, c.requires.counted) at c.record_calls-c.ensures) (rw (length-take-le c.record_calls-c.result c.args.order.now (omega (arith, c.record_calls-c.ensures.few, c.calls.ensures.1, calls_few c.requires.ready, c.requires.in_bounds.1))) at c.sort_rows.ensures.out_after)
+returns c = rows_sorted c.requires.ready _ _ _ _ _ (rw (c.calls.ensures.0, c.targets.ensures.0, c.listed.ensures.0, c.calls.ensures.1, c.args.accepted.now.counted) at c.record_calls-c.ensures) (rw (length-take-le c.record_calls-c.result c.args.order.now (omega (arith, c.record_calls-c.ensures.few, c.calls.ensures.1, calls_few c.requires.ready, c.requires.in_bounds.1))) at c.sort_rows.ensures.out_after)

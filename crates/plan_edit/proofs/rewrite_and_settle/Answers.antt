@@ -11,14 +11,14 @@ fill_mapping-requires c = record { bounded = rw (c.inputs.ensures.0, c.outputs.e
 
 pub invariant_of-mapping : goal.invariant_of-mapping
 unfolding arrays_at
-invariant_of-mapping c = record { mapped = rw c.requires.counted (map_mapped c.requires.ready (rw (c.inputs.ensures.0, c.outputs.ensures.0) at c.fill_mapping.ensures) c.requires.in_bounds.4) }
+invariant_of-mapping c = record { mapped = rw c.args.accepted.now.counted (map_mapped c.requires.ready (rw (c.inputs.ensures.0, c.outputs.ensures.0) at c.fill_mapping.ensures) c.requires.in_bounds.4) }
 
 pub rewrite_dependents-requires : goal.rewrite_dependents-requires
 unfolding arrays_at
 rewrite_dependents-requires c =
     let p = c.requires in
     let F = p.changes_fated.within in
-    record { places = omega (arith, F.few, p.in_bounds.1); rewritable = rw (c.listed.ensures.0, p.counted) (rows_rewritable p.ready F p.in_bounds.0) }
+    record { places = omega (arith, F.few, p.in_bounds.1); rewritable = rw (c.listed.ensures.0, c.args.accepted.now.counted) (rows_rewritable p.ready F p.in_bounds.0) }
 
 pub returns-in_err-k : goal.returns-in_err-k
 unfolding arrays_at
@@ -26,7 +26,7 @@ returns-in_err-k c =
     let p = err_from_is_err_and c.from_residual.result c.from_residual.ensures.1 in
     let v = c.requires in
     let e = rw (c.inputs.ensures.0, c.outputs.ensures.0) at c.fill_mapping.ensures in
-    let R = rw (c.listed.ensures.0, v.counted) at c.rewrite_dependents.ensures in
+    let R = rw (c.listed.ensures.0, c.args.accepted.now.counted) at c.rewrite_dependents.ensures in
     rw (p.1, p.2) (dependents_refused v.changes_fated (rows_rewriting v.ready e v.in_bounds.4 v.changes_fated.within R) v.ready _ c.in_err-k.was _ _ _)
 
 pub settle_and_order-requires : goal.settle_and_order-requires
@@ -34,10 +34,10 @@ unfolding arrays_at
 settle_and_order-requires c =
     let v = c.requires in
     let e = rw (c.inputs.ensures.0, c.outputs.ensures.0) at c.fill_mapping.ensures in
-    let R = rw (c.listed.ensures.0, v.counted) at c.rewrite_dependents.ensures in
+    let R = rw (c.listed.ensures.0, c.args.accepted.now.counted) at c.rewrite_dependents.ensures in
     record {
       ready = v.ready;
-      counted = v.counted;
+      counted = c.args.accepted.now.counted;
       rewrote = dependents_rewritten v.changes_fated (rows_rewriting v.ready e v.in_bounds.4 v.changes_fated.within R) _ c.in_ok-k.was;
       in_bounds = (v.in_bounds.2, v.in_bounds.3, v.in_bounds.5);
     }

@@ -34,11 +34,11 @@ accept_same-requires-clause-in_bounds_2 c =
     let P = before_passes _ _ _ (before_judged _ _ _ c.refused_first.ensures (ap answered c.in_ok-refused_first.was) c.judge.ensures) (ap answered c.in_ok-judge.was) in
     lent_within most_later _ _ P.lent
 
-pub invariant_of-batch : goal.invariant_of-batch
-invariant_of-batch c = record { within = (c.accept_same.ensures.left _ c.in_ok-layout.was).leaves.within }
+pub invariant_of-accepted : goal.invariant_of-accepted
+invariant_of-accepted c = record { within = (c.accept_same.ensures.left _ c.in_ok-layout.was).leaves.within }
 
-pub invariant_of-elements : goal.invariant_of-elements
-invariant_of-elements c = record { formed = (c.accept_same.ensures.left _ c.in_ok-layout.was).leaves.formed }
+pub invariant_of-accepted-2 : goal.invariant_of-accepted-2
+invariant_of-accepted-2 c = record { formed = (c.accept_same.ensures.left _ c.in_ok-layout.was).leaves.formed }
 
 pub plan_and_run-requires-clause-laid_out : goal.plan_and_run-requires-clause-laid_out
 plan_and_run-requires-clause-laid_out c = c.accept_same.ensures.left _ c.in_ok-layout.was
