@@ -120,20 +120,14 @@ module _ {w ps d l : List ℕ} {to m i : ℕ} (v : Putting w ps d l to m i) wher
 
 -- ── The draft handed out ────────────────────────────────────────────────────────────────────────────────────
 
-module _ (draft held : List ℕ) (n : ℕ) (h : n ≤ length draft) where
-  part : length (take n draft) ≡ n
-  part = length-take-le n draft h
-
-  pub draft_13 : length held < n → Tells (tell_in (length held) (take n draft)) held (Err ShortResult) held
+module _ (draft held : List ℕ) where
+  pub draft_13 : length held < length draft → Tells (tell_in (length held) draft) held (Err ShortResult) held
   unfolding in_room refuse outcome written left_in answered number ◌>>=◌
-  draft_13 s = rw (lt-ltb (length held) (length (take n draft)) (omega (arith, part))) (record { answer = refl; result = refl })
+  draft_13 s = rw (lt-ltb (length held) (length draft) s) (record { answer = refl; result = refl })
 
-  pub draft_given : {holds : List ℕ} → n ≤ length held → holds ≡ take n draft ++ drop n held → Tells (tell_in (length held) (take n draft)) held (Ok (Bytes n)) holds
+  pub draft_given : {holds : List ℕ} → length draft ≤ length held → holds ≡ draft ++ drop (length draft) held → Tells (tell_in (length held) draft) held (Ok (Bytes (length draft))) holds
   unfolding in_room refuse outcome written left_in answered number ◌>>=◌
-  draft_given s e = rw (le-ltb (length held) (length (take n draft)) (omega (arith, part))) (record {
-    answer = ap (λ (m : ℕ). gives (Bytes m)) (sym part);
-    result = e ∙ ap (λ (m : ℕ). take n draft ++ drop m held) (sym part);
-  })
+  draft_given s e = rw (le-ltb (length held) (length draft) s) (record { answer = refl; result = e })
 
 -- what stands at the front of the draft is the text
 pub text_handed : {d s l : List ℕ} {n : ℕ} {held holds : List ℕ} {r : Result Told Refusal} → Put d 0 s l n → length l ≡ length d → Tells (tell_in (length held) (take n l)) held r holds

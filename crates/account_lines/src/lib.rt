@@ -60,15 +60,15 @@ fn put_account(out: &mut [u8], rows: &[u32], withdrawn: &[u32]) -> usize
     to
 }
 
-// The first `n` bytes of a draft go to the front of the result, or 13.
-fn hand_out(draft: &[u8], n: usize, res: &mut [u8]) -> Result<Told, Refusal>
-    requires { n ≤ length draft.now }
-    ensures { Tells (tell_in (length res.old) (take n draft.now)) res.old result res.new }
+// A draft goes to the front of the result, or 13.
+fn hand_out(draft: &[u8], res: &mut [u8]) -> Result<Told, Refusal>
+    ensures { Tells (tell_in (length res.old) draft.now) res.old result res.new }
 {
+    let n = draft.len();
     if res.len() < n {
         return Err(Refusal::ShortResult);
     }
-    res[..n].copy_from_slice(&draft[..n]);
+    res[..n].copy_from_slice(draft);
     Ok(Told::Bytes(n))
 }
 
@@ -79,7 +79,7 @@ pub fn tell_account(rows: &[u32], withdrawn: &[u32], res: &mut [u8]) -> Result<T
 {
     let mut draft = [0u8; 8192];
     let n = put_account(&mut draft, rows, withdrawn);
-    hand_out(&draft, n, res)
+    hand_out(&draft[..n], res)
 }
 
 // Which two changes overlap, at the front of the result, or 13.
@@ -88,7 +88,7 @@ pub fn tell_overlap(j: usize, k: usize, res: &mut [u8]) -> Result<Told, Refusal>
 {
     let mut draft = [0u8; 30];
     let n = put_line(&mut draft, 0, b"overlap", &[j, k]);
-    hand_out(&draft, n, res)
+    hand_out(&draft[..n], res)
 }
 
 // What the account program prints of a refusal is written at the front.

@@ -99,7 +99,7 @@ fn find_from(
         return Told::Place(None);
     }
     let kind = read_element_table::row_word(source, k, rows_syntax_node::KIND);
-    let start = finish_find::old_start(table, source, n, k);
+    let start = finish_find::old_start(&elements, k);
     let all = Rows {
         count: d.rows,
         words: rows,

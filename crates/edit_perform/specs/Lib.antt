@@ -1,6 +1,6 @@
 -- From a batch to what its run leaves.
 --     Stops       what stops a plan, passed on
---     First       what the number of the refusals before everything else tells
+--     First       what the refusals before everything else tell
 --     Ending      the way from a batch to the end of its run, in the definition's words
 --     Beginning   what an accepted and planned batch leaves in words is where the run begins
 --     Accounting  the account of a batch, by how far its run comes

@@ -3,7 +3,7 @@
 
 ghost use Rattle.std.specs.Prelude.{◌≡◌, List, ℕ, ◌*◌, ◌^◌, ◌≤◌, ◌<◌, length};
 ghost use Rattle.definition.specs.Elements.{row, tree as tree_of};
-ghost use Rattle.read_element_table.specs.View.{view};
+ghost use Rattle.read_element_table.specs.Held.{view_of};
 ghost use Rattle.read_element_table.specs.Wellformed.{Lines};
 ghost use Rattle.rows_model.specs.Row.{first_rows};
 ghost use Rattle.finish_model.specs.Finished.{first_tree};
@@ -11,7 +11,7 @@ ghost use Rattle.finish_model.specs.Alike.{alike_words, find_row};
 ghost use Rattle.finish_find.specs.Found.{found};
 ghost use Rattle.finish_find.specs.OldStart.{TreesTold, PathFrom};
 
-use read_element_table::{AFTER, CHILD, PARENT, WORDS, entry};
+use read_element_table::{AFTER, CHILD, Elements, PARENT, WORDS, entry};
 use rows_path::resolve;
 use rows_syntax_node::{ROW_WORDS, Rows, child_count, text_length};
 use words::word;
@@ -37,19 +37,18 @@ fn path_in_tree(table: &[u32], n: usize, k: usize, path: &mut [u32; 64]) -> usiz
     from
 }
 
-// Where the text of element `k` of tree 0 starts there: what resolving its path gives, in the batch's own rows. It takes slices: what it asks of
-// them names the trees themselves, which are data, so that no field of `Elements` says it.
-pub fn old_start(table: &[u32], source: &[u32], n: usize, k: usize) -> usize
-    requires trees_told { TreesTold n table.now source.now }
-    requires k_lt_n { (k < n) × (tree_of (view n table.now source.now) k ≡ 0) }
-    ensures { result ≡ (row (view n table.now source.now) k).start }
+// Where the text of element `k` of tree 0 starts there: what resolving its path gives, in the batch's own rows.
+pub fn old_start(elements: &Elements, k: usize) -> usize
+    requires trees_told { TreesTold elements.now.count elements.now.table.now elements.now.source.now }
+    requires k_in_bounds { (k < elements.now.count) × (tree_of (view_of elements.now) k ≡ 0) }
+    ensures { result ≡ (row (view_of elements.now) k).start }
 {
     let mut path = [0u32; 64];
-    let from = path_in_tree(table, n, k, &mut path);
-    let end = entry(table, 0, AFTER);
+    let from = path_in_tree(elements.table, elements.count, k, &mut path);
+    let end = entry(elements.table, 0, AFTER);
     let to = ROW_WORDS * (end + 1);
     // Its own path leads to it.
-    let found = resolve(&source[ROW_WORDS..to], &path[from..]).unwrap();
+    let found = resolve(&elements.source[ROW_WORDS..to], &path[from..]).unwrap();
     found.start
 }
 

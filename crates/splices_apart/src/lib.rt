@@ -14,9 +14,9 @@ fn enters(rows: &Rows, splices: &Splices, i: usize, x: usize) -> bool
     ensures { EntersAt rows.now.words.now rows.now.count splices.now.words.now i x result }
 {
     let splice = splices.get(i);
-    let from = child_row(rows, splice.parent, splice.from);
-    let to = child_row(rows, splice.parent, splice.to);
-    from <= x && x < to
+    // The start first: most rows lie before it, and its end costs a walk of its own.
+    child_row(rows, splice.parent, splice.from) <= x
+        && x < child_row(rows, splice.parent, splice.to)
 }
 
 // Whether the runs of splices `i` and `j` are in one parent and overlap.

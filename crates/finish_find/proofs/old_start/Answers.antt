@@ -4,10 +4,10 @@ use Rattle.finish_find.proofs.OldPath.{first_ends, first_short, start_there, sta
 use Rattle.finish_find.proofs.old_start.Goals as goal
 
 pub slice_bounds-resolve-end : goal.slice_bounds-resolve-end
-slice_bounds-resolve-end c = first_ends c.requires.trees_told c.requires.k_lt_n c.entry-end.ensures
+slice_bounds-resolve-end c = first_ends c.requires.trees_told c.requires.k_in_bounds c.entry-end.ensures
 
 pub resolve-requires : goal.resolve-requires
-resolve-requires c = first_short c.requires.trees_told c.requires.k_lt_n c.entry-end.ensures
+resolve-requires c = first_short c.requires.trees_told c.requires.k_in_bounds c.entry-end.ensures
 
 pub unwrap-found-requires : goal.unwrap-found-requires
 unwrap-found-requires c = search (start_somewhere, rules)
