@@ -196,7 +196,8 @@ fn overlapping(job: Job, j: usize, k: usize, res: &mut [u8]) -> Result<Told, Ref
     }
 }
 
-// What the job answers from what is performed: its refusal, or what follows from the end of the run.
+// What the job answers from what is performed: its refusal, or what follows from the end of the run. Slices, and no `Work`: a job reads some of them while it writes
+// others, so that each would be lent by itself again.
 pub fn answer(
     choices: Choices,
     job: Job,

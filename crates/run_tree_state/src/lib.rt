@@ -1,7 +1,7 @@
 // The state of a run: where the root of tree 0 stands, and how much is held; lent to each splice step, which rows, marks, notes and changed elements
 // go through together. 12 is decided before anything is written.
-// These four stay slices here and in the crates above: a step reads several of them at once, which the borrow checker does not cover through one `&mut`
-// value that holds them (tried).
+// These four stay slices here and in the crates above, and what is prepared for a step does there: a step reads some of them while it writes others, so that each
+// function would begin by lending the fields of one value by themselves again; no plainer.
 #![tactic(auto)]
 
 ghost use Rattle.std.specs.Prelude.{◌≡◌, List, ℕ, ◌+◌, ◌-◌, ◌*◌, ◌/◌, ◌^◌, ◌≤◌, ◌<◌, length};

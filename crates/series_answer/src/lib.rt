@@ -67,7 +67,8 @@ fn answer_end<'a>(
     Ok(n)
 }
 
-// What is answered from what is performed: its refusal, 8 where two changes overlap, or what follows from the end of the run.
+// What is answered from what is performed: its refusal, 8 where two changes overlap, or what follows from the end of the run. Slices, and no `Work`: some are read
+// while others are written, so that each would be lent by itself again.
 pub fn answer<'a>(
     choices: Choices,
     batch: &[u8],
