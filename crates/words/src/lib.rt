@@ -76,7 +76,10 @@ pub fn move_words(s: &mut [u32], from: usize, to: usize, len: usize)
     requires { (from + len ≤ length s.old) × (to + len ≤ length s.old) }
     ensures { s.new ≡ paste s.old to (drop from s.old) len }
 {
-    s.copy_within(from..from + len, to);
+    // Most splices put in as many words as they take out: then nothing moves.
+    if from != to {
+        s.copy_within(from..from + len, to);
+    }
 }
 
 // Of the first `n` words those from `p` up to `q` give way to `ins`; what stands beyond the new end is as it was.
