@@ -10,23 +10,13 @@ use borrow.Author.Tests.{eq-eqb, ne_eqb, lt-ltb, le-ltb}
 use lib.Dec.{eqb, ltb}
 use lib.ListN.{length, get_or, set, drop, length-set, drop_of_length-le}
 use lib.Pointwise.{pointwise}
-use Rattle.std.specs.List.{list_any}
 use lib.Seq.{drop-cons}
-use Rattle.orders.specs.Lists.{any}
 use Rattle.orders.specs.ListLaws.{bool_absurd, All-at}
 use Rattle.check_laws.specs.Check.{every, same_bytes}
 use Rattle.check_model.specs.Clauses.{partnered, fresh, marked, rises, each}
 use Rattle.check_model.proofs.Pairing.{pairs_from, pairs_more, pairs_none}
 use Rattle.check_model.specs.Pairing.{Below}
 use Rattle.check_clauses.specs.Asked.{PairsUp, Reaches, Climbs, Climbed, Reached}
-
--- ── Some number of a list passes a test ─────────────────────────────────────────────────────────────────────
-
--- the test of a list is the definition's
-pub some_alike : (p : ℕ → Bool) (l : List ℕ) → list_any p l ≡ any p l
-unfolding any
-some_alike p [] = refl
-some_alike p (x ∷ l) = ap (λ (t : Bool). p x || t) (some_alike p l)
 
 -- ── Partners ────────────────────────────────────────────────────────────────────────────────────────────────
 

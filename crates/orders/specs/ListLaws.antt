@@ -1,5 +1,7 @@
 -- Laws on truth values, options, numbers and lists that know nothing of trees. Others use them too.
 -- Assumes nothing.
+use Rattle.std.specs.Coded.{×_prop, Unit-prop}
+use Rattle.std.specs.List.{list_any}
 use Rattle.std.specs.Prelude.{◌≡◌, Bool, ◌&&◌, ◌||◌, ◌≢◌, ◌⊎◌, ltb, length, get_or, set, take, drop}
 use Rattle.std.proofs.Math.Path.{refl, ap}
 use Rattle.std.proofs.Common.{sym, ◌∙◌, subst, inl, inr, arith, zero-add, le_of_suc-le-suc, not-suc-le-zero, length-append, length-drop, take-append-drop, take_at, drop_at, drop-drop, length-take-le, take-take}
@@ -468,3 +470,16 @@ module _ {X : Type 0} where
 
   pub pick_perm : {Y : Type 0} (f : X → Option Y) {l m : List X} → Permᴰ l m → Permᴰ (pick f l) (pick f m)
   pick_perm f {l} {m} d = rw (pick_filter_map f l, pick_filter_map f m) (Permᴰ.filter_map f d)
+
+-- ── The library's words ─────────────────────────────────────────────────────────────────────────────────────
+
+-- there is at most one proof that all elements have a property of which there is at most one
+pub all_prop : {A : Type 0} (P : A → Type 0) → ((x : A) → IsProp (P x)) → (l : List A) → IsProp (All P l)
+all_prop P each [] = Unit-prop
+all_prop P each (x ∷ l) = ×_prop (each x) (all_prop P each l)
+
+-- the library's test of a list is this one
+pub some_alike : {A : Type 0} (p : A → Bool) (l : List A) → list_any p l ≡ any p l
+unfolding any
+some_alike p [] = refl
+some_alike p (x ∷ l) = ap (λ (t : Bool). p x || t) (some_alike p l)

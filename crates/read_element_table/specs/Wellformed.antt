@@ -1,9 +1,9 @@
 -- What an accepted batch guarantees of the words of the element table and of the batch's rows (View.antt says what each word is).
 -- Assumes nothing.
-use Rattle.std.specs.Coded.{×_prop, Unit-prop}
 use Rattle.std.proofs.Props.{props}
 use Rattle.std.specs.Prelude.{[], ◌∷◌, ◌&&◌, List, ◌≡◌, ℕ, suc, ◌+◌, ◌*◌, ◌≤◌, ◌<◌, leb, ltb, length, get_or}
 use Rattle.orders.specs.Lists.{All}
+use Rattle.orders.specs.ListLaws.{all_prop}
 use Rattle.definition.specs.Elements.{parent, child}
 use Rattle.definition.specs.EdgeRule.{at_or_below}
 use Rattle.read_element_table.specs.View.{row_at, view}
@@ -35,10 +35,6 @@ pub record Wellformed (n : ℕ) (table source : List ℕ) : Type 0 where
   pub ends : (e : ℕ) → e < n → get_or table (8 * e + 6) 0 ≤ n
 
 -- ── There is at most one proof of it, so that it can be a field ───────────────────────────────────────────
-
-all_prop : {A : Type 0} (P : A → Type 0) → ((x : A) → IsProp (P x)) → (l : List A) → IsProp (All P l)
-all_prop P each [] = Unit-prop
-all_prop P each (x ∷ l) = ×_prop (each x) (all_prop P each l)
 
 pub wellformed_prop : (n : ℕ) (table source : List ℕ) → IsProp (Wellformed n table source)
 wellformed_prop n table source = hlevel (all_prop, props)

@@ -2,8 +2,8 @@
 -- Assumes nothing.
 use Rattle.std.proofs.Props.{props}
 use Rattle.std.specs.Prelude.{List, ℕ}
-use Rattle.run_tree_store.specs.Placed.{placed_prop}
+use Rattle.orders.specs.ListLaws.{all_prop}
 use Rattle.run_tree_state.specs.Store.{Coming}
 
 pub coming_prop : (run sizes incoming : List ℕ) (c : ℕ) → IsProp (Coming run sizes incoming c)
-coming_prop run sizes incoming c = hlevel (placed_prop, props)
+coming_prop run sizes incoming c = hlevel (all_prop, props)

@@ -11,6 +11,9 @@ mod list;
 
 pub use list::WordList;
 
+// The least kind of a node; those below are tokens'.
+pub const NODE_KIND: usize = 0x8000_0000;
+
 // The byte at `i`.
 pub fn byte(b: &[u8], i: usize) -> usize
     requires { i < length b.now }

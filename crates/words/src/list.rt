@@ -2,7 +2,8 @@
 
 ghost use Rattle.std.specs.Prelude.{◌≡◌, ◌+◌, ◌*◌, ◌^◌, ◌≤◌, ◌<◌, length, get_or};
 
-// The `count` words that stand in `bytes` from `at` on.
+// The `count` words that stand in `bytes` from `at` on. Not a part of the bytes: its count would be a quotient of a length, and what is said of a batch, whose lists are
+// told by where they start, would be said of each part again; no plainer.
 #[derive(Clone, Copy)]
 pub struct WordList<'a> {
     pub bytes: &'a [u8],

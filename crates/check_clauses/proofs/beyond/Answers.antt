@@ -4,7 +4,7 @@ use lib.Dec.{leb}
 use Rattle.std.proofs.Common.{rules, tests}
 use Rattle.std.proofs.lemmas.Iterator.{YieldsList-from_slice}
 use Rattle.std.proofs.lemmas.Iterator.Search.{any_from_yields_List}
-use Rattle.check_clauses.proofs.Turns.{some_alike}
+use Rattle.orders.specs.ListLaws.{some_alike}
 use Rattle.check_clauses.proofs.beyond.Goals as goal
 
 pub returns : goal.returns

@@ -3,10 +3,10 @@ use mathlib.Core.Path.{◌∙◌}
 use Rattle.std.proofs.Common.{rules, tests, ltb, ℕ}
 use Rattle.std.proofs.lemmas.Iterator.{YieldsList-from_slice}
 use Rattle.std.proofs.lemmas.Iterator.Search.{any_from_yields_List}
+use Rattle.orders.specs.ListLaws.{some_alike}
 use Rattle.definition.specs.Answers.{too_short}
 use Rattle.promises.specs.Lent.{held}
 use Rattle.promises.specs.Slices.{lengths, needed}
-use Rattle.promises.proofs.Ways.{some_alike}
 use Rattle.promises.proofs.too_short.Goals as goal
 
 pub returns : goal.returns
