@@ -10,7 +10,7 @@ use promises::Told;
 use refusals::Refusal;
 
 // A refusal's number, with a minus.
-fn negative(n: usize) -> i64
+pub fn negative(n: usize) -> i64
     requires { n ≤ 134217728 }
     ensures { result ≡ neg_ℤ (pos n) }
 {
