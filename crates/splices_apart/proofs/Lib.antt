@@ -1,2 +1,2 @@
--- The laws of each way out, and the invariants of the loops with a turn of each.
+-- The library's tests of all splices are the definition's.
 pub mod Turns

@@ -50,12 +50,7 @@ fn apart_from(rows: &Rows, splices: &Splices, i: usize) -> bool
     requires { (i < splices.now.count) × RowsTo rows.now.count splices.now.words.now (i + 1) }
     ensures { ApartFrom rows.now.words.now rows.now.count splices.now.words.now i i result }
 {
-    for j in 0..i {
-        if !apart(rows, splices, i, j) {
-            return false;
-        }
-    }
-    true
+    (0..i).all(|j| apart(rows, splices, i, j))
 }
 
 // Whether any two are apart. The prepared rows do not matter, so it takes the splices without them.
@@ -63,10 +58,5 @@ pub fn all_apart(rows: &Rows, splices: &Splices) -> bool
     requires { RowsTo rows.now.count splices.now.words.now splices.now.count }
     ensures { ApartAll rows.now.words.now rows.now.count splices.now.words.now splices.now.count result }
 {
-    for k in 0..splices.count {
-        if !apart_from(rows, splices, k) {
-            return false;
-        }
-    }
-    true
+    (0..splices.count).all(|k| apart_from(rows, splices, k))
 }

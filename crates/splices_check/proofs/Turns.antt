@@ -1,8 +1,10 @@
 -- What each way out and each turn of a loop knows.
 -- Assumes nothing.
+use Rattle.std.specs.List.{list_all, sum, range_with_len}
+use Rattle.std.proofs.lemmas.List.FromFn.{sum_by-map-range_with_len_more}
 use mathlib.Core.Path.{◌≡◌, refl, sym, ap, ◌∙◌}
-use mathlib.Core.Bool.{Bool, true, false}
-use mathlib.Core.List.{List, [], ◌∷◌}
+use mathlib.Core.Bool.{Bool, true, false, ◌&&◌}
+use mathlib.Core.List.{List, [], ◌∷◌, map}
 use mathlib.Core.Logic.{inl, inr}
 use Prim.Native.Nat.{ℕ, zero, suc, ◌+◌, ◌-◌, ◌*◌, ◌/◌, ◌^◌, ◌≤◌, ◌<◌}
 use native.Mathlib.Omega.{arith}
@@ -16,8 +18,8 @@ use Rattle.rows_syntax_node.specs.Promises.{Counted}
 use Rattle.rows_model.specs.Row.{Row, owes, row_in, triples}
 use Rattle.rows_model.proofs.Words.{triples_at, triples_end}
 use Rattle.splices_model.specs.Cuts.{part_at}
-use Rattle.splices_model.specs.Bounds.{rows_to, rows_to_more, part_is}
-use Rattle.splices_model.specs.Verdict.{owed, closed, bounded_at, fit_at, fits_to, limited, roomy, judged_by, and-false, fits_each}
+use Rattle.splices_model.specs.Bounds.{rows_to, part_is}
+use Rattle.splices_model.specs.Verdict.{owed, closed, bounded_at, fit_at, fits_to, limited, roomy, judged_by, all_more, fits_each}
 use Rattle.splices_apart.specs.Promises.{RowsTo, ApartAll}
 use Rattle.splices_check.specs.Promises.{Closes, FitsAt, FitsAll, OneTree, Fitted, Judged}
 
@@ -60,33 +62,14 @@ part_closes s p j h k t = rw (part_is s p j h.0 k.0) at t
 
 -- ── Every splice ────────────────────────────────────────────────────────────────────────────────────────────
 
--- the first k splices fit
-pub record Fitting (rows : List ℕ) (e : ℕ) (s p : List ℕ) (c k : ℕ) : Type 0 where
-  pub inside : k ≤ c
-  pub fits : (text : List ℕ) → fits_to text rows e s p k ≡ true
-
-fits_false : (text rows : List ℕ) (e : ℕ) (s p : List ℕ) (c k : ℕ) → k < c → fit_at text rows e s p k ≡ false → fits_to text rows e s p c ≡ false
+-- the library's test of each is the definition's
+fits_listed : (text rows : List ℕ) (e : ℕ) (s p : List ℕ) (c : ℕ) → list_all (fit_at text rows e s p) (range_with_len 0 c) ≡ fits_to text rows e s p c
 unfolding fits_to
-fits_false text rows e s p zero k h z = absurd (omega arith)
-fits_false text rows e s p (suc c) k h z = elim (lt_or_le k c) [
-  | inl w ↦ rw (fits_false text rows e s p c k w z) (and-false (fit_at text rows e s p c))
-  | inr w ↦ let q : k ≡ c = omega arith in rw (← q, z)
-]
+fits_listed text rows e s p zero = refl
+fits_listed text rows e s p (suc c) = all_more (fit_at text rows e s p) c ∙ ap (λ b. fit_at text rows e s p c && b) (fits_listed text rows e s p c)
 
-pub fitting_start : (rows : List ℕ) (e : ℕ) (s p : List ℕ) (c : ℕ) → Fitting rows e s p c 0
-unfolding fits_to
-fitting_start rows e s p c = record { inside = omega arith; fits = λ text. refl }
-
-module _ {rows : List ℕ} {e : ℕ} {s p : List ℕ} {c k : ℕ} (v : Fitting rows e s p c k) where
-  pub fitting_next : {b : Bool} → k < c → FitsAt rows e s p k b → b ≡ true → Fitting rows e s p c (k + 1)
-  unfolding fits_to
-  fitting_next h f z = rw (add-one k) (record { inside = omega arith; fits = λ text. rw (← f.says text, z, v.fits text) })
-
-  pub fitting_not : {b : Bool} → k < c → FitsAt rows e s p k b → b ≡ false → FitsAll rows e s p c false
-  fitting_not h f z = record { says = λ text. sym (fits_false text rows e s p c k h (sym (f.says text) ∙ z)) }
-
-  pub fitting_done : c ≤ k → FitsAll rows e s p c true
-  fitting_done h = let q : k ≡ c = omega (arith, v.inside) in record { says = λ text. sym (rw q at (v.fits text)) }
+pub all_listed : {rows : List ℕ} {e : ℕ} {s p : List ℕ} {c : ℕ} {r : Bool} → ((text : List ℕ) → r ≡ list_all (fit_at text rows e s p) (range_with_len 0 c)) → FitsAll rows e s p c r
+all_listed {rows} {e} {s} {p} {c} h = record { says = λ text. h text ∙ fits_listed text rows e s p c }
 
 -- ── One tree ────────────────────────────────────────────────────────────────────────────────────────────────
 
@@ -95,21 +78,15 @@ from_the_first rows e t = rw (sub-zero (3 * e)) at t
 
 -- ── Room ────────────────────────────────────────────────────────────────────────────────────────────────────
 
-pub record Summed (s : List ℕ) (c sum k : ℕ) : Type 0 where
-  pub inside : k ≤ c
-  pub small : sum ≤ 2 ^ 32 * k
-  pub is : sum ≡ rows_to s k
+-- the rows that splice k brings
+abbrev pub rows_at : List ℕ → ℕ → ℕ
+rows_at s k = get_or s (6 * k + 5) 0
 
-pub summed_start : (s : List ℕ) (c : ℕ) → Summed s c 0 0
+-- the library's sum over all splices is the definition's
+pub summed : (s : List ℕ) (c : ℕ) → sum (map (rows_at s) (range_with_len 0 c)) ≡ rows_to s c
 unfolding rows_to
-summed_start s c = record { inside = omega arith; small = omega arith; is = refl }
-
-module _ {s : List ℕ} {c sum k : ℕ} (v : Summed s c sum k) where
-  pub summed_next : {x : ℕ} → k < c → Read x (get_or s (6 * k + 5) 0) → Summed s c (sum + x) (k + 1)
-  summed_next h X = rw (add-one k) (record { inside = omega arith; small = omega (arith, v.small, X.1); is = omega (arith, v.is, X.0, rows_to_more s k) })
-
-  pub summed_done : c ≤ k → c < 2 ^ 15 → (sum ≡ rows_to s c) × (sum < 2 ^ 48)
-  summed_done h l = let q : k ≡ c = omega (arith, v.inside) in (v.is ∙ ap (rows_to s) q, omega (arith, v.small))
+summed s zero = refl
+summed s (suc c) = ap (λ n. sum (map (rows_at s) (range_with_len 0 n))) (sym (add-one c)) ∙ (sum_by-map-range_with_len_more (λ x. x) (rows_at s) 0 c c (zero-add c) ∙ ap (λ n. n + rows_at s c) (summed s c))
 
 -- ── The verdict ─────────────────────────────────────────────────────────────────────────────────────────────
 

@@ -11,7 +11,7 @@ ghost use Rattle.splices_check.specs.Promises.{Closes, FitsAt, FitsAll, OneTree,
 use rows_syntax_node::{MEASURE, ROW_WORDS, Rows, child_count, trees_in};
 use splices_apart::all_apart;
 use splices_model::{SPLICE_WORDS, SpliceList, SpliceRefusal, Splices};
-use words::word;
+use words::{NODE_KIND, word};
 
 // ── It fits ──
 
@@ -48,7 +48,7 @@ fn has_run(rows: &Rows, splices: &Splices, j: usize) -> bool
 {
     let splice = splices.get(j);
     let at = ROW_WORDS * splice.parent;
-    0x8000_0000 <= word(rows.words, at) && splice.to <= word(rows.words, at + MEASURE)
+    NODE_KIND <= word(rows.words, at) && splice.to <= word(rows.words, at + MEASURE)
 }
 
 // Whether splice `j` fits the old tree.
@@ -64,12 +64,7 @@ fn fits(rows: &Rows, list: &SpliceList, j: usize) -> bool
 fn all_fit(rows: &Rows, list: &SpliceList) -> bool
     ensures { FitsAll rows.now.words.now rows.now.count list.now.splices.words.now list.now.prepared.now list.now.splices.count result }
 {
-    for k in 0..list.splices.count {
-        if !fits(rows, list, k) {
-            return false;
-        }
-    }
-    true
+    (0..list.splices.count).all(|k| fits(rows, list, k))
 }
 
 // Whether a run is one whole tree.
@@ -96,11 +91,7 @@ pub fn rows_to(splices: &Splices) -> usize
     requires { splices.now.count < 2 ^ 15 }
     ensures { (result ≡ rows_to splices.now.words.now splices.now.count) × (result < 2 ^ 48) }
 {
-    let mut sum = 0;
-    for k in 0..splices.count {
-        sum += splices.get(k).rows;
-    }
-    sum
+    (0..splices.count).map(|k| splices.get(k).rows).sum()
 }
 
 // Whether the slices are within the limits, where the old tree has `e` rows and the list `c` splices.

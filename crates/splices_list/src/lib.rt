@@ -13,6 +13,7 @@ use rows_syntax_node::{MEASURE, ROW_WORDS, TEXT, number_from};
 use splices_check::{judged, rows_to};
 use splices_model::{SPLICE_WORDS, SpliceList, SpliceRefusal, Splices};
 use splices_step::splice_once;
+use words::NODE_KIND;
 
 // Its splices, from the first to the last. The new number of rows.
 fn splice_each(rows: &mut [u32], n: usize, marks: &mut [u32], list: &SpliceList) -> usize
@@ -43,7 +44,7 @@ fn splice_list(rows: &mut [u32], marks: &mut [u32], list: &SpliceList) -> usize
 fn plain_word(k: u32, m: u32, o: u32) -> u32
     ensures { result ≡ plain_word k m o }
 {
-    if 0x8000_0000 <= k || m == 0 {
+    if NODE_KIND <= k as usize || m == 0 {
         return 0;
     }
     o

@@ -1,5 +1,6 @@
 -- Whether a list of splices in words fits the old tree and is apart, told in rows; and the law that this is so just where `orders` says so.
 -- Assumes nothing.
+use Rattle.std.specs.List.{list_all, range_with_len}
 use Rattle.std.specs.Prelude.{◌≡◌, refl, Bool, true, false, cond, not, ◌&&◌, List, [], ◌∷◌, ◌++◌, map, ◌⊎◌, length, get_or, leb, ltb, eqb}
 use Rattle.std.proofs.Common.{sym, ◌∙◌, append_assoc, append-nil, inl, inr, arith, add-zero, add_comm, zero-add, suc-add, leb-true, ltb-true, eqb-true, lt-ltb, le-ltb, le-leb, eq-eqb}
 use Rattle.std.proofs.Math.Path.{ap}
@@ -206,7 +207,12 @@ unfolding pairs
 pairs_cut old [] h = refl
 pairs_cut old (s ∷ D) h = rw (each_cut old s D h.0 h.1, pairs_cut old D h.1)
 
--- ── A splice fits the old tree just where its words say so ──────────────────────────────────────────────────
+-- ── A test of the first numbers ─────────────────────────────────────────────────────────────────────────────
+
+and-swap : (x y z : Bool) → (x && (y && z)) ≡ (y && (x && z))
+and-swap true y z = refl
+and-swap false true z = refl
+and-swap false false z = refl
 
 and-true : (x : Bool) → (x && true) ≡ x
 and-true true = refl
@@ -215,6 +221,18 @@ and-true false = refl
 pub and-false : (x : Bool) → (x && false) ≡ false
 and-false true = refl
 and-false false = refl
+
+all_from : (p : ℕ → Bool) (a n : ℕ) → list_all p (range_with_len a (suc n)) ≡ (p (a + n) && list_all p (range_with_len a n))
+all_from p a zero = rw (add-zero a)
+all_from p a (suc n) =
+    let e : a + 1 + n ≡ a + suc n = omega arith in
+    rw (all_from p (a + 1) n, e) (and-swap (p a) (p (a + suc n)) (list_all p (range_with_len (a + 1) n)))
+
+-- the library's test of each number below n, the last first
+pub all_more : (p : ℕ → Bool) (n : ℕ) → list_all p (range_with_len 0 (suc n)) ≡ (p n && list_all p (range_with_len 0 n))
+all_more p n = all_from p 0 n ∙ ap (λ k. p k && list_all p (range_with_len 0 n)) (zero-add n)
+
+-- ── A splice fits the old tree just where its words say so ──────────────────────────────────────────────────
 
 node_fits : (P E a b x y K M : ℕ) (c : Bool) → P < E → x ≤ y → 2147483648 ≤ K → M ≤ E → c ≡ true → ((ltb P E && (leb a b && (leb b E && leb x y))) && ((leb 2147483648 K && leb b M) && c)) ≡ (leb a b && leb b M)
 node_fits P E a b x y K M c h k l m z = rw (lt-ltb P E h, le-leb x y k, le-leb 2147483648 K l, z) (go (lt_or_le M b))

@@ -11,7 +11,7 @@ ghost use Rattle.splices_model.specs.Reading.{Stocked};
 use rows_syntax_node::{MEASURE, ROW_WORDS, Rows, child_row, rows_after, trees_in};
 use run_splice::splice;
 use splices_model::{SpliceList, Splices};
-use words::word;
+use words::{NODE_KIND, word};
 
 // ── To the left ──
 
@@ -136,7 +136,7 @@ fn takes(rows: &Rows, parent: usize, lost: usize, gain: usize) -> bool
     ensures { result ≡ takes_by rows.now.words.now parent lost gain }
 {
     let m = word(rows.words, ROW_WORDS * parent + MEASURE);
-    0x8000_0000 <= word(rows.words, ROW_WORDS * parent) && lost <= m && m + gain < 0x1_0000_0000
+    NODE_KIND <= word(rows.words, ROW_WORDS * parent) && lost <= m && m + gain < 0x1_0000_0000
 }
 
 // Splice `i` of the list is done where it goes. The new number of rows.

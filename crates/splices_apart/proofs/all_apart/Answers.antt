@@ -1,19 +1,12 @@
--- `all_apart` meets its contract.
-use borrow.Author.Rules.{rules}
-use Rattle.splices_apart.proofs.Turns.{pairing_start, pairing_next, pairing_not, pairing_done, rows_first}
+-- `all_apart` meets its contract: the library's test of a list is the definition's.
+use Rattle.std.proofs.Common.{refl, arith, rules, tests}
+use Rattle.std.proofs.lemmas.Iterator.{YieldsList-from_range}
+use Rattle.std.proofs.lemmas.Iterator.Search.{all_from_yields_List}
+use Rattle.rows_model.specs.Row.{first_rows}
+use Rattle.splices_apart.proofs.Turns.{from_each, all_listed}
 use Rattle.splices_apart.proofs.all_apart.Goals as goal
 
-pub loop-k-init : goal.loop-k-init
-loop-k-init c = search (pairing_start, rules)
-
-pub apart_from-requires : goal.apart_from-requires
-apart_from-requires c = search (rows_first, rules)
-
-pub loop-k-preserved : goal.loop-k-preserved
-loop-k-preserved c = search (pairing_next, rules)
-
-pub returns-then-not-apart_from : goal.returns-then-not-apart_from
-returns-then-not-apart_from c = search (pairing_not, rules)
-
 pub returns : goal.returns
-returns c = search (pairing_done, rules)
+returns c =
+    let s = c.args.splices.now in
+    all_listed (λ text prepared. all_from_yields_List (from_each text s.words.now prepared (first_rows text c.args.rows.now.count c.args.rows.now.words.now)) _ _ _ c.all.ensures.ran (YieldsList-from_range 0 s.count s.count refl (omega arith)) (λ x b q k. search (rules, tests)))

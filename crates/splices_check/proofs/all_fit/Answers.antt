@@ -1,16 +1,12 @@
--- `all_fit` meets its contract.
-use borrow.Author.Rules.{rules}
-use Rattle.splices_check.proofs.Turns.{fitting_start, fitting_next, fitting_not, fitting_done}
+-- `all_fit` meets its contract: the library's test of a list is the definition's.
+use Rattle.std.proofs.Common.{refl, arith, rules, tests}
+use Rattle.std.proofs.lemmas.Iterator.{YieldsList-from_range}
+use Rattle.std.proofs.lemmas.Iterator.Search.{all_from_yields_List}
+use Rattle.splices_model.specs.Verdict.{fit_at}
+use Rattle.splices_check.proofs.Turns.{all_listed}
 use Rattle.splices_check.proofs.all_fit.Goals as goal
 
-pub loop-k-init : goal.loop-k-init
-loop-k-init c = search (fitting_start, rules)
-
-pub loop-k-preserved : goal.loop-k-preserved
-loop-k-preserved c = search (fitting_next, rules)
-
-pub returns-then-not-fits : goal.returns-then-not-fits
-returns-then-not-fits c = search (fitting_not, rules)
-
 pub returns : goal.returns
-returns c = search (fitting_done, rules)
+returns c =
+    let l = c.args.list.now in
+    all_listed (λ text. all_from_yields_List (fit_at text c.args.rows.now.words.now c.args.rows.now.count l.splices.words.now l.prepared.now) _ _ _ c.all.ensures.ran (YieldsList-from_range 0 l.splices.count l.splices.count refl (omega arith)) (λ x b q k. search (rules, tests)))
