@@ -14,14 +14,14 @@ mod pairs;
 use check_table::{END, KIND, PARENT, START};
 pub use pairs::{Pairs, Side};
 
-// 19: whether a number of the list is none of `n` elements.
+// 19: whether a number of the list is none of `n` elements. Beside `write_layout::all_below`: one is any, one is all, each by its own definition.
 pub fn beyond(list: &[u32], n: usize) -> bool
     ensures { result ≡ any (leb n) list.now }
 {
     list.iter().any(|x| n <= *x as usize)
 }
 
-// Each pair's old element + 1 is written as the partner of its new one; false where that has one already.
+// Each pair's old element + 1 is written as the partner of its new one, a word of a lent slice, 0 for none; false where that has one already. A `for`, since each turn writes.
 pub fn pair_up(pairs: &Pairs, partners: &mut [u32]) -> bool
     requires { Below 4096 pairs.now.olds.now × Below (length partners.old) pairs.now.news.now }
     ensures { PairsUp (zip pairs.now.olds.now pairs.now.news.now) partners.old result partners.new }
@@ -62,7 +62,7 @@ fn alike(old: &Side, new: &Side, x: usize, y: usize) -> bool
     if kind != check_table::entry(new.table, y, KIND) {
         return false;
     }
-    if 0x8000_0000 <= kind {
+    if words::NODE_KIND <= kind {
         return true;
     }
     let a = check_table::entry(old.table, x, START);
@@ -77,12 +77,11 @@ fn all_alike(pairs: &Pairs, old: &Side, new: &Side) -> bool
     requires { Reached old.now.table.now (length old.now.text.now) pairs.now.olds.now × Reached new.now.table.now (length new.now.text.now) pairs.now.news.now }
     ensures { result ≡ every (alike_in old.now.table.now new.now.table.now old.now.text.now new.now.text.now) (zip pairs.now.olds.now pairs.now.news.now) }
 {
-    for (x, y) in pairs.olds.iter().zip(pairs.news) {
-        if !alike(old, new, *x as usize, *y as usize) {
-            return false;
-        }
-    }
-    true
+    pairs
+        .olds
+        .iter()
+        .zip(pairs.news)
+        .all(|(x, y)| alike(old, new, *x as usize, *y as usize))
 }
 
 // 4, of one pair: both have no parent, or their parents are a pair.
@@ -107,15 +106,16 @@ fn all_parents_meet(pairs: &Pairs, old: &[u32], new: &[u32], partners: &[u32]) -
     requires { Climbed old.now pairs.now.olds.now × Climbed new.now pairs.now.news.now × Below (length partners.now) pairs.now.news.now }
     ensures { result ≡ every (parents_meet old.now new.now partners.now) (zip pairs.now.olds.now pairs.now.news.now) }
 {
-    for (x, y) in pairs.olds.iter().zip(pairs.news) {
-        if !parents_meet(old, new, partners, *x as usize, *y as usize) {
-            return false;
-        }
-    }
-    true
+    pairs.olds.iter().zip(pairs.news).all(|(x, y)| parents_meet(
+        old,
+        new,
+        partners,
+        *x as usize,
+        *y as usize,
+    ))
 }
 
-// 5: whether the partners rise.
+// 5: whether the partners rise. A `for`, since what a turn asks is another for each: a chain would be `filter` and `is_sorted_by`, whose laws are longer than the loop's.
 fn rising(partners: &[u32]) -> bool
     ensures { result ≡ rises 0 partners.now }
 {
@@ -152,17 +152,11 @@ fn accounted(new: &[u32], partners: &[u32], marks: &[u32], y: usize) -> bool
 }
 
 // 6, of all `n` new elements.
-#[tactic(auto, using(crate::proofs::Turns::counting_no, crate::proofs::Turns::counting_next, crate::proofs::Turns::counting_end))]
 fn all_accounted(new: &[u32], partners: &[u32], marks: &[u32], n: usize) -> bool
     requires { (n ≤ length partners.now) × (n ≤ length marks.now) × Linked new.now n }
     ensures { result ≡ each (accounted_in new.now partners.now marks.now) 0 n }
 {
-    for y in 0..n {
-        if !accounted(new, partners, marks, y) {
-            return false;
-        }
-    }
-    true
+    (0..n).all(|y| accounted(new, partners, marks, y))
 }
 
 // All clauses, where `pair_up` found no new element twice and wrote the partners, and `mark_all` the marks, of `n` new elements.

@@ -7,8 +7,8 @@ use Rattle.check_clauses.proofs.alike.Goals as goal
 pub returns-then-kind-entry : goal.returns-then-kind-entry
 returns-then-kind-entry c = other_kind _ _ _ _ _ _ c.entry-kind.ensures.0 c.entry.ensures.0 c.if-kind-entry.true
 
-pub returns-then-kind-ge2147483648 : goal.returns-then-kind-ge2147483648
-returns-then-kind-ge2147483648 c = alike_node _ _ _ _ _ _ c.entry-kind.ensures.0 c.entry.ensures.0 (omega arith) (omega arith)
+pub returns-then-kind-ge-NODE_KIND : goal.returns-then-kind-ge-NODE_KIND
+returns-then-kind-ge-NODE_KIND c = alike_node _ _ _ _ _ _ c.entry-kind.ensures.0 c.entry.ensures.0 (omega arith) (omega arith)
 
 pub returns : goal.returns
 unfolding part

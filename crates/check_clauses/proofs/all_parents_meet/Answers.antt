@@ -1,29 +1,16 @@
--- `all_parents_meet` meets its contract.
-use Rattle.std.proofs.Common.{rules, length-append}
-use Rattle.std.proofs.lemmas.Slice.Zip.{zip_turn, zip_end}
-use native.Mathlib.Omega.{arith}
-use Rattle.check_clauses.proofs.Turns.{asking_start, asking_no, asking_next, asking_end, climbed_long, climbed_at}
+-- `all_parents_meet` meets its contract: the library's test of a list is the definition's.
+use Rattle.std.proofs.Common.{rules, tests, ◌∙◌}
+use Rattle.std.proofs.lemmas.Iterator.{YieldsList-from_slice, YieldsList-from_zip}
+use Rattle.std.proofs.lemmas.Iterator.Adapters.{serves_from_places}
+use Rattle.std.proofs.lemmas.Iterator.Search.{all_from_yields_List}
+use Rattle.check_model.specs.Clauses.{parents_meet}
+use Rattle.check_clauses.proofs.Turns.{pairs_alike, pair_has, climbed_long, climbed_all}
 use Rattle.check_clauses.proofs.all_parents_meet.Goals as goal
 
-pub loop-x-init : goal.loop-x-init
-loop-x-init c = asking_start _ _ _
-
-pub parents_meet-requires : goal.parents_meet-requires
-parents_meet-requires c =
-    let t = zip_turn c.args.pairs.now.olds.now c.args.pairs.now.news.now c.loop-x.yielded c.into_iter-x-iterator.result c.loop-x.x-iterator c.next.new.self c.next.result (search rules) (search rules) c.loop-x.yielded_by _ c.in-Some.is c.next.ensures.steps in
-    (climbed_long t.0 (t.2 0) c.requires.0, climbed_at t.1 (t.3 0) c.requires.1 c.requires.2)
-
-pub returns-then-not-parents_meet : goal.returns-then-not-parents_meet
-returns-then-not-parents_meet c =
-    let t = zip_turn c.args.pairs.now.olds.now c.args.pairs.now.news.now c.loop-x.yielded c.into_iter-x-iterator.result c.loop-x.x-iterator c.next.new.self c.next.result (search rules) (search rules) c.loop-x.yielded_by _ c.in-Some.is c.next.ensures.steps in
-    asking_no _ _ _ c.loop-x.invariant c.args.pairs.now.alike t.0 (t.2 0) (t.3 0) c.parents_meet.ensures c.if-not-parents_meet.true
-
-pub loop-x-preserved : goal.loop-x-preserved
-loop-x-preserved c =
-    let t = zip_turn c.args.pairs.now.olds.now c.args.pairs.now.news.now c.loop-x.yielded c.into_iter-x-iterator.result c.loop-x.x-iterator c.next.new.self c.next.result (search rules) (search rules) c.loop-x.yielded_by _ c.in-Some.is c.next.ensures.steps in
-    rw (length-append c.loop-x.yielded _) (asking_next _ _ _ c.loop-x.invariant c.args.pairs.now.alike t.0 (t.2 0) (t.3 0) c.parents_meet.ensures c.if-not-parents_meet.false)
+pub all-requires-clause-callable : goal.all-requires-clause-callable
+all-requires-clause-callable c =
+    serves_from_places (YieldsList-from_zip (YieldsList-from_slice c.args.pairs.now.olds.now cc) (YieldsList-from_slice c.args.pairs.now.news.now cc)) (λ x q k. search (rules, tests)) (λ x k h e. let w = pair_has _ _ _ _ k h e (climbed_long c.requires.0) (climbed_all _ c.requires.1 c.requires.2) in search rules)
 
 pub returns : goal.returns
 returns c =
-    let t = zip_end c.args.pairs.now.olds.now c.args.pairs.now.news.now c.loop-x.yielded c.into_iter-x-iterator.result c.loop-x.x-iterator c.next.new.self c.next.result (search rules) (search rules) c.loop-x.yielded_by c.in-None.is c.next.ensures.steps in
-    asking_end _ _ _ c.loop-x.invariant (omega (arith, c.args.pairs.now.alike, t))
+    all_from_yields_List (parents_meet c.args.old.now c.args.new.now c.args.partners.now) c.all.new.self _ _ c.all.ensures.ran (YieldsList-from_zip (YieldsList-from_slice c.args.pairs.now.olds.now cc) (YieldsList-from_slice c.args.pairs.now.news.now cc)) (λ x b q k. search (rules, tests)) ∙ pairs_alike _ _ _
