@@ -12,6 +12,20 @@ ghost use Rattle.read_calls.specs.Fits.{word_fits, call_fits, run_fits};
 use read_element_table::{CHILD, Elements, PARENT, entry, is_node, is_root};
 use words::WordList;
 
+// What a call asks for, by the paper's numbers. A call word may hold any number, so what is read of one stays a number, compared with these.
+#[derive(Clone, Copy, Debug, PartialEq, Eq)]
+pub enum Operation {
+    FirstChild = 0,
+    After = 1,
+    Replace = 2,
+    Delete = 3,
+    ReplaceWithMany = 4,
+    ReplaceAll = 5,
+}
+
+// A call of this number starts a further editor: it is no change, so no `Operation`.
+pub const FURTHER_EDITOR: usize = 6;
+
 // The operation of a call word.
 #[tactic(auto, unfolding(definition::specs::Refusals::operation_of))]
 pub fn operation_of(word: usize) -> usize
@@ -54,7 +68,7 @@ pub fn run_fits(table: &[u32], x: usize, y: usize) -> bool
         && entry(table, x, CHILD) <= entry(table, y, CHILD)
 }
 
-// An operation stays a number here and below, since a call word may hold any, and callers pass what they read.
+// An operation stays a number here and below, and so do the patterns: a pattern is no cast of an enum.
 // Whether a call word names a known operation, which may list `count` elements and carry the rule number `rule`.
 #[tactic(auto, using(crate::proofs::Judging::count_one, crate::proofs::Judging::count_none, crate::proofs::Judging::count_some, crate::proofs::Judging::start_alone, crate::proofs::Judging::start_lists, crate::proofs::Judging::count_any))]
 pub fn word_fits(operation: usize, count: usize, rule: usize) -> bool
@@ -64,8 +78,8 @@ pub fn word_fits(operation: usize, count: usize, rule: usize) -> bool
         2 => count == 1,
         3 => count == 0,
         5 => 0 < count,
-        6 => count == 0 && rule == 0,
-        _ => operation <= 6,
+        FURTHER_EDITOR => count == 0 && rule == 0,
+        _ => operation <= FURTHER_EDITOR,
     }
 }
 
@@ -77,8 +91,9 @@ pub fn call_fits(elements: &Elements, operation: usize, target: usize, first: us
 {
     match operation {
         0 => is_node(elements.source, target),
-        6 => target == 0,
-        _ if is_root(elements.table, target) => operation == 2 && is_node(elements.source, first),
+        FURTHER_EDITOR => target == 0,
+        _ if is_root(elements.table, target) => operation == Operation::Replace as usize
+            && is_node(elements.source, first),
         5 => run_fits(elements.table, target, first),
         _ => true,
     }

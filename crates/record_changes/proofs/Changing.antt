@@ -12,9 +12,11 @@ use Rattle.definition.specs.Elements.{is_node}
 use Rattle.read_element_table.specs.View.{view}
 use Rattle.read_element_table.specs.Wellformed.{Wellformed}
 use Rattle.record_changes.specs.Numbers.{numbers_of, as_change, run_asked, change_asked, change_by}
-use Rattle.record_changes.specs.Spots.{spot_of, Named, spot_in, insertion_in, run_in, above_word, region_by, spot_insert, spot_replace, spot_delete, spot_many, spot_run}
+use Rattle.record_changes.specs.Spots.{spot_of, Named, spot_in, insertion_in, run_in, above_word, region_by, region_under, spot_insert, spot_replace, spot_delete, spot_many, spot_run}
 use Rattle.record_changes.specs.declared.Place.{Place}
 use Rattle.record_changes.specs.declared.Place.TheVariants.{FirstChild, After}
+use Rattle.record_changes.specs.declared.Region.{Region}
+use Rattle.record_changes.specs.declared.Region.TheVariants.{None, Discarding, NodeByNode}
 use Rattle.record_changes.specs.declared.Listed.{Listed}
 use Rattle.record_changes.specs.declared.Change.{Change}
 use Rattle.record_changes.specs.declared.Change.TheVariants.{Insert, Replace, Delete, ReplaceWithMany, ReplaceAll}
@@ -64,26 +66,35 @@ module _ (w : List ℕ) (x v : ℕ) (t : Bool) (e : v ≡ get_or w (8 * x + 3) 0
   unfolding above_word
   above_child q = rw (← f, q, e)
 
-module _ (s : List ℕ) (x r : ℕ) (t : Bool) (f : t ≡ is_node (get_or s (3 * suc x) 0)) where
+module _ (s : List ℕ) (x : ℕ) (r : Region) (t : Bool) (f : t ≡ is_node (get_or s (3 * suc x) 0)) where
   pub region_node : t ≡ true → r ≡ region_by s x r
   unfolding region_by
   region_node q = rw (← f, q)
 
-  pub region_token : t ≡ false → 0 ≡ region_by s x r
+  pub region_token : t ≡ false → None ≡ region_by s x r
   unfolding region_by
   region_token q = rw (← f, q)
 
-pub spot_made : (w : List ℕ) (x a y b d r t f u : ℕ) → t ≡ get_or w (8 * x + 7) 0 → f ≡ get_or w (8 * x + a) 0 → u ≡ get_or w (8 * y + b) 0 → ◌≡◌ {A = Spot} (record { tree = t; from = f; to = u; depth = d; region = r }) (spot_in w x a y b d r)
+module _ (s : List ℕ) (y : ℕ) (t : Bool) (f : t ≡ is_node (get_or s (3 * suc y) 0)) where
+  pub under_node : t ≡ true → NodeByNode ≡ region_under s y
+  unfolding region_under
+  under_node q = rw (← f, q)
+
+  pub under_token : t ≡ false → Discarding ≡ region_under s y
+  unfolding region_under
+  under_token q = rw (← f, q)
+
+pub spot_made : (w : List ℕ) (x a y b d : ℕ) (r : Region) (t f u : ℕ) → t ≡ get_or w (8 * x + 7) 0 → f ≡ get_or w (8 * x + a) 0 → u ≡ get_or w (8 * y + b) 0 → ◌≡◌ {A = Spot} (record { tree = t; from = f; to = u; depth = d; region = r }) (spot_in w x a y b d r)
 spot_made w x a y b d r t f u e g h = rw (e, g, h)
 
 -- of an insertion and of a run
-pub insertion_first : (w : List ℕ) {p : Place} (x : ℕ) {d : ℕ} {r : Spot} → p ≡ FirstChild → d ≡ get_or w (8 * x + 3) 0 → r ≡ spot_in w x 4 x 4 d 0 → r ≡ insertion_in w p x
+pub insertion_first : (w : List ℕ) {p : Place} (x : ℕ) {d : ℕ} {r : Spot} → p ≡ FirstChild → d ≡ get_or w (8 * x + 3) 0 → r ≡ spot_in w x 4 x 4 d None → r ≡ insertion_in w p x
 insertion_first w x e f g = rw (e, ← f) g
 
-pub insertion_after : (w : List ℕ) {p : Place} (x : ℕ) {d : ℕ} {r : Spot} → p ≡ After → d ≡ above_word w x → r ≡ spot_in w x 5 x 5 d 0 → r ≡ insertion_in w p x
+pub insertion_after : (w : List ℕ) {p : Place} (x : ℕ) {d : ℕ} {r : Spot} → p ≡ After → d ≡ above_word w x → r ≡ spot_in w x 5 x 5 d None → r ≡ insertion_in w p x
 insertion_after w x e f g = rw (e, ← f) g
 
-pub run_at : (w : List ℕ) (x y : ℕ) {d q : ℕ} {r : Spot} → d ≡ above_word w x → r ≡ spot_in w x 4 y 5 d q → r ≡ run_in w x y q
+pub run_at : (w : List ℕ) (x y : ℕ) {d : ℕ} {q : Region} {r : Spot} → d ≡ above_word w x → r ≡ spot_in w x 4 y 5 d q → r ≡ run_in w x y q
 run_at w x y f g = rw (← f) g
 
 -- ── What a change names stands in the table ─────────────────────────────────────────────────────────────────
@@ -98,15 +109,15 @@ module _ {n : ℕ} {w s : List ℕ} {c : Change} (W : Wellformed n w s) (N : Nam
     pub told_insert : {p : Place} {x : ℕ} {l : Listed} → c ≡ Insert p x l → r ≡ insertion_in w p x → r ≡ spot_of (view n w s) (as_change (y ∷ []) c)
     told_insert {p} {x} e f = rw e (f ∙ spot_insert n w s W x (named e).0 p (y ∷ []))
 
-    pub told_replace : {x at b q : ℕ} → y < n → c ≡ Replace x at → b ≡ region_by s y 1 → q ≡ region_by s x (b + 1) → r ≡ run_in w x x q → r ≡ spot_of (view n w s) (as_change (y ∷ []) c)
+    pub told_replace : {x at : ℕ} {b q : Region} → y < n → c ≡ Replace x at → b ≡ region_under s y → q ≡ region_by s x b → r ≡ run_in w x x q → r ≡ spot_of (view n w s) (as_change (y ∷ []) c)
     unfolding head_d
     told_replace {x} h e f g k = rw e (k ∙ (rw (g, f) (spot_replace n w s W x (named e).0 y h)))
 
-    pub told_delete : {x at q : ℕ} → c ≡ Delete x at → q ≡ region_by s x 1 → r ≡ run_in w x x q → r ≡ spot_of (view n w s) (as_change (y ∷ []) c)
+    pub told_delete : {x at : ℕ} {q : Region} → c ≡ Delete x at → q ≡ region_by s x Discarding → r ≡ run_in w x x q → r ≡ spot_of (view n w s) (as_change (y ∷ []) c)
     told_delete {x} e g k = rw e (k ∙ rw g (spot_delete n w s W x (named e).0))
 
-    pub told_many : {x q : ℕ} {l : Listed} → c ≡ ReplaceWithMany x l → q ≡ region_by s x 1 → r ≡ run_in w x x q → r ≡ spot_of (view n w s) (as_change (y ∷ []) c)
+    pub told_many : {x : ℕ} {q : Region} {l : Listed} → c ≡ ReplaceWithMany x l → q ≡ region_by s x Discarding → r ≡ run_in w x x q → r ≡ spot_of (view n w s) (as_change (y ∷ []) c)
     told_many {x} e g k = rw e (k ∙ rw g (spot_many n w s W x (named e).0 (y ∷ [])))
 
-    pub told_run : {x z : ℕ} {l : Listed} → c ≡ ReplaceAll x z l → r ≡ run_in w x z 1 → r ≡ spot_of (view n w s) (as_change (y ∷ []) c)
+    pub told_run : {x z : ℕ} {l : Listed} → c ≡ ReplaceAll x z l → r ≡ run_in w x z Discarding → r ≡ spot_of (view n w s) (as_change (y ∷ []) c)
     told_run {x} {z} e k = rw e (k ∙ spot_run n w s W x (named e).0 z (named e).1 (y ∷ []))

@@ -5,6 +5,13 @@ use mathlib.Core.List.{List, head_d}
 use Rattle.definition.specs.Recording as def
 use Rattle.definition.specs.Recording.{first_child, after, insert, replace, delete, replace_with_many, replace_all}
 use Rattle.record_changes.specs.ChangeRow.{ChangeRow}
+use Rattle.read_calls.specs.declared.Operation.{Operation}
+use Rattle.read_calls.specs.declared.Operation.TheVariants.{FirstChild as InsertFirst, After as InsertAfter, Replace as ReplaceOne, Delete as DeleteOne, ReplaceWithMany as ReplaceMany, ReplaceAll as ReplaceRun}
+use Rattle.read_calls.specs.Operations.{operation_number}
+use Rattle.record_changes.specs.declared.Rank.{Rank}
+use Rattle.record_changes.specs.declared.Rank.TheVariants.{Insert as InsertRank, Run as RunRank, Replace as ReplaceRank}
+use Rattle.record_changes.specs.declared.Region.{Region}
+use Rattle.record_changes.specs.declared.Region.TheVariants.{None as NoRegion, Discarding, NodeByNode}
 use Rattle.record_changes.specs.declared.Place.{Place}
 use Rattle.record_changes.specs.declared.Place.TheVariants.{FirstChild, After}
 use Rattle.record_changes.specs.declared.Fate.{Fate}
@@ -16,9 +23,21 @@ use Rattle.record_changes.specs.declared.Numbers.{Numbers}
 use Rattle.record_changes.specs.declared.Spot.{Spot}
 
 -- "0: insert as first child of the target. 1: insert after the target."
-abbrev pub place_number : Place → ℕ
-place_number FirstChild = 0
-place_number After = 1
+abbrev pub place_operation : Place → Operation
+place_operation FirstChild = InsertFirst
+place_operation After = InsertAfter
+
+-- a rank's number in a row
+abbrev pub rank_number : Rank → ℕ
+rank_number InsertRank = 0
+rank_number RunRank = 1
+rank_number ReplaceRank = 2
+
+-- a region's number in a row
+abbrev pub region_number : Region → ℕ
+region_number NoRegion = 0
+region_number Discarding = 1
+region_number NodeByNode = 2
 
 -- a fate's number in a row
 abbrev pub fate_number : Fate → ℕ
@@ -26,27 +45,25 @@ fate_number Own = 0
 fate_number Dependent = 1
 fate_number Discarded = 2
 
--- the paper's number of each case, target, run's end (else the target), where the elements that go in stand and how many they are, and rank
+-- the operation of each case, target, run's end (else the target), where the elements that go in stand and how many they are, and rank
 abbrev pub numbers_of : Change → Numbers
-numbers_of (Insert p x l) = record { operation = place_number p; target = x; end = x; list = l.at; count = l.count; rank = 0 }
-numbers_of (Replace x at) = record { operation = 2; target = x; end = x; list = at; count = 1; rank = 2 }
-numbers_of (Delete x at) = record { operation = 3; target = x; end = x; list = at; count = 0; rank = 2 }
-numbers_of (ReplaceWithMany x l) = record { operation = 4; target = x; end = x; list = l.at; count = l.count; rank = 2 }
-numbers_of (ReplaceAll x y l) = record { operation = 5; target = x; end = y; list = l.at; count = l.count; rank = 1 }
+numbers_of (Insert p x l) = record { operation = place_operation p; target = x; end = x; list = l.at; count = l.count; rank = InsertRank }
+numbers_of (Replace x at) = record { operation = ReplaceOne; target = x; end = x; list = at; count = 1; rank = ReplaceRank }
+numbers_of (Delete x at) = record { operation = DeleteOne; target = x; end = x; list = at; count = 0; rank = ReplaceRank }
+numbers_of (ReplaceWithMany x l) = record { operation = ReplaceMany; target = x; end = x; list = l.at; count = l.count; rank = ReplaceRank }
+numbers_of (ReplaceAll x y l) = record { operation = ReplaceRun; target = x; end = y; list = l.at; count = l.count; rank = RunRank }
 
 -- each number fits a word
 pub record NumbersFit (m : Numbers) : Type 0 where
-  pub operation : m.operation < 2 ^ 32
   pub target : m.target < 2 ^ 32
   pub end : m.end < 2 ^ 32
   pub list : m.list < 2 ^ 32
   pub count : m.count < 2 ^ 32
-  pub rank : m.rank < 2 ^ 32
 
 -- the row of a change by its numbers, what planning needs and its rule number, before its fate is known
 unfoldable pub row_with : Numbers → Spot → ℕ → ChangeRow
 row_with m s n = record {
-  operation = m.operation;
+  operation = operation_number m.operation;
   target = m.target;
   end = m.end;
   list = m.list;
@@ -55,8 +72,8 @@ row_with m s n = record {
   from = s.from;
   to = s.to;
   depth = s.depth;
-  rank = m.rank;
-  region = s.region;
+  rank = rank_number m.rank;
+  region = region_number s.region;
   fate = 0;
   owner = 0;
   rule = n;

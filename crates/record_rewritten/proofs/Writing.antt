@@ -36,13 +36,13 @@ each P op x y l a b c d e f = go (eqb op 0) a (go (eqb op 1) b (go (eqb op 2) c 
 module _ (n op x y : ℕ) (l : Listed) (few : n ≤ 2048) (hx : x < n) (hy : y < n) (ha : l.at < 2 ^ 32) (hk : l.count < 2 ^ 32) where
   -- each number is below its bound
   low : Change → Type 0
-  low d = ((numbers_of d).operation < 6) × ((numbers_of d).target < n) × ((numbers_of d).end < n) × ((numbers_of d).list < 2 ^ 32) × ((numbers_of d).count < 2 ^ 32) × ((numbers_of d).rank < 3)
+  low d = ((numbers_of d).target < n) × ((numbers_of d).end < n) × ((numbers_of d).list < 2 ^ 32) × ((numbers_of d).count < 2 ^ 32)
 
   named_fits : Named n (change_by op x y l) × NumbersFit (numbers_of (change_by op x y l))
   unfolding low
   named_fits =
       let a = each low op x y l (omega arith) (omega arith) (omega arith) (omega arith) (omega arith) (omega arith) in
-      (record { target = a.1; end = a.2 }, record { operation = omega arith; target = omega arith; end = omega arith; list = a.3; count = a.4; rank = omega arith })
+      (record { target = a.0; end = a.1 }, record { target = omega arith; end = omega arith; list = a.2; count = a.3 })
 
 -- the words that tell the change
 pub change_read : (w : List ℕ) (n i x y op at k : ℕ) (c : Change) → n ≤ 2048 → x < n → y < n

@@ -12,7 +12,7 @@ use Rattle.definition.specs.Running.{news}
 use Rattle.record_changes.specs.ChangeRow.{ChangeRow, row_words, row_of, operation, end_of, region_of, change_row, fate_of, owner_of}
 use Rattle.record_changes.specs.ChangeRowLaws.{row_at}
 use Rattle.record_changes.specs.Numbers.{numbers_of, as_change, row_with, NumbersFit, change_by as code_by}
-use Rattle.record_changes.specs.Spots.{spot_of, Named}
+use Rattle.record_changes.specs.Spots.{spot_of, row_told, row_told_lem, Named}
 use Rattle.record_changes.specs.declared.Change as code
 use Rattle.plan_sort.specs.Rows.{row_fate, with_fate}
 use Rattle.orders.specs.Lists.{All}
@@ -155,16 +155,22 @@ unfolding with_fate change_row kept_fate fate_of owner_of row_of row_words
 fate_kept T at r c f = rw (fate_dependent r f) (ap (λ (k : ℕ). row_of (take 11 (row_words (change_row T at 0 c)) ++ (k ∷ r.owner ∷ r.rule ∷ []))) (sym f))
 
 module _ (T : Table) (at k x y z z' : ℕ) (new : List ℕ) where
+  abbrev coded : ℕ → code.Change
+  coded op = code_by op x y (record { at = at; count = k })
+
+  told : (op : ℕ) → row_with (numbers_of (coded op)) (spot_of T (as_change (z' ∷ []) (coded op))) 0 ≡ row_told (numbers_of (coded op)) T (as_change (z' ∷ []) (coded op)) 0
+  told op = row_told_lem (numbers_of (coded op)) T (as_change (z' ∷ []) (coded op)) 0
+
   -- the row of a change by its number, by the numbers of the code's change
   row_by : (op : ℕ) → op ≤ 5 → k ≡ length (news (change_by op x y z new)) → (op ≡ 2 → z' ≡ z)
       → change_row T at 0 (change_by op x y z new) ≡ row_with (numbers_of (code_by op x y (record { at = at; count = k }))) (spot_of T (as_change (z' ∷ []) (code_by op x y (record { at = at; count = k })))) 0
-  unfolding change_by code_by news change_row row_with spot_of operation end_of target rank from to parent_depth region_of adds_region node_by_node head_d
-  row_by zero h c g = rw c
-  row_by (suc zero) h c g = rw c
-  row_by (suc (suc zero)) h c g = rw (g refl)
-  row_by (suc (suc (suc zero))) h c g = refl
-  row_by (suc (suc (suc (suc zero)))) h c g = rw c
-  row_by (suc (suc (suc (suc (suc zero))))) h c g = rw c
+  unfolding change_by code_by news change_row row_told operation end_of target rank from to parent_depth region_of adds_region node_by_node head_d
+  row_by zero h c g = sym (told 0 ∙ rw c)
+  row_by (suc zero) h c g = sym (told 1 ∙ rw c)
+  row_by (suc (suc zero)) h c g = sym (told 2 ∙ rw (g refl))
+  row_by (suc (suc (suc zero))) h c g = sym (told 3)
+  row_by (suc (suc (suc (suc zero)))) h c g = sym (told 4 ∙ rw c)
+  row_by (suc (suc (suc (suc (suc zero))))) h c g = sym (told 5 ∙ rw c)
   row_by (suc (suc (suc (suc (suc (suc op)))))) h c g = absurd (omega arith)
 
 -- the row anew is that of the change with the new target and end, and with the fate and the rule number as they were

@@ -4,8 +4,8 @@ use Rattle.std.proofs.Common.{sym}
 use borrow.Author.Rules.{rules}
 use Rattle.record_queue.proofs.record_call.Goals as goal
 
-pub returns-then-operation-eq6 : goal.returns-then-operation-eq6
-returns-then-operation-eq6 c = search (call_editor, rules)
+pub returns-then-operation-eq-FURTHER_EDITOR : goal.returns-then-operation-eq-FURTHER_EDITOR
+returns-then-operation-eq-FURTHER_EDITOR c = search (call_editor, rules)
 
 pub spot_of-s-requires : goal.spot_of-s-requires
 spot_of-s-requires c =
@@ -20,4 +20,4 @@ record_change-count-requires c =
 
 pub returns : goal.returns
 returns c =
-    call_put _ _ _ _ _ _ _ _ _ _ c.operation_of-operation.ensures _ _ _ _ _ _ _ _ c.if-operation-eq6.false c.requires.start_le_count.0 (sym (length_of c.args.own.now)) c.rule_of-rule.ensures c.first_listed-first.ensures c.change_of-c.ensures c.numbers_of-m.ensures c.spot_of-s.ensures.0 c.record_change-count.ensures
+    call_put _ _ _ _ _ _ _ _ _ _ c.operation_of-operation.ensures _ _ _ _ _ _ _ _ c.if-operation-eq-FURTHER_EDITOR.false c.requires.start_le_count.0 (sym (length_of c.args.own.now)) c.rule_of-rule.ensures c.first_listed-first.ensures c.change_of-c.ensures c.numbers_of-m.ensures c.spot_of-s.ensures.0 c.record_change-count.ensures
