@@ -2,21 +2,26 @@
 #![tactic(auto)]
 
 ghost use Rattle.std.specs.Prelude.{◌≡◌, ◌≤◌, length, ltb};
-ghost use mathlib.Core.List.{◌∷◌, [], zip};
+ghost use mathlib.Core.List.{zip};
 ghost use Rattle.definition.specs.Basics.{refuse};
 ghost use Rattle.definition.specs.Answers.{too_short};
 ghost use Rattle.promises.specs.Slices.{lengths, zeroed};
 ghost use Rattle.refusals.specs.Numbers.{answered};
 ghost use Rattle.check_claim.specs.Held.{claimed};
+ghost use Rattle.check_claim.specs.Lent.{held, Same, AsLong};
 ghost use Rattle.check_claim.specs.Promise.{checker_needs, Checks, told};
+ghost use Rattle.check_clauses.specs.Asked.{Ready};
+ghost use Rattle.check_model.specs.Clauses.{judged_by};
 ghost use Rattle.check_model.specs.Pairing.{Below};
 ghost use Rattle.check_claim.specs.Judging.{answer_of, big_sizes, sizes_refusal, ReadsBoth, Telling, WritesClaims, naming, judging};
 
 mod claims;
+mod work;
 
 use check_clauses::{Pairs, Side};
 pub use claims::{Claims, Tree};
 use refusals::Refusal;
+pub use work::Work;
 
 // Whether the output is accepted.
 #[derive(Clone, Copy, Debug, PartialEq, Eq)]
@@ -26,21 +31,29 @@ pub enum Verdict {
 }
 
 // Whether a work slice is shorter than its length in docs/WORK.md.
-fn too_short(old: &[u32], new: &[u32], partners: &[u32], marks: &[u32]) -> bool
-    ensures { result ≡ too_short (lengths checker_needs (old.now ∷ new.now ∷ partners.now ∷ marks.now ∷ [])) }
+fn too_short(work: &Work) -> bool
+    ensures { result ≡ too_short (lengths checker_needs (held work.now)) }
 {
-    old.len() < 16384 || new.len() < 16384 || partners.len() < 4096 || marks.len() < 4096
+    [
+        (work.before.len(), 16384),
+        (work.after.len(), 16384),
+        (work.partners.len(), 4096),
+        (work.marks.len(), 4096),
+    ]
+    .iter()
+    .any(|lent| lent.0 < lent.1)
 }
 
 // Every work slice becomes zeros.
-#[tactic(auto, using(crate::proofs::Ways::cleared))]
-fn clear_work(old: &mut [u32], new: &mut [u32], partners: &mut [u32], marks: &mut [u32])
-    ensures { (old.new ∷ new.new ∷ partners.new ∷ marks.new ∷ []) ≡ zeroed (old.old ∷ new.old ∷ partners.old ∷ marks.old ∷ []) }
+#[tactic(auto, unfolding(promises::specs::Slices::zeroed, promises::specs::Slices::zeros))]
+fn clear_work(work: &mut Work)
+    ensures same { Same work.old work.new }
+    ensures zeros { held work.new ≡ zeroed (held work.old) }
 {
-    old.fill(0);
-    new.fill(0);
-    partners.fill(0);
-    marks.fill(0);
+    work.before.fill(0);
+    work.after.fill(0);
+    work.partners.fill(0);
+    work.marks.fill(0);
 }
 
 // 3, of a tree.
@@ -73,15 +86,21 @@ fn size_refusal(claims: &Claims) -> Result<(), Refusal>
 }
 
 // 5, of both trees; where it accepts, the words of their elements stand in the tables.
-fn read_both(claims: &Claims, old: &mut [u32], new: &mut [u32]) -> bool
-    requires old_measures_len { (length claims.now.old.measures.now ≡ length claims.now.old.kinds.now) × (length claims.now.old.kinds.now ≤ 4096) × (length claims.now.old.text.now ≤ 16384) × (16384 ≤ length old.old) }
-    requires new_measures_len { (length claims.now.new.measures.now ≡ length claims.now.new.kinds.now) × (length claims.now.new.kinds.now ≤ 4096) × (length claims.now.new.text.now ≤ 16384) × (16384 ≤ length new.old) }
-    ensures { ReadsBoth (zip claims.now.old.kinds.now claims.now.old.measures.now) (length claims.now.old.text.now) (zip claims.now.new.kinds.now claims.now.new.measures.now) (length claims.now.new.text.now) result old.new new.new }
+fn read_both(claims: &Claims, work: &mut Work) -> bool
+    requires old_measures_len { (length claims.now.old.measures.now ≡ length claims.now.old.kinds.now) × (length claims.now.old.kinds.now ≤ 4096) × (length claims.now.old.text.now ≤ 16384) × (16384 ≤ length work.old.before.now) }
+    requires new_measures_len { (length claims.now.new.measures.now ≡ length claims.now.new.kinds.now) × (length claims.now.new.kinds.now ≤ 4096) × (length claims.now.new.text.now ≤ 16384) × (16384 ≤ length work.old.after.now) }
+    ensures same { Same work.old work.new }
+    ensures long { AsLong work.old work.new }
+    ensures reads { ReadsBoth (zip claims.now.old.kinds.now claims.now.old.measures.now) (length claims.now.old.text.now) (zip claims.now.new.kinds.now claims.now.new.measures.now) (length claims.now.new.text.now) result work.new.before.now work.new.after.now }
 {
     let before = &claims.old;
     let after = &claims.new;
-    check_table::read_tree(before.kinds, before.measures, before.text.len(), old)
-        && check_table::read_tree(after.kinds, after.measures, after.text.len(), new)
+    check_table::read_tree(
+        before.kinds,
+        before.measures,
+        before.text.len(),
+        work.before,
+    ) && check_table::read_tree(after.kinds, after.measures, after.text.len(), work.after)
 }
 
 // 19: whether a claim names no element.
@@ -93,7 +112,7 @@ fn names_none(claims: &Claims) -> bool
         || check_clauses::beyond(claims.changed, claims.new.kinds.len())
 }
 
-// The partners and the marks of the new elements; false where one is paired twice.
+// The partners and the marks of the new elements; false where one is paired twice. It takes the two slices that it writes.
 fn write_claims(pairs: &Pairs, changed: &[u32], partners: &mut [u32], marks: &mut [u32]) -> bool
     requires { Below 4096 pairs.now.olds.now × Below (length partners.old) pairs.now.news.now × Below (length marks.old) changed.now }
     ensures { WritesClaims (zip pairs.now.olds.now pairs.now.news.now) changed.now (length partners.old) (length marks.old) result partners.new marks.new }
@@ -104,16 +123,29 @@ fn write_claims(pairs: &Pairs, changed: &[u32], partners: &mut [u32], marks: &mu
     check_clauses::pair_up(pairs, partners)
 }
 
-// 19, then whether all clauses hold, of trees whose words stand in the tables `old` and `new`.
-fn judge_claims(
-    claims: &Claims,
-    old: &[u32],
-    new: &[u32],
-    partners: &mut [u32],
-    marks: &mut [u32],
-) -> Result<Verdict, Refusal>
-    requires { (length claims.now.news.now ≡ length claims.now.olds.now) × Telling old.now (length claims.now.old.text.now) (length claims.now.old.kinds.now) × Telling new.now (length claims.now.new.text.now) (length claims.now.new.kinds.now) × (4096 ≤ length partners.old) × (4096 ≤ length marks.old) }
-    ensures { answer_of result ≡ judging old.now new.now claims.now.old.text.now claims.now.new.text.now (length claims.now.old.kinds.now) (length claims.now.new.kinds.now) (length partners.old) (length marks.old) claims.now.olds.now claims.now.news.now claims.now.changed.now }
+// Whether all clauses hold, where partners and marks are written.
+fn hold(claims: &Claims, pairs: &Pairs, work: &Work) -> bool
+    requires { Ready pairs.now.olds.now pairs.now.news.now work.now.before.now work.now.after.now (length claims.now.old.text.now) (length claims.now.new.text.now) (length work.now.partners.now) (length work.now.marks.now) (length claims.now.new.kinds.now) }
+    ensures { result ≡ judged_by work.now.before.now work.now.after.now claims.now.old.text.now claims.now.new.text.now (length claims.now.new.kinds.now) (zip pairs.now.olds.now pairs.now.news.now) work.now.partners.now work.now.marks.now }
+{
+    let before = Side {
+        table: work.before,
+        text: claims.old.text,
+    };
+    let after = Side {
+        table: work.after,
+        text: claims.new.text,
+    };
+    let n = claims.new.kinds.len();
+    check_clauses::judge(pairs, &before, &after, work.partners, work.marks, n)
+}
+
+// 19, then whether all clauses hold, of trees whose words stand in the tables.
+fn judge_claims(claims: &Claims, work: &mut Work) -> Result<Verdict, Refusal>
+    requires { (length claims.now.news.now ≡ length claims.now.olds.now) × Telling work.old.before.now (length claims.now.old.text.now) (length claims.now.old.kinds.now) × Telling work.old.after.now (length claims.now.new.text.now) (length claims.now.new.kinds.now) × (4096 ≤ length work.old.partners.now) × (4096 ≤ length work.old.marks.now) }
+    ensures same { Same work.old work.new }
+    ensures long { AsLong work.old work.new }
+    ensures judges { answer_of result ≡ judging work.old.before.now work.old.after.now claims.now.old.text.now claims.now.new.text.now (length claims.now.old.kinds.now) (length claims.now.new.kinds.now) (length work.old.partners.now) (length work.old.marks.now) claims.now.olds.now claims.now.news.now claims.now.changed.now }
 {
     if names_none(claims) {
         return Err(Refusal::ClaimedName);
@@ -122,62 +154,38 @@ fn judge_claims(
         olds: claims.olds,
         news: claims.news,
     };
-    if !write_claims(&pairs, claims.changed, partners, marks) {
+    if !write_claims(&pairs, claims.changed, work.partners, work.marks) {
         return Ok(Verdict::Rejected);
     }
-    let before = Side {
-        table: old,
-        text: claims.old.text,
-    };
-    let after = Side {
-        table: new,
-        text: claims.new.text,
-    };
-    if check_clauses::judge(
-        &pairs,
-        &before,
-        &after,
-        partners,
-        marks,
-        claims.new.kinds.len(),
-    ) {
+    if hold(claims, &pairs, work) {
         return Ok(Verdict::Accepted);
     }
     Ok(Verdict::Rejected)
 }
 
 // 1, 3, 4, 5 and 19, then accepted or rejected.
-fn check_lists(
-    claims: &Claims,
-    old: &mut [u32],
-    new: &mut [u32],
-    partners: &mut [u32],
-    marks: &mut [u32],
-) -> Result<Verdict, Refusal>
-    ensures { answer_of result ≡ told (old.old ∷ new.old ∷ partners.old ∷ marks.old ∷ []) (claimed claims.now) }
+fn check_lists(claims: &Claims, work: &mut Work) -> Result<Verdict, Refusal>
+    ensures same { Same work.old work.new }
+    ensures long { AsLong work.old work.new }
+    ensures tells { answer_of result ≡ told (held work.old) (claimed claims.now) }
 {
-    if too_short(old, new, partners, marks) {
+    if too_short(work) {
         return Err(Refusal::ShortWork);
     }
     size_refusal(claims)?;
-    if !read_both(claims, old, new) {
+    if !read_both(claims, work) {
         return Err(Refusal::Spelling);
     }
-    judge_claims(claims, old, new, partners, marks)
+    judge_claims(claims, work)
 }
 
 // THE CHECKER: whether the new tree, with these pairs of kept elements (an old number and a new one each) and these changed elements, is an edit of the old tree.
-// The last four are work slices, which end as zeros.
-pub fn check(
-    claims: &Claims,
-    old: &mut [u32],
-    new: &mut [u32],
-    partners: &mut [u32],
-    marks: &mut [u32],
-) -> Result<Verdict, Refusal>
-    ensures { Checks (claimed claims.now) (old.old ∷ new.old ∷ partners.old ∷ marks.old ∷ []) (answer_of result) (old.new ∷ new.new ∷ partners.new ∷ marks.new ∷ []) }
+// The work slices end as zeros.
+pub fn check(claims: &Claims, work: &mut Work) -> Result<Verdict, Refusal>
+    ensures same { Same work.old work.new }
+    ensures checks { Checks (claimed claims.now) (held work.old) (answer_of result) (held work.new) }
 {
-    let verdict = check_lists(claims, old, new, partners, marks);
-    clear_work(old, new, partners, marks);
+    let verdict = check_lists(claims, work);
+    clear_work(work);
     verdict
 }

@@ -9,7 +9,7 @@ ghost use Rattle.edit_print.specs.Lines.{Put};
 ghost use Rattle.program_input.specs.Told.{Writes, enough};
 ghost use Rattle.check_program.specs.Responds.{answered, judged_in_room};
 
-use check_claim::{Claims, Tree, Verdict};
+use check_claim::{Claims, Tree, Verdict, Work};
 use program_input::Program;
 use refusals::Refusal;
 use std::io;
@@ -53,7 +53,13 @@ fn judge_lists(
         news: &lists[news..changed],
         changed: &lists[changed..],
     };
-    check_claim::check(&claims, &mut old, &mut new, &mut partners, &mut marks)
+    let mut work = Work {
+        before: &mut old,
+        after: &mut new,
+        partners: &mut partners,
+        marks: &mut marks,
+    };
+    check_claim::check(&claims, &mut work)
 }
 
 // 2 and 4 of the layout, then the verdict on the claims.

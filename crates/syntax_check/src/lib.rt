@@ -7,7 +7,7 @@ ghost use Rattle.check_claim.specs.Judging.{answer_of};
 ghost use Rattle.check_claim.specs.Promise.{claims_in};
 ghost use Rattle.syntax_check.specs.Returned.{verdict_number, check_numbers, ReturnsVerdict};
 
-use check_claim::{Claims, Tree, Verdict};
+use check_claim::{Claims, Tree, Verdict, Work};
 use refusals::Refusal;
 
 // The number of a verdict.
@@ -16,7 +16,7 @@ fn verdict_number(verdict: Result<Verdict, Refusal>) -> i64
     ensures { result ≡ verdict_number (answer_of verdict) }
 {
     match verdict {
-        Err(refusal) => -(refusal.number() as i64),
+        Err(refusal) => edit_numbers::negative(refusal.number()),
         Ok(Verdict::Accepted) => 1,
         Ok(Verdict::Rejected) => 0,
     }
@@ -57,6 +57,12 @@ pub extern "C" fn syntax_check(
         news,
         changed,
     };
-    let verdict = check_claim::check(&claims, old, new, partners, marks);
+    let mut work = Work {
+        before: old,
+        after: new,
+        partners,
+        marks,
+    };
+    let verdict = check_claim::check(&claims, &mut work);
     verdict_number(verdict)
 }

@@ -1,7 +1,8 @@
 -- `check` meets its contract.
 use Rattle.check_claim.proofs.Ways.{all_told}
-use borrow.Author.Rules.{rules}
 use Rattle.check_claim.proofs.check.Goals as goal
 
-pub returns : goal.returns
-returns c = search (all_told, rules)
+pub returns-clause-checks : goal.returns-clause-checks
+returns-clause-checks c =
+    let v = c.check_lists-verdict.ensures in
+    all_told _ _ _ _ _ _ _ _ _ v.tells v.long.before v.long.after v.long.partners v.long.marks c.clear_work.ensures.zeros

@@ -7,13 +7,13 @@ use Rattle.std.proofs.lemmas.Result.{err_from_is_err_and}
 use native.Mathlib.Omega.{arith}
 use Rattle.check_claim.proofs.check_lists.Goals as goal
 
-pub returns-then-too_short : goal.returns-then-too_short
+pub returns-then-too_short-clause-tells : goal.returns-then-too_short-clause-tells
 unfolding answer_of number
-returns-then-too_short c = refused_1 _ _ _ _ _ c.too_short.ensures c.if-too_short.true
+returns-then-too_short-clause-tells c = refused_1 _ _ _ _ _ c.too_short.ensures c.if-too_short.true
 
-pub returns-in_err-size_refusal : goal.returns-in_err-size_refusal
+pub returns-in_err-size_refusal-clause-tells : goal.returns-in_err-size_refusal-clause-tells
 unfolding answer_of
-returns-in_err-size_refusal c =
+returns-in_err-size_refusal-clause-tells c =
     let p = err_from_is_err_and c.from_residual.result c.from_residual.ensures.1 in
     rw (p.1, p.2) (refused_size _ _ _ _ _ c.too_short.ensures c.if-too_short.false c.size_refusal.ensures _ c.in_err-size_refusal.was)
 
@@ -22,18 +22,20 @@ read_both-requires c =
     let s = long_enough _ _ _ _ _ c.too_short.ensures c.if-too_short.false in
     let f = fits (claimed c.args.claims.now) _ _ _ _ c.too_short.ensures c.if-too_short.false c.size_refusal.ensures c.in_ok-size_refusal.was in record { old_measures_len = (f.old_alike, f.old_few, f.old_short, s.0); new_measures_len = (f.new_alike, f.new_few, f.new_short, s.1) }
 
-pub returns-then-not-read_both : goal.returns-then-not-read_both
+pub returns-then-not-read_both-clause-tells : goal.returns-then-not-read_both-clause-tells
 unfolding answer_of number
-returns-then-not-read_both c =
-    refused_5 _ _ _ _ _ c.too_short.ensures c.if-too_short.false c.size_refusal.ensures c.in_ok-size_refusal.was c.read_both.ensures c.if-not-read_both.true
+returns-then-not-read_both-clause-tells c =
+    refused_5 _ _ _ _ _ c.too_short.ensures c.if-too_short.false c.size_refusal.ensures c.in_ok-size_refusal.was c.read_both.ensures.reads c.if-not-read_both.true
 
 pub judge_claims-requires : goal.judge_claims-requires
 judge_claims-requires c =
+    let l = c.read_both.ensures.long in
     let s = long_enough _ _ _ _ _ c.too_short.ensures c.if-too_short.false in
     let f = fits (claimed c.args.claims.now) _ _ _ _ c.too_short.ensures c.if-too_short.false c.size_refusal.ensures c.in_ok-size_refusal.was in
-    (f.pairs, old_telling (claimed c.args.claims.now) _ _ _ _ c.too_short.ensures c.if-too_short.false c.size_refusal.ensures c.in_ok-size_refusal.was c.read_both.ensures c.if-not-read_both.false (omega (arith, s.0)), new_telling (claimed c.args.claims.now) _ _ _ _ c.too_short.ensures c.if-too_short.false c.size_refusal.ensures c.in_ok-size_refusal.was c.read_both.ensures c.if-not-read_both.false (omega (arith, s.1)), s.2, s.3)
+    (f.pairs, old_telling (claimed c.args.claims.now) _ _ _ _ c.too_short.ensures c.if-too_short.false c.size_refusal.ensures c.in_ok-size_refusal.was c.read_both.ensures.reads c.if-not-read_both.false (omega (arith, l.before, s.0)), new_telling (claimed c.args.claims.now) _ _ _ _ c.too_short.ensures c.if-too_short.false c.size_refusal.ensures c.in_ok-size_refusal.was c.read_both.ensures.reads c.if-not-read_both.false (omega (arith, l.after, s.1)), omega (arith, l.partners, s.2), omega (arith, l.marks, s.3))
 
-pub returns : goal.returns
-returns c =
+pub returns-clause-tells : goal.returns-clause-tells
+returns-clause-tells c =
+    let l = c.read_both.ensures.long in
     let s = long_enough _ _ _ _ _ c.too_short.ensures c.if-too_short.false in
-    all_judged _ _ _ _ _ c.too_short.ensures c.if-too_short.false c.size_refusal.ensures c.in_ok-size_refusal.was c.read_both.ensures c.if-not-read_both.false s.2 s.3 c.judge_claims.ensures
+    all_judged _ _ _ _ _ c.too_short.ensures c.if-too_short.false c.size_refusal.ensures c.in_ok-size_refusal.was c.read_both.ensures.reads c.if-not-read_both.false (omega (arith, l.partners, s.2)) (omega (arith, l.marks, s.3)) c.judge_claims.ensures.judges

@@ -16,4 +16,4 @@ returns c =
     let k = j + c.args.new_measures in
     let m = k + c.args.pairs in
     let n = m + c.args.pairs in
-    parts_claimed l t c.args.old_kinds c.args.old_measures c.args.old_text c.args.new_kinds c.args.new_measures c.args.pairs (i - c.args.old_kinds) (j - i) (k - j) (length t - c.args.old_text) (m - k) (n - m) (length l - n) (whole c.check.ensures (search rules) (search rules) (search rules) (search rules)) (omega arith) (omega arith) (omega arith) (omega arith) (omega arith) (omega arith) (omega arith)
+    parts_claimed l t c.args.old_kinds c.args.old_measures c.args.old_text c.args.new_kinds c.args.new_measures c.args.pairs (i - c.args.old_kinds) (j - i) (k - j) (length t - c.args.old_text) (m - k) (n - m) (length l - n) (whole c.check.ensures.checks (search rules) (search rules) (search rules) (search rules)) (omega arith) (omega arith) (omega arith) (omega arith) (omega arith) (omega arith) (omega arith)
