@@ -10,25 +10,18 @@ ghost use Rattle.read_element_table.specs.Held.{view_of};
 ghost use Rattle.read_names.specs.Called.{word_too_many, calls_fit};
 ghost use Rattle.read_names.specs.Noted.{note_wrong};
 
+use read_calls::Operation;
 use read_element_table::{Elements, is_node, is_root};
 use words::WordList;
 
 // The most elements that a call may list, a run's end not counted.
 pub const MOST_LISTED: usize = 41;
-// The operation that may list a run's end too: a number, since a call word may hold any, and `record_changes::Operation` lies above.
-const REPLACE_ALL: usize = 5;
 
-// Whether the words are all below `n`.
-#[tactic(auto, using(crate::proofs::Passing::wording_start, crate::proofs::Passing::wording_all))]
+// Whether the words are all below `n`. Beside write_layout's, which has a slice: a function over what gives the words would be longer than this line.
 fn all_below(listed: &WordList, n: usize) -> bool
     ensures { result ≡ not (any (leb n) (words_of listed.now)) }
 {
-    for i in 0..listed.count {
-        if n <= listed.get(i) {
-            return false;
-        }
-    }
-    true
+    (0..listed.count).all(|i| listed.get(i) < n)
 }
 
 // Whether a call that lists these elements is as line 6 asks.
@@ -89,24 +82,17 @@ fn lists_few(word: usize) -> bool
 {
     let operation = read_calls::operation_of(word);
     let count = read_calls::count_of(word);
-    if operation == REPLACE_ALL {
+    if operation == Operation::ReplaceAll as usize {
         return count <= MOST_LISTED + 1;
     }
     count <= MOST_LISTED
 }
 
 // 16, of the call words: by themselves, since 6 of a later call comes before 16 of an earlier one.
-#[tactic(auto, using(crate::proofs::Passing::wording_start, crate::proofs::Passing::few_met, crate::proofs::Passing::few_next, crate::proofs::Passing::wording_all))]
 pub fn lists_fit(calls: &WordList) -> bool
     ensures { result ≡ not (any word_too_many (words_of calls.now)) }
 {
-    for i in 0..calls.count {
-        let word = calls.get(i);
-        if !lists_few(word) {
-            return false;
-        }
-    }
-    true
+    (0..calls.count).all(|i| lists_few(calls.get(i)))
 }
 
 // Whether a mapping names two nodes, the output no root.
@@ -121,19 +107,11 @@ fn mapping_fits(elements: &Elements, input: usize, output: usize) -> bool
 }
 
 // Line 7, of the mappings.
-#[tactic(auto, using(crate::proofs::Passing::pairing_start, crate::proofs::Passing::pairing_met, crate::proofs::Passing::pairing_next, crate::proofs::Passing::pairing_all))]
 pub fn mappings_fit(inputs: &WordList, outputs: &WordList, elements: &Elements) -> bool
     requires { outputs.now.count ≡ inputs.now.count }
     ensures { result ≡ not (any (wrong_mapping (view_of elements.now)) (zip (words_of inputs.now) (words_of outputs.now))) }
 {
-    for i in 0..inputs.count {
-        let input = inputs.get(i);
-        let output = outputs.get(i);
-        if !mapping_fits(elements, input, output) {
-            return false;
-        }
-    }
-    true
+    (0..inputs.count).all(|i| mapping_fits(elements, inputs.get(i), outputs.get(i)))
 }
 
 // Whether a note names one of `n` elements and is not numbered 0.
@@ -145,17 +123,9 @@ fn note_fits(n: usize, element: usize, number: usize) -> bool
 }
 
 // Line 7, of the notes.
-#[tactic(auto, using(crate::proofs::Passing::pairing_start, crate::proofs::Passing::pairing_met, crate::proofs::Passing::pairing_next, crate::proofs::Passing::pairing_all))]
 pub fn notes_fit(noted: &WordList, numbers: &WordList, n: usize) -> bool
     requires { numbers.now.count ≡ noted.now.count }
     ensures { result ≡ not (any (note_wrong n) (zip (words_of noted.now) (words_of numbers.now))) }
 {
-    for i in 0..noted.count {
-        let element = noted.get(i);
-        let number = numbers.get(i);
-        if !note_fits(n, element, number) {
-            return false;
-        }
-    }
-    true
+    (0..noted.count).all(|i| note_fits(n, noted.get(i), numbers.get(i)))
 }
