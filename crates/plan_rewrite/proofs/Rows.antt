@@ -6,7 +6,7 @@ use mathlib.Core.Option.{Option}
 use mathlib.Core.Path.{◌≡◌, refl, sym, ap, ◌∙◌, subst}
 use Prim.Native.Nat.{ℕ, zero, suc, ◌+◌, ◌-◌, ◌*◌, ◌≤◌, ◌<◌}
 use native.Mathlib.Omega.{arith}
-use lib.ListN.{length, get_or, drop, length-drop}
+use lib.ListN.{length, get_or, drop}
 use lib.Seq.{paste}
 use lib.Dec.{eqb}
 use borrow.Author.Tests.{eq-eqb, ne_eqb, eqb-true}
@@ -16,7 +16,7 @@ use Rattle.definition.specs.Elements.{Table}
 use Rattle.definition.specs.Planning.{own, dependent, discarded, target}
 use Rattle.definition.specs.Rewriting.{replacement}
 use Rattle.read_element_table.specs.View.{view}
-use Rattle.record_changes.specs.ChangeRow.{ChangeRow, row_of, rows_of}
+use Rattle.record_changes.specs.ChangeRow.{ChangeRow, row_words, row_of, rows_of}
 use Rattle.record_changes.specs.ChangeRowLaws.{row_at, rows_from, row_among}
 use Rattle.plan_sort.specs.Rows.{row_fate}
 use Rattle.plan_mapping.specs.Mapped.{mapped_by}
@@ -79,14 +79,14 @@ module _ (n : ℕ) (ws s m listed : List ℕ) (v : List ℕ) (i : ℕ) (f : ℕ)
   unfolding rewrite_at row_at row_of
   other_is h = rw (ne_eqb (get_or (drop (14 * i) v) 11 0) 1 (λ z. h (q ∙ z)))
 
-  pub at_other : (f ≡ 1 → ⊥) → (before after : List ℕ) → after ≡ paste before (14 * i) (drop (14 * i) v) 14 → 14 * i + 14 ≤ length before → Fated n listed v i
+  pub at_other : (f ≡ 1 → ⊥) → (before after : List ℕ) → after ≡ paste before (14 * i) (row_words (row_at v i)) 14 → 14 * i + 14 ≤ length before
       → RowRewritten (rewrite_at (view n ws s) (mapped_by m) listed v i) i before after (Ok 0)
-  unfolding rewritten_by steps_of row_at
-  at_other h before after e g F =
-      let l : 14 ≤ length (drop (14 * i) v) = omega (arith, F.long, length-drop (14 * i) v) in
+  unfolding rewritten_by steps_of row_words row_of
+  at_other h before after e g =
+      let r : List ℕ = row_words (row_at v i) in
       record {
-        row = ap {B = Answer (ChangeRow × ℕ)} (λ p. gives (p, 0)) (ap (λ (p : List ℕ). row_at p i) e ∙ row_there before (drop (14 * i) v) i g l) ∙ sym (other_is h);
-        behind = rw e (rows_behind before (drop (14 * i) v) i g l);
+        row = ap {B = Answer (ChangeRow × ℕ)} (λ p. gives (p, 0)) (ap (λ (p : List ℕ). row_at p i) e ∙ row_there before r i g (omega arith)) ∙ sym (other_is h);
+        behind = rw e (rows_behind before r i g (omega arith));
         few = omega arith;
       }
 

@@ -151,7 +151,7 @@ fn rewrite_row(
         let k = field(rows, i, record_changes::OWNER);
         return rewrite_dependent_target(mapping, listed, rows, i, k, out);
     }
-    record_rewritten::copy_row(rows, i, out);
+    plan_sort::copy_row(rows, i, out, i);
     Ok(0)
 }
 

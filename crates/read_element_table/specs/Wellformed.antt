@@ -1,7 +1,7 @@
 -- What an accepted batch guarantees of the words of the element table and of the batch's rows (View.antt says what each word is).
 -- Assumes nothing.
 use Rattle.std.proofs.Props.{props}
-use Rattle.std.specs.Prelude.{[], ◌∷◌, ◌&&◌, List, ◌≡◌, ℕ, suc, ◌+◌, ◌*◌, ◌≤◌, ◌<◌, leb, ltb, length, get_or}
+use Rattle.std.specs.Prelude.{◌&&◌, List, ◌≡◌, ℕ, suc, ◌+◌, ◌*◌, ◌≤◌, ◌<◌, leb, ltb, length, get_or}
 use Rattle.orders.specs.Lists.{All}
 use Rattle.orders.specs.ListLaws.{all_prop}
 use Rattle.definition.specs.Elements.{parent, child}

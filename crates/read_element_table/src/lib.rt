@@ -13,6 +13,7 @@ mod elements;
 pub use elements::Elements;
 use read_spelling::Columns;
 use rows_syntax_node::{KIND, MEASURE, ROW_WORDS};
+use words::NODE_KIND;
 
 // How many words an element has, and which they are (specs/View.antt).
 pub const WORDS: usize = 8;
@@ -39,6 +40,34 @@ struct Open {
     left: usize,
     owner: usize,
     next: usize,
+}
+
+impl Open {
+    ghost use Rattle.std.specs.Prelude.{◌-◌};
+    ghost use Rattle.read_element_table.specs.Filling.{open_of};
+
+    // It as it is opened, with all its children to come.
+    fn new(left: usize, owner: usize) -> Open
+        ensures { result ≡ open_of left owner 0 }
+    {
+        Open {
+            left,
+            owner,
+            next: 0,
+        }
+    }
+
+    // It after its next child has come.
+    fn passed(self) -> Open
+        requires { (0 < self.left) × (self.next < 2 ^ 32) }
+        ensures { result ≡ open_of (self.left - 1) self.owner (self.next + 1) }
+    {
+        Open {
+            left: self.left - 1,
+            next: self.next + 1,
+            ..self
+        }
+    }
 }
 
 // What a root sets and the others keep: `x` at depth 1, else `y`.
@@ -73,10 +102,7 @@ fn fill_elements(columns: &Columns, trees: usize, table: &mut [u32], source: &mu
     ensures table_after { table.new ≡ paste table.old 0 (table_of trees (elements_of columns.now)) (8 * columns.now.count) }
     ensures source_after { source.new ≡ paste source.old 3 (rows_from 0 (elements_of columns.now)) (3 * columns.now.count) }
 {
-    let left = trees;
-    let owner = 0;
-    let next = 0;
-    let mut stack = [Open { left, owner, next }; 65];
+    let mut stack = [Open::new(trees, 0); 65];
     let mut d: usize = 1;
     let mut o: usize = 0;
     let mut at: usize = 0;
@@ -95,14 +121,8 @@ fn fill_elements(columns: &Columns, trees: usize, table: &mut [u32], source: &mu
             let t = if_root(d, x.next, tree);
             words::store(table, WORDS * i, &[o, x.owner, x.next, d, s, s, i, t]);
             words::store(source, ROW_WORDS * (i + 1), &[k, m, o]);
-            let left = x.left - 1;
-            let owner = x.owner;
-            let next = x.next + 1;
-            stack[top] = Open { left, owner, next };
-            let left = read_spelling::children_of(k, m);
-            let owner = i + 1;
-            let next = 0;
-            stack[d] = Open { left, owner, next };
+            stack[top] = x.passed();
+            stack[d] = Open::new(read_spelling::children_of(k, m), i + 1);
             let len = read_spelling::length_of(k, m);
             d += 1;
             o += len;
@@ -119,7 +139,7 @@ pub fn fill(columns: &Columns, trees: usize, table: &mut [u32], source: &mut [u3
     requires accepted { Accepted trees (elements_of columns.now) }
     ensures { Filled trees columns.now.count (elements_of columns.now) table.old source.old table.new source.new }
 {
-    words::store(source, 0, &[0x8000_0000, trees, 0]);
+    words::store(source, 0, &[NODE_KIND, trees, 0]);
     fill_elements(columns, trees, table, source);
 }
 
@@ -148,7 +168,7 @@ pub fn is_node(source: &[u32], e: usize) -> bool
     requires { 3 * e + 6 ≤ length source.now }
     ensures { result ≡ is_node (get_or source.now (3 * suc e) 0) }
 {
-    0x8000_0000 <= row_word(source, e, KIND)
+    NODE_KIND <= row_word(source, e, KIND)
 }
 
 // Whether element `e` is a root.

@@ -8,12 +8,13 @@ ghost use Rattle.read_spelling.specs.Held.{elements_of};
 mod columns;
 
 pub use columns::Columns;
+use words::NODE_KIND;
 
 // How many children an element has.
 pub fn children_of(kind: usize, measure: usize) -> usize
     ensures { result ≡ children_of kind measure }
 {
-    if kind < 0x8000_0000 {
+    if kind < NODE_KIND {
         return 0;
     }
     measure
@@ -23,7 +24,7 @@ pub fn children_of(kind: usize, measure: usize) -> usize
 pub fn length_of(kind: usize, measure: usize) -> usize
     ensures { (result ≡ length_of kind measure) × (result ≤ measure) }
 {
-    if kind < 0x8000_0000 {
+    if kind < NODE_KIND {
         return measure;
     }
     0
@@ -33,13 +34,13 @@ pub fn length_of(kind: usize, measure: usize) -> usize
 pub fn stands(kind: usize, depth: usize) -> bool
     ensures { result ≡ stands_at kind depth }
 {
-    if 0x1_0000 <= kind % 0x8000_0000 {
+    if 0x1_0000 <= kind % NODE_KIND {
         return false;
     }
     if 64 < depth {
         return false;
     }
-    if 0x8000_0000 <= kind {
+    if NODE_KIND <= kind {
         return true;
     }
     1 < depth

@@ -1,4 +1,4 @@
--- A row written with other ends, and a row copied.
+-- A row written with other ends.
 -- Assumes nothing.
 use mathlib.Core.Bool.{Bool, true, false, cond}
 use mathlib.Core.List.{List, [], ◌∷◌, ◌++◌, append_assoc}

@@ -1,7 +1,7 @@
 // The row of a dependent with the ends that it has in the replacement: written as recording writes rows, with fate, owner and rule number kept.
 #![tactic(auto)]
 
-ghost use Rattle.std.specs.Prelude.{[], ◌∷◌, ◌≡◌, ℕ, ◌+◌, ◌*◌, ◌≤◌, ◌<◌, length, drop};
+ghost use Rattle.std.specs.Prelude.{[], ◌∷◌, ◌≡◌, ℕ, ◌+◌, ◌*◌, ◌≤◌, ◌<◌, length};
 ghost use Rattle.std.proofs.Math.Seq.{paste};
 ghost use Rattle.read_element_table.specs.Held.{view_of};
 ghost use Rattle.record_changes.specs.ChangeRow.{row_words};
@@ -58,14 +58,4 @@ pub fn write_row(
     let spot = record_changes::spot_of(change, z, elements);
     record_changes::write_row(out, i, record_changes::numbers_of(change), spot, 0);
     copy_fate(rows, i, out);
-}
-
-// The row at place `i` of `rows`, written at the same place of `out`.
-pub fn copy_row(rows: &[u32], i: usize, out: &mut [u32])
-    requires { (i < 256) × (14 * i + 14 ≤ length rows.now) × (14 * i + 14 ≤ length out.old) }
-    ensures { out.new ≡ paste out.old (14 * i) (drop (14 * i) rows.now) 14 }
-{
-    let from = record_changes::WORDS * i;
-    let to = from + record_changes::WORDS;
-    out[from..to].copy_from_slice(&rows[from..to]);
 }

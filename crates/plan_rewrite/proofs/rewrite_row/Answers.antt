@@ -9,4 +9,4 @@ pub returns-then-field : goal.returns-then-field
 returns-then-field c = at_dependent _ _ _ _ _ _ _ _ c.field.ensures.0 _ c.if-field.true c.field-k.ensures.0 _ _ _ c.rewrite_dependent_target.ensures
 
 pub returns : goal.returns
-returns c = at_other _ _ _ _ _ _ _ _ c.field.ensures.0 c.if-field.false _ _ c.copy_row.ensures c.requires.places c.requires.fated
+returns c = at_other _ _ _ _ _ _ _ _ c.field.ensures.0 c.if-field.false _ _ c.copy_row.ensures c.requires.places

@@ -1,12 +1,11 @@
 -- `fill_elements` meets its contract. The elements passed are written, and those on the stack are not closed yet.
 use native.Mathlib.Omega.{arith}
-use mathlib.Core.Path.{refl}
 use Prim.Native.Nat.{◌-◌, ◌≤◌, ◌<◌}
 use Rattle.read_element_table.proofs.Writing.{writing_start, writing_close, writing_table, writing_rows, writing_start_of, writing_tree_of, writing_more, writing_shallow, writing_open}
 use Rattle.read_element_table.proofs.fill_elements.Goals as goal
 
 pub loop-d-init : goal.loop-d-init
-loop-d-init c = writing_start _ _ _ _ _ c.requires.accepted refl
+loop-d-init c = writing_start _ _ _ _ _ c.requires.accepted c.new-stack.ensures
 
 pub loop-d-preserved-then-x-eq0 : goal.loop-d-preserved-then-x-eq0
 loop-d-preserved-then-x-eq0 c =
@@ -29,6 +28,11 @@ pub store-requires-else-x-eq0 : goal.store-requires-else-x-eq0
 store-requires-else-x-eq0 c = let more : c.loop-d.i < c.args.columns.now.count = writing_more c.loop-d.invariant c.loop-d-test.true c.if-x-eq0.false in let l = c.loop-d in
     omega (arith, more, l.invariant.few, l.invariant.source_long, c.read_word-k.ensures.1, c.read_word-m.ensures.1)
 
+pub passed-requires : goal.passed-requires
+passed-requires c = let more : c.loop-d.i < c.args.columns.now.count = writing_more c.loop-d.invariant c.loop-d-test.true c.if-x-eq0.false in let l = c.loop-d in
+    let v = l.invariant in
+    (omega arith, omega (arith, more, v.nexts (l.d - 1)))
+
 pub bounds-stack-d : goal.bounds-stack-d
 bounds-stack-d c = let low : c.loop-d.d ≤ 64 = writing_shallow c.loop-d.invariant c.loop-d-test.true c.if-x-eq0.false c.read_word-k.ensures.0 c.read_word-m.ensures.0 in omega (arith, low)
 
@@ -43,7 +47,7 @@ loop-d-preserved c =
     let s = c.store in
     let r = c.store-else-x-eq0 in
     let p = c.requires.in_bounds in
-    writing_open l.invariant c.loop-d-test.true c.if-x-eq0.false k.ensures.0 m.ensures.0 c.if_root-s.ensures c.if_root-t.ensures c.children_of-left.ensures c.length_of-len.ensures.0 s.auto.s s.ensures r.auto.s r.ensures refl refl p.1 p.2
+    writing_open l.invariant c.loop-d-test.true c.if-x-eq0.false k.ensures.0 m.ensures.0 c.if_root-s.ensures c.if_root-t.ensures c.children_of.ensures c.length_of-len.ensures.0 s.auto.s s.ensures r.auto.s r.ensures c.passed.ensures c.new.ensures p.1 p.2
 
 pub returns : goal.returns
 returns c = let l = c.loop-d in record { table_after = writing_table l.invariant (omega arith); source_after = writing_rows l.invariant (omega arith) }
