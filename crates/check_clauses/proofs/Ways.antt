@@ -1,9 +1,10 @@
 -- What each way out of a function without a loop says.
 -- Assumes nothing.
-use mathlib.Core.Path.{◌≡◌, refl, ap, ◌∙◌}
+use Rattle.std.specs.Prelude.{Option, None, Some, SomeIff}
+use mathlib.Core.Path.{◌≡◌, ◌∙◌}
 use mathlib.Core.Bool.{Bool, true, false}
 use mathlib.Core.List.{List}
-use Prim.Native.Nat.{ℕ, zero, suc, ◌-◌, ◌≤◌, ◌<◌}
+use Prim.Native.Nat.{ℕ, suc, ◌-◌, ◌≤◌, ◌<◌}
 use native.Mathlib.Omega.{arith}
 use borrow.Author.Tests.{eq-eqb, ne_eqb, le-leb, lt-leb}
 use lib.Dec.{eqb}
@@ -27,28 +28,31 @@ module _ (old new text text' : List ℕ) (x y : ℕ) {k k' : ℕ} (e : k ≡ ent
   unfolding alike is_node
   alike_token h n ea eb ec ed q = q ∙ rw (← e, ← e', eq-eqb k k' h, lt-leb 0x8000_0000 k n, ← ea, ← eb, ← ec, ← ed)
 
+-- ── Parents ─────────────────────────────────────────────────────────────────────────────────────────────────
+
+-- a word that is no number + 1 is 0
+none_is : {o : Option ℕ} {q : ℕ} → SomeIff o (1 ≤ q) (q - 1) → o ≡ None → q ≡ 0
+none_is s e = omega (arith, rw e at s)
+
+-- one that is, is that number + 1
+some_is : {o : Option ℕ} {q p : ℕ} → SomeIff o (1 ≤ q) (q - 1) → o ≡ Some p → q ≡ suc p
+some_is s e = omega (arith, rw e at s)
+
 -- ── 4 ───────────────────────────────────────────────────────────────────────────────────────────────────────
 
-module _ (old new w : List ℕ) (x y : ℕ) {p q : ℕ} (e : p ≡ entry old x 3) (e' : q ≡ entry new y 3) where
-  pub meet_root : q ≡ 0 → eqb p 0 ≡ parents_meet old new w (x, y)
+module _ (old new w : List ℕ) (x y : ℕ) {p q : ℕ} (e : p ≡ entry old x 3) (e' : q ≡ entry new y 3) {o : Option ℕ} (s : SomeIff o (1 ≤ q) (q - 1)) where
+  pub meet_root : o ≡ None → eqb p 0 ≡ parents_meet old new w (x, y)
   unfolding parents_meet meet
-  meet_root z = rw (← e, ← e', z)
+  meet_root z = rw (← e, ← e', none_is s z)
 
-  pub meet_none : (q ≡ 0 → ⊥) → p ≡ 0 → false ≡ parents_meet old new w (x, y)
-  unfolding parents_meet meet
-  meet_none z h = rw (← e, ← e') (go q z)
-    where
-      go : (q : ℕ) → (q ≡ 0 → ⊥) → false ≡ meet w p q
-      go zero z = absurd (z refl)
-      go (suc q) z = rw (eq-eqb p 0 h)
+  module _ {k : ℕ} (z : o ≡ Some k) where
+    pub meet_none : p ≡ 0 → false ≡ parents_meet old new w (x, y)
+    unfolding parents_meet meet
+    meet_none h = rw (← e, ← e', some_is s z, eq-eqb p 0 h)
 
-  pub meet_some : (q ≡ 0 → ⊥) → (p ≡ 0 → ⊥) → {v : ℕ} → v ≡ get_or w (q - 1) 0 → eqb v p ≡ parents_meet old new w (x, y)
-  unfolding parents_meet meet
-  meet_some z h {v} k = rw (← e, ← e') (go q z k)
-    where
-      go : (q : ℕ) → (q ≡ 0 → ⊥) → v ≡ get_or w (q - 1) 0 → eqb v p ≡ meet w p q
-      go zero z k = absurd (z refl)
-      go (suc q) z k = let d : suc q - 1 ≡ q = omega arith in rw (ne_eqb p 0 h) (ap (λ (j : ℕ). eqb j p) (k ∙ ap (λ (j : ℕ). get_or w j 0) d))
+    pub meet_some : (p ≡ 0 → ⊥) → {v : ℕ} → v ≡ get_or w k 0 → eqb v p ≡ parents_meet old new w (x, y)
+    unfolding parents_meet meet
+    meet_some h {v} f = rw (← e, ← e', some_is s z, ne_eqb p 0 h, f)
 
 -- ── 6 ───────────────────────────────────────────────────────────────────────────────────────────────────────
 
@@ -62,18 +66,14 @@ module _ (new w c : List ℕ) (y : ℕ) {m v : ℕ} (e : m ≡ get_or c y 0) (e'
     unfolding accounted
     marked_one k = rw (← e, ← e', eq-eqb v 0 h, ne_eqb m 0 k)
 
-    module _ (k : m ≡ 0) {p : ℕ} (ep : p ≡ entry new y 3) where
-      pub unmarked_root : p ≡ 0 → false ≡ accounted new w c y
+    module _ (k : m ≡ 0) {p : ℕ} (ep : p ≡ entry new y 3) {o : Option ℕ} (s : SomeIff o (1 ≤ p) (p - 1)) where
+      pub unmarked_root : o ≡ None → false ≡ accounted new w c y
       unfolding accounted loose
-      unmarked_root z = rw (← e, ← e', eq-eqb v 0 h, eq-eqb m 0 k, ← ep, z)
+      unmarked_root z = rw (← e, ← e', eq-eqb v 0 h, eq-eqb m 0 k, ← ep, none_is s z)
 
-      pub unmarked_below : (p ≡ 0 → ⊥) → {u : ℕ} → u ≡ get_or w (p - 1) 0 → eqb u 0 ≡ accounted new w c y
+      pub unmarked_below : {j : ℕ} → o ≡ Some j → {u : ℕ} → u ≡ get_or w j 0 → eqb u 0 ≡ accounted new w c y
       unfolding accounted loose
-      unmarked_below z {u} q = rw (← e, ← e', eq-eqb v 0 h, eq-eqb m 0 k, ← ep) (go p z q)
-        where
-          go : (p : ℕ) → (p ≡ 0 → ⊥) → u ≡ get_or w (p - 1) 0 → eqb u 0 ≡ loose w p
-          go zero z q = absurd (z refl)
-          go (suc p) z q = let d : suc p - 1 ≡ p = omega arith in ap (λ (j : ℕ). eqb j 0) (q ∙ ap (λ (j : ℕ). get_or w j 0) d)
+      unmarked_below z {u} q = rw (← e, ← e', eq-eqb v 0 h, eq-eqb m 0 k, ← ep, some_is s z, q)
 
 -- ── All ─────────────────────────────────────────────────────────────────────────────────────────────────────
 

@@ -84,21 +84,17 @@ fn all_alike(pairs: &Pairs, old: &Side, new: &Side) -> bool
         .all(|(x, y)| alike(old, new, *x as usize, *y as usize))
 }
 
-// 4, of one pair: both have no parent, or their parents are a pair.
+// 4, of one pair: both have no parent, or their parents are a pair. A word holds a parent's number + 1, 0 for none.
 #[tactic(auto, using(crate::proofs::Ways::meet_root, crate::proofs::Ways::meet_none, crate::proofs::Ways::meet_some))]
 fn parents_meet(old: &[u32], new: &[u32], partners: &[u32], x: usize, y: usize) -> bool
     requires { (4 * x + 4 ≤ length old.now) × Climbs new.now (length partners.now) y }
     ensures { result ≡ parents_meet old.now new.now partners.now (x, y) }
 {
     let p = check_table::entry(old, x, PARENT);
-    let q = check_table::entry(new, y, PARENT);
-    if q == 0 {
-        return p == 0;
+    match check_table::entry(new, y, PARENT).checked_sub(1) {
+        None => p == 0,
+        Some(q) => p != 0 && words::word(partners, q) == p,
     }
-    if p == 0 {
-        return false;
-    }
-    words::word(partners, q - 1) == p
 }
 
 // 4, of all pairs.
@@ -144,11 +140,10 @@ fn accounted(new: &[u32], partners: &[u32], marks: &[u32], y: usize) -> bool
     if mark != 0 {
         return true;
     }
-    let p = check_table::entry(new, y, PARENT);
-    if p == 0 {
-        return false;
+    match check_table::entry(new, y, PARENT).checked_sub(1) {
+        None => false,
+        Some(p) => words::word(partners, p) == 0,
     }
-    words::word(partners, p - 1) == 0
 }
 
 // 6, of all `n` new elements.

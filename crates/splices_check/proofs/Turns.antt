@@ -5,7 +5,6 @@ use Rattle.std.proofs.lemmas.List.FromFn.{sum_by-map-range_with_len_more}
 use mathlib.Core.Path.{◌≡◌, refl, sym, ap, ◌∙◌}
 use mathlib.Core.Bool.{Bool, true, false, ◌&&◌}
 use mathlib.Core.List.{List, [], ◌∷◌, map}
-use mathlib.Core.Logic.{inl, inr}
 use Prim.Native.Nat.{ℕ, zero, suc, ◌+◌, ◌-◌, ◌*◌, ◌/◌, ◌^◌, ◌≤◌, ◌<◌}
 use native.Mathlib.Omega.{arith}
 use native.Mathlib.Nat.{sub-zero, zero-add}
@@ -13,7 +12,7 @@ use native.Mathlib.Numerals.{add-one}
 use lib.Dec.{eqb}
 use lib.ListN.{length, get_or, take, drop}
 use borrow.Author.Tests.{ltb-true}
-use Rattle.orders.specs.ListLaws.{both_true, lt_or_le}
+use Rattle.orders.specs.ListLaws.{both_true}
 use Rattle.rows_syntax_node.specs.Promises.{Counted}
 use Rattle.rows_model.specs.Row.{Row, owes, row_in, triples}
 use Rattle.rows_model.proofs.Words.{triples_at, triples_end}
@@ -21,7 +20,7 @@ use Rattle.splices_model.specs.Cuts.{part_at}
 use Rattle.splices_model.specs.Bounds.{rows_to, part_is}
 use Rattle.splices_model.specs.Verdict.{owed, closed, bounded_at, fit_at, fits_to, limited, roomy, judged_by, all_more, fits_each}
 use Rattle.splices_apart.specs.Promises.{RowsTo, ApartAll}
-use Rattle.splices_check.specs.Promises.{Closes, FitsAt, FitsAll, OneTree, Fitted, Judged}
+use Rattle.splices_check.specs.Promises.{Closes, FitsAll, OneTree, Fitted, Judged}
 
 -- what `word` tells
 abbrev Read : ℕ → ℕ → Type 0

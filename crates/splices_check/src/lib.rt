@@ -15,7 +15,7 @@ use words::{NODE_KIND, word};
 
 // ── It fits ──
 
-// Whether a run spells whole trees: nothing is owed behind it.
+// Whether a run spells whole trees: nothing is owed behind it. By the number of each row, as `trees_in` beside it: `child_count` reads a row of many, so that a chunk's row would owe a law more.
 fn closes(run: &[u32]) -> bool
     requires { length run.now < 3 * 2 ^ 16 }
     ensures { Closes run.now result }

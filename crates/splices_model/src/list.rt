@@ -29,7 +29,8 @@ pub struct Splice {
     pub rows: usize,
 }
 
-// The splices of a list, which tell where their prepared rows stand but have them not.
+// The splices of a list, which tell where their prepared rows stand but have them not. Their count stands beside the words, as in `words::WordList`: as a quotient of
+// their length it would be no plainer in any clause.
 #[derive(Clone, Copy)]
 pub struct Splices<'a> {
     pub count: usize,

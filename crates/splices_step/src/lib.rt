@@ -59,7 +59,7 @@ pub struct Moves {
     pub lost: usize,
 }
 
-// What the first `i` splices insert and delete to the left of splice `i`, in its parent.
+// What the first `i` splices insert and delete to the left of splice `i`, in its parent. One loop for both: as two sums it would ask of each splice twice where it is.
 fn moves_left(list: &SpliceList, e: usize, i: usize) -> Moves
     requires { (i < list.now.splices.count) × BoundedTo e list.now.splices.words.now list.now.prepared.now i }
     ensures { Shifted list.now.splices.words.now list.now.prepared.now i i result.gained result.lost }
@@ -139,7 +139,7 @@ fn takes(rows: &Rows, parent: usize, lost: usize, gain: usize) -> bool
     NODE_KIND <= word(rows.words, ROW_WORDS * parent) && lost <= m && m + gain < 0x1_0000_0000
 }
 
-// Splice `i` of the list is done where it goes. The new number of rows.
+// Splice `i` of the list is done where it goes. The new number of rows. Here and above `n` stands beside the rows, which are lent room that grows in place.
 fn splice_at(
     rows: &mut [u32],
     n: usize,

@@ -58,6 +58,7 @@ const FOUR: [u32; 24] = [
     9, 0, 0, 1, 3, 2, 2, 0, 1, 1, 0, 1, 7, 0, 1, 1, 1, 1, 4, 4, 0, 1, 0, 0,
 ];
 
+// All orders of three splices, and of four, written out: a function that makes them would be no plainer, and owe that its places are in bounds.
 const ORDERS3: [[u32; 3]; 6] = [
     [0, 1, 2],
     [0, 2, 1],
@@ -126,7 +127,7 @@ fn arrange(list: &[u32], order: &[u32], out: &mut [u32]) {
     }
 }
 
-// The old tree, and the list done on it in this order.
+// The old tree, and the list done on it in this order. More than four splices, or rows too short for the old tree, are out of limits here as in the call, so that it asks nothing.
 fn run(
     list: &[u32],
     order: &[u32],
@@ -163,12 +164,9 @@ fn agree<const C: usize>(
     rows: &[u32],
     marks: &[u32],
 ) -> bool {
-    for order in orders {
-        if !leaves(list, order, n, rows, marks) {
-            return false;
-        }
-    }
-    true
+    orders
+        .iter()
+        .all(|order| leaves(list, order, n, rows, marks))
 }
 
 fn try_list<const C: usize>(rt: &impl Print, list: &[u32], orders: &[[u32; C]]) -> io::Result<()> {
@@ -190,28 +188,34 @@ fn try_list<const C: usize>(rt: &impl Print, list: &[u32], orders: &[[u32; C]]) 
     }
 }
 
-// The number by which the list is refused in this order, where all that is lent stays as it was; else 0.
-fn refusal(list: &[u32], order: &[u32], rows: &mut [u32], marks: &mut [u32]) -> usize {
+// Why the list is refused in this order, where all that is lent stays as it was.
+fn refusal(
+    list: &[u32],
+    order: &[u32],
+    rows: &mut [u32],
+    marks: &mut [u32],
+) -> Option<SpliceRefusal> {
     let mut held = [9u32; 42];
     copy_in(&mut held, 0, &OLD);
-    match run(list, order, rows, marks) {
-        Err(refusal) => {
-            if held.starts_with(rows) && [7u32; 7].starts_with(marks) {
-                return refusal.number();
-            }
-            0
-        }
-        Ok(_) => 0,
+    let refusal = run(list, order, rows, marks).err()?;
+    if held.starts_with(rows) && [7u32; 7].starts_with(marks) {
+        return Some(refusal);
     }
+    None
 }
 
-// The list in two orders: both are refused by one number.
+// What is printed of it: its number, 0 for none.
+fn number(refusal: Option<SpliceRefusal>) -> usize {
+    refusal.map_or(0, |refusal| refusal.number())
+}
+
+// The list in two orders: both are refused for one reason.
 fn try_refused(rt: &impl Print, list: &[u32], one: &[u32], other: &[u32]) -> io::Result<()> {
     let mut rows = [9u32; 42];
     let mut marks = [7u32; 7];
-    let number = refusal(list, one, &mut rows, &mut marks);
-    if refusal(list, other, &mut rows, &mut marks) == number {
-        return println!(rt; "{number} ");
+    let first = refusal(list, one, &mut rows, &mut marks);
+    if refusal(list, other, &mut rows, &mut marks) == first {
+        return println!(rt; "{} ", number(first));
     }
     println!(rt; "orders differ")
 }
@@ -222,20 +226,19 @@ fn try_slices(rt: &impl Print) -> io::Result<()> {
     // Room for no row more; six rows of the old tree, which are no tree.
     let mut rows = [9u32; 21];
     let of_rows = refusal(&list, &[0], &mut rows, &mut [7u32; 7]);
-    print!(rt; "{of_rows} ")?;
+    print!(rt; "{} ", number(of_rows))?;
     let mut more_rows = [9u32; 42];
     let of_marks = refusal(&list, &[0], &mut more_rows, &mut [7u32; 6]);
-    print!(rt; "{of_marks} ")?;
+    print!(rt; "{} ", number(of_marks))?;
     // Seven words for a splice.
-    match splices_list::splice_all(
+    let of_words = splices_list::splice_all(
         &mut more_rows,
         &mut [7u32; 7],
         &[1, 0, 1, 1, 0, 1, 2],
         &PREPARED,
-    ) {
-        Err(refusal) => println!(rt; "{} ", refusal.number()),
-        Ok(_) => println!(rt; "0 "),
-    }
+    )
+    .err();
+    println!(rt; "{} ", number(of_words))
 }
 
 fn accepted(rt: &impl Print) -> io::Result<()> {
