@@ -8,7 +8,11 @@ use native.Mathlib.Omega.{arith}
 use lib.Dec.{eqb}
 use lib.ListN.{length, get_or, set, take, replicate, length-set}
 use lib.Seq.{set-get_or, paste, length-paste, take-paste}
-use Rattle.orders.specs.ListLaws.{bool_absurd}
+use mathlib.Core.Logic.{inl, inr}
+use Rattle.std.specs.Prelude.{Option, None, Some}
+use Rattle.orders.specs.ListLaws.{bool_absurd, bool?, lt_or_le}
+use Rattle.check_table.specs.declared.Next.{Next}
+use Rattle.check_table.specs.Next.{Opened, Opens}
 use Rattle.read_spelling.specs.Spelling.{children_of, length_of, stands, fills, accepts}
 use Rattle.read_spelling.specs.SpellingLaws.{fills_close, stands_shallow, fills_open, fills_short, fills_long, fills_end, fills_over}
 use Rattle.read_spelling.specs.Stack.{stack, length_stack, stack_top, stack_push}
@@ -28,6 +32,10 @@ zeros_below : (m n j : ℕ) → get_or (replicate m 0) j 0 ≤ n
 zeros_below zero n j = omega arith
 zeros_below (suc m) n zero = omega arith
 zeros_below (suc m) n (suc j) = zeros_below m n j
+
+-- the element that is told may be opened
+pub opened : {kinds measures : List ℕ} {i d sum bytes : ℕ} {o : Option Next} {e : Next} → Opens kinds measures i d sum bytes o → o ≡ Some e → Opened kinds measures i d sum bytes e
+opened w z = rw z at w
 
 -- ── The loop ────────────────────────────────────────────────────────────────────────────────────────────────
 
@@ -118,26 +126,45 @@ module _ {kinds measures : List ℕ} {bytes : ℕ} {table₀ table left owner : 
           reading_over o = rejects (turn ∙ rw (may, ← el) (fills_over bytes (pairs_from kinds measures (i + 1)) (children_of k m ∷ (get_or left (d - 1) 0 - 1) ∷ stack 0 left (d - 1)) (sum + l) o))
 
           -- it is opened
-          pub reading_open : {c : ℕ} {table' : List ℕ} → c ≡ children_of k m → sum + l ≤ bytes → 4 * length kinds ≤ length table₀ → table' ≡ paste table (4 * i) (k ∷ sum ∷ (sum + l) ∷ get_or owner (d - 1) 0 ∷ []) 4
-              → Reading kinds measures bytes table₀ table' (set (set left (d - 1) (get_or left (d - 1) 0 - 1)) d c) (set owner d (i + 1)) (d + 1) (sum + l) (i + 1)
-          reading_open {c} {table'} ec hs hl et =
-              let s = stands_shallow k d may in
-              let row : List ℕ = k ∷ sum ∷ (sum + l) ∷ get_or owner (d - 1) 0 ∷ [] in
-              let room : 4 * i + 4 ≤ length table = omega (arith, v.same) in
-              let four : 4 * (i + 1) ≡ 4 * i + 4 = omega arith in
-              let front : take (4 * (i + 1)) table' ≡ take (4 * i) table ++ row = rw (four, et) (take-paste table (4 * i) row 4 (omega arith) (omega arith)) in
-              let pushed : stack 0 (set owner d (i + 1)) (d + 1) ≡ (i + 1) ∷ get_or owner (d - 1) 0 ∷ stack 0 owner (d - 1) =
-              ap (λ (o : List ℕ). stack 0 (set o d (i + 1)) (d + 1)) (sym (set-get_or owner (d - 1) 0)) ∙ stack_push 0 owner d (get_or owner (d - 1) 0) (i + 1) h (omega (arith, v.owners)) in
-              record {
-                inside = omega arith;
-                long = simp length-set v.long;
-                owners = simp length-set v.owners;
-                same = ap length et ∙ (length-paste table (4 * i) row 4 room (omega arith) ∙ v.same);
-                low = omega arith;
-                few = hs;
-                small = set_below owner d (i + 1) (i + 1) (λ j. omega (arith, v.small j)) (omega arith);
-                verdict = turn ∙ rw (may, ← ec, ← el, stack_push 0 left d (get_or left (d - 1) 0 - 1) c h (omega (arith, v.long)));
-                words =
-                    v.words ∙ rw (top, stack_top 0 owner d h, pairs_more kinds measures i alike j, ← ek, ← em, words_open _ (stack 0 left (d - 1)) (get_or owner (d - 1) 0) (stack 0 owner (d - 1)) i sum k m (pairs_from kinds measures (i + 1)), ← ec, ← el, front, stack_push 0 left d (get_or left (d - 1) 0 - 1) c h (omega (arith, v.long)), pushed)
-                    (sym (append_assoc (take (4 * i) table) row _));
-              }
+          pub reading_open : {c sum' : ℕ} {table' : List ℕ} → c ≡ children_of k m → sum' ≡ sum + l → sum' ≤ bytes → 4 * length kinds ≤ length table₀ → table' ≡ paste table (4 * i) (k ∷ sum ∷ sum' ∷ get_or owner (d - 1) 0 ∷ []) 4
+              → Reading kinds measures bytes table₀ table' (set (set left (d - 1) (get_or left (d - 1) 0 - 1)) d c) (set owner d (i + 1)) (d + 1) sum' (i + 1)
+          reading_open {c} {sum'} {table'} ec es hs hl et = rw es (opened (rw es at et))
+            where
+              opened : table' ≡ paste table (4 * i) (k ∷ sum ∷ (sum + l) ∷ get_or owner (d - 1) 0 ∷ []) 4 → Reading kinds measures bytes table₀ table' (set (set left (d - 1) (get_or left (d - 1) 0 - 1)) d c) (set owner d (i + 1)) (d + 1) (sum + l) (i + 1)
+              opened et =
+                  let s = stands_shallow k d may in
+                  let row : List ℕ = k ∷ sum ∷ (sum + l) ∷ get_or owner (d - 1) 0 ∷ [] in
+                  let room : 4 * i + 4 ≤ length table = omega (arith, v.same) in
+                  let four : 4 * (i + 1) ≡ 4 * i + 4 = omega arith in
+                  let front : take (4 * (i + 1)) table' ≡ take (4 * i) table ++ row = rw (four, et) (take-paste table (4 * i) row 4 (omega arith) (omega arith)) in
+                  let pushed : stack 0 (set owner d (i + 1)) (d + 1) ≡ (i + 1) ∷ get_or owner (d - 1) 0 ∷ stack 0 owner (d - 1) =
+                  ap (λ (o : List ℕ). stack 0 (set o d (i + 1)) (d + 1)) (sym (set-get_or owner (d - 1) 0)) ∙ stack_push 0 owner d (get_or owner (d - 1) 0) (i + 1) h (omega (arith, v.owners)) in
+                  record {
+                    inside = omega arith;
+                    long = simp length-set v.long;
+                    owners = simp length-set v.owners;
+                    same = ap length et ∙ (length-paste table (4 * i) row 4 room (omega arith) ∙ v.same);
+                    low = omega arith;
+                    few = omega (arith, es, hs);
+                    small = set_below owner d (i + 1) (i + 1) (λ j. omega (arith, v.small j)) (omega arith);
+                    verdict = turn ∙ rw (may, ← ec, ← el, stack_push 0 left d (get_or left (d - 1) 0 - 1) c h (omega (arith, v.long)));
+                    words =
+                        v.words ∙ rw (top, stack_top 0 owner d h, pairs_more kinds measures i alike j, ← ek, ← em, words_open _ (stack 0 left (d - 1)) (get_or owner (d - 1) 0) (stack 0 owner (d - 1)) i sum k m (pairs_from kinds measures (i + 1)), ← ec, ← el, front, stack_push 0 left d (get_or left (d - 1) 0 - 1) c h (omega (arith, v.long)), pushed)
+                        (sym (append_assoc (take (4 * i) table) row _));
+                  }
+
+      module _ {o : Option Next} (w : Opens kinds measures i d sum bytes o) where
+        -- the next element may not be opened
+        pub reading_refused : o ≡ None → Reads (zip kinds measures) bytes false table
+        reading_refused z = go (rw z at w)
+          where
+            go : (i < length kinds → stands (get_or kinds i 0) d ≡ true → bytes < sum + length_of (get_or kinds i 0) (get_or measures i 0)) → Reads (zip kinds measures) bytes false table
+            go f = elim (lt_or_le i (length kinds)) [
+              | inl j ↦ elim (bool? (stands (get_or kinds i 0) d)) [ inl q ↦ reading_over j refl refl refl q refl (f j q) | inr q ↦ reading_wrong j refl refl refl q ]
+              | inr j ↦ reading_short j
+            ]
+
+        -- or it is
+        pub reading_next : {e : Next} {table' : List ℕ} → o ≡ Some e → 4 * length kinds ≤ length table₀ → table' ≡ paste table (4 * i) (e.kind ∷ sum ∷ e.end ∷ get_or owner (d - 1) 0 ∷ []) 4
+            → Reading kinds measures bytes table₀ table' (set (set left (d - 1) (get_or left (d - 1) 0 - 1)) d e.children) (set owner d (i + 1)) (d + 1) e.end (i + 1)
+        reading_next {e} z hl et = let f : Opened kinds measures i d sum bytes e = opened w z in reading_open f.there f.kind refl refl f.stands refl f.children f.end f.fits hl et

@@ -4,6 +4,7 @@
 ghost use Rattle.std.specs.Prelude.{◌≡◌, ◌+◌, ◌*◌, ◌^◌, ◌≤◌, ◌<◌, length};
 ghost use mathlib.Core.List.{zip};
 ghost use Rattle.check_model.specs.Clauses.{entry as word_of};
+ghost use Rattle.check_table.specs.Next.{Opens};
 ghost use Rattle.check_table.specs.Walk.{Reads};
 
 // How many words an element has, and which they are.
@@ -26,8 +27,50 @@ pub fn entry(table: &[u32], e: usize, k: usize) -> usize
     words::word(table, WORDS * e + k)
 }
 
+// What an element tells where it may stand: its kind word, where its own text ends, and how many children it has.
+#[derive(Clone, Copy)]
+struct Next {
+    kind: usize,
+    end: usize,
+    children: usize,
+}
+
+// Element `i`, at depth `d`, whose text starts at `sum`: none if there is no such element, if its kind may not stand there, or if its text goes beyond `bytes`.
+fn element_at(
+    kinds: &[u32],
+    measures: &[u32],
+    i: usize,
+    d: usize,
+    sum: usize,
+    bytes: usize,
+) -> Option<Next>
+    requires { (length measures.now ≡ length kinds.now) × (sum ≤ bytes) × (bytes ≤ 16384) }
+    ensures { Opens kinds.now measures.now i d sum bytes result }
+{
+    if kinds.len() <= i {
+        return None;
+    }
+    let kind = words::word(kinds, i);
+    if !read_spelling::stands(kind, d) {
+        return None;
+    }
+    let measure = words::word(measures, i);
+    let end = sum + read_spelling::length_of(kind, measure);
+    if bytes < end {
+        return None;
+    }
+    let children = read_spelling::children_of(kind, measure);
+    Some(Next {
+        kind,
+        end,
+        children,
+    })
+}
+
 // Line 5 of one tree with `bytes` bytes of text; where it accepts, the words of all elements stand in the table. Each turn closes the innermost open element,
-// if all its children have come, or opens the next one: a token has none. So it is a `while`: a `for` over elements would need a second loop inside.
+// if all its children have come, or opens the next one: a token has none. So it is a `while`: a `for` over elements would need a second loop inside. The walk of `read_spelling::spells` and of
+// `read_element_table::fill_elements`, of which the first writes nothing and the last eight words: one walk with a closure would owe each law of the three through the closure. What is left and
+// whose it is are two arrays, since the laws of a stack speak of numbers.
 pub fn read_tree(kinds: &[u32], measures: &[u32], bytes: usize, table: &mut [u32]) -> bool
     requires { (length measures.now ≡ length kinds.now) × (length kinds.now ≤ 4096) × (4 * length kinds.now ≤ length table.old) × (bytes ≤ 16384) }
     ensures { Reads (zip kinds.now measures.now) bytes result table.new }
@@ -44,24 +87,19 @@ pub fn read_tree(kinds: &[u32], measures: &[u32], bytes: usize, table: &mut [u32
         if x == 0 {
             d = top;
         } else {
-            if kinds.len() <= i {
+            let Some(element) = element_at(kinds, measures, i, d, sum, bytes) else {
                 return false;
-            }
-            let k = words::word(kinds, i);
-            let m = words::word(measures, i);
-            if !read_spelling::stands(k, d) {
-                return false;
-            }
-            let end = sum + read_spelling::length_of(k, m);
-            if bytes < end {
-                return false;
-            }
-            words::store(table, WORDS * i, &[k, sum, end, owner[top]]);
+            };
+            words::store(
+                table,
+                WORDS * i,
+                &[element.kind, sum, element.end, owner[top]],
+            );
             left[top] = x - 1;
-            left[d] = read_spelling::children_of(k, m);
+            left[d] = element.children;
             owner[d] = i + 1;
             d += 1;
-            sum = end;
+            sum = element.end;
             i += 1;
         }
     }
