@@ -3,13 +3,25 @@
 use Rattle.std.specs.Prelude.{◌≡◌, refl, ℕ, length}
 use mathlib.Core.List.{List, [], ◌∷◌, map, flat_map}
 use Rattle.definition.specs.Writing.{Lists}
-use Rattle.write_layout.specs.Laying.{lists_in}
 use Rattle.load_laws.specs.Load.{drawn, block, replaced, copy, elements, kind_at, measure_at, byte_at, along, calls, noted, load}
 
 -- with a load's mapping and notes
 unfoldable pub with_notes : ℕ → List ℕ → List ℕ → List ℕ → List ℕ → List ℕ → List ℕ → List ℕ → List ℕ → Lists
-with_notes start kinds measures text operations counts rules targets listed =
-    lists_in 3 kinds measures text operations counts rules targets listed (block (replaced (drawn start)) ∷ []) (copy ∷ []) (noted start) (along (λ n. n) 1 8)
+with_notes start kinds measures text operations counts rules targets listed = record {
+  trees = 3;
+  kinds = kinds;
+  measures = measures;
+  text = text;
+  operations = operations;
+  counts = counts;
+  rules = rules;
+  targets = targets;
+  listed = listed;
+  inputs = block (replaced (drawn start)) ∷ [];
+  outputs = copy ∷ [];
+  noted = noted start;
+  numbers = along (λ n. n) 1 8;
+}
 
 -- and its calls
 unfoldable pub with_calls : ℕ → List ℕ → List ℕ → List ℕ → Lists

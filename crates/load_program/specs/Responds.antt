@@ -45,9 +45,9 @@ module _ (start : ℕ) (held a b c : List ℕ) (room : 8632 ≤ length held) (p 
   given = loads_bytes (a ∷ b ∷ c ∷ []) start (length held) (suffice a b c p q r) (omega (arith, (load_length start).1))
 
   -- a load is not refused
-  pub not_refused : (o : Result ℕ Refusal) (r : Refusal) (m : ℕ) (holds : List ℕ) (left : List (List ℕ)) → Loads start held (a ∷ b ∷ c ∷ []) (answered o) holds left → o ≡ Err r → Puts (laid_out (load start)) holds m
+  pub not_refused : (o : Result ℕ Refusal) (r : Refusal) (holds : List ℕ) (left : List (List ℕ)) → Loads start held (a ∷ b ∷ c ∷ []) (answered o) holds left → o ≡ Err r → ⊥
   unfolding answered ◌>>=◌
-  not_refused o r m holds left h k =
+  not_refused o r holds left h k =
       let e : refused (number r) ≡ gives (length (laid_out (load start))) = rw k at h.answer ∙ rw given refl in
       absurd (let z : ◌≡◌ {A = ℕ} 0 1 = cc in omega arith)
 

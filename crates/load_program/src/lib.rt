@@ -11,6 +11,7 @@ ghost use Rattle.load_program.specs.Responds.{told, Puts};
 use std::io;
 use std::io::Write;
 use std::rt::Env;
+use write_batch::Work;
 
 // The starting number that an argument tells. By `parse` it would be no plainer: that takes a sign too, and asks for text first.
 fn start_of(argument: &[u8]) -> Option<u32>
@@ -29,7 +30,7 @@ fn start_of(argument: &[u8]) -> Option<u32>
     Some(n)
 }
 
-// The load of a starting number is written at the front of `out`, with work slices of its own.
+// The load of a starting number is written at the front of `out`, with work slices of its own. With room for it a load is not refused.
 pub fn write_load(start: u32, out: &mut [u8]) -> usize
     requires { 8632 ≤ length out.old }
     ensures { Puts (laid_out (load start)) out.new result }
@@ -37,8 +38,15 @@ pub fn write_load(start: u32, out: &mut [u8]) -> usize
     let mut draft = [0u8; 49180];
     let mut table = [0u32; 16384];
     let mut source = [0u32; 6147];
-    let written = load_batch::load(start, out, &mut draft, &mut table, &mut source);
-    written.unwrap_or(0)
+    let mut work = Work {
+        draft: &mut draft,
+        table: &mut table,
+        source: &mut source,
+    };
+    match load_batch::load(start, out, &mut work) {
+        Ok(n) => n,
+        Err(_) => unreachable!(),
+    }
 }
 
 // What is printed of an argument is written at the front of `out`: nothing of one that tells no starting number.
@@ -65,7 +73,8 @@ pub fn serve<W: Write>(argument: &[u8], to: &mut W) -> io::Result<usize>
 }
 
 // The whole program. An argument of more than 32 bytes is read as an empty one, so it is no starting number. No contract says which bytes the operating
-// system gives, nor how many of those written it takes.
+// system gives, nor how many of those written it takes. 0 bytes are printed just of what tells no starting number: `serve` answers a length, as those of the
+// other programs do, and an `Option` of it would be that test again.
 pub fn run<R: Env + Print + Eprint>(rt: &R) -> io::Result<()> {
     let mut argument = [0u8; 32];
     let length = program_input::read_argument(rt, 1, &mut argument);

@@ -2,7 +2,6 @@
 #![tactic(auto)]
 
 ghost use Rattle.std.specs.Prelude.{◌∷◌, []};
-ghost use Rattle.write_layout.specs.Laying.{lists_in};
 ghost use Rattle.load_laws.specs.Load.{load};
 ghost use Rattle.edit_numbers.specs.Returned.{Returns, ReturnsElement, ReturnsAccount, ReturnsShare, ReturnsKept};
 ghost use Rattle.edit_numbers.specs.ReturnedBatch.{ReturnsBatch};
@@ -10,6 +9,7 @@ ghost use Rattle.edit_numbers.specs.ReturnedBatch.{ReturnsBatch};
 use choices::Choices;
 use edit_algo::serve;
 use promises::{Job, Work};
+use write_layout::Lists;
 
 // THE EDIT of a batch: the length of the answer, which stands at the front of `result`, or a refusal's number with a minus.
 // The nine others are work slices, which end as zeros.
@@ -229,9 +229,9 @@ pub extern "C" fn syntax_write(
     table: &mut [u32],
     source: &mut [u32],
 ) -> i64
-    ensures { ReturnsBatch (lists_in trees kinds.now measures.now text.now operations.now counts.now rules.now targets.now listed.now inputs.now outputs.now noted.now numbers.now) destination.old (draft.old ∷ table.old ∷ source.old ∷ []) result destination.new (draft.new ∷ table.new ∷ source.new ∷ []) }
+    ensures { ReturnsBatch (record { trees = trees; kinds = kinds.now; measures = measures.now; text = text.now; operations = operations.now; counts = counts.now; rules = rules.now; targets = targets.now; listed = listed.now; inputs = inputs.now; outputs = outputs.now; noted = noted.now; numbers = numbers.now }) destination.old (draft.old ∷ table.old ∷ source.old ∷ []) result destination.new (draft.new ∷ table.new ∷ source.new ∷ []) }
 {
-    let told = write_batch::write_batch(
+    let lists = Lists {
         trees,
         kinds,
         measures,
@@ -245,11 +245,13 @@ pub extern "C" fn syntax_write(
         outputs,
         noted,
         numbers,
-        destination,
+    };
+    let mut work = write_batch::Work {
         draft,
         table,
         source,
-    );
+    };
+    let told = write_batch::write_batch(&lists, destination, &mut work);
     edit_numbers::number_written(told)
 }
 
@@ -265,6 +267,11 @@ pub extern "C" fn syntax_load(
 ) -> i64
     ensures { ReturnsBatch (load start) destination.old (draft.old ∷ table.old ∷ source.old ∷ []) result destination.new (draft.new ∷ table.new ∷ source.new ∷ []) }
 {
-    let told = load_batch::load(start, destination, draft, table, source);
+    let mut work = write_batch::Work {
+        draft,
+        table,
+        source,
+    };
+    let told = load_batch::load(start, destination, &mut work);
     edit_numbers::number_written(told)
 }

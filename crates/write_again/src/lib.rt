@@ -6,6 +6,8 @@ ghost use Rattle.write_again.specs.Counted.{word_count, Worded};
 
 use read_layout::Sizes;
 use refusals::Refusal;
+use write_batch::Work;
+use write_layout::Lists;
 
 // Each call word as its operation, its count and its rule number.
 #[tactic(auto, unfolding(definition::specs::Refusals::operation_of, definition::specs::Refusals::count_of, definition::specs::Refusals::rule_of))]
@@ -20,141 +22,56 @@ fn part_words(words: &[u32], operations: &mut [u32], counts: &mut [u32], rules: 
     }
 }
 
-// All lists are written, with work slices of their own.
-fn write_lists(
-    trees: usize,
-    kinds: &[u32],
-    measures: &[u32],
-    text: &[u8],
-    operations: &[u32],
-    counts: &[u32],
-    rules: &[u32],
-    targets: &[u32],
-    listed: &[u32],
-    inputs: &[u32],
-    outputs: &[u32],
-    noted: &[u32],
-    numbers: &[u32],
-    destination: &mut [u8],
-) -> Result<usize, Refusal> {
+// Lists are written, with work slices of their own.
+fn write_lists(lists: &Lists, destination: &mut [u8]) -> Result<usize, Refusal> {
     let mut draft = [0u8; 49180];
     let mut table = [0u32; 16384];
     let mut source = [0u32; 6147];
-    write_batch::write_batch(
-        trees,
+    let mut work = Work {
+        draft: &mut draft,
+        table: &mut table,
+        source: &mut source,
+    };
+    write_batch::write_batch(lists, destination, &mut work)
+}
+
+// The words of a batch behind its sizes, in which its arrays stand one after another, and its text are written as lists.
+fn write_arrays(
+    z: Sizes,
+    list: &[u32],
+    text: &[u8],
+    destination: &mut [u8],
+) -> Result<usize, Refusal>
+    requires { (length list.now ≡ word_count z) × (length list.now ≤ 16384) }
+{
+    let (kinds, list) = list.split_at(z.elements);
+    let (measures, list) = list.split_at(z.elements);
+    let (calls, list) = list.split_at(z.calls);
+    let (targets, list) = list.split_at(z.calls);
+    let (listed, list) = list.split_at(z.listed);
+    let (inputs, list) = list.split_at(z.mappings);
+    let (outputs, list) = list.split_at(z.mappings);
+    let (noted, numbers) = list.split_at(z.notes);
+    let mut operations = [0u32; 16384];
+    let mut counts = [0u32; 16384];
+    let mut rules = [0u32; 16384];
+    part_words(calls, &mut operations, &mut counts, &mut rules);
+    let lists = Lists {
+        trees: z.trees,
         kinds,
         measures,
         text,
-        operations,
-        counts,
-        rules,
+        operations: &operations[..z.calls],
+        counts: &counts[..z.calls],
+        rules: &rules[..z.calls],
         targets,
         listed,
         inputs,
         outputs,
         noted,
         numbers,
-        destination,
-        &mut draft,
-        &mut table,
-        &mut source,
-    )
-}
-
-// The listed elements, the mappings and the notes are found at `at`.
-fn write_names(
-    z: Sizes,
-    kinds: &[u32],
-    measures: &[u32],
-    text: &[u8],
-    operations: &[u32],
-    counts: &[u32],
-    rules: &[u32],
-    targets: &[u32],
-    list: &[u32],
-    at: usize,
-    destination: &mut [u8],
-) -> Result<usize, Refusal>
-    requires { (at + z.listed + 2 * z.mappings + 2 * z.notes ≤ length list.now) × (length list.now ≤ 16384) }
-{
-    let inputs = at + z.listed;
-    let outputs = inputs + z.mappings;
-    let noted = outputs + z.mappings;
-    let numbers = noted + z.notes;
-    let end = numbers + z.notes;
-    write_lists(
-        z.trees,
-        kinds,
-        measures,
-        text,
-        operations,
-        counts,
-        rules,
-        targets,
-        &list[at..inputs],
-        &list[inputs..outputs],
-        &list[outputs..noted],
-        &list[noted..numbers],
-        &list[numbers..end],
-        destination,
-    )
-}
-
-// The calls are found at `at`.
-fn write_calls(
-    z: Sizes,
-    kinds: &[u32],
-    measures: &[u32],
-    text: &[u8],
-    list: &[u32],
-    at: usize,
-    destination: &mut [u8],
-) -> Result<usize, Refusal>
-    requires { (at + 2 * z.calls + z.listed + 2 * z.mappings + 2 * z.notes ≤ length list.now) × (length list.now ≤ 16384) }
-{
-    let n = z.calls;
-    let targets = at + n;
-    let listed = targets + n;
-    let mut operations = [0u32; 16384];
-    let mut counts = [0u32; 16384];
-    let mut rules = [0u32; 16384];
-    part_words(&list[at..targets], &mut operations, &mut counts, &mut rules);
-    write_names(
-        z,
-        kinds,
-        measures,
-        text,
-        &operations[..n],
-        &counts[..n],
-        &rules[..n],
-        &list[targets..listed],
-        list,
-        listed,
-        destination,
-    )
-}
-
-// The words of a batch without its sizes are one list, in which its arrays stand one after another.
-fn write_elements(
-    z: Sizes,
-    list: &[u32],
-    text: &[u8],
-    destination: &mut [u8],
-) -> Result<usize, Refusal>
-    requires { (word_count z ≤ length list.now) × (length list.now ≤ 16384) }
-{
-    let kinds = 0;
-    let measures = z.elements;
-    let calls = measures + z.elements;
-    write_calls(
-        z,
-        &list[kinds..measures],
-        &list[measures..calls],
-        text,
-        list,
-        calls,
-        destination,
-    )
+    };
+    write_lists(&lists, destination)
 }
 
 // The seven sizes at the front of a batch.
@@ -188,7 +105,7 @@ fn write_words(b: &[u8], z: Sizes, n: usize, destination: &mut [u8]) -> Result<u
     let text = read_layout::ARRAYS + 4 * n;
     let mut list = [0u32; 16384];
     words::read_words(b, read_layout::ARRAYS, n, &mut list, 0);
-    write_elements(z, &list, &b[text..], destination)
+    write_arrays(z, &list[..n], &b[text..], destination)
 }
 
 // A batch is written as the lists that it is laid out from. One whose length is not what its sizes give is laid out from none: 2 without all of its

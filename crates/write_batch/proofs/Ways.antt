@@ -2,18 +2,19 @@
 -- Assumes nothing.
 use mathlib.Core.Path.{◌≡◌, refl, sym, ap, ◌∙◌}
 use mathlib.Core.Bool.{Bool, true, false, not, ◌||◌}
-use mathlib.Core.List.{List, [], ◌∷◌, ◌++◌, zip, zip_with}
+use mathlib.Core.List.{List, [], ◌∷◌, ◌++◌, map, zip, zip_with}
 use Prim.Native.Nat.{ℕ, ◌≤◌, ◌<◌}
 use native.Mathlib.Nat.{zero-add}
 use native.Mathlib.Omega.{arith}
 use lib.Dec.{ltb}
-use lib.ListN.{length, take, drop, replicate, length-append, take-append-drop}
+use lib.ListN.{length, take, drop, length-append, take-append-drop}
 use borrow.Author.Tests.{lt-ltb, le-ltb, ltb-false, not-true, not-false}
 use Rattle.orders.specs.ListLaws.{either_false}
 use Rattle.definition.specs.Basics.{Answer, ◌>>=◌, refuse, is_refused, any}
 use Rattle.definition.specs.Answers.{too_short, with_work}
 use Rattle.definition.specs.Writing.{Lists, laid_out, unlayable, wrong_lists, write}
-use Rattle.promises.specs.Slices.{lengths, zeros, zeroed}
+use Rattle.promises.specs.Slices.{lengths, zeroed}
+use Rattle.promises.proofs.Alike.{zeroed_alike}
 use Rattle.promises.specs.Promises.{left_in}
 use Rattle.promises.specs.Writing.{writer_needs, wrote, Writes}
 use Rattle.std.specs.Prelude.{Result, Ok, Err, is_err}
@@ -50,10 +51,6 @@ module _ (d t s : List ℕ) where
       let (table, q) = either_false (ltb (length t) 16384) _ q in
       let (source, q) = either_false (ltb (length s) 6147) false q in
       (ltb-false (length d) 49180 draft, ltb-false (length t) 16384 table, ltb-false (length s) 6147 source)
-
-  pub cleared : {d' t' s' : List ℕ} → d' ≡ replicate (length d) 0 → t' ≡ replicate (length t) 0 → s' ≡ replicate (length s) 0 → (d' ∷ t' ∷ s' ∷ []) ≡ zeroed (d ∷ t ∷ s ∷ [])
-  unfolding zeroed zeros
-  cleared p q r = rw (p, q, r) refl
 
 -- ── A batch that is laid out ────────────────────────────────────────────────────────────────────────────────
 
@@ -98,9 +95,13 @@ module _ (l : Lists) (held d t s : List ℕ) (q : Bool) (e : q ≡ too_short (le
     unfolding wrote with_work write wrong_lists answered number left_in ◌>>=◌ refuse
     refused_14 k = rw (sym e ∙ h, not-false (unlayable l) (sym f ∙ k)) (record { answer = refl; destination = refl })
 
-    pub handed_over : u ≡ true → (b : List ℕ) {r : Answer ℕ} {holds : List ℕ} → b ≡ laid_out l → Told (handed b (length held)) held r holds → Tells r holds
+    pub handed_over : u ≡ true → {r : Answer ℕ} {holds : List ℕ} → Told (handed (laid_out l) (length held)) held r holds → Tells r holds
     unfolding wrote with_work write wrong_lists handed fitted ◌>>=◌ refuse
-    handed_over k b same p = let p = rw same at p in rw (sym e ∙ h, not-true (unlayable l) (sym f ∙ k)) p
+    handed_over k p = rw (sym e ∙ h, not-true (unlayable l) (sym f ∙ k)) p
+
+-- what is laid out is handed over
+pub laid_handed : (l : Lists) (held b : List ℕ) {r : Answer ℕ} {holds : List ℕ} → b ≡ laid_out l → Told (handed b (length held)) held r holds → Told (handed (laid_out l) (length held)) held r holds
+laid_handed l held b same p = rw same at p
 
 pub may_lay : (l : Lists) (u : Bool) → u ≡ not (unlayable l) → u ≡ true → InStep l
 may_lay l u f k = (layable l (not-true (unlayable l) (sym f ∙ k))).step
@@ -115,7 +116,5 @@ module _ {d new e : List ℕ} {n : ℕ} (p : Appended d 0 new e n) where
 
 -- ── All ─────────────────────────────────────────────────────────────────────────────────────────────────────
 
-pub all_told : (l : Lists) (held d t s d₁ t₁ s₁ : List ℕ) {r : Answer ℕ} {holds : List ℕ} {left : List (List ℕ)} → Told (wrote (d ∷ t ∷ s ∷ []) l (length held)) held r holds
-    → length d₁ ≡ length d → length t₁ ≡ length t → length s₁ ≡ length s → left ≡ zeroed (d₁ ∷ t₁ ∷ s₁ ∷ []) → Writes l held (d ∷ t ∷ s ∷ []) r holds left
-unfolding zeroed zeros
-all_told l held d t s d₁ t₁ s₁ p a b c z = record { answer = p.answer; destination = p.destination; zeros = z ∙ rw (a, b, c) refl }
+pub all_told : (l : Lists) (held : List ℕ) (work mid : List (List ℕ)) {r : Answer ℕ} {holds : List ℕ} {left : List (List ℕ)} → Told (wrote work l (length held)) held r holds → map length mid ≡ map length work → left ≡ zeroed mid → Writes l held work r holds left
+all_told l held work mid p a z = record { answer = p.answer; destination = p.destination; zeros = z ∙ zeroed_alike mid work a }

@@ -1,31 +1,44 @@
 // The writer: lists laid out as a batch (document 02, Note 2).
 #![tactic(auto)]
 
-ghost use Rattle.std.specs.Prelude.{◌≡◌, ◌∷◌, [], ◌≤◌, length};
+ghost use Rattle.std.specs.Prelude.{◌≡◌, ◌≤◌, length, map};
 ghost use Rattle.definition.specs.Answers.{too_short};
+ghost use Rattle.definition.specs.Writing.{laid_out};
 ghost use Rattle.promises.specs.Slices.{lengths, zeroed};
 ghost use Rattle.promises.specs.Writing.{writer_needs, wrote, Writes};
+ghost use Rattle.write_laws.specs.RoundTrip.{InStep};
 ghost use Rattle.write_layout.specs.Laying.{lists_in};
 ghost use Rattle.refusals.specs.Numbers.{answered};
+ghost use Rattle.write_batch.specs.Lent.{held, Same};
 ghost use Rattle.write_batch.specs.Handing.{Told, fitted, handed};
 
 use refusals::Refusal;
+use write_layout::Lists;
+
+// The work slices that the writer is lent, in the order of docs/WORK.md: where the batch is laid out, and where it is judged.
+#[derive(Drop)]
+pub struct Work<'a> {
+    pub draft: &'a mut [u8],
+    pub table: &'a mut [u32],
+    pub source: &'a mut [u32],
+}
 
 // Whether a work slice is shorter than its length in docs/WORK.md.
-fn too_short(draft: &[u8], table: &[u32], source: &[u32]) -> bool
-    ensures { result ≡ too_short (lengths writer_needs (draft.now ∷ table.now ∷ source.now ∷ [])) }
+fn too_short(work: &Work) -> bool
+    ensures { result ≡ too_short (lengths writer_needs (held work.now)) }
 {
-    draft.len() < 49180 || table.len() < 16384 || source.len() < 6147
+    work.draft.len() < 49180 || work.table.len() < 16384 || work.source.len() < 6147
 }
 
 // Every work slice becomes zeros.
-#[tactic(auto, using(crate::proofs::Ways::cleared))]
-fn clear_work(draft: &mut [u8], table: &mut [u32], source: &mut [u32])
-    ensures { (draft.new ∷ table.new ∷ source.new ∷ []) ≡ zeroed (draft.old ∷ table.old ∷ source.old ∷ []) }
+#[tactic(auto, unfolding(promises::specs::Slices::zeroed, promises::specs::Slices::zeros))]
+fn clear_work(work: &mut Work)
+    ensures same { Same work.old work.new }
+    ensures zeros { held work.new ≡ zeroed (held work.old) }
 {
-    draft.fill(0);
-    table.fill(0);
-    source.fill(0);
+    work.draft.fill(0);
+    work.table.fill(0);
+    work.source.fill(0);
 }
 
 // 15: the batch is copied to the destination, if there is room for it.
@@ -39,7 +52,7 @@ fn copy_out(batch: &[u8], destination: &mut [u8]) -> Result<usize, Refusal>
     Ok(batch.len())
 }
 
-// 14, of a batch that is laid out, then 15.
+// 14, of a batch that is laid out, then 15. It takes two of the work slices, since the batch stands in the third.
 fn hand_over(
     batch: &[u8],
     destination: &mut [u8],
@@ -55,87 +68,44 @@ fn hand_over(
     copy_out(batch, destination)
 }
 
-// 1, 14 and 15: the lists are laid out on the page, and judged there before the destination is touched.
-fn write_lists(
-    trees: usize,
-    kinds: &[u32],
-    measures: &[u32],
-    text: &[u8],
-    operations: &[u32],
-    counts: &[u32],
-    rules: &[u32],
-    targets: &[u32],
-    listed: &[u32],
-    inputs: &[u32],
-    outputs: &[u32],
-    noted: &[u32],
-    numbers: &[u32],
-    destination: &mut [u8],
-    page: &mut [u8],
-    table: &mut [u32],
-    source: &mut [u32],
-) -> Result<usize, Refusal>
-    ensures { Told (wrote (page.old ∷ table.old ∷ source.old ∷ []) (lists_in trees kinds.now measures.now text.now operations.now counts.now rules.now targets.now listed.now inputs.now outputs.now noted.now numbers.now) (length destination.old)) destination.old (answered result) destination.new }
-{
-    if too_short(page, table, source) {
-        return Err(Refusal::ShortWork);
-    }
-    let right = write_layout::can_be_laid(
-        trees, kinds, measures, text, operations, counts, rules, targets, listed, inputs, outputs,
-        noted, numbers,
-    );
-    if !right {
-        return Err(Refusal::Lists);
-    }
-    let n = write_layout::lay_out(
-        page, trees, kinds, measures, text, operations, counts, rules, targets, listed, inputs,
-        outputs, noted, numbers,
-    );
-    hand_over(&page[..n], destination, table, source)
-}
-
-// THE WRITER. The batch that the lists make stands at the front of `destination`; on refusal `destination` is as it was. The three others are work
-// slices, which end as zeros.
-pub fn write_batch(
-    trees: usize,
-    kinds: &[u32],
-    measures: &[u32],
-    text: &[u8],
-    operations: &[u32],
-    counts: &[u32],
-    rules: &[u32],
-    targets: &[u32],
-    listed: &[u32],
-    inputs: &[u32],
-    outputs: &[u32],
-    noted: &[u32],
-    numbers: &[u32],
+// 14 and 15, of lists in step: they are laid out in the draft, and judged there before the destination is touched. It takes the slices apart, since the
+// draft is read while the others are written.
+fn write_in_step(
+    lists: &Lists,
     destination: &mut [u8],
     draft: &mut [u8],
     table: &mut [u32],
     source: &mut [u32],
 ) -> Result<usize, Refusal>
-    ensures { Writes (lists_in trees kinds.now measures.now text.now operations.now counts.now rules.now targets.now listed.now inputs.now outputs.now noted.now numbers.now) destination.old (draft.old ∷ table.old ∷ source.old ∷ []) (answered result) destination.new (draft.new ∷ table.new ∷ source.new ∷ []) }
+    requires in_step { InStep (lists_in lists.now) }
+    requires in_bounds { (49180 ≤ length draft.old) × (16384 ≤ length table.old) × (6147 ≤ length source.old) }
+    ensures { Told (handed (laid_out (lists_in lists.now)) (length destination.old)) destination.old (answered result) destination.new }
 {
-    let written = write_lists(
-        trees,
-        kinds,
-        measures,
-        text,
-        operations,
-        counts,
-        rules,
-        targets,
-        listed,
-        inputs,
-        outputs,
-        noted,
-        numbers,
-        destination,
-        draft,
-        table,
-        source,
-    );
-    clear_work(draft, table, source);
+    let n = write_layout::lay_out(draft, lists);
+    hand_over(&draft[..n], destination, table, source)
+}
+
+// 1, and 14 by the lists alone; then the rest.
+fn write_lists(lists: &Lists, destination: &mut [u8], work: &mut Work) -> Result<usize, Refusal>
+    ensures same { Same work.old work.new }
+    ensures lengths { map length (held work.new) ≡ map length (held work.old) }
+    ensures told { Told (wrote (held work.old) (lists_in lists.now) (length destination.old)) destination.old (answered result) destination.new }
+{
+    if too_short(work) {
+        return Err(Refusal::ShortWork);
+    }
+    if !write_layout::can_be_laid(lists) {
+        return Err(Refusal::Lists);
+    }
+    write_in_step(lists, destination, work.draft, work.table, work.source)
+}
+
+// THE WRITER. The batch that the lists make stands at the front of `destination`; on refusal `destination` is as it was. The work slices end as zeros.
+pub fn write_batch(lists: &Lists, destination: &mut [u8], work: &mut Work) -> Result<usize, Refusal>
+    ensures same { Same work.old work.new }
+    ensures writes { Writes (lists_in lists.now) destination.old (held work.old) (answered result) destination.new (held work.new) }
+{
+    let written = write_lists(lists, destination, work);
+    clear_work(work);
     written
 }

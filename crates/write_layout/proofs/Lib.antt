@@ -1,4 +1,4 @@
--- Tests   what is tested before anything is laid out
+-- Tests   whether words are below a limit
 -- Ways    what is laid out
 pub mod Tests
 pub mod Ways

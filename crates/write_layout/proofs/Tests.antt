@@ -1,20 +1,17 @@
 -- What is tested before anything is laid out: each answer, from the tests that led there.
 -- Assumes nothing.
 use mathlib.Core.Path.{◌≡◌, refl, sym, ◌∙◌}
-use mathlib.Core.Bool.{Bool, true, false, not, ◌||◌}
+use mathlib.Core.Bool.{Bool, true, false, not}
 use mathlib.Core.List.{List, [], ◌∷◌}
 use Prim.Native.Nat.{ℕ, zero, suc, ◌<◌}
 use native.Mathlib.Omega.{arith}
 use lib.Dec.{leb}
 use lib.ListN.{length, get_or}
-use borrow.Author.Tests.{leb-false, lt-leb, not-true, not-false}
+use borrow.Author.Tests.{leb-false, lt-leb}
 use Rattle.std.specs.Prelude.{IsTrue, ◌↔◌, slice_index_or}
 use Rattle.std.specs.List.{All}
 use Rattle.definition.specs.Basics.{any}
-use Rattle.definition.specs.Batch.{beyond}
-use Rattle.definition.specs.Writing.{Lists, sizes_of, differ, out_of_step, unfitting, unlayable}
 use Rattle.definition_laws.specs.Right.{neither}
-use Rattle.write_layout.specs.Laying.{uneven}
 
 -- ── Words below a limit ─────────────────────────────────────────────────────────────────────────────────────
 
@@ -37,21 +34,3 @@ all_told k s t e = go (any (leb k) s) refl t refl
     go true p true z = let y : any (leb k) s ≡ false = below_none k s (e.0 z) in cc
     go true p false z = refl
     go false p u z = sym z ∙ e.1 (none_below k s p)
-
--- ── All tests ───────────────────────────────────────────────────────────────────────────────────────────────
-
-module _ (l : Lists) (t : Bool)
-    (e : t ≡ not (uneven (length l.kinds) (length l.measures) (length l.operations) (length l.counts) (length l.rules) (length l.targets) (length l.inputs) (length l.outputs) (length l.noted) (length l.numbers))) where
-  pub off_step : t ≡ false → false ≡ not (unlayable l)
-  unfolding unlayable out_of_step differ uneven
-  off_step h = rw (not-false (out_of_step l) (sym e ∙ h)) refl
-
-  module _ (h : t ≡ true) (u : Bool)
-      (f : u ≡ not (beyond (record { trees = l.trees; elements = length l.kinds; text = length l.text; calls = length l.operations; listed = length l.listed; mappings = length l.inputs; notes = length l.noted }))) where
-    pub out_of_limits : u ≡ false → false ≡ not (unlayable l)
-    unfolding unlayable out_of_step differ uneven sizes_of
-    out_of_limits k = rw (not-true (out_of_step l) (sym e ∙ h), not-false (beyond (sizes_of l)) (sym f ∙ k)) refl
-
-    pub parts_tell : u ≡ true → (w : Bool) → w ≡ not (any (leb 256) l.operations || any (leb 4096) l.counts || any (leb 4096) l.rules) → w ≡ not (unlayable l)
-    unfolding unlayable out_of_step differ uneven sizes_of unfitting
-    parts_tell k w g = rw (not-true (out_of_step l) (sym e ∙ h), not-true (beyond (sizes_of l)) (sym f ∙ k)) g

@@ -85,6 +85,15 @@ pub room_targets : (os ns rs t u : List ℕ) {d e : List ℕ} {at r : ℕ} → (
     → r + 4 * length t + 4 * length u ≤ length e
 room_targets os ns rs t u q p h l = omega (arith, p.ends, length_written (call_words os ns rs), length_calls os ns rs q.0 q.1)
 
+laid_out_lem : (l : Lists) → written (seven_sizes (sizes_of l)) ++ ((written l.kinds ++ written l.measures) ++ ((written (call_words l.operations l.counts l.rules) ++ (written l.targets ++ written l.listed)) ++ (((written l.inputs ++ written l.outputs) ++ (written l.noted ++ written l.numbers)) ++ l.text))) ≡ laid_out l
+unfolding laid_out
+laid_out_lem l = simp append_assoc
+
+-- the sizes that the code has come first
+pub sizes_appended : (l : Lists) (s : Sizes) {d e : List ℕ} {r : ℕ} → read.sizes_of s ≡ sizes_of l → Appended d 0 (written (s.trees ∷ s.elements ∷ s.text ∷ s.calls ∷ s.listed ∷ s.mappings ∷ s.notes ∷ [])) e r → Appended d 0 (written (seven_sizes (sizes_of l))) e r
+unfolding seven_sizes
+sizes_appended l s q p = rw (← q) p
+
 -- the sizes of lists, as the code has them
 abbrev told : Lists → Sizes
 told l = record {
@@ -97,12 +106,8 @@ told l = record {
   notes = length l.noted;
 }
 
-laid_out_lem : (l : Lists) → written (seven_sizes (read.sizes_of (told l))) ++ ((written l.kinds ++ written l.measures) ++ ((written (call_words l.operations l.counts l.rules) ++ (written l.targets ++ written l.listed)) ++ (((written l.inputs ++ written l.outputs) ++ (written l.noted ++ written l.numbers)) ++ l.text))) ≡ laid_out l
-unfolding laid_out sizes_of
-laid_out_lem l = simp append_assoc
-
 module _ (l : Lists) (y : InStep l) where
-  pub in_limits : Limits (told l)
+  in_limits : Limits (told l)
   unfolding sizes_of
   in_limits = record {
     tree = y.limits.some_tree;
@@ -115,10 +120,10 @@ module _ (l : Lists) (y : InStep l) where
     notes = y.limits.notes;
   }
 
-  module _ {d d₁ : List ℕ} {r₁ : ℕ} (room : 49180 ≤ length d) (p₁ : Appended d 0 (written (seven_sizes (read.sizes_of (told l)))) d₁ r₁) (e₁ : length d₁ ≡ length d) where
+  module _ {d d₁ : List ℕ} {r₁ : ℕ} (room : 49180 ≤ length d) (p₁ : Appended d 0 (written (seven_sizes (sizes_of l))) d₁ r₁) (e₁ : length d₁ ≡ length d) where
     sizes_end : r₁ ≡ 28
     unfolding seven_sizes
-    sizes_end = omega (arith, p₁.ends, length_written (seven_sizes (read.sizes_of (told l))))
+    sizes_end = omega (arith, p₁.ends, length_written (seven_sizes (sizes_of l)))
 
     pub room_trees : r₁ + 4 * length l.kinds + 4 * length l.measures ≤ length d₁
     room_trees = omega (arith, sizes_end, in_limits.elements, y.measures)

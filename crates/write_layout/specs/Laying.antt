@@ -1,27 +1,22 @@
--- The lists that are lent, what is tested of them before anything is laid out, and what is laid out.
+-- The lists that are lent as one value, as the definition has them.
 -- Assumes nothing.
-use Rattle.std.specs.Prelude.{Bool, not, ◌||◌, List, ℕ, eqb}
-use Rattle.definition.specs.Writing.{Lists}
+use Rattle.definition.specs.Writing as def
+use Rattle.write_layout.specs.declared.Lists.{Lists}
 
 -- lists as the call is lent them
-abbrev pub lists_in : ℕ → List ℕ → List ℕ → List ℕ → List ℕ → List ℕ → List ℕ → List ℕ → List ℕ → List ℕ → List ℕ → List ℕ → List ℕ → Lists
-lists_in trees kinds measures text operations counts rules targets listed inputs outputs noted numbers = record {
-  trees = trees;
-  kinds = kinds;
-  measures = measures;
-  text = text;
-  operations = operations;
-  counts = counts;
-  rules = rules;
-  targets = targets;
-  listed = listed;
-  inputs = inputs;
-  outputs = outputs;
-  noted = noted;
-  numbers = numbers;
+abbrev pub lists_in : Lists → def.Lists
+lists_in l = record {
+  trees = l.trees;
+  kinds = l.kinds.now;
+  measures = l.measures.now;
+  text = l.text.now;
+  operations = l.operations.now;
+  counts = l.counts.now;
+  rules = l.rules.now;
+  targets = l.targets.now;
+  listed = l.listed.now;
+  inputs = l.inputs.now;
+  outputs = l.outputs.now;
+  noted = l.noted.now;
+  numbers = l.numbers.now;
 }
-
--- lists in step that differ in length, by their lengths
-unfoldable pub uneven : ℕ → ℕ → ℕ → ℕ → ℕ → ℕ → ℕ → ℕ → ℕ → ℕ → Bool
-uneven kinds measures operations counts rules targets inputs outputs noted numbers =
-    not (eqb kinds measures) || not (eqb operations counts) || not (eqb operations rules) || not (eqb operations targets) || not (eqb inputs outputs) || not (eqb noted numbers)

@@ -1,10 +1,7 @@
--- `write_calls` meets its contract: the calls are those of the load.
-use Rattle.load_batch.proofs.Ways.{calls_written, as_many}
-use borrow.Author.Rules.{rules}
+-- `write_calls` meets its contract: the calls, the mapping and the notes are those of the load.
+use Rattle.load_batch.proofs.Ways.{calls_written}
 use Rattle.load_batch.proofs.write_calls.Goals as goal
 
-pub slice_bounds-write_notes-end-5 : goal.slice_bounds-write_notes-end-5
-slice_bounds-write_notes-end-5 c = search (as_many, rules)
-
-pub returns : goal.returns
-returns c = search (calls_written, rules)
+pub returns-clause-writes : goal.returns-clause-writes
+returns-clause-writes c =
+    calls_written _ _ _ _ _ _ _ _ _ _ _ _ _ _ _ _ _ _ _ c.fill_calls-n.ensures c.drawn.ensures c.replaced_block.ensures c.fill_notes.ensures c.write_batch.ensures.writes

@@ -4,8 +4,8 @@ use native.Mathlib.Omega.{arith}
 use Rattle.write_batch.proofs.Ways.{one_short}
 use Rattle.write_batch.proofs.too_short.Goals as goal
 
-pub returns-then-table-lt16384 : goal.returns-then-table-lt16384
-returns-then-table-lt16384 c = one_short _ _ _ _ (grind (arith, common_steps))
+pub returns-then-work-lt16384 : goal.returns-then-work-lt16384
+returns-then-work-lt16384 c = one_short _ _ _ _ (grind (arith, common_steps))
 
-pub returns-else-table-lt16384 : goal.returns-else-table-lt16384
-returns-else-table-lt16384 c = one_short _ _ _ _ (grind (arith, common_steps))
+pub returns-else-work-lt16384 : goal.returns-else-work-lt16384
+returns-else-work-lt16384 c = one_short _ _ _ _ (grind (arith, common_steps))

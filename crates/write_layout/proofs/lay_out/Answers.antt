@@ -1,10 +1,10 @@
 -- `lay_out` meets its contract: array behind array; each has room, since all are within their limits.
 use native.Mathlib.Omega.{arith}
-use Rattle.write_layout.proofs.Ways.{in_limits, room_trees, room_queue, room_names, room_text, all_laid}
+use Rattle.write_layout.proofs.Ways.{room_trees, room_queue, room_names, room_text, all_laid}
 use Rattle.write_layout.proofs.lay_out.Goals as goal
 
 pub append_sizes-trees_at-requires : goal.append_sizes-trees_at-requires
-append_sizes-trees_at-requires c = record { limits = in_limits _ c.requires.in_step; in_bounds = omega (arith, c.requires.in_bounds) }
+append_sizes-trees_at-requires c = record { in_step = c.requires.in_step; in_bounds = omega (arith, c.requires.in_bounds) }
 
 pub append_two-calls_at-requires : goal.append_two-calls_at-requires
 append_two-calls_at-requires c = room_trees _ c.requires.in_step c.requires.in_bounds c.append_sizes-trees_at.ensures c.draft-1.given
