@@ -1,13 +1,15 @@
 -- The discarded changes, counted on rows.
 -- Assumes nothing.
-use Rattle.std.specs.Prelude.{Bool, true, false, cond, List, ◌∷◌, map, ◌≡◌, refl, ℕ, zero, suc, ◌+◌, ◌-◌, ◌*◌, ◌≤◌, ◌<◌, length, get_or, drop, eqb}
-use Rattle.std.proofs.Common.{sym, ap, ◌∙◌, arith, ne_eqb}
+use Rattle.std.specs.Prelude.{Bool, true, false, cond, List, [], ◌∷◌, map, ◌≡◌, refl, ℕ, zero, suc, ◌+◌, ◌*◌, ◌≤◌, ◌<◌, length, get_or, drop, eqb, ltb}
+use Rattle.std.proofs.Common.{sym, ap, ◌∙◌, inl, inr, arith, ne_eqb, lt-ltb, le-ltb}
 use Rattle.std.proofs.lemmas.List.{length-map}
+use Rattle.std.specs.List.{filter, range_with_len}
 use Rattle.orders.specs.Lists.{pick}
+use Rattle.orders.specs.ListLaws.{lt_or_le}
 use Rattle.definition.specs.Basics.{keep}
 use Rattle.definition.specs.Planning.{own, dependent, discarded, is_discarded, Planned}
 use Rattle.record_changes.specs.ChangeRow.{ChangeRow, row_of, rows_of}
-use Rattle.record_changes.specs.ChangeRowLaws.{row_at, rows_from}
+use Rattle.record_changes.specs.ChangeRowLaws.{row_at, rows_from, length_rows_of}
 use Rattle.plan_sort.specs.Lists.{keep_cons, map_keep}
 use Rattle.plan_sort.specs.Rows.{row_fate}
 use Rattle.record_rewritten.specs.Stated.{plan_of}
@@ -49,38 +51,43 @@ discarded_cons r rs = rw (keep_cons discards r rs) (go (discards r))
     go true = refl
     go false = refl
 
--- ── Row after row ───────────────────────────────────────────────────────────────────────────────────────────
+-- ── Row by row ──────────────────────────────────────────────────────────────────────────────────────────────
 
--- n of the first i rows are discarded
-pub record Counting (w : List ℕ) (c n i : ℕ) : Type 0 where
-  pub passed : i ≤ c
-  pub few : n ≤ i
-  pub left : n + discarded_of (rows_of (c - i) (drop (14 * i) w)) ≡ discarded_of (rows_of c w)
+none_left : discarded_of [] ≡ 0
+unfolding discarded_of keep pick
+none_left = refl
 
-none_left : (w : List ℕ) → discarded_of (rows_of 0 w) ≡ 0
-unfolding rows_of discarded_of keep pick
-none_left w = refl
+-- no more than there are
+few : (rs : List ChangeRow) → discarded_of rs ≤ length rs
+few [] = omega (arith, none_left)
+few (r ∷ rs) = go (discards r) (discarded_cons r rs) (few rs)
+  where
+    go : (b : Bool) → discarded_of (r ∷ rs) ≡ cond b (suc (discarded_of rs)) (discarded_of rs) → discarded_of rs ≤ length rs → discarded_of (r ∷ rs) ≤ suc (length rs)
+    go true e h = omega arith
+    go false e h = omega arith
 
-pub counting_start : (w : List ℕ) (c : ℕ) → Counting w c 0 0
-counting_start w c = record { passed = omega arith; few = omega arith; left = let e : c - 0 ≡ c = omega arith in rw e (omega arith) }
+pub discarded_few : (c : ℕ) (w : List ℕ) → discarded_of (rows_of c w) ≤ c
+discarded_few c w = omega (arith, few (rows_of c w), length_rows_of c w)
 
-module _ {w : List ℕ} {c n i : ℕ} (C : Counting w c n i) where
-  next : i < c → discarded_of (rows_of (c - i) (drop (14 * i) w)) ≡ cond (discards (row_at w i)) (suc (discarded_of (rows_of (c - (i + 1)) (drop (14 * (i + 1)) w)))) (discarded_of (rows_of (c - (i + 1)) (drop (14 * (i + 1)) w)))
-  next h =
-      let e : c - i ≡ suc (c - (i + 1)) = omega arith in
-      let f : 14 * suc i ≡ 14 * (i + 1) = omega arith in
-      rw (e, rows_from w i (c - (i + 1)), f) (discarded_cons (row_at w i) (rows_of (c - (i + 1)) (drop (14 * (i + 1)) w)))
+-- the test of a row at its place
+unfoldable pub discards_at : List ℕ → ℕ → Bool
+discards_at w k = ltb 1 (get_or (drop (14 * k) w) 11 0)
 
-  pub counting_one : i < c → 1 < get_or (drop (14 * i) w) 11 0 → Counting w c (n + 1) (i + 1)
-  unfolding row_at row_of
-  counting_one h d = record { passed = omega arith; few = omega (arith, C.few); left = omega (arith, C.left, rw (row_discards (row_at w i) d) at (next h)) }
+at_row : (w : List ℕ) (k : ℕ) → discards_at w k ≡ discards (row_at w k)
+unfolding discards_at row_at row_of
+at_row w k = elim (lt_or_le 1 (row_at w k).fate) [ inl h ↦ rw (lt-ltb 1 (row_at w k).fate h, row_discards (row_at w k) h) | inr h ↦ rw (le-ltb 1 (row_at w k).fate h, row_stays (row_at w k) h) ]
 
-  pub counting_none : i < c → get_or (drop (14 * i) w) 11 0 ≤ 1 → Counting w c n (i + 1)
-  unfolding row_at row_of
-  counting_none h d = record { passed = omega arith; few = omega (arith, C.few); left = omega (arith, C.left, rw (row_stays (row_at w i) d) at (next h)) }
+rows_none : (w : List ℕ) → 0 ≡ discarded_of (rows_of 0 w)
+unfolding rows_of
+rows_none w = sym none_left
 
-  pub counting_end : c ≤ i → (n ≡ discarded_of (rows_of c w)) × (n ≤ c)
-  counting_end h =
-      let e : c - i ≡ 0 = omega arith in
-      let z : discarded_of (rows_of (c - i) (drop (14 * i) w)) ≡ 0 = rw e (none_left (drop (14 * i) w)) in
-      (omega (arith, C.left), omega (arith, C.few, C.passed))
+-- the places from i on of rows that are
+pub discarded_counted : (w : List ℕ) (n i : ℕ) → length (filter (discards_at w) (range_with_len i n)) ≡ discarded_of (rows_of n (drop (14 * i) w))
+discarded_counted w zero i = rows_none (drop (14 * i) w)
+discarded_counted w (suc n) i =
+    let f : 14 * suc i ≡ 14 * (i + 1) = omega arith in
+    rw (rows_from w i n, f, discarded_cons (row_at w i) (rows_of n (drop (14 * (i + 1)) w)), ← discarded_counted w n (i + 1), ← at_row w i) (go (discards_at w i) (filter (discards_at w) (range_with_len (i + 1) n)))
+  where
+    go : (b : Bool) (l : List ℕ) → length (cond b (i ∷ l) l) ≡ cond b (suc (length l)) (length l)
+    go true l = refl
+    go false l = refl

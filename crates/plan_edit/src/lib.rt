@@ -22,7 +22,7 @@ use plan_upmap::Mapping;
 use plan_withdraw::number_of;
 use read_element_table::Elements;
 use read_layout::Batch;
-use record_changes::Fate;
+use record_changes::{Fate, field};
 use refusals::Refusal;
 
 // Where the words stand that tell which changes are withdrawn: behind the change rows.
@@ -73,13 +73,8 @@ fn count_discarded(rows: &[u32], c: usize) -> usize
     requires { c ≤ 256 }
     ensures { (result ≡ discarded_of (rows_of c rows.now)) × (result ≤ c) }
 {
-    let mut n: usize = 0;
-    for i in 0..c {
-        if record_changes::field(rows, i, record_changes::FATE) > Fate::Dependent as usize {
-            n += 1;
-        }
-    }
-    n
+    let discarded = |&i: &usize| field(rows, i, record_changes::FATE) > Fate::Dependent as usize;
+    (0..c).filter(discarded).count()
 }
 
 // The calls are recorded, and their rows written to `sorted` in sorted order. How many there are.

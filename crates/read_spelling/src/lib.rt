@@ -11,6 +11,7 @@ pub use columns::Columns;
 use words::NODE_KIND;
 
 // How many children an element has.
+#[tactic(auto, using(crate::specs::SpellingLaws::children_token, crate::specs::SpellingLaws::children_node))]
 pub fn children_of(kind: usize, measure: usize) -> usize
     ensures { result ≡ children_of kind measure }
 {
@@ -21,6 +22,7 @@ pub fn children_of(kind: usize, measure: usize) -> usize
 }
 
 // How long the text of an element alone is.
+#[tactic(auto, using(crate::specs::SpellingLaws::length_token, crate::specs::SpellingLaws::length_node))]
 pub fn length_of(kind: usize, measure: usize) -> usize
     ensures { (result ≡ length_of kind measure) × (result ≤ measure) }
 {
@@ -31,6 +33,7 @@ pub fn length_of(kind: usize, measure: usize) -> usize
 }
 
 // Whether an element with this kind word may stand at this depth.
+#[tactic(auto, using(crate::specs::SpellingLaws::stands_malformed, crate::specs::SpellingLaws::stands_deep, crate::specs::SpellingLaws::stands_node, crate::specs::SpellingLaws::stands_token))]
 pub fn stands(kind: usize, depth: usize) -> bool
     ensures { result ≡ stands_at kind depth }
 {

@@ -1,17 +1,14 @@
--- `count_discarded` meets its contract. The invariant: so many of the rows passed are discarded.
-use borrow.Author.Rules.{rules}
-use Rattle.plan_edit.specs.Counted.{counting_start, counting_one, counting_none, counting_end}
-use Rattle.plan_edit.proofs.count_discarded.Goals.{then-field, else-field}
+-- `count_discarded` meets its contract: the places that it counts are those of discarded changes.
+use mathlib.Core.Path.{◌∙◌}
+use Rattle.std.proofs.Common.{arith, rules, tests}
+use Rattle.std.proofs.lemmas.Iterator.{YieldsList-from_range}
+use Rattle.std.proofs.lemmas.Iterator.Consumers.{YieldsList-from_filter, count_from_yields_List}
+use Rattle.plan_edit.specs.Counted.{discards_at, discarded_counted, discarded_few}
 use Rattle.plan_edit.proofs.count_discarded.Goals as goal
 
-pub loop-i-init : goal.loop-i-init
-loop-i-init c = search (counting_start, rules)
-
-pub loop-i-preserved : goal.loop-i-preserved
-loop-i-preserved c = elim c.if-field.branch [
-  | then-field w ↦ rw w.n-is (counting_one c.loop-i.invariant c.loop-i-test.true (rw c.field.ensures.0 at w.if-field.true))
-  | else-field w ↦ rw w.n-is (counting_none c.loop-i.invariant c.loop-i-test.true (rw c.field.ensures.0 at w.if-field.false))
-]
-
 pub returns : goal.returns
-returns c = counting_end c.loop-i.invariant (search rules)
+unfolding discards_at
+returns c =
+    let told = count_from_yields_List _ _ c.count.ensures.ran (YieldsList-from_filter _ (discards_at c.args.rows.now) (YieldsList-from_range 0 c.args.c c.args.c c.filter.ensures.source (omega arith)) c.filter.ensures.closure (λ x r q k. search (rules, tests))) in
+    let counted = told ∙ discarded_counted c.args.rows.now c.args.c 0 in
+    (counted, omega (arith, counted, discarded_few c.args.c c.args.rows.now))
