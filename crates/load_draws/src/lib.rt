@@ -11,7 +11,7 @@ pub const REPLACEMENT: u32 = 786;
 
 pub const COPY: u32 = 787;
 
-// The operations of a call.
+// The operations of a call, as words of a batch: `read_calls::Operation` has no further editor, and its crate stands above this one.
 const FIRST_CHILD: u32 = 0;
 
 const AFTER: u32 = 1;
@@ -26,7 +26,8 @@ const REPLACE_RUN: u32 = 5;
 
 const FURTHER_EDITOR: u32 = 6;
 
-// A drawn call. It lists `count` elements: none, `first`, or `first` and `second`.
+// A drawn call. It lists `count` elements: none, `first`, or `first` and `second`. Not an enum of the three: who lists the elements of all calls writes both
+// places and goes on by the count, and would have an arm for each.
 #[derive(Clone, Copy)]
 pub struct DrawnCall {
     pub operation: u32,
@@ -118,7 +119,8 @@ fn other_drawn(place: u32) -> u32
     donor(place / 4096)
 }
 
-// A call that lists nothing. This and the next two stay three: one that took a slice of elements would ask how many they are, which each call knows.
+// A call that lists nothing. This and the next two stay three: one that took a slice of elements would ask that they are two at most, and test for each place
+// whether there is one; a closure has no place in them, since nothing is computed.
 fn listing_none(rule: u32, operation: u32, target: u32) -> DrawnCall
     ensures { Called result (call rule operation target []) }
 {

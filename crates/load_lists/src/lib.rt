@@ -1,7 +1,7 @@
 // The lists of a load (document 02, Note 12): its trees, its calls and its notes.
 #![tactic(auto)]
 
-ghost use Rattle.std.specs.Prelude.{◌≡◌, ◌<◌, ◌≤◌, length};
+ghost use Rattle.std.specs.Prelude.{◌≡◌, ℕ, ◌<◌, ◌≤◌, length};
 ghost use Rattle.load_laws.specs.Load.{after, along, kind_at, measure_at, byte_at};
 ghost use Rattle.load_draws.specs.Called.{Called};
 ghost use Rattle.load_lists.specs.Numbered.{numbered as numbered_of, passed as passed_of};
@@ -64,26 +64,17 @@ fn byte_at(t: usize) -> u8
     }
 }
 
-// Three loops of one line each stay three: a closure lent to one is no plainer, since the contract would speak of the closure.
-// The kind words of as many elements as there is room for.
-fn fill_kinds(kinds: &mut [u32])
-    ensures { kinds.new ≡ along kind_at 0 (length kinds.old) }
+// As many words as there is room for, one of each item.
+fn fill_words<F: Fn(usize) -> u32>(words: &mut [u32], item: F)
+    requires callable { (i : ℕ) → i < length words.old → F.pre item i }
+    ensures { (f : ℕ → ℕ) → ((i x : ℕ) → i < length words.old → F.post item i x → x ≡ f i) → words.new ≡ along f 0 (length words.old) }
 {
-    for (i, kind) in kinds.iter_mut().enumerate() {
-        *kind = kind_at(i);
+    for (i, word) in words.iter_mut().enumerate() {
+        *word = item(i);
     }
 }
 
-// Their measures.
-fn fill_measures(measures: &mut [u32])
-    ensures { measures.new ≡ along measure_at 0 (length measures.old) }
-{
-    for (i, measure) in measures.iter_mut().enumerate() {
-        *measure = measure_at(i);
-    }
-}
-
-// As many bytes of the text.
+// As many bytes of the text. Not by `fill_words`: its items are words, and a list of any type would need `along` of any type, and laws of it.
 fn fill_text(text: &mut [u8])
     requires { length text.old ≤ 660 }
     ensures { text.new ≡ along byte_at 0 (length text.old) }
@@ -98,8 +89,8 @@ pub fn fill_trees(kinds: &mut [u32], measures: &mut [u32], text: &mut [u8])
     requires { (792 ≡ length kinds.old) × (792 ≡ length measures.old) × (660 ≡ length text.old) }
     ensures { TreesFilled kinds.new measures.new text.new }
 {
-    fill_kinds(kinds);
-    fill_measures(measures);
+    fill_words(kinds, |e| kind_at(e));
+    fill_words(measures, |e| measure_at(e));
     fill_text(text);
 }
 
