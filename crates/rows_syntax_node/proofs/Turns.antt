@@ -2,10 +2,12 @@
 -- Assumes nothing.
 use mathlib.Core.Path.{◌≡◌, refl, sym, ap, ◌∙◌}
 use mathlib.Core.List.{List, [], ◌∷◌, ◌++◌, map, append-nil}
+use Rattle.std.specs.Prelude.{None, Some}
 use Prim.Native.Nat.{ℕ, zero, suc, ◌+◌, ◌-◌, ◌*◌, ◌/◌, ◌%◌, ◌^◌, ◌≤◌, ◌<◌, max}
 use native.Mathlib.Omega.{arith}
 use native.Mathlib.Nat.{zero-add}
 use native.Mathlib.Numerals.{add-one}
+use borrow.Author.Tests.{lt-ltb, le-ltb}
 use lib.ListN.{length, get_or, set, take, drop, length-set, length-map, length-drop, drop_of_length-le}
 use lib.Seq.{get_or-set_same, get_or-set_other, paste, paste-suc, take-paste, drop-paste, take_all, length-take-le, get_or-take, take-set-lt, drop-set-lt, drop_at}
 use Rattle.orders.specs.Tree.{modify}
@@ -18,7 +20,7 @@ use Rattle.rows_model.specs.Place.{rows_after, child_row, between, subtree, reme
 use Rattle.rows_model.proofs.RowLaws.{skip_none, height_closed}
 use Rattle.rows_model.proofs.Marks.{marks_below}
 use Rattle.rows_model.proofs.Words.{node_row, token_owes, token_length, first_at, first_end, length_triples, triples_at, triples_end, triples_append, triples_take, triples_drop, triples_set, length_first, words_between}
-use Rattle.rows_syntax_node.specs.Promises.{Counted, Measured, After, ChildAt, TreesIn, TreesBetween, Bytes, Height, Part, Appended, Spliced, Moved, Shifted}
+use Rattle.rows_syntax_node.specs.Promises.{Counted, Measured, After, ChildAt, TreesIn, TreesBetween, Bytes, height_by, Height, Part, Appended, Spliced, Moved, Shifted}
 
 -- ── One row ─────────────────────────────────────────────────────────────────────────────────────────────────
 
@@ -365,8 +367,9 @@ module _ {run left : List ℕ} {d most i : ℕ} (v : Stacking run left d most i)
     unfolding height_in
     height_step text = rw (triples_at text i run h, stack_opened left d (omega (arith, v.long, v.few)) z, length_stack (set left d (get_or left d 0 - 1)) d)
 
-    pub stacking_deep : 64 ≤ d → Height run 65
-    stacking_deep k = record { most = λ text. omega (arith, v.rest text, height_step text) }
+    pub stacking_deep : 64 ≤ d → Height run None
+    unfolding height_by
+    stacking_deep k = record { most = λ text. rw (lt-ltb 64 (height (triples text run)) (omega (arith, v.rest text, height_step text))) }
 
     pub stacking_push : {m most' : ℕ} → d < 64 → Counted run i m → most' ≡ max most (d + 1) → Stacking run (set (set left d (get_or left d 0 - 1)) (d + 1) m) (d + 1) most' (i + 1)
     stacking_push {m} k c e = record {
@@ -378,6 +381,11 @@ module _ {run left : List ℕ} {d most i : ℕ} (v : Stacking run left d most i)
       rest = λ text. rw (stack_pushed left d m (omega (arith, v.long)), c.count text, add-one i) (omega (arith, v.rest text, height_step text));
     }
 
-pub stacking_done : {run left : List ℕ} {d most i : ℕ} → Stacking run left d most i → length run ≤ 3 * i + 2 → Height run most
-unfolding height_in
-stacking_done {run} {i = i} v h = record { most = λ text. let e = rw (triples_end text i run h) at (v.rest text) in omega (arith, v.within) }
+pub stacking_done : {run left : List ℕ} {d most i : ℕ} → Stacking run left d most i → length run ≤ 3 * i + 2 → Height run (Some most)
+unfolding height_in height_by
+stacking_done {run} {most = most} {i = i} v h = record {
+  most = λ text.
+      let e = rw (triples_end text i run h) at (v.rest text) in
+      let z : height (triples text run) ≡ most = omega (arith, v.within) in
+      rw (z, le-ltb 64 most (omega (arith, v.within)));
+}

@@ -1,6 +1,7 @@
 -- What the functions on rows promise, part by part. `text` is the text of all: no function here reads it, so that each promise holds for any.
 -- Assumes nothing.
-use Rattle.std.specs.Prelude.{◌≡◌, List, ◌++◌, map, ℕ, ◌+◌, ◌-◌, ◌*◌, ◌/◌, ◌^◌, ◌≤◌, ◌<◌, min, length, drop}
+use Rattle.std.specs.Prelude as prelude
+use Rattle.std.specs.Prelude.{◌≡◌, None, Some, cond, List, ◌++◌, map, ℕ, ◌+◌, ◌-◌, ◌*◌, ◌/◌, ◌^◌, ◌≤◌, ◌<◌, ltb, length, drop}
 use Rattle.orders.specs.Lists.{All}
 use Rattle.rows_model.specs.Row.{row_in, first_rows, triples, owes, text_length, trees_in, bytes, height}
 use Rattle.rows_model.specs.Place.{rows_after, child_row, between, subtree, splice_rows, moved_mark}
@@ -42,9 +43,13 @@ pub record Bytes (run : List ℕ) (r : ℕ) : Type 0 where
   pub sum : (text : List ℕ) → r ≡ bytes (triples text run)
   pub small : r < 2 ^ 48
 
--- the height of a run; 65 stands for any that is more than 64
-pub record Height (run : List ℕ) (r : ℕ) : Type 0 where
-  pub most : (text : List ℕ) → r ≡ min 65 (height (triples text run))
+-- a height, none where it is more than 64
+unfoldable pub height_by : ℕ → prelude.Option ℕ
+height_by h = cond (ltb 64 h) None (Some h)
+
+-- the height of a run
+pub record Height (run : List ℕ) (r : prelude.Option ℕ) : Type 0 where
+  pub most : (text : List ℕ) → r ≡ height_by (height (triples text run))
 
 -- the element at row `at` with all that is below it, as a part of the words
 pub record Part (rows : List ℕ) (n at : ℕ) (run : List ℕ) : Type 0 where

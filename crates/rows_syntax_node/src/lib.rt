@@ -9,7 +9,7 @@ ghost use Rattle.rows_syntax_node.specs.Promises.{Counted, Measured, After, Chil
 mod rows;
 
 pub use rows::Rows;
-use words::{copy_in, splice_words, word};
+use words::{NODE_KIND, copy_in, splice_words, word};
 
 // How many words a row has, and which they are: the kind word is the first, at `ROW_WORDS * i`.
 pub const ROW_WORDS: usize = 3;
@@ -28,7 +28,7 @@ pub fn child_count(rows: &[u32], i: usize) -> usize
     ensures { Counted rows.now i result }
 {
     let k = word(rows, ROW_WORDS * i);
-    if k < 0x8000_0000 {
+    if k < NODE_KIND {
         return 0;
     }
     word(rows, ROW_WORDS * i + MEASURE)
@@ -40,7 +40,7 @@ pub fn text_length(rows: &[u32], i: usize) -> usize
     ensures { Measured rows.now i result }
 {
     let k = word(rows, ROW_WORDS * i);
-    if k < 0x8000_0000 {
+    if k < NODE_KIND {
         return word(rows, ROW_WORDS * i + MEASURE);
     }
     0
@@ -122,9 +122,9 @@ pub fn text_bytes(run: &[u32]) -> usize
     sum
 }
 
-// The greatest depth in a run, or 65 where it is more than 64: a height and no refusal, since callers add it to a depth and compare the sum with 64, and an `Option` would be turned back into such a number at each.
+// The greatest depth in a run, none where it is more than 64.
 // Its `while` walks with a stack: a turn either takes a row or closes a node, so a `for` over rows would need a second loop inside; no plainer.
-pub fn height(run: &[u32]) -> usize
+pub fn height(run: &[u32]) -> Option<usize>
     requires { length run.now < 3 * 2 ^ 16 }
     ensures { Height run.now result }
 {
@@ -140,7 +140,7 @@ pub fn height(run: &[u32]) -> usize
             depth -= 1;
         } else {
             if 64 <= depth {
-                return 65;
+                return None;
             }
             left[depth] = x - 1;
             depth += 1;
@@ -149,7 +149,7 @@ pub fn height(run: &[u32]) -> usize
             i += 1;
         }
     }
-    most
+    Some(most)
 }
 
 // ── Rows written ──

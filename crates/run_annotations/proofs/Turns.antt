@@ -1,5 +1,6 @@
 -- The loops: for each its invariant, that it holds at the start, after a turn, and what it says at the end.
 -- Assumes nothing.
+use Rattle.std.specs.Prelude as prelude
 use Rattle.std.specs.Prelude.{None, Some}
 use mathlib.Core.Path.{◌≡◌, refl, sym, ap, subst, ◌∙◌}
 use mathlib.Core.List.{List, [], ◌∷◌, ◌++◌, map, append-nil, append_assoc}
@@ -19,9 +20,9 @@ use Rattle.orders.proofs.TreeLaws.{shift_before, shift_inside, shift_after}
 use Rattle.definition_laws.specs.Basics.{map_All, get_d_map}
 use Rattle.rows_model.specs.Place.{in_run}
 use Rattle.run_model.specs.Store.{HeldNote, HeldChanged, with_row, at_row, put_in}
-use Rattle.run_annotations.specs.Notes.{note_words, notes_of, note_at, length_notes_of, note_row, note_words_lem, notes_to, note_among, notes_added, drop_note, length_note}
+use Rattle.run_annotations.specs.Notes.{note_words, notes_of, notes_in, note_at, length_notes_of, note_row, note_words_lem, notes_to, note_among, notes_added, drop_note, length_note}
 use Rattle.run_annotations.specs.Changed.{changed_word, changed_of, changed_in, changed_read, length_changed_in, changed_to, changed_added, changed_put}
-use Rattle.run_annotations.specs.Promises.{moved_changed, RowMoved, RowsMoved, moved_note, NoteMoved, NotesMoved, note_in, placed_note, NoteTaken, taken, NotesTaken, RowsAdded}
+use Rattle.run_annotations.specs.Promises.{row_told, Moved, moved_changed, RowMoved, RowsMoved, moved_note, NoteMoved, NotesMoved, note_in, placed_note, NoteTaken, taken, NotesTaken, RowsAdded}
 use Rattle.run_annotations.specs.Places.{part_rows, length_part_rows}
 
 -- ── Lists ───────────────────────────────────────────────────────────────────────────────────────────────────
@@ -36,6 +37,32 @@ pick_more {X} {Y} f (y ∷ l) x = go (f y) (pick_more f l x)
     go none e = e
     go (some z) e = ap {B = List Y} (λ r. z ∷ r) e
 
+-- ── Rows moved ──────────────────────────────────────────────────────────────────────────────────────────────
+
+module _ {p q m x : ℕ} where
+  pub moved_before : x < p → Moved p q m x (Some x)
+  unfolding row_told
+  moved_before h = record { row = rw (shift_before p q m x h); low = λ y e. let z : x ≡ y = cc in omega arith }
+
+  pub moved_inside : p ≤ x → x < q → Moved p q m x None
+  unfolding row_told
+  moved_inside h k = record { row = rw (shift_inside p q m x h k); low = λ y e. let z : ◌≡◌ {A = ℕ} 0 1 = cc in absurd (omega arith) }
+
+  pub moved_after : p ≤ x → q ≤ x → Moved p q m x (Some (x + m - (q - p)))
+  unfolding row_told
+  moved_after h k = record { row = rw (shift_after p q m x h k); low = λ y e. let z : x + m - (q - p) ≡ y = cc in omega arith }
+
+-- what an answer tells of the row
+gone_told : (o : Option ℕ) → None ≡ row_told o → o ≡ none
+unfolding row_told
+gone_told none e = refl
+gone_told (some x) e = let z : ◌≡◌ {A = ℕ} 0 1 = cc in absurd (omega arith)
+
+kept_told : (o : Option ℕ) (y : ℕ) → Some y ≡ row_told o → o ≡ some y
+unfolding row_told
+kept_told none y e = let z : ◌≡◌ {A = ℕ} 0 1 = cc in absurd (omega arith)
+kept_told (some x) y e = let z : y ≡ x = cc in rw z
+
 -- ── Changed elements ────────────────────────────────────────────────────────────────────────────────────────
 
 -- the parts of a word are in bounds
@@ -46,13 +73,6 @@ row_told_lem w = refl
 pub rule_told : (w : ℕ) → w / 131072 ≡ (changed_of w).rule
 unfolding changed_of
 rule_told w = refl
-
--- and leave room for a move
-pub row_sum : (l : List ℕ) (i m : ℕ) {w x : ℕ} → (w ≡ get_or l i 0) × (w < 2 ^ 32) → x ≡ (changed_of w).row → (changed_of (get_or l i 0)).row < 2 ^ 16 → m < 2 ^ 16 → x + m < 2 ^ 64
-row_sum l i m {w} {x} e f h k = let s : x < 2 ^ 16 = rw (f, e.0) h in omega arith
-
-pub row_room : (l : List ℕ) (i p q m : ℕ) {w x : ℕ} → (w ≡ get_or l i 0) × (w < 2 ^ 32) → x ≡ (changed_of w).row → (changed_of (get_or l i 0)).row < 2 ^ 16 → m < 2 ^ 16 → x + m - (q - p) < 131072
-row_room l i p q m {w} {x} e f h k = let s : x < 2 ^ 16 = rw (f, e.0) h in omega arith
 
 pub rule_room : (w : ℕ) {rule : ℕ} → rule ≡ (changed_of w).rule → w < 2 ^ 32 → rule < 32768
 unfolding changed_of
@@ -66,34 +86,31 @@ word_told row rule = refl
 moved_by : (l : List ℕ) (i p q m : ℕ) {w x : ℕ} (o : Option ℕ) → w ≡ get_or l i 0 → x ≡ (changed_of w).row → shift p q m x ≡ o → moved_changed p q m (changed_of (get_or l i 0)) ≡ Option.map (at_row (changed_of w)) o
 moved_by l i p q m {w} {x} o e f g = rw (← e, ← f, g)
 
-module _ {l : List ℕ} {i r p q m : ℕ} where
-  -- a changed element is written behind the first r
-  row_set : (y : ℕ) → r ≤ i → i < length l → moved_changed p q m (changed_of (get_or l i 0)) ≡ some (changed_of y) → RowMoved l i r p q m (set l r y) (r + 1)
-  row_set y h k s = record {
-    kept = rw (add-one r, changed_added l r y (omega arith), s);
-    rest = drop-set-lt (suc i) l r y (omega arith);
-    long = length-set l r y;
-    most = omega arith;
-  }
+module _ (l : List ℕ) (i : ℕ) {p q m w x : ℕ} {o : prelude.Option ℕ} (e : (w ≡ get_or l i 0) × (w < 2 ^ 32)) (f : x ≡ (changed_of w).row) (v : Moved p q m x o) where
+  -- the row that it comes to has its bits
+  pub row_room : {y : ℕ} → o ≡ Some y → (changed_of (get_or l i 0)).row < 2 ^ 16 → m < 2 ^ 16 → y < 131072
+  row_room {y} z h k = let s : x < 2 ^ 16 = rw (f, e.0) h in let t = v.low y z in omega arith
 
-  pub row_before : {w x : ℕ} → r ≤ i → i < length l → (w ≡ get_or l i 0) × (w < 2 ^ 32) → x ≡ (changed_of w).row → x < p → RowMoved l i r p q m (set l r w) (r + 1)
-  unfolding at_row
-  row_before {w} {x} h k e f b = row_set w h k (moved_by l i p q m (some x) e.0 f (shift_before p q m x b) ∙ rw f)
-
-  pub row_inside : {w x : ℕ} → r ≤ i → (w ≡ get_or l i 0) × (w < 2 ^ 32) → x ≡ (changed_of w).row → p ≤ x → x < q → RowMoved l i r p q m l r
-  row_inside {w} {x} h e f a b = record {
-    kept = rw (moved_by l i p q m none e.0 f (shift_inside p q m x a b)) (sym (append-nil (changed_in r l)));
+  -- it gives way
+  pub row_gone : {r : ℕ} → o ≡ None → r ≤ i → RowMoved l i r p q m l r
+  row_gone {r} z h = record {
+    kept = rw (moved_by l i p q m none e.0 f (gone_told (shift p q m x) (sym z ∙ v.row))) (sym (append-nil (changed_in r l)));
     rest = refl;
     long = refl;
     most = omega arith;
   }
 
-  pub row_after : {w x rule y : ℕ} → r ≤ i → i < length l → (w ≡ get_or l i 0) × (w < 2 ^ 32) → x ≡ (changed_of w).row → p ≤ x → q ≤ x → rule ≡ (changed_of w).rule
-      → q < 2 ^ 16 → m < 2 ^ 16 → (changed_of (get_or l i 0)).row < 2 ^ 16 → (y ≡ changed_word (put_in rule (x + m - (q - p)))) × (y < 2 ^ 32) → RowMoved l i r p q m (set l r y) (r + 1)
+  -- or is written behind the first r
+  pub row_kept : {r y rule n : ℕ} → o ≡ Some y → r ≤ i → i < length l → rule ≡ (changed_of w).rule → (n ≡ changed_word (put_in rule y)) × (n < 2 ^ 32) → y < 131072 → RowMoved l i r p q m (set l r n) (r + 1)
   unfolding at_row
-  row_after {w} {x} {rule} {y} h k e f a b g u v n z =
-      let s : x < 2 ^ 16 = rw (f, e.0) n in
-      row_set y h k (moved_by l i p q m (some (x + m - (q - p))) e.0 f (shift_after p q m x a b) ∙ rw (z.0, changed_read (put_in rule (x + m - (q - p))) (omega arith), g))
+  row_kept {r} {y} {rule} {n} z h k g u b =
+      let s : moved_changed p q m (changed_of (get_or l i 0)) ≡ some (changed_of n) = moved_by l i p q m (some y) e.0 f (kept_told (shift p q m x) y (sym z ∙ v.row)) ∙ rw (u.0, changed_read (put_in rule y) b, g) in
+      record {
+        kept = rw (add-one r, changed_added l r n (omega arith), s);
+        rest = drop-set-lt (suc i) l r n (omega arith);
+        long = length-set l r n;
+        most = omega arith;
+      }
 
 -- the first i changed elements are moved, and r of them are left
 pub record Moving (l : List ℕ) (k p q m : ℕ) (out : List ℕ) (i r : ℕ) : Type 0 where
@@ -146,33 +163,32 @@ pub kept_note : (l old : List ℕ) (i r row : ℕ) {b c : ℕ} {out : List ℕ} 
     → out ≡ paste old (3 * r) (row ∷ b ∷ c ∷ []) 3 → out ≡ paste old (3 * r) (note_words (with_row (note_at l i) row)) 3
 kept_note l old i r row e f g = rw (note_words_lem l i row e.0 f.0) g
 
-module _ {l : List ℕ} {i r p q m : ℕ} where
-  -- the note is written behind the first r, at the row y
-  note_set : {x y : ℕ} {out : List ℕ} → r ≤ i → 3 * i + 3 ≤ length l → x ≡ get_or l (3 * i) 0 → shift p q m x ≡ some y
-      → out ≡ paste l (3 * r) (note_words (with_row (note_at l i) y)) 3 → NoteMoved l i r p q m out (r + 1)
-  note_set {x} {y} h k e s w =
+module _ (l : List ℕ) (i : ℕ) {p q m x : ℕ} {o : prelude.Option ℕ} (e : (x ≡ get_or l (3 * i) 0) × (x < 2 ^ 32)) (v : Moved p q m x o) where
+  -- what becomes of a note is what becomes of its row
+  note_by : {y : Option ℕ} → shift p q m x ≡ y → moved_note p q m (note_at l i) ≡ Option.map (with_row (note_at l i)) y
+  note_by s = ap (λ (o : Option ℕ). Option.map (with_row (note_at l i)) o) (ap (shift p q m) (note_row l i ∙ sym e.0) ∙ s)
+
+  pub note_room : {y : ℕ} → o ≡ Some y → get_or l (3 * i) 0 < 2 ^ 16 → m < 2 ^ 16 → y < 2 ^ 32
+  note_room {y} z h k = let t = v.low y z in omega (arith, e.0)
+
+  -- it gives way
+  pub note_gone : {r : ℕ} → o ≡ None → r ≤ i → NoteMoved l i r p q m l r
+  note_gone {r} z h =
+      let g : moved_note p q m (note_at l i) ≡ none = note_by (gone_told (shift p q m x) (sym z ∙ v.row)) in
+      record { kept = rw g (sym (append-nil (notes_of r l))); rest = refl; long = refl; most = omega arith }
+
+  -- or is written behind the first r, at the row y
+  pub note_kept : {r y : ℕ} {out : List ℕ} → o ≡ Some y → r ≤ i → 3 * i + 3 ≤ length l → out ≡ paste l (3 * r) (note_words (with_row (note_at l i) y)) 3 → NoteMoved l i r p q m out (r + 1)
+  note_kept {r} {y} z h k w =
       let n : HeldNote = with_row (note_at l i) y in
       let b : 3 * r + 3 ≤ length l = omega arith in
-      let g : moved_note p q m (note_at l i) ≡ some n = ap (λ (o : Option ℕ). Option.map (with_row (note_at l i)) o) (ap (shift p q m) (note_row l i ∙ sym e) ∙ s) in
+      let g : moved_note p q m (note_at l i) ≡ some n = note_by (kept_told (shift p q m x) y (sym z ∙ v.row)) in
       record {
         kept = rw (w, g) (notes_added l r n b);
         rest = rw w (drop_note l r n b i h);
         long = rw w (length_note l r n b);
         most = omega arith;
       }
-
-  pub note_before : {x : ℕ} {out : List ℕ} → r ≤ i → 3 * i + 3 ≤ length l → (x ≡ get_or l (3 * i) 0) × (x < 2 ^ 32) → x < p
-      → out ≡ paste l (3 * r) (note_words (with_row (note_at l i) x)) 3 → NoteMoved l i r p q m out (r + 1)
-  note_before {x} h k e b w = note_set h k e.0 (shift_before p q m x b) w
-
-  pub note_inside : {x : ℕ} → r ≤ i → (x ≡ get_or l (3 * i) 0) × (x < 2 ^ 32) → p ≤ x → x < q → NoteMoved l i r p q m l r
-  note_inside {x} h e a b =
-      let g : moved_note p q m (note_at l i) ≡ none = ap (λ (o : Option ℕ). Option.map (with_row (note_at l i)) o) (ap (shift p q m) (note_row l i ∙ sym e.0) ∙ shift_inside p q m x a b) in
-      record { kept = rw g (sym (append-nil (notes_of r l))); rest = refl; long = refl; most = omega arith }
-
-  pub note_after : {x : ℕ} {out : List ℕ} → r ≤ i → 3 * i + 3 ≤ length l → (x ≡ get_or l (3 * i) 0) × (x < 2 ^ 32) → p ≤ x → q ≤ x
-      → out ≡ paste l (3 * r) (note_words (with_row (note_at l i) (x + m - (q - p)))) 3 → NoteMoved l i r p q m out (r + 1)
-  note_after {x} h k e a b w = note_set h k e.0 (shift_after p q m x a b) w
 
 -- a row among the first k notes
 row_small : (l : List ℕ) (k i : ℕ) → i < k → All (λ n. n.row < 2 ^ 16) (notes_of k l) → (note_at l i).row < 2 ^ 16
@@ -275,19 +291,19 @@ placed_notes p q at (n ∷ l) = go (in_run p q n.row) (pick (placed_note p q at)
     go (some y) a b e = ap {B = List HeldNote} (λ r. with_row n (at + y) ∷ r) e
 
 -- the first i notes are looked at
-pub record Taking (l : List ℕ) (k p q at most : ℕ) (old : List ℕ) (c : ℕ) (out : List ℕ) (i n : ℕ) : Type 0 where
+pub record Taking (l : List ℕ) (p q at most : ℕ) (old : List ℕ) (c : ℕ) (out : List ℕ) (i n : ℕ) : Type 0 where
   pub count : n ≡ c + length (pick (placed_note p q at) (notes_of i l))
   pub notes : n ≤ most → notes_of n out ≡ notes_of c old ++ pick (placed_note p q at) (notes_of i l)
   pub long : length out ≡ length old
   pub high : n ≤ c + i
-  pub inside : i ≤ k
+  pub inside : i ≤ length l / 3
 
-pub taking_start : (l : List ℕ) (k p q at most : ℕ) (old : List ℕ) (c : ℕ) → Taking l k p q at most old c old 0 c
+pub taking_start : (l : List ℕ) (p q at most : ℕ) (old : List ℕ) (c : ℕ) → Taking l p q at most old c old 0 c
 unfolding pick notes_of
-taking_start l k p q at most old c = record { count = sym (add-zero c); notes = λ _. sym (append-nil (notes_of c old)); long = refl; high = omega arith; inside = omega arith }
+taking_start l p q at most old c = record { count = sym (add-zero c); notes = λ _. sym (append-nil (notes_of c old)); long = refl; high = omega arith; inside = omega arith }
 
-module _ {l : List ℕ} {k p q at most : ℕ} {old : List ℕ} {c : ℕ} {out : List ℕ} {i n : ℕ} (v : Taking l k p q at most old c out i n) where
-  pub taking_next : {out' : List ℕ} {n' : ℕ} → i < k → NoteTaken l i p q at most out n out' n' → Taking l k p q at most old c out' (i + 1) n'
+module _ {l : List ℕ} {p q at most : ℕ} {old : List ℕ} {c : ℕ} {out : List ℕ} {i n : ℕ} (v : Taking l p q at most old c out i n) where
+  pub taking_next : {out' : List ℕ} {n' : ℕ} → i < length l / 3 → NoteTaken l i p q at most out n out' n' → Taking l p q at most old c out' (i + 1) n'
   taking_next h w =
       let P : List HeldNote = pick (placed_note p q at) (notes_of i l) in
       let M : List HeldNote = more (placed_note p q at (note_at l i)) [] in
@@ -300,22 +316,22 @@ module _ {l : List ℕ} {k p q at most : ℕ} {old : List ℕ} {c : ℕ} {out : 
         inside = omega arith;
       }
 
-  total : k ≤ i → n ≡ c + length (pick (note_in p q) (notes_of k l))
+  total : length l / 3 ≤ i → n ≡ c + length (pick (note_in p q) (notes_in l))
   total h =
-      let e : i ≡ k = omega (arith, v.inside) in
-      v.count ∙ ap (λ (s : ℕ). c + s) (rw (e, placed_notes p q at (notes_of k l)) (length-map (pick (note_in p q) (notes_of k l)) (λ n. with_row n (at + n.row))))
+      let e : i ≡ length l / 3 = omega (arith, v.inside) in
+      v.count ∙ ap (λ (s : ℕ). c + s) (rw (e, placed_notes p q at (notes_in l)) (length-map (pick (note_in p q) (notes_in l)) (λ n. with_row n (at + n.row))))
 
-  written : k ≤ i → c + length (pick (note_in p q) (notes_of k l)) ≤ most
-      → notes_of (c + length (pick (note_in p q) (notes_of k l))) out ≡ notes_of c old ++ map (λ n. with_row n (at + n.row)) (pick (note_in p q) (notes_of k l))
+  written : length l / 3 ≤ i → c + length (pick (note_in p q) (notes_in l)) ≤ most
+      → notes_of (c + length (pick (note_in p q) (notes_in l))) out ≡ notes_of c old ++ map (λ n. with_row n (at + n.row)) (pick (note_in p q) (notes_in l))
   written h b =
-      let e : i ≡ k = omega (arith, v.inside) in
-      rw (← total h, ← placed_notes p q at (notes_of k l), ← e) (v.notes (omega (arith, total h)))
+      let e : i ≡ length l / 3 = omega (arith, v.inside) in
+      rw (← total h, ← placed_notes p q at (notes_in l), ← e) (v.notes (omega (arith, total h)))
 
-  pub taking_full : k ≤ i → most < n → NotesTaken l k p q at most old c out None
+  pub taking_full : length l / 3 ≤ i → most < n → NotesTaken l p q at most old c out None
   unfolding taken
   taking_full h b = record { answer = rw (← total h, lt-ltb most n b); notes = written h }
 
-  pub taking_done : k ≤ i → n ≤ most → NotesTaken l k p q at most old c out (Some n)
+  pub taking_done : length l / 3 ≤ i → n ≤ most → NotesTaken l p q at most old c out (Some n)
   unfolding taken
   taking_done h b = record { answer = rw (← total h, le-ltb most n b); notes = written h }
 

@@ -1,7 +1,8 @@
 -- Changed elements in words: one word each, the row in bits 0 to 16 and the rule number in bits 17 to 28. Rows are below 2^16, and a splice of fewer than 2^16 rows moves
 -- none beyond bit 16. What is written is read back, and a changed element added behind others.
 -- Assumes nothing.
-use Rattle.std.specs.Prelude.{◌≡◌, refl, List, [], ◌∷◌, ◌++◌, map, ℕ, zero, suc, ◌+◌, ◌*◌, ◌/◌, ◌%◌, ◌≤◌, ◌<◌, length, get_or, set, take}
+use Rattle.std.specs.Prelude as prelude
+use Rattle.std.specs.Prelude.{◌≡◌, None, Some, refl, List, [], ◌∷◌, ◌++◌, map, ℕ, zero, suc, ◌+◌, ◌*◌, ◌/◌, ◌%◌, ◌≤◌, ◌<◌, length, get_or, set, take}
 use Rattle.std.proofs.Common.{ap, ◌∙◌, arith, take-suc, take-suc-set, length-take-le}
 use Rattle.std.proofs.Math.Option.{Option, none, some}
 use Rattle.std.proofs.lemmas.List.{length-map}
@@ -23,20 +24,25 @@ changed_in k l = map changed_of (take k l)
 
 -- ── What a step records ─────────────────────────────────────────────────────────────────────────────────────
 
--- the rule number by which a step records what it puts in, held as one more than it; 0 for a step that does not record
-abbrev pub rule_by : ℕ → Option ℕ
-rule_by zero = none
-rule_by (suc rule) = some rule
+-- the rule number by which a step records what it puts in, if it records
+abbrev pub rule_by : prelude.Option ℕ → Option ℕ
+rule_by None = none
+rule_by (Some rule) = some rule
+
+-- it has twelve bits
+abbrev pub Ruled : prelude.Option ℕ → Type 0
+Ruled None = Unit {0}
+Ruled (Some rule) = rule < 4096
 
 -- how many of n parts are recorded
-abbrev pub count_by : ℕ → ℕ → ℕ
-count_by zero n = 0
-count_by (suc rule) n = n
+abbrev pub count_by : prelude.Option ℕ → ℕ → ℕ
+count_by None n = 0
+count_by (Some rule) n = n
 
 -- the parts at some rows, recorded
-abbrev pub put_by : ℕ → List ℕ → List HeldChanged
-put_by zero rows = []
-put_by (suc rule) rows = map (put_in rule) rows
+abbrev pub put_by : prelude.Option ℕ → List ℕ → List HeldChanged
+put_by None rows = []
+put_by (Some rule) rows = map (put_in rule) rows
 
 -- ── One changed element ─────────────────────────────────────────────────────────────────────────────────────
 

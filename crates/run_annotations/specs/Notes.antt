@@ -1,10 +1,10 @@
 -- Notes in words: three words a note, its row, its number and its place in the queue. What is written is read back, and a note added behind others.
 -- Assumes nothing.
 use Rattle.std.specs.Prelude.{◌≡◌, refl, length, get_or, take}
-use Rattle.std.proofs.Common.{sym, ◌∙◌, add-zero, add-one, drop-drop, get_or-drop}
+use Rattle.std.proofs.Common.{sym, ◌∙◌, add-zero, add-one, drop-drop, get_or-drop, get_or-take}
 use Rattle.std.proofs.Math.Path.{ap}
 use mathlib.Core.List.{List, [], ◌∷◌, ◌++◌, append_assoc}
-use Prim.Native.Nat.{ℕ, zero, suc, ◌+◌, ◌-◌, ◌*◌, ◌≤◌, ◌<◌}
+use Prim.Native.Nat.{ℕ, zero, suc, ◌+◌, ◌-◌, ◌*◌, ◌/◌, ◌≤◌, ◌<◌}
 use native.Mathlib.Omega.{arith}
 use Rattle.std.proofs.Math.ListN.{drop}
 use Rattle.std.proofs.Math.Seq.{paste, drop-paste, length-paste, length-take-le, drop_at}
@@ -23,6 +23,10 @@ note_of l = record { row = get_or l 0 0; number = get_or l 1 0; place = get_or l
 unfoldable pub notes_of : ℕ → List ℕ → List HeldNote
 notes_of zero l = []
 notes_of (suc k) l = note_of l ∷ notes_of k (drop 3 l)
+
+-- all notes that some words are
+abbrev pub notes_in : List ℕ → List HeldNote
+notes_in w = notes_of (length w / 3) w
 
 -- the note at place i
 unfoldable pub note_at : List ℕ → ℕ → HeldNote
@@ -80,6 +84,12 @@ pub notes_same : (w v : List ℕ) (k : ℕ) → ((j : ℕ) → j < 3 * k → get
 unfolding notes_of
 notes_same w v zero h = refl
 notes_same w v (suc k) h = rw (notes_to w k, notes_to v k, notes_same w v k (λ j b. h j (omega arith)), note_same w v k (λ j b. h j (omega arith)))
+
+-- the first k notes, in words of their own
+pub notes_part : (k : ℕ) (w : List ℕ) → 3 * k ≤ length w → notes_in (take (3 * k) w) ≡ notes_of k w
+notes_part k w h =
+    let e : length (take (3 * k) w) / 3 ≡ k = omega (arith, length-take-le (3 * k) w h) in
+    ap (λ (i : ℕ). notes_of i (take (3 * k) w)) e ∙ notes_same (take (3 * k) w) w k (λ j b. get_or-take (3 * k) w j 0 b)
 
 -- ── A note written behind others ────────────────────────────────────────────────────────────────────────────
 

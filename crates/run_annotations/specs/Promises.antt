@@ -3,14 +3,24 @@
 use Rattle.std.specs.Prelude as prelude
 use Rattle.std.specs.Prelude.{◌≡◌, None, Some, cond, List, [], ◌++◌, map, ℕ, suc, ◌+◌, ◌*◌, ◌≤◌, ltb, length, get_or, drop}
 use Rattle.std.proofs.Math.Option
-use Rattle.std.proofs.Math.Option.{Option}
+use Rattle.std.proofs.Math.Option.{Option, none, some}
 use Rattle.orders.specs.Lists.{more, pick}
 use Rattle.orders.specs.Tree.{shift}
 use Rattle.rows_model.specs.Place.{in_run}
 use Rattle.run_model.specs.Store.{HeldNote, HeldChanged, with_row, at_row, put_in}
-use Rattle.run_annotations.specs.Notes.{notes_of, note_at}
+use Rattle.run_annotations.specs.Notes.{notes_of, notes_in, note_at}
 use Rattle.run_annotations.specs.Changed.{changed_of, changed_in}
 use Rattle.run_annotations.specs.Places.{part_rows}
+
+-- a row, or none, as the code answers it
+unfoldable pub row_told : Option ℕ → prelude.Option ℕ
+row_told none = None
+row_told (some x) = Some x
+
+-- where the row x comes to stand where the rows p up to q give way to m others
+pub record Moved (p q m x : ℕ) (r : prelude.Option ℕ) : Type 0 where
+  pub row : r ≡ row_told (shift p q m x)
+  pub low : (y : ℕ) → r ≡ Some y → y ≤ x + m
 
 -- what becomes of a changed element where the rows p up to q give way to m others
 abbrev pub moved_changed : ℕ → ℕ → ℕ → HeldChanged → Option HeldChanged
@@ -67,10 +77,10 @@ unfoldable pub taken : ℕ → ℕ → prelude.Option ℕ
 taken most n = cond (ltb most n) None (Some n)
 
 -- the notes in the rows p up to q taken behind the first c, told from the row `at` on
-pub record NotesTaken (l : List ℕ) (k p q at most : ℕ) (old : List ℕ) (c : ℕ) (out : List ℕ) (r : prelude.Option ℕ) : Type 0 where
-  pub answer : r ≡ taken most (c + length (pick (note_in p q) (notes_of k l)))
-  pub notes : c + length (pick (note_in p q) (notes_of k l)) ≤ most
-      → notes_of (c + length (pick (note_in p q) (notes_of k l))) out ≡ notes_of c old ++ map (λ n. with_row n (at + n.row)) (pick (note_in p q) (notes_of k l))
+pub record NotesTaken (l : List ℕ) (p q at most : ℕ) (old : List ℕ) (c : ℕ) (out : List ℕ) (r : prelude.Option ℕ) : Type 0 where
+  pub answer : r ≡ taken most (c + length (pick (note_in p q) (notes_in l)))
+  pub notes : c + length (pick (note_in p q) (notes_in l)) ≤ most
+      → notes_of (c + length (pick (note_in p q) (notes_in l))) out ≡ notes_of c old ++ map (λ n. with_row n (at + n.row)) (pick (note_in p q) (notes_in l))
 
 -- parts of some sizes, put in by this rule, added behind the first k changed elements; the first part stands at the row `at`
 pub record RowsAdded (l : List ℕ) (k at rule : ℕ) (sizes out : List ℕ) (r : ℕ) : Type 0 where

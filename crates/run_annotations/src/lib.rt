@@ -8,8 +8,11 @@ ghost use Rattle.run_model.specs.Store.{with_row, put_in};
 ghost use Rattle.run_annotations.specs.Notes.{note_words, notes_of, note_at};
 ghost use Rattle.run_annotations.specs.Changed.{changed_word, changed_of, changed_in};
 ghost use Rattle.run_annotations.specs.Places.{part_rows};
-ghost use Rattle.run_annotations.specs.Promises.{RowMoved, RowsMoved, NoteMoved, NotesMoved, NoteTaken, NotesTaken, RowsAdded};
+ghost use Rattle.run_annotations.specs.Promises.{RowMoved, RowsMoved, Moved, NoteMoved, NotesMoved, NoteTaken, NotesTaken, RowsAdded};
 
+mod shift;
+
+pub use shift::Shift;
 use words::{store, word};
 
 // How many words a note has, and which they are: the row of its element is the first, at `NOTE_WORDS * i`.
@@ -18,6 +21,23 @@ pub const NOTE_WORDS: usize = 3;
 pub const NUMBER: usize = 1;
 // In the queue.
 pub const PLACE: usize = 2;
+
+// ── Rows moved ──
+
+// Rust: SyntaxPath::adjust_for_splice, here of a row. Where the row `x` comes to stand; none if it gives way.
+#[tactic(auto, using(crate::proofs::Turns::moved_before, crate::proofs::Turns::moved_inside, crate::proofs::Turns::moved_after))]
+pub fn moved(shift: &Shift, x: usize) -> Option<usize>
+    requires { x < 2 ^ 32 }
+    ensures { Moved shift.now.from shift.now.to shift.now.count x result }
+{
+    if x < shift.from {
+        return Some(x);
+    }
+    if x < shift.to {
+        return None;
+    }
+    Some(x + shift.count - (shift.to - shift.from))
+}
 
 // ── Changed elements: a word each, the row in its lower bits, the rule number above ──
 
@@ -46,34 +66,27 @@ fn changed_word(row: usize, rule: usize) -> usize
     row + ROWS * rule
 }
 
-// Rust: SyntaxPath::adjust_for_splice, here of a row. The changed element at `i` goes behind the first `r`, moved; one of the rows that give way is left
-// out.
-fn move_row(changed: &mut [u32], i: usize, r: usize, p: usize, q: usize, m: usize) -> usize
-    requires { (r ≤ i) × (i < length changed.old) × (p ≤ q) × (q < 2 ^ 16) × (m < 2 ^ 16) × ((changed_of (get_or changed.old i 0)).row < 2 ^ 16) }
-    ensures { RowMoved changed.old i r p q m changed.new result }
+// The changed element at `i` goes behind the first `r`, moved; one of the rows that give way is left out.
+fn move_row(changed: &mut [u32], i: usize, r: usize, shift: &Shift) -> usize
+    requires { (r ≤ i) × (i < length changed.old) × ((changed_of (get_or changed.old i 0)).row < 2 ^ 16) }
+    ensures { RowMoved changed.old i r shift.now.from shift.now.to shift.now.count changed.new result }
 {
     let w = word(changed, i);
-    let x = changed_row(w);
-    if x < p {
-        changed[r] = w as u32;
-        return r + 1;
-    }
-    if x < q {
+    let Some(row) = moved(shift, changed_row(w)) else {
         return r;
-    }
-    changed[r] = changed_word(x + m - (q - p), changed_rule(w)) as u32;
+    };
+    changed[r] = changed_word(row, changed_rule(w)) as u32;
     r + 1
 }
 
-// Rust: `changed.retain_mut` in TreeState::splice. The first `k` changed elements where the rows `p` up to `q` give way to `m` others; what is left comes to
-// the front.
-pub fn move_changed(changed: &mut [u32], k: usize, p: usize, q: usize, m: usize) -> usize
-    requires { (k ≤ length changed.old) × (p ≤ q) × (q < 2 ^ 16) × (m < 2 ^ 16) × All (λ c. c.row < 2 ^ 16) (changed_in k changed.old) }
-    ensures { RowsMoved changed.old k p q m changed.new result }
+// Rust: `changed.retain_mut` in TreeState::splice. The first `k` changed elements moved; what is left comes to the front.
+pub fn move_changed(changed: &mut [u32], k: usize, shift: &Shift) -> usize
+    requires { (k ≤ length changed.old) × All (λ c. c.row < 2 ^ 16) (changed_in k changed.old) }
+    ensures { RowsMoved changed.old k shift.now.from shift.now.to shift.now.count changed.new result }
 {
     let mut r = 0;
     for i in 0..k {
-        r = move_row(changed, i, r, p, q, m);
+        r = move_row(changed, i, r, shift);
     }
     r
 }
@@ -104,32 +117,27 @@ fn keep_note(notes: &mut [u32], i: usize, r: usize, row: usize)
 }
 
 // The note at `i` goes behind the first `r`, moved; one at the rows that give way is left out.
-fn move_note(notes: &mut [u32], i: usize, r: usize, p: usize, q: usize, m: usize) -> usize
-    requires { (r ≤ i) × (3 * i + 3 ≤ length notes.old) × (p ≤ q) × (q < 2 ^ 16) × (m < 2 ^ 16) × (get_or notes.old (3 * i) 0 < 2 ^ 16) }
-    ensures { NoteMoved notes.old i r p q m notes.new result }
+fn move_note(notes: &mut [u32], i: usize, r: usize, shift: &Shift) -> usize
+    requires { (r ≤ i) × (3 * i + 3 ≤ length notes.old) × (get_or notes.old (3 * i) 0 < 2 ^ 16) }
+    ensures { NoteMoved notes.old i r shift.now.from shift.now.to shift.now.count notes.new result }
 {
-    let row = word(notes, NOTE_WORDS * i);
-    if row < p {
-        keep_note(notes, i, r, row);
-        return r + 1;
-    }
-    if row < q {
+    let Some(row) = moved(shift, word(notes, NOTE_WORDS * i)) else {
         return r;
-    }
-    keep_note(notes, i, r, row + m - (q - p));
+    };
+    keep_note(notes, i, r, row);
     r + 1
 }
 
 // Rust: `annotations.retain_mut` in TreeState::splice. As `move_changed`, but three words a note: a trait for what is moved would be longer than the two loops.
-// The first `k` notes where the rows `p` up to `q` give way to `m` others; what is left comes to the
-// front.
-pub fn move_notes(notes: &mut [u32], k: usize, p: usize, q: usize, m: usize) -> usize
-    requires { (3 * k ≤ length notes.old) × (p ≤ q) × (q < 2 ^ 16) × (m < 2 ^ 16) × All (λ n. n.row < 2 ^ 16) (notes_of k notes.old) }
-    ensures { NotesMoved notes.old k p q m notes.new result }
+// The first `k` notes moved; what is left comes to the front.
+// The count stands beside the notes here and in `move_changed`, `keep_note` and `move_note`: they are written in place, in lent room that is longer than they are.
+pub fn move_notes(notes: &mut [u32], k: usize, shift: &Shift) -> usize
+    requires { (3 * k ≤ length notes.old) × All (λ n. n.row < 2 ^ 16) (notes_of k notes.old) }
+    ensures { NotesMoved notes.old k shift.now.from shift.now.to shift.now.count notes.new result }
 {
     let mut r = 0;
     for i in 0..k {
-        r = move_note(notes, i, r, p, q, m);
+        r = move_note(notes, i, r, shift);
     }
     r
 }
@@ -174,11 +182,10 @@ fn take_note(
     c + 1
 }
 
-// Rust: `annotations_below` in TreeStore::prepare_element. Of the first `k` notes those in the rows `p` up to `q` go behind the first `count` of `out`,
+// Rust: `annotations_below` in TreeStore::prepare_element. Of some notes those in the rows `p` up to `q` go behind the first `count` of `out`,
 // where `p` comes to stand at the row `at`: how many there are now, or none if they are more than there is room for.
 pub fn notes_in(
     notes: &[u32],
-    k: usize,
     p: usize,
     q: usize,
     at: usize,
@@ -186,11 +193,11 @@ pub fn notes_in(
     count: usize,
     most: usize,
 ) -> Option<usize>
-    requires { (3 * k ≤ length notes.now) × (3 * most ≤ length out.old) × (count ≤ most) × (most < 2 ^ 16) × (k < 2 ^ 16) × (q < 2 ^ 16) × (at < 2 ^ 16) }
-    ensures { NotesTaken notes.now k p q at most out.old count out.new result }
+    requires { (length notes.now < 3 * 2 ^ 16) × (3 * most ≤ length out.old) × (count ≤ most) × (most < 2 ^ 16) × (q < 2 ^ 16) × (at < 2 ^ 16) }
+    ensures { NotesTaken notes.now p q at most out.old count out.new result }
 {
     let mut c = count;
-    for i in 0..k {
+    for i in 0..notes.len() / NOTE_WORDS {
         c = take_note(notes, i, p, q, at, out, c, most);
     }
     if most < c {

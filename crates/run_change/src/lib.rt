@@ -9,22 +9,21 @@ ghost use Rattle.run_change.specs.Told.{AboveBy, records_by};
 
 use read_element_table::{DEPTH, entry};
 use record_changes::{Fate, Operation, field};
-use run_tree_store::{Gap, Trees, find_gap};
+use run_tree_store::{Gap, TreeStore, find_gap};
 
 // Where the change at place `k` goes, if its target is still there.
-pub fn change_gap(trees: &Trees, table: &[u32], changes: &[u32], k: usize) -> Option<Gap>
-    requires some { 0 < trees.now.rows.count }
-    requires lines { Lines (length trees.now.marks.now) table.now × (k < 2 ^ 32) }
-    requires k_in_bounds { ((row_at changes.now k).target < length trees.now.marks.now) × ((row_at changes.now k).end < length trees.now.marks.now) }
-    ensures { SiteAt trees.now.rows.words.now trees.now.rows.count table.now trees.now.marks.now (row_at changes.now k).operation (row_at changes.now k).target (row_at changes.now k).end result }
+pub fn change_gap(store: &TreeStore, changes: &[u32], k: usize) -> Option<Gap>
+    requires { (k < 2 ^ 32) × ((row_at changes.now k).target < length store.now.marks.now) × ((row_at changes.now k).end < length store.now.marks.now) }
+    ensures { SiteAt store.now.rows.words.now store.now.rows.count store.now.table.now store.now.marks.now (row_at changes.now k).operation (row_at changes.now k).target (row_at changes.now k).end result }
 {
     let operation = field(changes, k, record_changes::OPERATION);
     let x = field(changes, k, record_changes::TARGET);
     let y = field(changes, k, record_changes::END);
-    find_gap(trees, table, operation, x, y)
+    find_gap(store, operation, x, y)
 }
 
 // The depth of the node below which the change at place `k` goes: 0 for the root of all. A first child goes below its target.
+// The table stays a slice: no row and no mark is asked for, as a `TreeStore` holds them.
 pub fn depth_above(table: &[u32], n: usize, changes: &[u32], k: usize) -> usize
     requires { Lines n table.now × (k < 2 ^ 32) × ((row_at changes.now k).target < n) }
     ensures { AboveBy table.now (row_at changes.now k).operation (row_at changes.now k).target result }
@@ -38,16 +37,16 @@ pub fn depth_above(table: &[u32], n: usize, changes: &[u32], k: usize) -> usize
 }
 
 // Rust: PlannedChange::record_as_changed. What the change at place `k` puts in is recorded as changed if it depends on no other (else its owner's is), and
-// goes into tree 0: one more than the rule number that it is recorded by, else 0.
-pub fn recorded_by(changes: &[u32], k: usize) -> usize
+// goes into tree 0: the rule number that it is recorded by, if it is.
+pub fn recorded_by(changes: &[u32], k: usize) -> Option<usize>
     requires { k < 2 ^ 32 }
     ensures { result ≡ records_by (row_at changes.now k) }
 {
     if field(changes, k, record_changes::FATE) != Fate::Own as usize {
-        return 0;
+        return None;
     }
     if field(changes, k, record_changes::TREE) != 0 {
-        return 0;
+        return None;
     }
-    field(changes, k, record_changes::RULE) + 1
+    Some(field(changes, k, record_changes::RULE))
 }

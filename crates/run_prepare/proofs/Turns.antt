@@ -35,28 +35,28 @@ use Rattle.run_prepare.specs.Promises.{NotesAlong, Behind, Came, ElementPrepared
 
 -- ── The notes of one element ────────────────────────────────────────────────────────────────────────────────
 
-module _ {marks first notes : List ℕ} {k e size at : ℕ} {old : List ℕ} {c : ℕ} {out : List ℕ} {r : prelude.Option ℕ} where
-  along : (l : List HeldNote) → notes_with marks first notes k e size ≡ l → r ≡ taken 1024 (c + length l) → (c + length l ≤ 1024 → notes_of (c + length l) out ≡ notes_of c old ++ map (λ n. with_row n (at + n.row)) l)
-      → NotesAlong marks first notes k e size at old c out r
+module _ {marks first : List ℕ} {e size at : ℕ} {old : List ℕ} {c : ℕ} {out : List ℕ} {r : prelude.Option ℕ} where
+  along : {notes : List HeldNote} (l : List HeldNote) → notes_with marks first notes e size ≡ l → r ≡ taken 1024 (c + length l) → (c + length l ≤ 1024 → notes_of (c + length l) out ≡ notes_of c old ++ map (λ n. with_row n (at + n.row)) l)
+      → NotesAlong marks first notes e size at old c out r
   along l g p q = record { answer = rw g p; notes = rw g q }
 
-  pub notes_first : {m : ℕ} → (m ≡ get_or marks e 0) × (m < 2 ^ 32) → m ≡ 0 → annotations.NotesTaken first (length first / 3) (e + 1) (e + 1 + size) at 1024 old c out r → NotesAlong marks first notes k e size at old c out r
+  pub notes_first : {notes : List HeldNote} {m : ℕ} → (m ≡ get_or marks e 0) × (m < 2 ^ 32) → m ≡ 0 → annotations.NotesTaken first (e + 1) (e + 1 + size) at 1024 old c out r → NotesAlong marks first notes e size at old c out r
   unfolding notes_with
-  notes_first v z t = along _ (ap (notes_from first notes k e size) (sym v.0 ∙ z)) t.answer t.notes
+  notes_first {notes} v z t = along _ (ap (notes_from first notes e size) (sym v.0 ∙ z)) t.answer t.notes
 
-  pub notes_now : {m : ℕ} → (m ≡ get_or marks e 0) × (m < 2 ^ 32) → (m ≡ 0 → ⊥) → annotations.NotesTaken notes k m (m + size) at 1024 old c out r → NotesAlong marks first notes k e size at old c out r
+  pub notes_now : {held : List ℕ} {m : ℕ} → (m ≡ get_or marks e 0) × (m < 2 ^ 32) → (m ≡ 0 → ⊥) → annotations.NotesTaken held m (m + size) at 1024 old c out r → NotesAlong marks first (notes_in held) e size at old c out r
   unfolding notes_with
-  notes_now {m} v z t = along _ (ap (notes_from first notes k e size) (sym v.0) ∙ go m z) t.answer t.notes
+  notes_now {held} {m} v z t = along _ (ap (notes_from first (notes_in held) e size) (sym v.0) ∙ go m z) t.answer t.notes
     where
-      go : (m : ℕ) → (m ≡ 0 → ⊥) → notes_from first notes k e size m ≡ pick (note_in m (m + size)) (notes_of k notes)
+      go : (m : ℕ) → (m ≡ 0 → ⊥) → notes_from first (notes_in held) e size m ≡ pick (note_in m (m + size)) (notes_in held)
       go zero z = absurd (z refl)
       go (suc m) z = refl
 
 -- ── Elements ────────────────────────────────────────────────────────────────────────────────────────────────
 
 -- a mark is a row
-pub mark_few : (n : ℕ) (l : List ℕ) (i : ℕ) → All (λ m. m < n) l → n ≤ 4097 → i < length l → get_or l i 0 ≤ 4097
-mark_few n l i h k b = omega (arith, All-at (λ x. x < n) 0 l i b h)
+pub mark_few : {n m : ℕ} (l : List ℕ) (i : ℕ) → All (λ m. m < n) l → n ≤ 4097 → i < length l → (m ≡ get_or l i 0) × (m < 2 ^ 32) → m ≤ 4097
+mark_few {n} l i h k b e = omega (arith, e.0, All-at (λ x. x < n) 0 l i b h)
 
 -- ── What one element yields ─────────────────────────────────────────────────────────────────────────────────
 
@@ -65,10 +65,10 @@ part_notes : (s : Store) (m size : ℕ) → size ≡ length (part_at s m).rows �
 unfolding part_at
 part_notes s m size h = ap (λ (i : ℕ). pick (note_in m i) s.notes) (end_row_lem s m ∙ ap (λ (i : ℕ). m + i) (sym h))
 
-module _ (rows : List ℕ) (n : ℕ) (source marks first notes : List ℕ) (k e : ℕ) where
+module _ (rows : List ℕ) (n : ℕ) (source marks first : List ℕ) (notes : List HeldNote) (e : ℕ) where
   -- the notes that element e yields are those of its rows
-  notes_yielded : (text : List ℕ) (changed₀ changed : List HeldChanged) (size : ℕ) → e < length marks → size ≡ length (part_in rows n source marks first notes k text changed₀ changed e).rows
-      → (part_in rows n source marks first notes k text changed₀ changed e).notes ≡ notes_with marks first notes k e size
+  notes_yielded : (text : List ℕ) (changed₀ changed : List HeldChanged) (size : ℕ) → e < length marks → size ≡ length (part_in rows n source marks first notes text changed₀ changed e).rows
+      → (part_in rows n source marks first notes text changed₀ changed e).notes ≡ notes_with marks first notes e size
   unfolding part_of marked stored stored_first notes_with
   notes_yielded text changed₀ changed size b = go (get_or marks e 0)
     where
@@ -76,12 +76,12 @@ module _ (rows : List ℕ) (n : ℕ) (source marks first notes : List ℕ) (k e 
       F = stored_first text (length marks) source (notes_in first) changed₀
 
       S : Store
-      S = stored text n rows marks (notes_of k notes) changed
+      S = stored text n rows marks notes changed
 
       chosen : Option ℕ → Part
       chosen o = elim o as (λ o. Part) [ none ↦ part_at F (get_or F.marks e 0) | some m ↦ part_at S m ]
 
-      go : (x : ℕ) → size ≡ length (chosen (there x)).rows → (chosen (there x)).notes ≡ notes_from first notes k e size x
+      go : (x : ℕ) → size ≡ length (chosen (there x)).rows → (chosen (there x)).notes ≡ notes_from first notes e size x
       go zero h =
           let g : get_or (up_from 1 (length marks)) e 0 ≡ e + 1 = omega (arith, up_at 1 (length marks) e b) in
           part_notes F (get_or F.marks e 0) size h ∙ ap (λ (i : ℕ). pick (note_in i (i + size)) (notes_in first)) g
@@ -89,15 +89,15 @@ module _ (rows : List ℕ) (n : ℕ) (source marks first notes : List ℕ) (k e 
 
   module _ (run : List ℕ) (P : tree.Prepared rows n source marks e run) (text : List ℕ) (changed₀ changed : List HeldChanged) where
     abbrev part : Part
-    part = part_in rows n source marks first notes k text changed₀ changed e
+    part = part_in rows n source marks first notes text changed₀ changed e
 
     rows_told_lem : triples text run ≡ part.rows
-    rows_told_lem = P.told text (notes_in first) (notes_of k notes) changed₀ changed
+    rows_told_lem = P.told text (notes_in first) notes changed₀ changed
 
     rows_sized : length run / 3 ≡ length part.rows
     rows_sized = sym (length_triples text run) ∙ ap length rows_told_lem
 
-    notes_told : e < length marks → part.notes ≡ notes_with marks first notes k e (length run / 3)
+    notes_told : e < length marks → part.notes ≡ notes_with marks first notes e (length run / 3)
     notes_told b = notes_yielded text changed₀ changed (length run / 3) b rows_sized
 
 -- ── The answer for one element ──────────────────────────────────────────────────────────────────────────────
@@ -132,32 +132,32 @@ run_whole P = omega (arith, P.long [])
 pub run_fits : {rows : List ℕ} {n : ℕ} {source marks : List ℕ} {e : ℕ} {run : List ℕ} (m : ℕ) (old : List ℕ) → tree.Prepared rows n source marks e run → m ≤ 4096 → 12288 ≤ length old → length run / 3 ≤ 4096 - m → 3 * m + length run ≤ length old
 run_fits m old P h b g = omega (arith, run_whole P)
 
-module _ (rows : List ℕ) (n : ℕ) (source marks first notes : List ℕ) (k e at : ℕ) (old : List ℕ) (m : ℕ) (held : List ℕ) (c : ℕ) (run : List ℕ)
+module _ (rows : List ℕ) (n : ℕ) (source marks first : List ℕ) (notes : List HeldNote) (e at : ℕ) (old : List ℕ) (m : ℕ) (held : List ℕ) (c : ℕ) (run : List ℕ)
     (P : tree.Prepared rows n source marks e run) (h : m ≤ 4096) where
   -- no room for its rows
-  pub element_long : 4096 - m < length run / 3 → ElementPrepared rows n source marks first notes k e at old m held c old held None
+  pub element_long : 4096 - m < length run / 3 → ElementPrepared rows n source marks first notes e at old m held c old held None
   element_long g = record {
     part = λ text changed₀ changed. record {
-      answer = rows_over _ _ (omega (arith, rows_sized rows n source marks first notes k e run P text changed₀ changed));
+      answer = rows_over _ _ (omega (arith, rows_sized rows n source marks first notes e run P text changed₀ changed));
       rows = λ m' c'. no_parts;
       notes = λ m' c'. no_parts;
     };
   }
 
   module _ (old' held' : List ℕ) (end : ℕ) (r : prelude.Option ℕ) (b : e < length marks) (g : length run / 3 ≤ 4096 - m)
-      (A : Appended old m run old' end) (N : NotesAlong marks first notes k e (length run / 3) (at + m) held c held' r) where
+      (A : Appended old m run old' end) (N : NotesAlong marks first notes e (length run / 3) (at + m) held c held' r) where
     abbrev with_notes : List HeldNote
-    with_notes = notes_with marks first notes k e (length run / 3)
+    with_notes = notes_with marks first notes e (length run / 3)
 
     module _ (text : List ℕ) (changed₀ changed : List HeldChanged) where
       abbrev with_part : Part
-      with_part = part_in rows n source marks first notes k text changed₀ changed e
+      with_part = part_in rows n source marks first notes text changed₀ changed e
 
       notes_same : with_notes ≡ with_part.notes
-      notes_same = sym (notes_told rows n source marks first notes k e run P text changed₀ changed b)
+      notes_same = sym (notes_told rows n source marks first notes e run P text changed₀ changed b)
 
       rows_many : length run / 3 ≡ length with_part.rows
-      rows_many = rows_sized rows n source marks first notes k e run P text changed₀ changed
+      rows_many = rows_sized rows n source marks first notes e run P text changed₀ changed
 
       full : 1024 < c + length with_notes → Behind text with_part (at + m) old m held c old' held' None
       full o = record { answer = notes_over _ _ (omega (arith, ap length notes_same)); rows = λ m' c'. no_parts; notes = λ m' c'. no_parts }
@@ -165,16 +165,16 @@ module _ (rows : List ℕ) (n : ℕ) (source marks first notes : List ℕ) (k e 
       came : (y : ℕ) → y ≡ c + length with_notes → c + length with_notes ≤ 1024 → Behind text with_part (at + m) old m held c old' held' (came_in end y)
       came y e o = record {
         answer = rw (A.count, e, notes_same, rows_many) (none_over _ _ (omega (arith, rows_many)) (omega (arith, ap length notes_same)));
-        rows = λ m' c' z. let f : m' ≡ end = sym (came_same z).0 in rw f (A.told text ∙ ap (λ (l : List Row). first_rows text m old ++ l) (rows_told_lem rows n source marks first notes k _ run P text changed₀ changed));
+        rows = λ m' c' z. let f : m' ≡ end = sym (came_same z).0 in rw f (A.told text ∙ ap (λ (l : List Row). first_rows text m old ++ l) (rows_told_lem rows n source marks first notes _ run P text changed₀ changed));
         notes = λ m' c' z. let f : c' ≡ c + length with_notes = sym (came_same z).1 ∙ e in rw f (N.notes o ∙ ap (λ (l : List HeldNote). notes_of c held ++ map (λ n. with_row n (at + m + n.row)) l) notes_same);
       }
 
     -- no room for its notes
-    pub element_full : r ≡ None → ElementPrepared rows n source marks first notes k e at old m held c old' held' None
+    pub element_full : r ≡ None → ElementPrepared rows n source marks first notes e at old m held c old' held' None
     element_full z = record { part = λ text changed₀ changed. full text changed₀ changed (full_many (c + length with_notes) (sym z ∙ N.answer)) }
 
     -- it came in
-    pub element_came : (y : ℕ) → r ≡ Some y → ElementPrepared rows n source marks first notes k e at old m held c old' held' (came_in end y)
+    pub element_came : (y : ℕ) → r ≡ Some y → ElementPrepared rows n source marks first notes e at old m held c old' held' (came_in end y)
     element_came y z = let f = count_few y (c + length with_notes) (sym z ∙ N.answer) in record { part = λ text changed₀ changed. came text changed₀ changed y f.0 f.1 }
 
 -- ── One part more ───────────────────────────────────────────────────────────────────────────────────────────
@@ -251,9 +251,9 @@ module _ (b : List ℕ) (i : ℕ) where
       omega (arith, f, All-at (λ x. x < length marks) 0 (words count b) i (omega (arith, length_words count b)) a)
 
 -- what came in with an element is few
-module _ {rows : List ℕ} {n : ℕ} {source marks first notes : List ℕ} {k e at : ℕ} {old : List ℕ} {m : ℕ} {held : List ℕ} {c : ℕ} {old' held' : List ℕ} {r : prelude.Option Prepared} {end y : ℕ}
-    (E : ElementPrepared rows n source marks first notes k e at old m held c old' held' r) (z : r ≡ came_in end y) where
-  few : Few (m + length (part_in rows n source marks first notes k [] [] [] e).rows) (c + length (part_in rows n source marks first notes k [] [] [] e).notes) end y
+module _ {rows : List ℕ} {n : ℕ} {source marks first : List ℕ} {notes : List HeldNote} {e at : ℕ} {old : List ℕ} {m : ℕ} {held : List ℕ} {c : ℕ} {old' held' : List ℕ} {r : prelude.Option Prepared} {end y : ℕ}
+    (E : ElementPrepared rows n source marks first notes e at old m held c old' held' r) (z : r ≡ came_in end y) where
+  few : Few (m + length (part_in rows n source marks first notes [] [] [] e).rows) (c + length (part_in rows n source marks first notes [] [] [] e).notes) end y
   few = within _ _ _ _ (sym z ∙ (E.part [] [] []).answer)
 
   pub element_rises : m ≤ end
@@ -265,7 +265,7 @@ module _ {rows : List ℕ} {n : ℕ} {source marks first notes : List ℕ} {k e 
   pub element_noted : y ≤ 1024
   element_noted = omega (arith, few.notes, few.few_notes)
 
-module _ (rows : List ℕ) (n : ℕ) (source marks first notes : List ℕ) (k : ℕ) where
+module _ (rows : List ℕ) (n : ℕ) (source marks first : List ℕ) (notes : List HeldNote) where
   module _ (b : List ℕ) (count at : ℕ) (prepared₀ sizes₀ incoming₀ : List ℕ) where
     -- what the first i elements yield has come in
     pub record Preparing (prepared sizes incoming : List ℕ) (i m c : ℕ) : Type 0 where
@@ -275,7 +275,7 @@ module _ (rows : List ℕ) (n : ℕ) (source marks first notes : List ℕ) (k : 
       pub long_rows : length prepared ≡ length prepared₀
       pub long_sizes : length sizes ≡ length sizes₀
       pub long_notes : length incoming ≡ length incoming₀
-      pub came : (text : List ℕ) (changed₀ changed : List HeldChanged) → Came text (map (part_in rows n source marks first notes k text changed₀ changed) (words i b)) at prepared sizes incoming m c
+      pub came : (text : List ℕ) (changed₀ changed : List HeldChanged) → Came text (map (part_in rows n source marks first notes text changed₀ changed) (words i b)) at prepared sizes incoming m c
 
     pub preparing_start : Preparing prepared₀ sizes₀ incoming₀ 0 0 0
     unfolding words
@@ -290,12 +290,12 @@ module _ (rows : List ℕ) (n : ℕ) (source marks first notes : List ℕ) (k : 
     }
 
     module _ (prepared sizes incoming : List ℕ) (i m c : ℕ) (v : Preparing prepared sizes incoming i m c) where
-      pub preparing_done : count ≤ i → ElementsPrepared rows n source marks first notes k (words count b) at prepared sizes incoming (came_in m c)
+      pub preparing_done : count ≤ i → ElementsPrepared rows n source marks first notes (words count b) at prepared sizes incoming (came_in m c)
       preparing_done h =
           let e : i ≡ count = omega (arith, v.inside) in
           record {
             parts = λ text changed₀ changed.
-                let C : Came text (map (part_in rows n source marks first notes k text changed₀ changed) (words count b)) at prepared sizes incoming m c = rw e at (v.came text changed₀ changed) in
+                let C : Came text (map (part_in rows n source marks first notes text changed₀ changed) (words count b)) at prepared sizes incoming m c = rw e at (v.came text changed₀ changed) in
                 record {
                   answer = none_over m c v.few_rows v.few_notes ∙ rw (← C.many, ← C.noted);
                   came = λ m' c' z. let f : m' ≡ m = sym (came_same z).0 in let g : c' ≡ c = sym (came_same z).1 in rw (f, g) C;
@@ -303,11 +303,11 @@ module _ (rows : List ℕ) (n : ℕ) (source marks first notes : List ℕ) (k : 
           }
 
       module _ (e : ℕ) (h : i < count) (w : (e ≡ word (drop (4 * i) b)) × (e < 2 ^ 32)) (prepared' incoming' : List ℕ) (r : prelude.Option Prepared)
-          (E : ElementPrepared rows n source marks first notes k e at prepared m incoming c prepared' incoming' r) where
-        pub preparing_over : r ≡ None → ElementsPrepared rows n source marks first notes k (words count b) at prepared' sizes incoming' None
+          (E : ElementPrepared rows n source marks first notes e at prepared m incoming c prepared' incoming' r) where
+        pub preparing_over : r ≡ None → ElementsPrepared rows n source marks first notes (words count b) at prepared' sizes incoming' None
         preparing_over z = record {
           parts = λ text changed₀ changed.
-              let part : ℕ → Part = part_in rows n source marks first notes k text changed₀ changed in
+              let part : ℕ → Part = part_in rows n source marks first notes text changed₀ changed in
               let rest : List ℕ = words (count - (i + 1)) (drop 4 (drop (4 * i) b)) in
               let s : map part (words count b) ≡ map part (words i b) ++ (part e ∷ map part rest) =
               ap (map part) (words_rest b i count h) ∙ (map_append part (words i b) (word (drop (4 * i) b) ∷ rest) ∙ rw (← w.0)) in
@@ -327,7 +327,7 @@ module _ (rows : List ℕ) (n : ℕ) (source marks first notes : List ℕ) (k : 
               long_sizes = length-set sizes i (end - m) ∙ v.long_sizes;
               long_notes = q ∙ v.long_notes;
               came = λ text changed₀ changed.
-                  let part : ℕ → Part = part_in rows n source marks first notes k text changed₀ changed in
+                  let part : ℕ → Part = part_in rows n source marks first notes text changed₀ changed in
                   let new : List Part = map part (words i b) in
                   let l : length new ≡ i = length-map (words i b) part ∙ length_words i b in
                   let s : map part (words (i + 1) b) ≡ new ++ (part e ∷ []) = ap (map part) (words_one b i) ∙ (map_append part (words i b) (word (drop (4 * i) b) ∷ []) ∙ rw (← w.0)) in
@@ -335,16 +335,16 @@ module _ (rows : List ℕ) (n : ℕ) (source marks first notes : List ℕ) (k : 
             }
 
 -- the same of what is held
-module _ {rows : List ℕ} {n : ℕ} {source marks first notes : List ℕ} {k : ℕ} {b : List ℕ} {count at : ℕ} {prepared₀ sizes₀ incoming₀ prepared sizes incoming : List ℕ} {i : ℕ} {held : Prepared}
-    (v : Preparing rows n source marks first notes k b count at prepared₀ sizes₀ incoming₀ prepared sizes incoming i held.rows held.notes) where
-  pub prepared_done : count ≤ i → ElementsPrepared rows n source marks first notes k (words count b) at prepared sizes incoming (Some held)
-  prepared_done h = preparing_done rows n source marks first notes k b count at prepared₀ sizes₀ incoming₀ prepared sizes incoming i held.rows held.notes v h
+module _ {rows : List ℕ} {n : ℕ} {source marks first : List ℕ} {notes : List HeldNote} {b : List ℕ} {count at : ℕ} {prepared₀ sizes₀ incoming₀ prepared sizes incoming : List ℕ} {i : ℕ} {held : Prepared}
+    (v : Preparing rows n source marks first notes b count at prepared₀ sizes₀ incoming₀ prepared sizes incoming i held.rows held.notes) where
+  pub prepared_done : count ≤ i → ElementsPrepared rows n source marks first notes (words count b) at prepared sizes incoming (Some held)
+  prepared_done h = preparing_done rows n source marks first notes b count at prepared₀ sizes₀ incoming₀ prepared sizes incoming i held.rows held.notes v h
 
   module _ {e : ℕ} (w : (e ≡ word (drop (4 * i) b)) × (e < 2 ^ 32)) {prepared' incoming' : List ℕ} {r : prelude.Option Prepared}
-      (E : ElementPrepared rows n source marks first notes k e at prepared held.rows incoming held.notes prepared' incoming' r) (h : i < count) where
-    pub prepared_over : {r' : prelude.Option Prepared} → r ≡ None → r' ≡ None → ElementsPrepared rows n source marks first notes k (words count b) at prepared' sizes incoming' r'
-    prepared_over z y = rw y (preparing_over rows n source marks first notes k b count at prepared₀ sizes₀ incoming₀ prepared sizes incoming i held.rows held.notes v e h w prepared' incoming' r E z)
+      (E : ElementPrepared rows n source marks first notes e at prepared held.rows incoming held.notes prepared' incoming' r) (h : i < count) where
+    pub prepared_over : {r' : prelude.Option Prepared} → r ≡ None → r' ≡ None → ElementsPrepared rows n source marks first notes (words count b) at prepared' sizes incoming' r'
+    prepared_over z y = rw y (preparing_over rows n source marks first notes b count at prepared₀ sizes₀ incoming₀ prepared sizes incoming i held.rows held.notes v e h w prepared' incoming' r E z)
 
     pub prepared_next : {next : Prepared} → r ≡ Some next → count ≤ length sizes₀ → length prepared' ≡ length prepared → length incoming' ≡ length incoming
-        → Preparing rows n source marks first notes k b count at prepared₀ sizes₀ incoming₀ prepared' (set sizes i (next.rows - held.rows)) incoming' (i + 1) next.rows next.notes
-    prepared_next {next} z = preparing_next rows n source marks first notes k b count at prepared₀ sizes₀ incoming₀ prepared sizes incoming i held.rows held.notes v e h w prepared' incoming' r E next.rows next.notes z
+        → Preparing rows n source marks first notes b count at prepared₀ sizes₀ incoming₀ prepared' (set sizes i (next.rows - held.rows)) incoming' (i + 1) next.rows next.notes
+    prepared_next {next} z = preparing_next rows n source marks first notes b count at prepared₀ sizes₀ incoming₀ prepared sizes incoming i held.rows held.notes v e h w prepared' incoming' r E next.rows next.notes z

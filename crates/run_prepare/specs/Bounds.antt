@@ -95,32 +95,32 @@ parts_low at end (y ∷ new) h =
 
 -- ── What is prepared ────────────────────────────────────────────────────────────────────────────────────────
 
-module _ {rows : List ℕ} {n : ℕ} {source marks first notes : List ℕ} {k : ℕ} {at : ℕ} {prepared sizes incoming : List ℕ} {m c : ℕ} where
+module _ {rows : List ℕ} {n : ℕ} {source marks first : List ℕ} {notes : List HeldNote} {at : ℕ} {prepared sizes incoming : List ℕ} {m c : ℕ} where
   -- As many sizes as elements are listed.
-  pub sizes_told : (count : ℕ) (bytes : List ℕ) → ElementsPrepared rows n source marks first notes k (words count bytes) at prepared sizes incoming (came_in m c)
-      → (text : List ℕ) (changed₀ changed : List HeldChanged) → take count sizes ≡ part_sizes (map (part_in rows n source marks first notes k text changed₀ changed) (words count bytes))
+  pub sizes_told : (count : ℕ) (bytes : List ℕ) → ElementsPrepared rows n source marks first notes (words count bytes) at prepared sizes incoming (came_in m c)
+      → (text : List ℕ) (changed₀ changed : List HeldChanged) → take count sizes ≡ part_sizes (map (part_in rows n source marks first notes text changed₀ changed) (words count bytes))
   sizes_told count bytes P text changed₀ changed =
-      let e : length (map (part_in rows n source marks first notes k text changed₀ changed) (words count bytes)) ≡ count =
-      length-map (words count bytes) (part_in rows n source marks first notes k text changed₀ changed) ∙ length_words count bytes in
+      let e : length (map (part_in rows n source marks first notes text changed₀ changed) (words count bytes)) ≡ count =
+      length-map (words count bytes) (part_in rows n source marks first notes text changed₀ changed) ∙ length_words count bytes in
       ap (λ (i : ℕ). take i sizes) (sym e) ∙ ((P.parts text changed₀ changed).came m c refl).sizes
 
   -- each is small
-  pub sizes_small : (count : ℕ) (bytes : List ℕ) → ElementsPrepared rows n source marks first notes k (words count bytes) at prepared sizes incoming (came_in m c) → All (λ x. x < 2 ^ 16) (take count sizes)
+  pub sizes_small : (count : ℕ) (bytes : List ℕ) → ElementsPrepared rows n source marks first notes (words count bytes) at prepared sizes incoming (came_in m c) → All (λ x. x < 2 ^ 16) (take count sizes)
   sizes_small count bytes P =
-      let new : List Part = map (part_in rows n source marks first notes k [] [] []) (words count bytes) in
+      let new : List Part = map (part_in rows n source marks first notes [] [] []) (words count bytes) in
       let C : Came [] new at prepared sizes incoming m c = (P.parts [] [] []).came m c refl in
       rw (sizes_told count bytes P [] [] []) (All-map (λ x h. omega (arith, C.many, C.few_rows)) (part_sizes new) (sizes_low new))
 
   -- and each part comes to stand among the rows that came in
-  pub sizes_placed : (count : ℕ) (bytes : List ℕ) → ElementsPrepared rows n source marks first notes k (words count bytes) at prepared sizes incoming (came_in m c) → All (λ x. x < 2 ^ 16) (part_rows 0 (take count sizes))
+  pub sizes_placed : (count : ℕ) (bytes : List ℕ) → ElementsPrepared rows n source marks first notes (words count bytes) at prepared sizes incoming (came_in m c) → All (λ x. x < 2 ^ 16) (part_rows 0 (take count sizes))
   sizes_placed count bytes P =
-      let new : List Part = map (part_in rows n source marks first notes k [] [] []) (words count bytes) in
+      let new : List Part = map (part_in rows n source marks first notes [] [] []) (words count bytes) in
       let C : Came [] new at prepared sizes incoming m c = (P.parts [] [] []).came m c refl in
       rw (sizes_told count bytes P [] [] []) (All-map (λ x h. omega (arith, C.many, C.few_rows)) (part_rows 0 (part_sizes new)) (parts_low 0 (length (new_rows new)) new (omega arith)))
 
   -- The notes that came in are at the rows that came in.
-  pub notes_low : {l : List ℕ} → ElementsPrepared rows n source marks first notes k l at prepared sizes incoming (came_in m c) → All (λ x. x.row < at + m) (notes_of c incoming)
+  pub notes_low : {l : List ℕ} → ElementsPrepared rows n source marks first notes l at prepared sizes incoming (came_in m c) → All (λ x. x.row < at + m) (notes_of c incoming)
   notes_low {l} P =
-      let part : ℕ → Part = part_in rows n source marks first notes k [] [] [] in
+      let part : ℕ → Part = part_in rows n source marks first notes [] [] [] in
       let C : Came [] (map part l) at prepared sizes incoming m c = (P.parts [] [] []).came m c refl in
       rw (C.notes, C.many) (new_notes_low at (map part l) (All-over part (λ e. Unit {0}) NotesWithin (λ e u. yield_within _ _ e) l (All-all (λ e. tt) l)))

@@ -1,19 +1,14 @@
--- Slices that are all of one kind: the words that some bytes hold, the notes that some words are; and how a part that is cut out of more tells the same.
+-- Slices that are all of one kind: the words that some bytes hold, and how a part that is cut out of more tells the same. The notes that some words are, passed on.
 -- Assumes nothing.
 use Rattle.std.specs.Prelude.{◌≡◌, List, ℕ, ◌+◌, ◌-◌, ◌*◌, ◌/◌, ◌≤◌, ◌<◌, length, take, drop}
 use Rattle.std.proofs.Common.{sym, ap, ◌∙◌, arith, length-drop, length-take-le, get_or-take, ext_get_or}
 use Rattle.definition.specs.Words.{words}
 use Rattle.words.specs.Bytes.{word_drop, length_words, get_d_words}
-use Rattle.run_model.specs.Store.{HeldNote}
-use Rattle.run_annotations.specs.Notes.{notes_of, notes_same}
+pub use Rattle.run_annotations.specs.Notes.{notes_in, notes_part}
 
 -- all words that some bytes hold
 abbrev pub words_in : List ℕ → List ℕ
 words_in b = words (length b / 4) b
-
--- all notes that some words are
-abbrev pub notes_in : List ℕ → List HeldNote
-notes_in w = notes_of (length w / 3) w
 
 -- n words are in the first bytes alone
 words_take : (n m : ℕ) (l : List ℕ) → 4 * n ≤ m → words n (take m l) ≡ words n l
@@ -35,9 +30,3 @@ module _ (b : List ℕ) (from n to : ℕ) (e : to ≡ from + 4 * n) (h : to ≤ 
 
   pub words_part : words_in (take (to - from) (drop from b)) ≡ words n (drop from b)
   words_part = ap (λ (i : ℕ). words i (take (to - from) (drop from b))) part_words ∙ words_take n (to - from) (drop from b) (omega arith)
-
--- the first k notes, in words of their own
-pub notes_part : (k : ℕ) (w : List ℕ) → 3 * k ≤ length w → notes_in (take (3 * k) w) ≡ notes_of k w
-notes_part k w h =
-    let e : length (take (3 * k) w) / 3 ≡ k = omega (arith, length-take-le (3 * k) w h) in
-    ap (λ (i : ℕ). notes_of i (take (3 * k) w)) e ∙ notes_same (take (3 * k) w) w k (λ j b. get_or-take (3 * k) w j 0 b)

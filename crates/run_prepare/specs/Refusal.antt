@@ -13,7 +13,6 @@ use Rattle.run_model.proofs.Sums.{splice_length}
 use Rattle.run_prepare.specs.Yields.{new_notes, prepared_by, over, part_in}
 use Rattle.run_prepare.specs.Promises.{ElementsPrepared}
 use Rattle.run_tree_store.specs.Stored.{stored}
-use Rattle.run_annotations.specs.Notes.{notes_of}
 
 third : (a b c d : Bool) → c ≡ true → (a || b || c || d) ≡ true
 third true b c d h = refl
@@ -35,13 +34,13 @@ too_many_refused above g new recorded s w h = elim (over _ _ h) [
 ]
 
 -- So where nothing is answered, the step is refused.
-pub prepared_refused : {rows : List ℕ} {n : ℕ} {source marks first notes : List ℕ} {k : ℕ} {l : List ℕ} {at : ℕ} {prepared sizes incoming : List ℕ}
-    → ElementsPrepared rows n source marks first notes k l at prepared sizes incoming None
-    → (text : List ℕ) (changed₀ changed : List HeldChanged) (above : ℕ) (g : Gap) (recorded : Option ℕ) → at ≡ g.from → Within (length (stored text n rows marks (notes_of k notes) changed).rows) g
-    → store_too_large above (map (part_in rows n source marks first notes k text changed₀ changed) l)
-    (spliced_store g (map (part_in rows n source marks first notes k text changed₀ changed) l) recorded (stored text n rows marks (notes_of k notes) changed))
+pub prepared_refused : {rows : List ℕ} {n : ℕ} {source marks first : List ℕ} {notes : List HeldNote} {l : List ℕ} {at : ℕ} {prepared sizes incoming : List ℕ}
+    → ElementsPrepared rows n source marks first notes l at prepared sizes incoming None
+    → (text : List ℕ) (changed₀ changed : List HeldChanged) (above : ℕ) (g : Gap) (recorded : Option ℕ) → at ≡ g.from → Within (length (stored text n rows marks notes changed).rows) g
+    → store_too_large above (map (part_in rows n source marks first notes text changed₀ changed) l)
+    (spliced_store g (map (part_in rows n source marks first notes text changed₀ changed) l) recorded (stored text n rows marks notes changed))
     ≡ true
-prepared_refused {rows} {n} {source} {marks} {first} {notes} {k} {l} P text changed₀ changed above g recorded e w =
-    let new : List Part = map (part_in rows n source marks first notes k text changed₀ changed) l in
-    too_many_refused above g new recorded (stored text n rows marks (notes_of k notes) changed) w
+prepared_refused {rows} {n} {source} {marks} {first} {notes} {l} P text changed₀ changed above g recorded e w =
+    let new : List Part = map (part_in rows n source marks first notes text changed₀ changed) l in
+    too_many_refused above g new recorded (stored text n rows marks notes changed) w
     ((P.parts text changed₀ changed).answer ∙ ap (λ (i : ℕ). prepared_by (length (new_rows new)) (length (new_notes i new))) e)

@@ -8,7 +8,6 @@ use Rattle.orders.specs.Lists.{pick}
 use Rattle.orders.specs.ListLaws.{either_true, map_append}
 use Rattle.definition_laws.specs.Basics.{flat_map_append}
 use Rattle.run_model.specs.Store.{HeldNote, HeldChanged, with_row, Part, part_of, new_rows, placed_parts}
-use Rattle.run_annotations.specs.Notes.{notes_of}
 use Rattle.run_annotations.specs.Promises.{note_in}
 use Rattle.run_tree_store.specs.Stored.{stored, stored_first}
 use Rattle.run_prepare.specs.Parts.{notes_in}
@@ -36,18 +35,18 @@ unfoldable pub prepared_by : ℕ → ℕ → prelude.Option Prepared
 prepared_by m c = cond (ltb 4096 m || ltb 1024 c) None (came_in m c)
 
 -- the notes of `size` rows: of those held now from an element's mark on, of the first ones from its own row on once its path is dropped
-abbrev pub notes_from : List ℕ → List ℕ → ℕ → ℕ → ℕ → ℕ → List HeldNote
-notes_from first notes k e size zero = pick (note_in (e + 1) (e + 1 + size)) (notes_in first)
-notes_from first notes k e size (suc m) = pick (note_in (suc m) (suc m + size)) (notes_of k notes)
+abbrev pub notes_from : List ℕ → List HeldNote → ℕ → ℕ → ℕ → List HeldNote
+notes_from first notes e size zero = pick (note_in (e + 1) (e + 1 + size)) (notes_in first)
+notes_from first notes e size (suc m) = pick (note_in (suc m) (suc m + size)) notes
 
 -- the notes that come along with the `size` rows of element e
-unfoldable pub notes_with : List ℕ → List ℕ → List ℕ → ℕ → ℕ → ℕ → List HeldNote
-notes_with marks first notes k e size = notes_from first notes k e size (get_or marks e 0)
+unfoldable pub notes_with : List ℕ → List ℕ → List HeldNote → ℕ → ℕ → List HeldNote
+notes_with marks first notes e size = notes_from first notes e size (get_or marks e 0)
 
-module _ (rows : List ℕ) (n : ℕ) (source marks first notes : List ℕ) (k : ℕ) where
+module _ (rows : List ℕ) (n : ℕ) (source marks first : List ℕ) (notes : List HeldNote) where
   -- what element e yields. Text and changed elements are not read
   abbrev pub part_in : List ℕ → List HeldChanged → List HeldChanged → ℕ → Part
-  part_in text changed₀ changed = part_of (stored_first text (length marks) source (notes_in first) changed₀) (stored text n rows marks (notes_of k notes) changed)
+  part_in text changed₀ changed = part_of (stored_first text (length marks) source (notes_in first) changed₀) (stored text n rows marks notes changed)
 
 -- ── Parts behind others ───────────────────────────────────────────────────────────────────────────────────────
 

@@ -2,14 +2,16 @@
 // The slices that are lent to be written stay apart, as run_tree_state says.
 #![tactic(auto)]
 
-ghost use Rattle.std.specs.Prelude.{◌+◌, ◌*◌, ◌/◌, ◌≤◌, ◌<◌, length, get_or};
+ghost use Rattle.std.specs.Prelude.{◌/◌, ◌≤◌, ◌<◌, length};
 ghost use Rattle.orders.specs.Lists.{All};
-ghost use Rattle.run_prepare.specs.Parts.{words_in};
+ghost use Rattle.run_prepare.specs.Parts.{words_in, notes_in};
 ghost use Rattle.run_prepare.specs.Promises.{NotesAlong, ElementPrepared, ElementsPrepared};
 
+mod stores;
+
 use rows_syntax_node::{ROW_WORDS, append_rows};
-use run_annotations::{NOTE_WORDS, notes_in};
-use run_tree_store::{Trees, prepared_rows};
+use run_tree_store::prepared_rows;
+pub use stores::Stores;
 use words::{read_word, word};
 
 // How many rows and notes come in.
@@ -22,45 +24,27 @@ pub struct Prepared {
 // The notes that come along with the `size` rows of element `e` go behind the first `c`, told from the row `at` on: while its mark is there those
 // held now, else the first ones.
 fn element_notes(
-    marks: &[u32],
-    first: &[u32],
-    notes: &[u32],
-    k: usize,
+    stores: &Stores,
     e: usize,
     size: usize,
     at: usize,
     incoming: &mut [u32],
     c: usize,
 ) -> Option<usize>
-    requires e_in_bounds { (e < length marks.now) × (length marks.now ≤ 2048) × (get_or marks.now e 0 ≤ 4097) × (size ≤ 4096) }
-    requires first_len_bound { (length first.now ≤ 768) × (3 * k ≤ length notes.now) × (k ≤ 1024) }
-    requires at_bound { (at ≤ 8193) × (c ≤ 1024) × (3072 ≤ length incoming.old) }
-    ensures { NotesAlong marks.now first.now notes.now k e size at incoming.old c incoming.new result }
+    requires { (e < length stores.now.trees.marks.now) × (size ≤ 4096) × (at ≤ 8193) × (c ≤ 1024) × (3072 ≤ length incoming.old) }
+    ensures { NotesAlong stores.now.trees.marks.now stores.now.first.now (notes_in stores.now.notes.now) e size at incoming.old c incoming.new result }
 {
-    let m = word(marks, e);
+    let m = word(stores.trees.marks, e);
     if m == 0 {
-        return notes_in(
-            first,
-            first.len() / NOTE_WORDS,
-            e + 1,
-            e + 1 + size,
-            at,
-            incoming,
-            c,
-            1024,
-        );
+        return run_annotations::notes_in(stores.first, e + 1, e + 1 + size, at, incoming, c, 1024);
     }
-    notes_in(notes, k, m, m + size, at, incoming, c, 1024)
+    run_annotations::notes_in(stores.notes, m, m + size, at, incoming, c, 1024)
 }
 
 // Rust: TreeStore::prepare_element. What element `e` yields goes behind the first `m` prepared rows and the first `c` incoming notes; prepared row 0 comes
 // to stand at the row `at`. None if that is more than a step may bring.
 fn prepare_element(
-    trees: &Trees,
-    source: &[u32],
-    first: &[u32],
-    notes: &[u32],
-    k: usize,
+    stores: &Stores,
     e: usize,
     at: usize,
     prepared: &mut [u32],
@@ -68,19 +52,17 @@ fn prepare_element(
     incoming: &mut [u32],
     c: usize,
 ) -> Option<Prepared>
-    requires n_in_bounds { trees.now.rows.count ≤ 4097 }
-    requires e_in_bounds { (e < length trees.now.marks.now) × (length trees.now.marks.now ≤ 2048) × (3 * length trees.now.marks.now + 3 ≤ length source.now) }
-    requires first_len_bound { (length first.now ≤ 768) × (3 * k ≤ length notes.now) × (k ≤ 1024) }
-    requires at_bound { (at ≤ 4097) × (m ≤ 4096) × (12288 ≤ length prepared.old) × (c ≤ 1024) × (3072 ≤ length incoming.old) }
-    ensures { ElementPrepared trees.now.rows.words.now trees.now.rows.count source.now trees.now.marks.now first.now notes.now k e at prepared.old m incoming.old c prepared.new incoming.new result }
+    requires e_in_bounds { (e < length stores.now.trees.marks.now) × (at ≤ 4097) }
+    requires room { (m ≤ 4096) × (12288 ≤ length prepared.old) × (c ≤ 1024) × (3072 ≤ length incoming.old) }
+    ensures { ElementPrepared stores.now.trees.rows.words.now stores.now.trees.rows.count stores.now.source.now stores.now.trees.marks.now stores.now.first.now (notes_in stores.now.notes.now) e at prepared.old m incoming.old c prepared.new incoming.new result }
 {
-    let run = prepared_rows(trees, source, e);
+    let run = prepared_rows(&stores.trees, stores.source, e);
     let size = run.len() / ROW_WORDS;
     if 4096 - m < size {
         return None;
     }
     let end = append_rows(prepared, m, run);
-    let count = element_notes(trees.marks, first, notes, k, e, size, at + m, incoming, c)?;
+    let count = element_notes(stores, e, size, at + m, incoming, c)?;
     Some(Prepared {
         rows: end,
         notes: count,
@@ -89,31 +71,23 @@ fn prepare_element(
 
 // Rust: `replacement` in TreeStore::execute. What the listed elements yield: all are prepared before the step's splice,
 // which may remove them, and prepared row 0 comes to stand at the row `at`. None if that is more than a step may bring.
+// Its loop counts, since a turn reads the list's word `i` and writes the size `i`: a `zip` of the list's chunks with the sizes would read each word from its four bytes by hand.
 pub fn prepare(
-    trees: &Trees,
-    source: &[u32],
-    first: &[u32],
-    notes: &[u32],
-    k: usize,
+    stores: &Stores,
     list: &[u8],
     at: usize,
     prepared: &mut [u32],
     sizes: &mut [u32],
     incoming: &mut [u32],
 ) -> Option<Prepared>
-    requires n_in_bounds { trees.now.rows.count ≤ 4097 }
-    requires marks_len_bound { (length trees.now.marks.now ≤ 2048) × (3 * length trees.now.marks.now + 3 ≤ length source.now) }
-    requires first_len_bound { (length first.now ≤ 768) × (3 * k ≤ length notes.now) × (k ≤ 1024) }
-    requires all { All (λ e. e < length trees.now.marks.now) (words_in list.now) }
-    requires at_bound { (at ≤ 4097) × (12288 ≤ length prepared.old) × (length list.now / 4 ≤ length sizes.old) × (3072 ≤ length incoming.old) }
-    ensures { ElementsPrepared trees.now.rows.words.now trees.now.rows.count source.now trees.now.marks.now first.now notes.now k (words_in list.now) at prepared.new sizes.new incoming.new result }
+    requires all { All (λ e. e < length stores.now.trees.marks.now) (words_in list.now) }
+    requires room { (at ≤ 4097) × (12288 ≤ length prepared.old) × (length list.now / 4 ≤ length sizes.old) × (3072 ≤ length incoming.old) }
+    ensures { ElementsPrepared stores.now.trees.rows.words.now stores.now.trees.rows.count stores.now.source.now stores.now.trees.marks.now stores.now.first.now (notes_in stores.now.notes.now) (words_in list.now) at prepared.new sizes.new incoming.new result }
 {
     let mut held = Prepared { rows: 0, notes: 0 };
     for i in 0..list.len() / 4 {
         let e = read_word(list, 4 * i);
-        let next = prepare_element(
-            trees, source, first, notes, k, e, at, prepared, held.rows, incoming, held.notes,
-        )?;
+        let next = prepare_element(stores, e, at, prepared, held.rows, incoming, held.notes)?;
         sizes[i] = (next.rows - held.rows) as u32;
         held = next;
     }

@@ -1,27 +1,30 @@
 -- Each answer, from what was done, and the loop's invariant.
 -- Assumes nothing.
+use Rattle.std.specs.Prelude as prelude
+use Rattle.std.specs.Prelude.{None, Some, Bool, true, false}
+use Rattle.std.specs.Option.{is_some}
 use mathlib.Core.Path.{◌≡◌, refl, sym, ap, ◌∙◌}
-use mathlib.Core.List.{List, [], ◌∷◌, ◌++◌, map, append-nil}
+use mathlib.Core.List.{List, [], ◌∷◌, ◌++◌, append-nil}
 use mathlib.Core.Option
 use mathlib.Core.Option.{Option, none, some}
-use Prim.Native.Nat.{ℕ, zero, suc, ◌+◌, ◌-◌, ◌*◌, ◌/◌, ◌^◌, ◌≤◌, ◌<◌}
+use Prim.Native.Nat.{ℕ, zero, suc, ◌+◌, ◌*◌, ◌/◌, ◌%◌, ◌^◌, ◌≤◌, ◌<◌}
 use native.Mathlib.Nat.{add-zero, zero-add}
 use native.Mathlib.Numerals.{add-one}
 use native.Mathlib.Omega.{arith}
-use lib.ListN.{length, get_or, take, drop}
-use lib.Seq.{paste, drop-drop, get_or-drop, get_or-take, length-take-le}
+use lib.ListN.{length, get_or, drop}
+use lib.Seq.{paste, drop-drop, get_or-drop}
 use Rattle.orders.specs.Lists.{All, more, pick}
 use Rattle.orders.specs.ListLaws.{All-map}
 use Rattle.orders.specs.Tree.{shift}
-use Rattle.orders.proofs.TreeLaws.{shift_before, shift_inside, shift_after}
 use Rattle.words.specs.Parts.{get_d_below, get_d_inside}
 use Rattle.rows_syntax_node.specs.Promises.{Spliced, Shifted}
-use Rattle.run_model.specs.Store.{HeldNote, with_row, put_in}
+use Rattle.run_model.specs.Store.{HeldNote, with_row}
 use Rattle.run_annotations.specs.Notes.{note_of, notes_of, note_at, note_row, notes_to, notes_same}
-use Rattle.run_annotations.specs.Changed.{changed_in, count_by}
+use Rattle.run_annotations.specs.Changed.{changed_in, Ruled, count_by}
 use Rattle.run_annotations.specs.Places.{part_rows}
-use Rattle.run_annotations.specs.Promises.{RowsMoved, moved_note, NotesMoved, RowsAdded}
-use Rattle.run_splice.specs.Promises.{SplicedMarks, Left, NotesLeft, NotesSpliced, Recorded, ChangedSpliced}
+use Rattle.run_annotations.specs.Promises.{row_told, Moved, RowsMoved, moved_note, NotesMoved, RowsAdded}
+use Rattle.run_splice.specs.Coming.{Coming}
+use Rattle.run_splice.specs.Promises.{SplicedMarks, NotesLeft, NotesSpliced, Recorded, ChangedSpliced}
 
 -- ── Rows and marks ──────────────────────────────────────────────────────────────────────────────────────────
 
@@ -40,16 +43,6 @@ spliced_marks rows n marks parent p q lost run gain out marked r h k a s t = rec
 
 -- ── Notes that stay ─────────────────────────────────────────────────────────────────────────────────────────
 
-module _ {r x p q : ℕ} where
-  pub left_before : x < p → Left r x p q (r + 1)
-  left_before h = record { count = λ m. rw (shift_before p q m x h); most = omega arith }
-
-  pub left_inside : p ≤ x → x < q → Left r x p q r
-  left_inside h k = record { count = λ m. rw (shift_inside p q m x h k) (sym (add-zero r)); most = omega arith }
-
-  pub left_after : p ≤ x → q ≤ x → Left r x p q (r + 1)
-  left_after h k = record { count = λ m. rw (shift_after p q m x h k); most = omega arith }
-
 -- what is picked of a list with one element more
 pick_more : {X Y : Type 0} (f : X → Option Y) (l : List X) (x : X) → length (pick f (l ++ (x ∷ []))) ≡ length (pick f l) + length (more (f x) [])
 unfolding pick
@@ -65,28 +58,47 @@ stays_by : (n : HeldNote) (o : Option ℕ) → length (more (Option.map (with_ro
 stays_by n none = refl
 stays_by n (some x) = refl
 
+-- and a row stays where it is told
+stays_told : (s : Option ℕ) {o : prelude.Option ℕ} → o ≡ row_told s → is_some o ≡ true → length (more s []) ≡ 1
+unfolding row_told
+stays_told none e h = let z : is_some {T = ℕ} None ≡ true = rw e at h in let w : ◌≡◌ {A = ℕ} 0 1 = cc in absurd (omega arith)
+stays_told (some x) e h = refl
+
+goes_told : (s : Option ℕ) {o : prelude.Option ℕ} → o ≡ row_told s → is_some o ≡ false → length (more s []) ≡ 0
+unfolding row_told
+goes_told none e h = refl
+goes_told (some x) e h = let z : is_some (Some x) ≡ false = rw e at h in let w : ◌≡◌ {A = ℕ} 0 1 = cc in absurd (omega arith)
+
 -- the first i notes are looked at, and r of them stay
-pub record Staying (l : List ℕ) (k p q i r : ℕ) : Type 0 where
-  pub count : (m : ℕ) → r ≡ length (pick (moved_note p q m) (notes_of i l))
+pub record Staying (l : List ℕ) (p q m i r : ℕ) : Type 0 where
+  pub count : r ≡ length (pick (moved_note p q m) (notes_of i l))
   pub most : r ≤ i
-  pub inside : i ≤ k
+  pub inside : i ≤ length l / 3
 
-pub staying_start : (l : List ℕ) (k p q : ℕ) → Staying l k p q 0 0
+pub staying_start : (l : List ℕ) (p q m : ℕ) → Staying l p q m 0 0
 unfolding pick notes_of
-staying_start l k p q = record { count = λ m. refl; most = omega arith; inside = omega arith }
+staying_start l p q m = record { count = refl; most = omega arith; inside = omega arith }
 
-module _ {l : List ℕ} {k p q i r : ℕ} (v : Staying l k p q i r) where
-  pub staying_next : {x r' : ℕ} → i < k → (x ≡ get_or l (3 * i) 0) × (x < 2 ^ 32) → Left r x p q r' → Staying l k p q (i + 1) r'
-  staying_next {x} {r'} h e w = record {
-    count = λ m.
-        let f : length (more (moved_note p q m (note_at l i)) []) ≡ length (more (shift p q m x) []) = stays_by (note_at l i) (shift p q m (note_at l i).row) ∙ ap (λ (y : ℕ). length (more (shift p q m y) [])) (note_row l i ∙ sym e.0) in
-        rw (add-one i, notes_to l i) (omega (arith, pick_more (moved_note p q m) (notes_of i l) (note_at l i), v.count m, w.count m));
-    most = omega (arith, w.most, v.most);
+module _ {l : List ℕ} {p q m i r : ℕ} (v : Staying l p q m i r) where
+  staying_one : {n : ℕ} → i < length l / 3 → length (more (moved_note p q m (note_at l i)) []) ≡ n → n ≤ 1 → Staying l p q m (i + 1) (r + n)
+  staying_one h e b = record {
+    count = rw (add-one i, notes_to l i) (omega (arith, pick_more (moved_note p q m) (notes_of i l) (note_at l i), v.count, e));
+    most = omega (arith, v.most);
     inside = omega arith;
   }
 
-  pub staying_done : k ≤ i → NotesLeft l k p q r
-  staying_done h = let e : i ≡ k = omega (arith, v.inside) in record { count = λ m. rw (← e) (v.count m); most = omega (arith, v.most) }
+  module _ {x : ℕ} {o : prelude.Option ℕ} (h : i < length l / 3) (e : (x ≡ get_or l (3 * i) 0) × (x < 2 ^ 32)) (w : Moved p q m x o) where
+    by_row : length (more (moved_note p q m (note_at l i)) []) ≡ length (more (shift p q m x) [])
+    by_row = stays_by (note_at l i) (shift p q m (note_at l i).row) ∙ ap (λ (y : ℕ). length (more (shift p q m y) [])) (note_row l i ∙ sym e.0)
+
+    pub staying_stays : {b : Bool} {r' : ℕ} → b ≡ is_some o → b ≡ true → r' ≡ r + 1 → Staying l p q m (i + 1) r'
+    staying_stays y z n = rw n (staying_one h (by_row ∙ stays_told (shift p q m x) w.row (sym y ∙ z)) (omega arith))
+
+    pub staying_goes : {b : Bool} {r' : ℕ} → b ≡ is_some o → b ≡ false → r' ≡ r → Staying l p q m (i + 1) r'
+    staying_goes y z n = rw (n, ← add-zero r) (staying_one h (by_row ∙ goes_told (shift p q m x) w.row (sym y ∙ z)) (omega arith))
+
+  pub staying_done : length l / 3 ≤ i → NotesLeft l p q m r
+  staying_done h = let e : i ≡ length l / 3 = omega (arith, v.inside) in record { count = rw (← e) v.count; most = omega (arith, v.most) }
 
 -- ── Notes moved, and notes behind them ──────────────────────────────────────────────────────────────────────
 
@@ -107,33 +119,35 @@ notes_behind w src r c h k =
     let g : notes_of c (drop (3 * r) out) ≡ notes_of c src = notes_same (drop (3 * r) out) src c (λ j b. get_or-drop (3 * r) out j 0 ∙ get_d_inside w (3 * r) src (3 * c) h k 0 j (3 * r + j) b refl) in
     rw (notes_parted out r c, f, g)
 
-pub notes_spliced : (l : List ℕ) (k p q m : ℕ) (incoming : List ℕ) (c : ℕ) (moved out : List ℕ) (r : ℕ) → length moved ≡ length l → 3 * c ≤ length incoming
-    → 3 * (length (pick (moved_note p q m) (notes_of k l)) + c) ≤ length l
-    → NotesMoved l k p q m moved r → out ≡ paste moved (3 * r) (take (3 * c - 0) (drop 0 incoming)) (length (take (3 * c - 0) (drop 0 incoming))) → NotesSpliced l k p q m incoming c out (r + c)
-notes_spliced l k p q m incoming c moved out r long b h s e =
-    let z : length (take (3 * c) incoming) ≡ 3 * c = length-take-le (3 * c) incoming b in
-    let y : 3 * c - 0 ≡ 3 * c = omega arith in
-    let d : out ≡ paste moved (3 * r) (take (3 * c) incoming) (length (take (3 * c) incoming)) = rw y at e in
-    let f : notes_of (r + c) out ≡ notes_of r moved ++ notes_of c (take (3 * c) incoming) =
-    ap (notes_of (r + c)) (d ∙ ap (paste moved (3 * r) (take (3 * c) incoming)) z) ∙ notes_behind moved (take (3 * c) incoming) r c (omega (arith, s.count)) (omega arith) in
-    let g : notes_of c (take (3 * c) incoming) ≡ notes_of c incoming = notes_same (take (3 * c) incoming) incoming c (λ j b. get_or-take (3 * c) incoming j 0 b) in
-    record { notes = f ∙ rw (g, s.notes); count = ap (λ (n : ℕ). n + c) s.count }
+pub notes_spliced : {l : List ℕ} {k p q m : ℕ} {incoming moved out : List ℕ} {r : ℕ} → length incoming % 3 ≡ 0 → length moved ≡ length l
+    → 3 * (length (pick (moved_note p q m) (notes_of k l)) + length incoming / 3) ≤ length l
+    → NotesMoved l k p q m moved r → out ≡ paste moved (3 * r) incoming (length incoming) → NotesSpliced l k p q m incoming out (r + length incoming / 3)
+notes_spliced {l} {k} {p} {q} {m} {incoming} {moved} {out} {r} whole long h s e =
+    let c : ℕ = length incoming / 3 in
+    let z : length incoming ≡ 3 * c = omega arith in
+    let f : notes_of (r + c) out ≡ notes_of r moved ++ notes_of c incoming = ap (notes_of (r + c)) (e ∙ ap (paste moved (3 * r) incoming) z) ∙ notes_behind moved incoming r c (omega (arith, s.count)) (omega arith) in
+    record { notes = f ∙ rw s.notes; count = ap (λ (n : ℕ). n + c) s.count }
 
 -- ── Changed elements ────────────────────────────────────────────────────────────────────────────────────────
 
--- there is room for what is recorded
-pub room_recorded : (k n m recorded : ℕ) → k + count_by recorded n ≤ m → (recorded ≡ 0 → ⊥) → k + n ≤ m
-room_recorded k n m zero h e = absurd (e refl)
-room_recorded k n m (suc rule) h e = h
+-- parts that stand in bounds from the row a on do so from the row b on
+places_small : (d a b : ℕ) (sizes : List ℕ) → b ≡ d + a → d < 2 ^ 16 → All (λ x. x < 2 ^ 16) (part_rows a sizes) → All (λ x. x < 131072) (part_rows b sizes)
+unfolding part_rows
+places_small d a b [] e k h = tt
+places_small d a b (n ∷ sizes) e k h = (let z = h.0 in omega arith, places_small d (a + n) (b + n) sizes (omega arith) k h.1)
 
-pub recorded_all : (l : List ℕ) (k at recorded : ℕ) (sizes out : List ℕ) (r : ℕ) → (recorded ≡ 0 → ⊥) → RowsAdded l k at (recorded - 1) sizes out r → Recorded l k at recorded sizes out r
-recorded_all l k at zero sizes out r e s = absurd (e refl)
-recorded_all l k at (suc rule) sizes out r e s =
-    let z : suc rule - 1 ≡ rule = omega arith in
-    record { rows = s.rows ∙ ap (λ (n : ℕ). changed_in k l ++ map (put_in n) (part_rows at sizes)) z; count = s.count }
+-- a change that records: its rule number has its bits, there is room, and the parts stand in bounds
+pub recorded_asks : (k at : ℕ) {rule : ℕ} (m : ℕ) {recorded : prelude.Option ℕ} {run sizes incoming : List ℕ} → recorded ≡ Some rule → (k + count_by recorded (length sizes) ≤ m) × Ruled recorded × (at < 2 ^ 16) → Coming run sizes incoming
+    → (k + length sizes ≤ m) × (rule < 4096) × (at < 2 ^ 16) × (length sizes < 2 ^ 12) × All (λ x. x < 2 ^ 16) sizes × All (λ x. x < 131072) (part_rows at sizes)
+recorded_asks k at {rule} m {recorded} {run} {sizes} {incoming} e h w =
+    let z : (k + length sizes ≤ m) × (rule < 4096) × (at < 2 ^ 16) = rw e at h in
+    (z.0, z.1, z.2, omega (arith, w.few_parts), w.sized, places_small at 0 at sizes (omega arith) z.2 w.placed)
 
-pub recorded_none : (l : List ℕ) (k at recorded : ℕ) (sizes : List ℕ) → recorded ≡ 0 → Recorded l k at recorded sizes l k
-recorded_none l k at recorded sizes e = rw e (record { rows = sym (append-nil (changed_in k l)); count = sym (add-zero k) })
+pub recorded_all : {l : List ℕ} {k at rule : ℕ} {recorded : prelude.Option ℕ} {sizes out : List ℕ} {r : ℕ} → recorded ≡ Some rule → RowsAdded l k at rule sizes out r → Recorded l k at recorded sizes out r
+recorded_all e s = rw e (record { rows = s.rows; count = s.count })
 
-pub changed_spliced : {l : List ℕ} {k p q m : ℕ} {moved : List ℕ} {r recorded : ℕ} {sizes out : List ℕ} {n : ℕ} → RowsMoved l k p q m moved r → Recorded moved r p recorded sizes out n → ChangedSpliced l k p q m recorded sizes out n
+pub recorded_none : (l : List ℕ) (k at : ℕ) {recorded : prelude.Option ℕ} (sizes : List ℕ) → recorded ≡ None → Recorded l k at recorded sizes l k
+recorded_none l k at sizes e = rw e (record { rows = sym (append-nil (changed_in k l)); count = sym (add-zero k) })
+
+pub changed_spliced : {l : List ℕ} {k p q m : ℕ} {moved : List ℕ} {r : ℕ} {recorded : prelude.Option ℕ} {sizes out : List ℕ} {n : ℕ} → RowsMoved l k p q m moved r → Recorded moved r p recorded sizes out n → ChangedSpliced l k p q m recorded sizes out n
 changed_spliced s t = record { rows = t.rows ∙ rw s.rows; most = omega (arith, t.count, s.most) }

@@ -1,11 +1,11 @@
 -- What the functions promise, part by part. Text is not read, so that each promise holds for any.
 -- Assumes nothing.
+use Rattle.std.specs.Prelude as prelude
 use Rattle.std.specs.Prelude.{◌≡◌, List, [], ◌++◌, map, ℕ, ◌+◌, ◌-◌, ◌*◌, ◌/◌, ◌≤◌, ◌<◌, length, drop}
-use Rattle.orders.specs.Lists.{All, more, pick}
-use Rattle.orders.specs.Tree.{shift}
+use Rattle.orders.specs.Lists.{All, pick}
 use Rattle.rows_model.specs.Row.{first_rows, triples}
 use Rattle.rows_model.specs.Place.{splice_rows, moved_mark}
-use Rattle.run_annotations.specs.Notes.{notes_of}
+use Rattle.run_annotations.specs.Notes.{notes_of, notes_in}
 use Rattle.run_annotations.specs.Changed.{changed_in, count_by, put_by}
 use Rattle.run_annotations.specs.Places.{part_rows}
 use Rattle.run_annotations.specs.Promises.{moved_note, moved_changed}
@@ -18,27 +18,22 @@ pub record SplicedMarks (rows : List ℕ) (n : ℕ) (marks : List ℕ) (parent p
   pub moved : marked ≡ map (moved_mark p q (length run / 3)) marks
   pub below : All (λ x. x < r) marked
 
--- one more where the row x stays, whatever comes in
-pub record Left (r x p q n : ℕ) : Type 0 where
-  pub count : (m : ℕ) → n ≡ r + length (more (shift p q m x) [])
-  pub most : n ≤ r + 1
-
--- the number of notes that stay, whatever comes in
-pub record NotesLeft (notes : List ℕ) (k p q r : ℕ) : Type 0 where
-  pub count : (m : ℕ) → r ≡ length (pick (moved_note p q m) (notes_of k notes))
-  pub most : r ≤ k
+-- the number of notes that stay
+pub record NotesLeft (notes : List ℕ) (p q m r : ℕ) : Type 0 where
+  pub count : r ≡ length (pick (moved_note p q m) (notes_in notes))
+  pub most : r ≤ length notes / 3
 
 -- the notes moved, and behind them those that come in
-pub record NotesSpliced (l : List ℕ) (k p q m : ℕ) (incoming : List ℕ) (c : ℕ) (out : List ℕ) (r : ℕ) : Type 0 where
-  pub notes : notes_of r out ≡ pick (moved_note p q m) (notes_of k l) ++ notes_of c incoming
-  pub count : r ≡ length (pick (moved_note p q m) (notes_of k l)) + c
+pub record NotesSpliced (l : List ℕ) (k p q m : ℕ) (incoming out : List ℕ) (r : ℕ) : Type 0 where
+  pub notes : notes_of r out ≡ pick (moved_note p q m) (notes_of k l) ++ notes_in incoming
+  pub count : r ≡ length (pick (moved_note p q m) (notes_of k l)) + length incoming / 3
 
 -- what comes in behind the first k changed elements, if it is recorded
-pub record Recorded (changed : List ℕ) (k at recorded : ℕ) (sizes out : List ℕ) (r : ℕ) : Type 0 where
+pub record Recorded (changed : List ℕ) (k at : ℕ) (recorded : prelude.Option ℕ) (sizes out : List ℕ) (r : ℕ) : Type 0 where
   pub rows : changed_in r out ≡ changed_in k changed ++ put_by recorded (part_rows at sizes)
   pub count : r ≡ k + count_by recorded (length sizes)
 
 -- the changed elements moved, and behind them what comes in
-pub record ChangedSpliced (changed : List ℕ) (k p q m recorded : ℕ) (sizes out : List ℕ) (r : ℕ) : Type 0 where
+pub record ChangedSpliced (changed : List ℕ) (k p q m : ℕ) (recorded : prelude.Option ℕ) (sizes out : List ℕ) (r : ℕ) : Type 0 where
   pub rows : changed_in r out ≡ pick (moved_changed p q m) (changed_in k changed) ++ put_by recorded (part_rows p sizes)
   pub most : r ≤ k + count_by recorded (length sizes)

@@ -1,17 +1,19 @@
 // One splice of what is held, slice by slice: rows and marks, notes, changed elements.
-// The slices stay apart, as run_tree_state says.
+// The slices that are written stay apart, as run_tree_state says.
 #![tactic(auto)]
 
-ghost use Rattle.std.specs.Prelude.{◌≡◌, ◌+◌, ◌-◌, ◌*◌, ◌%◌, ◌^◌, ◌≤◌, ◌<◌, length, get_or};
+ghost use Rattle.std.specs.Prelude.{◌≡◌, ◌+◌, ◌-◌, ◌*◌, ◌/◌, ◌%◌, ◌^◌, ◌≤◌, ◌<◌, length, get_or};
 ghost use Rattle.orders.specs.Lists.{All, pick};
 ghost use Rattle.run_annotations.specs.Notes.{notes_of};
-ghost use Rattle.run_annotations.specs.Changed.{changed_in, count_by};
-ghost use Rattle.run_annotations.specs.Places.{part_rows};
+ghost use Rattle.run_annotations.specs.Changed.{changed_in, Ruled, count_by};
 ghost use Rattle.run_annotations.specs.Promises.{moved_note};
-ghost use Rattle.run_splice.specs.Promises.{SplicedMarks, Left, NotesLeft, NotesSpliced, Recorded, ChangedSpliced};
+ghost use Rattle.run_splice.specs.Promises.{SplicedMarks, NotesLeft, NotesSpliced, Recorded, ChangedSpliced};
 
+mod parts;
+
+pub use parts::Parts;
 use rows_syntax_node::{ROW_WORDS, shift_marks, splice_rows};
-use run_annotations::{NOTE_WORDS, add_changed, move_changed, move_notes};
+use run_annotations::{NOTE_WORDS, Shift, add_changed, move_changed, move_notes, moved};
 use words::{copy_in, word};
 
 // ── Rows and marks ──
@@ -41,82 +43,62 @@ pub fn splice(
 
 // ── Notes ──
 
-// One more than `r` if the row `x` is none of the rows `p` up to `q`.
-fn count_left(r: usize, x: usize, p: usize, q: usize) -> usize
-    requires { (r < 2 ^ 16) × (p ≤ q) }
-    ensures { Left r x p q result }
+// How many of some notes stay.
+pub fn notes_left(notes: &[u32], shift: &Shift) -> usize
+    requires { length notes.now < 3 * 2 ^ 16 }
+    ensures { NotesLeft notes.now shift.now.from shift.now.to shift.now.count result }
 {
-    if x < p {
-        return r + 1;
+    let mut left = 0;
+    for i in 0..notes.len() / NOTE_WORDS {
+        if moved(shift, word(notes, NOTE_WORDS * i)).is_some() {
+            left += 1;
+        }
     }
-    if x < q {
-        return r;
-    }
-    r + 1
+    left
 }
 
-// How many of the first `k` notes are at none of the rows `p` up to `q`.
-pub fn notes_left(notes: &[u32], k: usize, p: usize, q: usize) -> usize
-    requires { (3 * k ≤ length notes.now) × (k < 2 ^ 16) × (p ≤ q) }
-    ensures { NotesLeft notes.now k p q result }
+// The first `k` notes moved, and behind them those that come in. The new number of notes.
+pub fn splice_notes(notes: &mut [u32], k: usize, shift: &Shift, parts: &Parts) -> usize
+    requires k_in_bounds { (3 * k ≤ length notes.old) × All (λ n. n.row < 2 ^ 16) (notes_of k notes.old) }
+    requires room { 3 * (length (pick (moved_note shift.now.from shift.now.to shift.now.count) (notes_of k notes.old)) + length parts.now.notes.now / 3) ≤ length notes.old }
+    ensures { NotesSpliced notes.old k shift.now.from shift.now.to shift.now.count parts.now.notes.now notes.new result }
 {
-    let mut r = 0;
-    for i in 0..k {
-        r = count_left(r, word(notes, NOTE_WORDS * i), p, q);
-    }
-    r
-}
-
-// The first `k` notes where the rows `p` up to `q` give way to `m` others, and behind them `c` that come in. The new number of notes.
-pub fn splice_notes(
-    notes: &mut [u32],
-    k: usize,
-    p: usize,
-    q: usize,
-    m: usize,
-    incoming: &[u32],
-    c: usize,
-) -> usize
-    requires k_in_bounds { (3 * k ≤ length notes.old) × (p ≤ q) × (q < 2 ^ 16) × (m < 2 ^ 16) × All (λ n. n.row < 2 ^ 16) (notes_of k notes.old) }
-    requires c_in_bounds { (3 * c ≤ length incoming.now) × (3 * (length (pick (moved_note p q m) (notes_of k notes.old)) + c) ≤ length notes.old) }
-    ensures { NotesSpliced notes.old k p q m incoming.now c notes.new result }
-{
-    let r = move_notes(notes, k, p, q, m);
-    let to = NOTE_WORDS * c;
-    copy_in(notes, NOTE_WORDS * r, &incoming[0..to]);
-    r + c
+    let r = move_notes(notes, k, shift);
+    copy_in(notes, NOTE_WORDS * r, parts.notes);
+    r + parts.notes.len() / NOTE_WORDS
 }
 
 // ── Changed elements ──
 
-// Parts of some sizes, the first at the row `at`, go behind the first `k` changed elements if the change records: by the rule number that `recorded` tells,
-// which is one more than it, 0 for a change that does not record. The new number of changed elements.
-fn record_changed(changed: &mut [u32], k: usize, at: usize, recorded: usize, sizes: &[u32]) -> usize
-    requires sizes_in_bounds { (k + count_by recorded (length sizes.now) ≤ length changed.old) × (recorded ≤ 4096) × (at < 2 ^ 16) }
-    requires sizes_len_bound { (length sizes.now < 2 ^ 12) × All (λ x. x < 2 ^ 16) sizes.now × All (λ x. x < 131072) (part_rows at sizes.now) }
-    ensures { Recorded changed.old k at recorded sizes.now changed.new result }
+// The parts, the first at the row `at`, go behind the first `k` changed elements if the change records, by its rule number. The new number of changed elements.
+fn record_changed(
+    changed: &mut [u32],
+    k: usize,
+    at: usize,
+    recorded: Option<usize>,
+    parts: &Parts,
+) -> usize
+    requires { (k + count_by recorded (length parts.now.sizes.now) ≤ length changed.old) × Ruled recorded × (at < 2 ^ 16) }
+    ensures { Recorded changed.old k at recorded parts.now.sizes.now changed.new result }
 {
-    if recorded == 0 {
+    let Some(rule) = recorded else {
         return k;
-    }
-    add_changed(changed, k, at, recorded - 1, sizes)
+    };
+    add_changed(changed, k, at, rule, parts.sizes)
 }
 
-// The first `k` changed elements where the rows `p` up to `q` give way to `m` others, and behind them the parts if the change records.
+// The first `k` changed elements moved, and behind them the parts if the change records. The new number of changed elements.
 pub fn splice_changed(
     changed: &mut [u32],
     k: usize,
-    p: usize,
-    q: usize,
-    m: usize,
-    recorded: usize,
-    sizes: &[u32],
+    shift: &Shift,
+    recorded: Option<usize>,
+    parts: &Parts,
 ) -> usize
-    requires p_le_q { (p ≤ q) × (q < 2 ^ 16) × (m < 2 ^ 16) × All (λ c. c.row < 2 ^ 16) (changed_in k changed.old) }
-    requires sizes_in_bounds { (k + count_by recorded (length sizes.now) ≤ length changed.old) × (recorded ≤ 4096) }
-    requires sizes_len_bound { (length sizes.now < 2 ^ 12) × All (λ x. x < 2 ^ 16) sizes.now × All (λ x. x < 131072) (part_rows p sizes.now) }
-    ensures { ChangedSpliced changed.old k p q m recorded sizes.now changed.new result }
+    requires k_in_bounds { All (λ c. c.row < 2 ^ 16) (changed_in k changed.old) }
+    requires room { (k + count_by recorded (length parts.now.sizes.now) ≤ length changed.old) × Ruled recorded }
+    ensures { ChangedSpliced changed.old k shift.now.from shift.now.to shift.now.count recorded parts.now.sizes.now changed.new result }
 {
-    let r = move_changed(changed, k, p, q, m);
-    record_changed(changed, r, p, recorded, sizes)
+    let r = move_changed(changed, k, shift);
+    record_changed(changed, r, shift.from, recorded, parts)
 }

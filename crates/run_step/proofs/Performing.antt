@@ -8,7 +8,7 @@ use mathlib.Core.List.{List, [], map}
 use mathlib.Core.Option.{Option, none, some}
 use Prim.Native.Nat.{ℕ, zero, suc, ◌+◌, ◌-◌, ◌*◌, ◌/◌, ◌^◌, ◌≤◌, ◌<◌}
 use native.Mathlib.Omega.{arith}
-use lib.ListN.{length, get_or, drop}
+use lib.ListN.{length, get_or, take, drop}
 use lib.Dec.{eqb}
 use borrow.Author.Tests.{ne_eqb}
 use Rattle.orders.specs.Lists.{All}
@@ -35,7 +35,7 @@ use Rattle.record_rewritten.specs.Stated.{change_by, new_of, change_of, plan_of}
 use Rattle.record_rewritten.specs.Exact.{exact_tells}
 use Rattle.plan_rewrite.specs.Kept.{Kept}
 use Rattle.run_annotations.specs.Notes.{notes_of}
-use Rattle.run_annotations.specs.Changed.{changed_in, rule_by, count_by}
+use Rattle.run_annotations.specs.Changed.{changed_in, rule_by, Ruled, count_by}
 use Rattle.run_tree_store.specs.Stored.{stored_first}
 use Rattle.run_tree_store.specs.Gaps.{gap_by, gap_by_lem, held, site_of}
 use Rattle.run_tree_store.specs.Promises.{SiteAt}
@@ -81,7 +81,7 @@ module _ {n : ℕ} {T : Table} {listed : List ℕ} {r : ChangeRow} (k : Kept n T
   unfolding records_by recorded_by plan_of
   rule_row = go (eqb r.fate 0 && eqb r.tree 0) ∙ ap (λ (b : Bool). cond b (some r.rule) none) flag_row
     where
-      go : (b : Bool) → rule_by (cond b (suc r.rule) 0) ≡ cond b (some r.rule) none
+      go : (b : Bool) → rule_by (cond b (Some r.rule) None) ≡ cond b (some r.rule) none
       go true = refl
       go false = refl
 
@@ -89,17 +89,17 @@ module _ {n : ℕ} {T : Table} {listed : List ℕ} {r : ChangeRow} (k : Kept n T
   unfolding records_by
   count_row n = go (eqb r.fate 0 && eqb r.tree 0) ∙ ap (λ (b : Bool). cond b n 0) flag_row
     where
-      go : (b : Bool) → count_by (cond b (suc r.rule) 0) n ≡ cond b n 0
+      go : (b : Bool) → count_by (cond b (Some r.rule) None) n ≡ cond b n 0
       go true = refl
       go false = refl
 
-  ruled_row : r.rule < 4096 → records_by r ≤ 4096
+  ruled_row : r.rule < 4096 → Ruled (records_by r)
   unfolding records_by
   ruled_row h = go (eqb r.fate 0 && eqb r.tree 0)
     where
-      go : (b : Bool) → cond b (suc r.rule) 0 ≤ 4096
-      go true = omega arith
-      go false = omega arith
+      go : (b : Bool) → Ruled (cond b (Some r.rule) None)
+      go true = h
+      go false = tt
 
 above_by : (T : Table) (s : Store) (op x y z : ℕ) (new : List ℕ) → depth_above T s (change_by op x y z new) ≡ cond (eqb op 0) (depth T x) (depth T x - 1)
 unfolding change_by depth_above
@@ -115,6 +115,16 @@ unfolding change_of
 above_row n lines source listed r s d l t a =
     a.depth
     ∙ (ap (λ (x : ℕ). cond (eqb r.operation 0) x (x - 1)) (sym (depth_told n lines source l r.target t)) ∙ sym (above_by (view n lines source) s r.operation r.target r.end (get_or listed r.list 0) (new_of listed r)))
+
+-- the bytes of what the row lists
+module _ (listed changes : List ℕ) (k : ℕ) {list count : ℕ} (e : (list ≡ get_or (drop (14 * k) changes) 3 0) × (list < 2 ^ 32)) (f : (count ≡ get_or (drop (14 * k) changes) 4 0) × (count < 2 ^ 32)) where
+  pub listed_end : 4 * (row_at changes k).list + 4 * (row_at changes k).count ≤ length listed → 4 * list + 4 * count ≤ length listed
+  unfolding row_at row_of
+  listed_end h = omega (arith, e.0, f.0)
+
+  pub listed_part : take (4 * list + 4 * count - 4 * list) (drop (4 * list) listed) ≡ part_from listed (row_at changes k).list (row_at changes k).count
+  unfolding row_at row_of
+  listed_part = rw (← e.0, ← f.0)
 
 -- ── Where it goes ───────────────────────────────────────────────────────────────────────────────────────────
 
@@ -138,7 +148,7 @@ step_gone : (T : Table) (first s : Store) (p : Planned) → gap T s p.change ≡
 unfolding store_step or_refuse ◌>>=◌
 step_gone T first s p e = rw e
 
-step_found : (T : Table) (first s : Store) (p : Planned) (g : model.Gap) (above recorded : ℕ) (l : List ℕ) → gap T s p.change ≡ some g → above ≡ depth_above T s p.change → rule_by recorded ≡ recorded_by T p → news p.change ≡ l
+step_found : (T : Table) (first s : Store) (p : Planned) (g : model.Gap) (above : ℕ) (recorded : prelude.Option ℕ) (l : List ℕ) → gap T s p.change ≡ some g → above ≡ depth_above T s p.change → rule_by recorded ≡ recorded_by T p → news p.change ≡ l
     → store_step T first s p ≡ judged_store above (map (part_of first s) l) (spliced_store g (map (part_of first s) l) (rule_by recorded) s)
 unfolding store_step or_refuse judged_store ◌>>=◌
 step_found T first s p g above recorded l e a r n = rw (e, a, r, n)
@@ -161,16 +171,14 @@ module _ {lines source first : List ℕ} {s : TreeState} {rows marks notes chang
   long_listed : length L ≡ length listed / 4
   long_listed = length_words (length listed / 4) listed
 
-  pub asks_gap : ((3 * s.rows ≤ length rows) × (s.rows < 2 ^ 16) × (0 < s.rows) × All (λ m. m < s.rows) marks)
-      × ((Lines (length marks) lines × (k < 2 ^ 32)) × ((R.target < length marks) × (R.end < length marks)))
-  asks_gap = ((v.long, omega (arith, rows_few v), rows_some v, marks_below v), ((v.begun.formed, x.2), (u.kept.stated.target, u.kept.stated.end)))
+  pub asks_gap : (3 * s.rows ≤ length rows) × (s.rows < 2 ^ 16) × (0 < s.rows) × All (λ m. m < s.rows) marks × Lines (length marks) lines
+  asks_gap = (v.long, omega (arith, rows_few v), rows_some v, marks_below v, v.begun.formed)
 
-  pub asks_depth : Lines (length marks) lines × (k < 2 ^ 32) × (R.target < length marks)
-  asks_depth = (v.begun.formed, x.2, u.kept.stated.target)
+  pub asks_ends : (k < 2 ^ 32) × (R.target < length marks) × (R.end < length marks)
+  asks_ends = (x.2, u.kept.stated.target, u.kept.stated.end)
 
-  pub list_within : {list count : ℕ} → (list ≡ get_or (drop (14 * k) changes) 3 0) × (list < 2 ^ 32) → (count ≡ get_or (drop (14 * k) changes) 4 0) × (count < 2 ^ 32) → 4 * list + 4 * count ≤ length listed
-  unfolding row_at row_of
-  list_within e f = omega (arith, e.0, f.0, u.kept.stated.within, long_listed)
+  pub list_within : 4 * R.list + 4 * R.count ≤ length listed
+  list_within = omega (arith, u.kept.stated.within, long_listed)
 
   module _ {site : prelude.Option Gap} (w : SiteAt rows s.rows lines marks R.operation R.target R.end site) where
     gap_site : (text : List ℕ) → site ≡ site_of (gap T (held_in text s rows marks notes changed) (change_of L R))
@@ -183,61 +191,50 @@ module _ {lines source first : List ℕ} {s : TreeState} {rows marks notes chang
       grown = λ t q. let z : ◌≡◌ {A = ℕ} 0 1 = cc in absurd (omega arith);
     }
 
-    module _ {g : Gap} {above recorded list count : ℕ}
+    module _ {g : Gap} {above : ℕ} {recorded : prelude.Option ℕ}
         (e : site ≡ Some g)
         (ea : AboveBy lines R.operation R.target above)
         (er : recorded ≡ records_by R)
-        (el : (list ≡ get_or (drop (14 * k) changes) 3 0) × (list < 2 ^ 32))
-        (ec : (count ≡ get_or (drop (14 * k) changes) 4 0) × (count < 2 ^ 32)) where
+        {list : List ℕ}
+        (el : list ≡ part_from listed R.list R.count) where
       gap_here : (text : List ℕ) → gap T (held_in text s rows marks notes changed) (change_of L R) ≡ some (gap_told g)
       gap_here text = site_at _ g (sym e ∙ gap_site text)
 
-      list_is : list ≡ R.list
-      unfolding row_at row_of
-      list_is = el.0
-
-      count_is : count ≡ R.count
-      unfolding row_at row_of
-      count_is = ec.0
-
-      many : count ≡ length (news (change_of L R))
-      many = count_is ∙ u.kept.stated.counted
+      many : R.count ≡ length (news (change_of L R))
+      many = u.kept.stated.counted
 
       recorded_is : rule_by recorded ≡ recorded_by T (plan_of L R)
       recorded_is = ap rule_by er ∙ rule_row u.kept
 
       counted_is : (n : ℕ) → count_by recorded n ≡ cond (records T (plan_of L R)) n 0
-      counted_is n = ap (λ (i : ℕ). count_by i n) er ∙ count_row u.kept n
+      counted_is n = ap (λ (i : prelude.Option ℕ). count_by i n) er ∙ count_row u.kept n
 
-      within : 4 * list + 4 * count ≤ length listed
-      within = list_within el ec
+      news_are : news (change_of L R) ≡ words_in list
+      news_are = news_listed listed R.list R.count list_within (length marks) R u.kept.stated refl refl ∙ ap words_in (sym el)
 
-      news_are : news (change_of L R) ≡ words_in (part_from listed list count)
-      news_are = news_listed listed list count within (length marks) R u.kept.stated list_is count_is
+      pub listed_low : (length list ≤ 4 * most_listed) × All (λ e. e < length marks) (words_in list)
+      listed_low = rw el (omega (arith, part_long listed R.list R.count list_within, many, u.few), part_listed listed R.list R.count list_within (λ e. e < length marks) x.1)
 
-      pub listed_low : (length (part_from listed list count) ≤ 4 * most_listed) × All (λ e. e < length marks) (words_in (part_from listed list count))
-      listed_low = (omega (arith, part_long listed list count within, many, u.few), part_listed listed list count within (λ e. e < length marks) x.1)
-
-      pub opens : 3072 ≤ length notes → s.changed + lists_in T L R ≤ length changed → Open s rows marks notes changed g recorded (length (part_from listed list count) / 4)
+      pub opens : 3072 ≤ length notes → s.changed + lists_in T L R ≤ length changed → Open s rows marks notes changed g recorded (length list / 4)
       unfolding lists_in plan_of
       opens long room =
-          subst (Open s rows marks notes changed g recorded) (sym (part_many listed list count within))
-          (subst (λ (h : Gap). Open s rows marks notes changed h recorded count) (held_told g)
-          (gap_room v (change_of L R) (right_sits T (change_of L R) u.right) (gap_told g) (gap_here v.begun.text) recorded count (omega (arith, within, x.0)) long
-          (rw (counted_is count, many) room)
+          subst (Open s rows marks notes changed g recorded) (sym (ap (λ (l : List ℕ). length l / 4) el ∙ part_many listed R.list R.count list_within))
+          (subst (λ (h : Gap). Open s rows marks notes changed h recorded R.count) (held_told g)
+          (gap_room v (change_of L R) (right_sits T (change_of L R) u.right) (gap_told g) (gap_here v.begun.text) recorded R.count (omega (arith, list_within, x.0)) long
+          (subst (λ (n : ℕ). s.changed + n ≤ length changed) (sym (counted_is R.count ∙ ap (λ (n : ℕ). cond (records T (plan_of L R)) n 0) many)) room)
           (rw er (ruled_row u.kept u.ruled))))
 
-      pub performed : {rows' marks' notes' changed' : List ℕ} {r : Result TreeState Refusal} → SteppedAt s rows marks notes changed source first g above recorded (words_in (part_from listed list count)) rows' marks' notes' changed' r
+      pub performed : {rows' marks' notes' changed' : List ℕ} {r : Result TreeState Refusal} → SteppedAt s rows marks notes changed source first g above recorded (words_in list) rows' marks' notes' changed' r
           → Stepped lines source first L R s rows marks notes changed rows' marks' notes' changed' r
       unfolding yields_in plan_of lists_in
       performed {rows'} {marks'} {notes'} {changed'} {r} y = record {
         answer = λ text.
             y.answer text
             ∙ sym
-            (step_found T (stored_first text (length marks) source (notes_in first) []) (held_in text s rows marks notes changed) (plan_of L R) (gap_told g) above recorded (words_in (part_from listed list count))
+            (step_found T (stored_first text (length marks) source (notes_in first) []) (held_in text s rows marks notes changed) (plan_of L R) (gap_told g) above recorded (words_in list)
             (gap_here text)
             (above_row (length marks) lines source L R (held_in text s rows marks notes changed) above v.begun.formed u.kept.stated.target ea)
             recorded_is
             news_are);
-        grown = λ t q. subst (λ (m : ℕ). Grown s m rows' t) (counted_is (length (words_in (part_from listed list count))) ∙ ap (λ (l : List ℕ). cond (records T (plan_of L R)) (length l) 0) (sym news_are)) (y.grown t q);
+        grown = λ t q. subst (λ (m : ℕ). Grown s m rows' t) (counted_is (length (words_in list)) ∙ ap (λ (l : List ℕ). cond (records T (plan_of L R)) (length l) 0) (sym news_are)) (y.grown t q);
       }

@@ -1,5 +1,6 @@
 -- What is held now has its rows in bounds, and where a change goes there is a gap, and room.
 -- Assumes nothing.
+use Rattle.std.specs.Prelude as prelude
 use Rattle.std.specs.Prelude.{◌≡◌, refl, List, map, ℕ, ◌+◌, ◌*◌, ◌^◌, ◌≤◌, ◌<◌, length}
 use Rattle.std.proofs.Common.{sym, ◌∙◌, arith}
 use Rattle.std.proofs.Math.Path.{ap, subst}
@@ -28,7 +29,7 @@ use Rattle.run_model.proofs.Sums.{gap_within}
 use Rattle.run_model.proofs.Step.{paths_held}
 use Rattle.read_element_table.specs.View.{view}
 use Rattle.run_annotations.specs.Notes.{notes_of, length_notes_of}
-use Rattle.run_annotations.specs.Changed.{changed_in, count_by}
+use Rattle.run_annotations.specs.Changed.{changed_in, Ruled, count_by}
 use Rattle.run_tree_store.specs.Stored.{stored}
 use Rattle.run_tree_store.specs.Gaps.{held}
 use Rattle.run_tree_state.specs.Store.{held_in, Open}
@@ -116,7 +117,7 @@ module _ {n : ℕ} {lines source first : List ℕ} {s : TreeState} {rows marks n
         let (r, x, y) = map_some (gap_at w.trees) (run_at (table 0 0 v.begun.trees) w c) (sym (gap_place v.begun.trees w v.now.kept.follows c sits') ∙ e) in
         (r, (place_fits v.begun.trees w v.now.kept.follows c r sits' x).run, y)
 
-    pub gap_room : (recorded gain : ℕ) → gain ≤ 1024 → 3072 ≤ length notes → s.changed + count_by recorded gain ≤ length changed → recorded ≤ 4096 → Open s rows marks notes changed (held g) recorded gain
+    pub gap_room : (recorded : prelude.Option ℕ) (gain : ℕ) → gain ≤ 1024 → 3072 ≤ length notes → s.changed + count_by recorded gain ≤ length changed → Ruled recorded → Open s rows marks notes changed (held g) recorded gain
     unfolding held gap_at
     gap_room recorded gain few long room ruled =
         let (r, run, y) = there in
@@ -140,4 +141,6 @@ module _ {n : ℕ} {lines source first : List ℕ} {s : TreeState} {rows marks n
           held = changed_low;
           room = room;
           ruled = ruled;
+          few_bytes = bytes_few;
+          measured = v.measured;
         }

@@ -1,25 +1,35 @@
 -- What the functions of one step promise. Text is not read, so that each promise holds for any.
 -- Assumes nothing.
-use Rattle.std.specs.Prelude.{◌≡◌, Result, Ok, cond, List, [], map, ℕ, ◌+◌, ◌≤◌, ◌<◌, length}
+use Rattle.std.specs.Prelude as prelude
+use Rattle.std.specs.Prelude.{◌≡◌, None, Some, Result, Ok, cond, List, [], map, ℕ, ◌+◌, ◌≤◌, ◌<◌, length}
 use Rattle.definition.specs.Elements.{Table}
 use Rattle.definition.specs.Refusals.{most_listed}
 use Rattle.definition.specs.Running.{news, records}
 use Rattle.definition_laws.specs.Right.{Right}
 use Rattle.refusals.specs.declared.Refusal.{Refusal}
 use Rattle.rows_model.specs.Row.{first_rows, bytes}
-use Rattle.run_model.specs.Store.{Part, spliced_store, store_step}
+use Rattle.run_model.specs.Store.{Part, part_of, spliced_store, store_step}
 use Rattle.read_element_table.specs.View.{view}
 use Rattle.record_rewritten.specs.Stated.{change_of, plan_of}
 use Rattle.plan_rewrite.specs.Kept.{Kept}
-use Rattle.run_annotations.specs.Changed.{changed_in, rule_by, count_by}
+use Rattle.run_annotations.specs.Changed.{rule_by, count_by}
 use Rattle.run_tree_store.specs.Stored.{stored_first}
 use Rattle.record_changes.specs.ChangeRow.{ChangeRow}
 use Rattle.run_tree_store.specs.declared.Gap.{Gap}
 use Rattle.run_tree_state.specs.Store.{held_in, gap_told}
 use Rattle.run_tree_state.specs.Applied.{executed_in, judged_store}
+use Rattle.run_tree_state.specs.declared.Site.{Site}
 use Rattle.run_tree_state.specs.declared.TreeState.{TreeState}
-use Rattle.run_prepare.specs.Yields.{part_in}
+use Rattle.run_tree_store.specs.Promises.{SiteAt}
+use Rattle.run_change.specs.Told.{AboveBy, records_by}
 use Rattle.run_prepare.specs.Parts.{notes_in}
+
+-- where the change of a row goes, how deep, and by which rule it records; or none
+pub record SiteFound (rows : List ℕ) (n : ℕ) (lines marks : List ℕ) (c : ChangeRow) (r : prelude.Option Site) : Type 0 where
+  pub gone : r ≡ None → SiteAt rows n lines marks c.operation c.target c.end None
+  pub found : (z : Site) → r ≡ Some z → SiteAt rows n lines marks c.operation c.target c.end (Some z.gap)
+  pub deep : (z : Site) → r ≡ Some z → AboveBy lines c.operation c.target z.above
+  pub records : (z : Site) → r ≡ Some z → z.recorded ≡ records_by c
 
 -- how much is held after a step that is done: the root stands where it stood, with its text bytes, no more rows than line 12 takes, and at most `gain` changed elements more
 pub record Grown (s : TreeState) (gain : ℕ) (rows' : List ℕ) (t : TreeState) : Type 0 where
@@ -30,10 +40,10 @@ pub record Grown (s : TreeState) (gain : ℕ) (rows' : List ℕ) (t : TreeState)
 
 -- what the listed elements l yield
 unfoldable pub yields_in : TreeState → List ℕ → List ℕ → List ℕ → List ℕ → List ℕ → List ℕ → List ℕ → List ℕ → List Part
-yields_in s rows marks notes changed source first text l = map (part_in rows s.rows source marks first notes s.notes text [] (changed_in s.changed changed)) l
+yields_in s rows marks notes changed source first text l = map (part_of (stored_first text (length marks) source (notes_in first) []) (held_in text s rows marks notes changed)) l
 
 -- the gap has given way to what the elements l yield, or that was too much
-pub record SteppedAt (s : TreeState) (rows marks notes changed source first : List ℕ) (g : Gap) (above recorded : ℕ) (l rows' marks' notes' changed' : List ℕ) (r : Result TreeState Refusal) : Type 0 where
+pub record SteppedAt (s : TreeState) (rows marks notes changed source first : List ℕ) (g : Gap) (above : ℕ) (recorded : prelude.Option ℕ) (l rows' marks' notes' changed' : List ℕ) (r : Result TreeState Refusal) : Type 0 where
   pub answer : (text : List ℕ)
       → executed_in text rows' marks' notes' changed' r
       ≡ judged_store above (yields_in s rows marks notes changed source first text l) (spliced_store (gap_told g) (yields_in s rows marks notes changed source first text l) (rule_by recorded) (held_in text s rows marks notes changed))

@@ -2,27 +2,53 @@
 // The slices that are lent to be written stay apart, as run_tree_state says.
 #![tactic(auto)]
 
-ghost use Rattle.std.specs.Prelude.{◌≡◌, List, ℕ, ◌+◌, ◌*◌, ◌/◌, ◌^◌, ◌≤◌, ◌<◌, length};
+ghost use Rattle.std.specs.Prelude.{◌≡◌, ◌+◌, ◌*◌, ◌/◌, ◌^◌, ◌≤◌, ◌<◌, length};
 ghost use Rattle.orders.specs.Lists.{All};
 ghost use Rattle.definition.specs.Refusals.{most_listed};
-ghost use Rattle.rows_model.specs.Row.{first_rows, bytes as bytes_of};
 ghost use Rattle.read_element_table.specs.View.{view};
 ghost use Rattle.record_changes.specs.ChangeRowLaws.{row_at};
 ghost use Rattle.run_tree_state.specs.Store.{Open};
 ghost use Rattle.run_prepare.specs.Parts.{words_in};
+ghost use Rattle.run_prepare.specs.Listed.{part_from};
 ghost use Rattle.run_step.specs.Standing.{Standing};
-ghost use Rattle.run_step.specs.Stepping.{SteppedAt, Performs, lists_in, Stepped};
+ghost use Rattle.run_step.specs.Stepping.{SiteFound, SteppedAt, Performs, lists_in, Stepped};
 
 mod task;
 
 use record_changes::field;
 use refusals::Refusal;
 use rows_syntax_node::{ROW_WORDS, Rows};
+use run_annotations::NOTE_WORDS;
 use run_change::{change_gap, depth_above, recorded_by};
-use run_prepare::prepare;
-use run_tree_state::{Parts, TreeState, apply};
-use run_tree_store::{Gap, Trees};
+use run_prepare::{Stores, prepare};
+use run_tree_state::{Parts, Site, TreeState, apply};
+use run_tree_store::{TreeStore, Trees};
 pub use task::Task;
+
+// Where the change at place `k` goes, if its target is still there.
+fn change_site(store: &TreeStore, changes: &[u32], k: usize) -> Option<Site>
+    requires { (k < 2 ^ 32) × ((row_at changes.now k).target < length store.now.marks.now) × ((row_at changes.now k).end < length store.now.marks.now) }
+    ensures { SiteFound store.now.rows.words.now store.now.rows.count store.now.table.now store.now.marks.now (row_at changes.now k) result }
+{
+    let gap = change_gap(store, changes, k)?;
+    let above = depth_above(store.table, store.marks.len(), changes, k);
+    let recorded = recorded_by(changes, k);
+    Some(Site {
+        gap,
+        above,
+        recorded,
+    })
+}
+
+// The elements that the change at place `k` lists.
+fn listed<'a>(task: &Task<'a>, k: usize) -> &'a [u8]
+    requires { (k < 2 ^ 32) × (4 * (row_at task.now.changes.now k).list + 4 * (row_at task.now.changes.now k).count ≤ length task.now.listed.now) }
+    ensures { result.now ≡ part_from task.now.listed.now (row_at task.now.changes.now k).list (row_at task.now.changes.now k).count }
+{
+    let from = 4 * field(task.changes, k, record_changes::LIST);
+    let to = from + 4 * field(task.changes, k, record_changes::COUNT);
+    &task.listed[from..to]
+}
 
 // The gap gives way to what the listed elements yield.
 fn step_at(
@@ -36,46 +62,33 @@ fn step_at(
     task: &Task,
     list: &[u8],
     s: TreeState,
-    g: Gap,
-    above: usize,
-    recorded: usize,
+    site: &Site,
 ) -> Result<TreeState, Refusal>
-    requires fact { Open s rows.old marks.old notes.old changed.old g recorded (length list.now / 4) }
-    requires in_bounds { (12291 ≤ length rows.old) × (3072 ≤ length notes.old) × (above ≤ 64) }
-    requires bytes_bound { (s.bytes ≤ 16384) × ((text : List ℕ) → s.bytes ≡ bytes_of (first_rows text s.rows rows.old)) }
-    requires marks_len_bound { (length marks.old ≤ 2048) × (3 * length marks.old + 3 ≤ length task.now.source.now) × (length task.now.first.now ≤ 768) }
-    requires list_len_bound { (length list.now ≤ 4 * most_listed) × All (λ e. e < length marks.old) (words_in list.now) }
-    requires in_bounds_2 { (12288 ≤ length prepared.old) × (most_listed ≤ length sizes.old) × (3072 ≤ length incoming.old) }
-    ensures { SteppedAt s rows.old marks.old notes.old changed.old task.now.source.now task.now.first.now g above recorded (words_in list.now) rows.new marks.new notes.new changed.new result }
+    requires fact { Open s rows.old marks.old notes.old changed.old site.now.gap site.now.recorded (length list.now / 4) }
+    requires room { (12291 ≤ length rows.old) × (3072 ≤ length notes.old) × (12288 ≤ length prepared.old) × (most_listed ≤ length sizes.old) × (3072 ≤ length incoming.old) }
+    requires task_in_bounds { (length marks.old ≤ 2048) × (3 * length marks.old + 3 ≤ length task.now.source.now) × (length task.now.first.now ≤ 768) × (length list.now ≤ 4 * most_listed) × All (λ e. e < length marks.old) (words_in list.now) }
+    ensures { SteppedAt s rows.old marks.old notes.old changed.old task.now.source.now task.now.first.now site.now.gap site.now.above site.now.recorded (words_in list.now) rows.new marks.new notes.new changed.new result }
 {
     let held = Rows {
         count: s.rows,
         words: rows,
     };
     let trees = Trees { rows: held, marks };
-    let Some(made) = prepare(
-        &trees,
-        task.source,
-        task.first,
-        notes,
-        s.notes,
-        list,
-        g.from,
-        prepared,
-        sizes,
-        incoming,
-    ) else {
+    let stores = Stores {
+        trees,
+        notes: &notes[..NOTE_WORDS * s.notes],
+        source: task.source,
+        first: task.first,
+    };
+    let Some(made) = prepare(&stores, list, site.gap.from, prepared, sizes, incoming) else {
         return Err(Refusal::Large);
     };
-    let end = ROW_WORDS * made.rows;
-    let count = list.len() / 4;
     let parts = Parts {
-        run: &prepared[..end],
-        sizes: &sizes[..count],
-        notes: incoming,
-        count: made.notes,
+        run: &prepared[..ROW_WORDS * made.rows],
+        sizes: &sizes[..list.len() / 4],
+        notes: &incoming[..NOTE_WORDS * made.notes],
     };
-    apply(rows, marks, notes, changed, s, g, above, recorded, &parts)
+    apply(rows, marks, notes, changed, s, site, &parts)
 }
 
 // Rust: the body of TreeStore::execute. One performed change, the one at place `k`: 11, 12, or what is held then.
@@ -102,27 +115,16 @@ pub fn step(
         count: s.rows,
         words: rows,
     };
-    let trees = Trees { rows: held, marks };
-    let Some(g) = change_gap(&trees, task.table, task.changes, k) else {
+    let store = TreeStore {
+        rows: held,
+        marks,
+        table: task.table,
+    };
+    let Some(site) = change_site(&store, task.changes, k) else {
         return Err(Refusal::Gone);
     };
-    let above = depth_above(task.table, marks.len(), task.changes, k);
-    let recorded = recorded_by(task.changes, k);
-    let from = 4 * field(task.changes, k, record_changes::LIST);
-    let to = from + 4 * field(task.changes, k, record_changes::COUNT);
+    let list = listed(task, k);
     step_at(
-        rows,
-        marks,
-        notes,
-        changed,
-        prepared,
-        sizes,
-        incoming,
-        task,
-        &task.listed[from..to],
-        s,
-        g,
-        above,
-        recorded,
+        rows, marks, notes, changed, prepared, sizes, incoming, task, list, s, &site,
     )
 }

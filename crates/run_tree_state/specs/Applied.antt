@@ -1,5 +1,6 @@
 -- One step, where its gap and its parts are known.
 -- Assumes nothing.
+use Rattle.std.specs.Prelude as prelude
 use Rattle.std.specs.Prelude.{◌≡◌, Result, Ok, Err, List, ℕ, ◌+◌, ◌≤◌, length}
 use Rattle.definition.specs.Basics.{Answer, refused, gives, ◌>>=◌, refuse}
 use Rattle.refusals.specs.Numbers.{number}
@@ -21,8 +22,8 @@ unfoldable pub judged_store : ℕ → List Part → Store → Answer Store
 judged_store above new next = refuse 12 (store_too_large above new next) >>= λ _. gives next
 
 -- the gap has given way to what comes in, or that was too much
-pub record Applied (s : TreeState) (rows marks notes changed : List ℕ) (g : Gap) (above recorded : ℕ) (run sizes incoming : List ℕ) (c : ℕ) (rows' marks' notes' changed' : List ℕ) (r : Result TreeState Refusal) : Type 0 where
-  pub answer : (text : List ℕ) (new : List Part) → Comes text new g.from run sizes incoming c
+pub record Applied (s : TreeState) (rows marks notes changed : List ℕ) (g : Gap) (above : ℕ) (recorded : prelude.Option ℕ) (run sizes incoming : List ℕ) (rows' marks' notes' changed' : List ℕ) (r : Result TreeState Refusal) : Type 0 where
+  pub answer : (text : List ℕ) (new : List Part) → Comes text new g.from run sizes incoming
       → executed_in text rows' marks' notes' changed' r ≡ judged_store above new (spliced_store (gap_told g) new (rule_by recorded) (held_in text s rows marks notes changed))
   pub measured : (t : TreeState) → r ≡ Ok t → (text : List ℕ) → t.bytes ≡ bytes (first_rows text t.rows rows')
   pub place : (t : TreeState) → r ≡ Ok t → t.root ≡ s.root

@@ -1,9 +1,7 @@
 -- The state of a run, and one splice of all that is held.
 --     Store      what a splice of all that is held asks for and makes
---     Coming     what comes in is in bounds, as a fact that a value carries
 --     Sizes      how large a step makes what is held
 --     Applied    one step, where its gap and its parts are known
 pub mod Store
-pub mod Coming
 pub mod Sizes
 pub mod Applied

@@ -20,7 +20,7 @@ pub record BytesBetween (rows : List ℕ) (n p q r : ℕ) : Type 0 where
 unfoldable pub size_by : Bool → ℕ → prelude.Option ℕ
 size_by large bytes = cond large None (Some bytes)
 
-module _ (rows notes : List ℕ) (s : TreeState) (g : Gap) (run : List ℕ) (c above : ℕ) where
+module _ (rows notes : List ℕ) (s : TreeState) (g : Gap) (run incoming : List ℕ) (above : ℕ) where
   -- the rows, text bytes and notes that there will be, and the depth of what comes in
   unfoldable pub rows_then : ℕ
   rows_then = s.rows - (g.to - g.from) + length run / 3
@@ -29,7 +29,7 @@ module _ (rows notes : List ℕ) (s : TreeState) (g : Gap) (run : List ℕ) (c a
   bytes_then text = bytes (first_rows text s.rows rows) + bytes (triples text run) - bytes (between g.from g.to (first_rows text s.rows rows))
 
   unfoldable pub notes_then : ℕ
-  notes_then = length (pick (moved_note g.from g.to (length run / 3)) (notes_of s.notes notes)) + c
+  notes_then = length (pick (moved_note g.from g.to (length run / 3)) (notes_of s.notes notes)) + length incoming / 3
 
   unfoldable pub large_then : List ℕ → Bool
   large_then text = too_large_by rows_then (bytes_then text) notes_then (above + min 65 (height (triples text run)))

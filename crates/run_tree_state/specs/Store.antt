@@ -1,15 +1,15 @@
 -- All that is held, and what a splice of it asks for and makes.
 -- Assumes nothing.
-use Rattle.std.specs.Prelude.{◌≡◌, ℕ, ◌+◌, ◌-◌, ◌*◌, ◌%◌, ◌/◌, ◌^◌, ◌≤◌, ◌<◌, length, get_or}
+use Rattle.std.specs.Prelude as prelude
+use Rattle.std.specs.Prelude.{◌≡◌, ℕ, ◌+◌, ◌-◌, ◌*◌, ◌/◌, ◌^◌, ◌≤◌, ◌<◌, length, get_or}
 use mathlib.Core.List.{List, map, flat_map}
 use Rattle.orders.specs.Lists.{All}
-use Rattle.rows_model.specs.Row.{triples, first_rows}
+use Rattle.rows_model.specs.Row.{triples, first_rows, bytes}
 use Rattle.rows_model.specs.Place.{splice_rows}
 use Rattle.run_model.specs.Store as model
 use Rattle.run_model.specs.Store.{Store, with_row, Part, new_rows, placed_parts, spliced_store}
-use Rattle.run_annotations.specs.Notes.{notes_of}
-use Rattle.run_annotations.specs.Changed.{changed_in, rule_by, count_by}
-use Rattle.run_annotations.specs.Places.{part_rows}
+use Rattle.run_annotations.specs.Notes.{notes_of, notes_in}
+use Rattle.run_annotations.specs.Changed.{changed_in, rule_by, Ruled, count_by}
 use Rattle.run_tree_store.specs.Stored.{stored}
 use Rattle.run_tree_store.specs.declared.Gap.{Gap}
 use Rattle.run_tree_state.specs.declared.TreeState.{TreeState}
@@ -22,14 +22,14 @@ held_in text s rows marks notes changed = stored text s.rows rows marks (notes_o
 unfoldable pub gap_told : Gap → model.Gap
 gap_told g = record { parent = g.parent; from = g.from; to = g.to; lost = g.lost }
 
--- parts in words: their rows as a run, the number of rows of each, and c notes, told where the first part comes to stand at the row `at`
-pub record Comes (text : List ℕ) (new : List Part) (at : ℕ) (run sizes incoming : List ℕ) (c : ℕ) : Type 0 where
+-- parts in words: their rows as a run, the number of rows of each, and notes, told where the first part comes to stand at the row `at`
+pub record Comes (text : List ℕ) (new : List Part) (at : ℕ) (run sizes incoming : List ℕ) : Type 0 where
   pub told : triples text run ≡ new_rows new
   pub each : sizes ≡ map (λ y. length y.rows) new
-  pub noted : notes_of c incoming ≡ flat_map (λ y. map (λ n. with_row n (y.0 + n.row)) y.1.notes) (placed_parts at new)
+  pub noted : notes_in incoming ≡ flat_map (λ y. map (λ n. with_row n (y.0 + n.row)) y.1.notes) (placed_parts at new)
 
 -- what is held has the gap, and there is room for as many parts as `gain`, recorded by a rule number or not
-pub record Open (s : TreeState) (rows marks notes changed : List ℕ) (g : Gap) (recorded gain : ℕ) : Type 0 where
+pub record Open (s : TreeState) (rows marks notes changed : List ℕ) (g : Gap) (recorded : prelude.Option ℕ) (gain : ℕ) : Type 0 where
   pub long : 3 * s.rows ≤ length rows
   pub few : s.rows ≤ 4097
   pub below : g.parent < g.from
@@ -44,21 +44,13 @@ pub record Open (s : TreeState) (rows marks notes changed : List ℕ) (g : Gap) 
   pub noted : All (λ n. n.row < 2 ^ 16) (notes_of s.notes notes)
   pub held : All (λ c. c.row < 2 ^ 16) (changed_in s.changed changed)
   pub room : s.changed + count_by recorded gain ≤ length changed
-  pub ruled : recorded ≤ 4096
-
--- what comes in is in bounds
-pub record Coming (run sizes incoming : List ℕ) (c : ℕ) : Type 0 where
-  pub whole : length run % 3 ≡ 0
-  pub short : length run ≤ 12288
-  pub few_parts : length sizes ≤ 1024
-  pub sized : All (λ x. x < 2 ^ 16) sizes
-  pub placed : All (λ x. x < 2 ^ 16) (part_rows 0 sizes)
-  pub few_coming : c ≤ 1024
-  pub long_coming : 3 * c ≤ length incoming
+  pub ruled : Ruled recorded
+  pub few_bytes : s.bytes ≤ 16384
+  pub measured : (text : List ℕ) → s.bytes ≡ bytes (first_rows text s.rows rows)
 
 -- the rows of the gap have given way to what comes in
-pub record StoreSpliced (s : TreeState) (rows marks notes changed : List ℕ) (g : Gap) (recorded : ℕ) (run sizes incoming : List ℕ) (c bytes : ℕ) (rows' marks' notes' changed' : List ℕ) (r : TreeState) : Type 0 where
-  pub store : (text : List ℕ) (new : List Part) → Comes text new g.from run sizes incoming c → held_in text r rows' marks' notes' changed' ≡ spliced_store (gap_told g) new (rule_by recorded) (held_in text s rows marks notes changed)
+pub record StoreSpliced (s : TreeState) (rows marks notes changed : List ℕ) (g : Gap) (recorded : prelude.Option ℕ) (run sizes incoming : List ℕ) (bytes : ℕ) (rows' marks' notes' changed' : List ℕ) (r : TreeState) : Type 0 where
+  pub store : (text : List ℕ) (new : List Part) → Comes text new g.from run sizes incoming → held_in text r rows' marks' notes' changed' ≡ spliced_store (gap_told g) new (rule_by recorded) (held_in text s rows marks notes changed)
   pub told : (text : List ℕ) → first_rows text r.rows rows' ≡ splice_rows (first_rows text s.rows rows) g.parent g.from g.to g.lost (triples text run) (length sizes)
   pub measured : r.bytes ≡ bytes
   pub place : r.root ≡ s.root

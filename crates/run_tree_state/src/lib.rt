@@ -13,13 +13,15 @@ ghost use Rattle.run_tree_state.specs.Store.{Open, StoreSpliced};
 ghost use Rattle.run_tree_state.specs.Sizes.{BytesBetween, StepSize};
 ghost use Rattle.run_tree_state.specs.Applied.{Applied};
 
-mod parts;
+mod site;
 
-pub use parts::Parts;
 use refusals::Refusal;
 use rows_syntax_node::{ROW_WORDS, Rows, height, text_bytes};
+use run_annotations::{NOTE_WORDS, Shift};
+pub use run_splice::Parts;
 use run_splice::{notes_left, splice_changed, splice_notes};
-use run_tree_store::{Gap, too_large};
+use run_tree_store::too_large;
+pub use site::Site;
 
 // ── All that is held ──
 
@@ -34,39 +36,33 @@ pub struct TreeState {
     pub changed: usize,
 }
 
-// The splice, by value: the rows of the gap give way to the parts, with the notes that come in; what is held then has `bytes` text bytes. `recorded` is
-// one more than the rule number that the parts are recorded by, 0 if they are not.
+// The splice, by value: the rows of the gap give way to the parts, with the notes that come in; what is held then has `bytes` text bytes.
 fn splice_store(
     s: TreeState,
     rows: &mut [u32],
     marks: &mut [u32],
     notes: &mut [u32],
     changed: &mut [u32],
-    g: Gap,
-    recorded: usize,
+    site: &Site,
     parts: &Parts,
     bytes: usize,
 ) -> TreeState
-    requires fact { Open s rows.old marks.old notes.old changed.old g recorded (length parts.now.sizes.now) }
-    requires run_in_bounds { (3 * (s.rows - (g.to - g.from)) + length parts.now.run.now ≤ length rows.old) × (3 * (length (pick (moved_note g.from g.to (length parts.now.run.now / 3)) (notes_of s.notes notes.old)) + parts.now.count) ≤ length notes.old) }
-    ensures { StoreSpliced s rows.old marks.old notes.old changed.old g recorded parts.now.run.now parts.now.sizes.now parts.now.notes.now parts.now.count bytes rows.new marks.new notes.new changed.new result }
+    requires fact { Open s rows.old marks.old notes.old changed.old site.now.gap site.now.recorded (length parts.now.sizes.now) }
+    requires run_in_bounds { (3 * (s.rows - (site.now.gap.to - site.now.gap.from)) + length parts.now.run.now ≤ length rows.old) × (3 * (length (pick (moved_note site.now.gap.from site.now.gap.to (length parts.now.run.now / 3)) (notes_of s.notes notes.old)) + length parts.now.notes.now / 3) ≤ length notes.old) }
+    ensures { StoreSpliced s rows.old marks.old notes.old changed.old site.now.gap site.now.recorded parts.now.run.now parts.now.sizes.now parts.now.notes.now bytes rows.new marks.new notes.new changed.new result }
 {
-    let p = g.from;
-    let q = g.to;
-    let m = parts.run.len() / ROW_WORDS;
+    let gap = site.gap;
+    let shift = Shift {
+        from: gap.from,
+        to: gap.to,
+        count: parts.run.len() / ROW_WORDS,
+    };
+    let gain = parts.sizes.len();
     let r = run_splice::splice(
-        rows,
-        s.rows,
-        marks,
-        g.parent,
-        p,
-        q,
-        g.lost,
-        parts.run,
-        parts.sizes.len(),
+        rows, s.rows, marks, gap.parent, gap.from, gap.to, gap.lost, parts.run, gain,
     );
-    let k = splice_notes(notes, s.notes, p, q, m, parts.notes, parts.count);
-    let l = splice_changed(changed, s.changed, p, q, m, recorded, parts.sizes);
+    let k = splice_notes(notes, s.notes, &shift, parts);
+    let l = splice_changed(changed, s.changed, &shift, site.recorded, parts);
     TreeState {
         root: s.root,
         rows: r,
@@ -86,16 +82,15 @@ fn splice(
     marks: &mut [u32],
     notes: &mut [u32],
     changed: &mut [u32],
-    g: Gap,
-    recorded: usize,
+    site: &Site,
     parts: &Parts,
     bytes: usize,
 )
-    requires fact { Open t.old rows.old marks.old notes.old changed.old g recorded (length parts.now.sizes.now) }
-    requires run_in_bounds { (3 * (t.old.rows - (g.to - g.from)) + length parts.now.run.now ≤ length rows.old) × (3 * (length (pick (moved_note g.from g.to (length parts.now.run.now / 3)) (notes_of t.old.notes notes.old)) + parts.now.count) ≤ length notes.old) }
-    ensures { StoreSpliced t.old rows.old marks.old notes.old changed.old g recorded parts.now.run.now parts.now.sizes.now parts.now.notes.now parts.now.count bytes rows.new marks.new notes.new changed.new t.new }
+    requires fact { Open t.old rows.old marks.old notes.old changed.old site.now.gap site.now.recorded (length parts.now.sizes.now) }
+    requires run_in_bounds { (3 * (t.old.rows - (site.now.gap.to - site.now.gap.from)) + length parts.now.run.now ≤ length rows.old) × (3 * (length (pick (moved_note site.now.gap.from site.now.gap.to (length parts.now.run.now / 3)) (notes_of t.old.notes notes.old)) + length parts.now.notes.now / 3) ≤ length notes.old) }
+    ensures { StoreSpliced t.old rows.old marks.old notes.old changed.old site.now.gap site.now.recorded parts.now.run.now parts.now.sizes.now parts.now.notes.now bytes rows.new marks.new notes.new changed.new t.new }
 {
-    *t = splice_store(*t, rows, marks, notes, changed, g, recorded, parts, bytes);
+    *t = splice_store(*t, rows, marks, notes, changed, site, parts, bytes);
 }
 
 // Rust: TreeState::replace_root. What comes in stands where the root of tree 0 stood.
@@ -105,18 +100,17 @@ fn replace_root(
     marks: &mut [u32],
     notes: &mut [u32],
     changed: &mut [u32],
-    g: Gap,
-    recorded: usize,
+    site: &Site,
     parts: &Parts,
     bytes: usize,
 )
-    requires fact { Open t.old rows.old marks.old notes.old changed.old g recorded (length parts.now.sizes.now) }
-    requires run_in_bounds { (3 * (t.old.rows - (g.to - g.from)) + length parts.now.run.now ≤ length rows.old) × (3 * (length (pick (moved_note g.from g.to (length parts.now.run.now / 3)) (notes_of t.old.notes notes.old)) + parts.now.count) ≤ length notes.old) }
-    requires from_value { g.from ≡ t.old.root }
-    ensures { StoreSpliced t.old rows.old marks.old notes.old changed.old g recorded parts.now.run.now parts.now.sizes.now parts.now.notes.now parts.now.count bytes rows.new marks.new notes.new changed.new t.new }
+    requires fact { Open t.old rows.old marks.old notes.old changed.old site.now.gap site.now.recorded (length parts.now.sizes.now) }
+    requires run_in_bounds { (3 * (t.old.rows - (site.now.gap.to - site.now.gap.from)) + length parts.now.run.now ≤ length rows.old) × (3 * (length (pick (moved_note site.now.gap.from site.now.gap.to (length parts.now.run.now / 3)) (notes_of t.old.notes notes.old)) + length parts.now.notes.now / 3) ≤ length notes.old) }
+    requires from_value { site.now.gap.from ≡ t.old.root }
+    ensures { StoreSpliced t.old rows.old marks.old notes.old changed.old site.now.gap site.now.recorded parts.now.run.now parts.now.sizes.now parts.now.notes.now bytes rows.new marks.new notes.new changed.new t.new }
 {
-    *t = splice_store(*t, rows, marks, notes, changed, g, recorded, parts, bytes);
-    t.root = g.from;
+    *t = splice_store(*t, rows, marks, notes, changed, site, parts, bytes);
+    t.root = site.gap.from;
 }
 
 // One step of the run: the root of tree 0 is replaced, or another gap gives way.
@@ -126,25 +120,20 @@ fn splice_held(
     marks: &mut [u32],
     notes: &mut [u32],
     changed: &mut [u32],
-    g: Gap,
-    recorded: usize,
+    site: &Site,
     parts: &Parts,
     bytes: usize,
 ) -> TreeState
-    requires fact { Open s rows.old marks.old notes.old changed.old g recorded (length parts.now.sizes.now) }
-    requires run_in_bounds { (3 * (s.rows - (g.to - g.from)) + length parts.now.run.now ≤ length rows.old) × (3 * (length (pick (moved_note g.from g.to (length parts.now.run.now / 3)) (notes_of s.notes notes.old)) + parts.now.count) ≤ length notes.old) }
-    ensures { StoreSpliced s rows.old marks.old notes.old changed.old g recorded parts.now.run.now parts.now.sizes.now parts.now.notes.now parts.now.count bytes rows.new marks.new notes.new changed.new result }
+    requires fact { Open s rows.old marks.old notes.old changed.old site.now.gap site.now.recorded (length parts.now.sizes.now) }
+    requires run_in_bounds { (3 * (s.rows - (site.now.gap.to - site.now.gap.from)) + length parts.now.run.now ≤ length rows.old) × (3 * (length (pick (moved_note site.now.gap.from site.now.gap.to (length parts.now.run.now / 3)) (notes_of s.notes notes.old)) + length parts.now.notes.now / 3) ≤ length notes.old) }
+    ensures { StoreSpliced s rows.old marks.old notes.old changed.old site.now.gap site.now.recorded parts.now.run.now parts.now.sizes.now parts.now.notes.now bytes rows.new marks.new notes.new changed.new result }
 {
     let mut t = s;
-    if g.from == s.root {
-        replace_root(
-            &mut t, rows, marks, notes, changed, g, recorded, parts, bytes,
-        );
+    if site.gap.from == s.root {
+        replace_root(&mut t, rows, marks, notes, changed, site, parts, bytes);
         return t;
     }
-    splice(
-        &mut t, rows, marks, notes, changed, g, recorded, parts, bytes,
-    );
+    splice(&mut t, rows, marks, notes, changed, site, parts, bytes);
     t
 }
 
@@ -160,32 +149,30 @@ fn bytes_between(rows: &Rows, p: usize, q: usize) -> usize
     text_bytes(&rows.words[from..to])
 }
 
-// How many text bytes a step makes what is held, none if that is too large, decided before it writes: the gap gives way to the parts below a node at
-// depth `above`.
-fn step_size(
-    rows: &[u32],
-    notes: &[u32],
-    s: TreeState,
-    g: Gap,
-    parts: &Parts,
-    above: usize,
-) -> Option<usize>
-    requires rows_in_bounds { (3 * s.rows ≤ length rows.now) × (s.rows ≤ 4097) × (g.from ≤ g.to) × (g.to ≤ s.rows) }
-    requires notes_in_bounds { (3 * s.notes ≤ length notes.now) × (s.notes ≤ 1024) × (above ≤ 64) }
+// How many text bytes a step makes what is held, none if that is too large, decided before it writes: the gap gives way to the parts.
+fn step_size(rows: &[u32], notes: &[u32], s: TreeState, site: &Site, parts: &Parts) -> Option<usize>
+    requires rows_in_bounds { (3 * s.rows ≤ length rows.now) × (s.rows ≤ 4097) × (site.now.gap.from ≤ site.now.gap.to) × (site.now.gap.to ≤ s.rows) }
+    requires notes_in_bounds { (3 * s.notes ≤ length notes.now) × (s.notes ≤ 1024) }
     requires bytes_bound { (s.bytes ≤ 16384) × ((text : List ℕ) → s.bytes ≡ bytes_of (first_rows text s.rows rows.now)) }
-    ensures { StepSize rows.now notes.now s g parts.now.run.now parts.now.count above result }
+    ensures { StepSize rows.now notes.now s site.now.gap parts.now.run.now parts.now.notes.now site.now.above result }
 {
-    let p = g.from;
-    let q = g.to;
+    let gap = site.gap;
+    let shift = Shift {
+        from: gap.from,
+        to: gap.to,
+        count: parts.run.len() / ROW_WORDS,
+    };
     let held = Rows {
         count: s.rows,
         words: rows,
     };
-    let lost = bytes_between(&held, p, q);
-    let left = notes_left(notes, s.notes, p, q);
+    let end = NOTE_WORDS * s.notes;
+    let lost = bytes_between(&held, gap.from, gap.to);
+    let left = notes_left(&notes[..end], &shift);
     let bytes = s.bytes + text_bytes(parts.run) - lost;
-    let n = s.rows - (q - p) + parts.run.len() / ROW_WORDS;
-    if too_large(n, bytes, left + parts.count, above + height(parts.run)) {
+    let n = s.rows - (gap.to - gap.from) + shift.count;
+    let depth = site.above + height(parts.run)?;
+    if too_large(n, bytes, left + parts.notes.len() / NOTE_WORDS, depth) {
         return None;
     }
     Some(bytes)
@@ -193,25 +180,22 @@ fn step_size(
 
 // ── One step, where its gap and its parts are known ──
 
-// Rust: TreeState::apply. The gap below a node at depth `above` gives way to what comes in: 12 before anything is written, or what is held then.
+// Rust: TreeState::apply. The gap gives way to what comes in: 12 before anything is written, or what is held then.
 pub fn apply(
     rows: &mut [u32],
     marks: &mut [u32],
     notes: &mut [u32],
     changed: &mut [u32],
     s: TreeState,
-    g: Gap,
-    above: usize,
-    recorded: usize,
+    site: &Site,
     parts: &Parts,
 ) -> Result<TreeState, Refusal>
-    requires fact { Open s rows.old marks.old notes.old changed.old g recorded (length parts.now.sizes.now) }
-    requires in_bounds { (12291 ≤ length rows.old) × (3072 ≤ length notes.old) × (above ≤ 64) }
-    requires bytes_bound { (s.bytes ≤ 16384) × ((text : List ℕ) → s.bytes ≡ bytes_of (first_rows text s.rows rows.old)) }
-    ensures { Applied s rows.old marks.old notes.old changed.old g above recorded parts.now.run.now parts.now.sizes.now parts.now.notes.now parts.now.count rows.new marks.new notes.new changed.new result }
+    requires fact { Open s rows.old marks.old notes.old changed.old site.now.gap site.now.recorded (length parts.now.sizes.now) }
+    requires room { (12291 ≤ length rows.old) × (3072 ≤ length notes.old) }
+    ensures { Applied s rows.old marks.old notes.old changed.old site.now.gap site.now.above site.now.recorded parts.now.run.now parts.now.sizes.now parts.now.notes.now rows.new marks.new notes.new changed.new result }
 {
-    let Some(bytes) = step_size(rows, notes, s, g, parts, above) else {
+    let Some(bytes) = step_size(rows, notes, s, site, parts) else {
         return Err(Refusal::Large);
     };
-    Ok(splice_held(s, rows, marks, notes, changed, g, recorded, parts, bytes))
+    Ok(splice_held(s, rows, marks, notes, changed, site, parts, bytes))
 }

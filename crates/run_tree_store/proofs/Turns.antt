@@ -96,10 +96,10 @@ none_between rows n p q h =
     let z : q - p ≡ 0 = omega arith in
     record { count = λ text. rw z; few = omega arith }
 
-module _ (rows : List ℕ) (n : ℕ) (table marks : List ℕ) (x m a b : ℕ) (L : Lines (length marks) table × (x < length marks)) (e : a ≡ parent_mark table marks x) where
+module _ (rows : List ℕ) (n : ℕ) (table marks : List ℕ) (x m a b : ℕ) (L : Lines (length marks) table) (h : x < length marks) (e : a ≡ parent_mark table marks x) where
   above : (text source : List ℕ) (notes : List HeldNote) (changed : List HeldChanged) → a ≡ parent_row (view (length marks) table source) (stored text n rows marks notes changed) x
   unfolding stored
-  above text source notes changed = e ∙ parent_mark_lem table source (stored text n rows marks notes changed) x L.0 L.1
+  above text source notes changed = e ∙ parent_mark_lem table source (stored text n rows marks notes changed) x L h
 
   pub gap_of_lem : node.After rows n m 1 b → GapOf rows n table marks x m (record { parent = a; from = m; to = b; lost = 1 })
   unfolding held gap_of end_row stored
@@ -130,27 +130,27 @@ module _ (rows : List ℕ) (n : ℕ) (table marks : List ℕ) (x m y k : ℕ) (v
 abbrev replaced_by : Table → Store → ℕ → Option ℕ → prelude.Option Gap
 replaced_by T s x o = site_of (map (gap_of T s x) o)
 
-pub replaced_root : (rows : List ℕ) (n : ℕ) (table marks : List ℕ) (x t m : ℕ) (b : Bool) (g : Gap) → Lines (length marks) table × (x < length marks) → b ≡ eqb (get_or table (8 * x + 1) 0) 0 → b ≡ true
+pub replaced_root : (rows : List ℕ) (n : ℕ) (table marks : List ℕ) (x t m : ℕ) (b : Bool) (g : Gap) → Lines (length marks) table → x < length marks → b ≡ eqb (get_or table (8 * x + 1) 0) 0 → b ≡ true
     → (t ≡ get_or table (8 * x + 7) 0) × (t < 2 ^ 32) → node.ChildAt rows n 0 t m → GapOf rows n table marks x m g → SiteAt rows n table marks 2 x x (Some g)
 unfolding gap_by site_of stored
-replaced_root rows n table marks x t m b g L e z f c h = record {
+replaced_root rows n table marks x t m b g L k e z f c h = record {
   site = λ text source notes changed.
       let T : Table = view (length marks) table source in
       let s : Store = stored text n rows marks notes changed in
-      let r : root? T x ≡ true = root_told (length marks) table source L.0 x L.1 ∙ (sym e ∙ z) in
-      let d : m ≡ child_row (first_rows text n rows) 0 (tree T x) = c.row text ∙ ap (child_row (first_rows text n rows) 0) (f.0 ∙ sym (tree_told (length marks) table source L.0 x L.1)) in
+      let r : root? T x ≡ true = root_told (length marks) table source L x k ∙ (sym e ∙ z) in
+      let d : m ≡ child_row (first_rows text n rows) 0 (tree T x) = c.row text ∙ ap (child_row (first_rows text n rows) 0) (f.0 ∙ sym (tree_told (length marks) table source L x k)) in
       ap Some (h.gap text source notes changed)
       ∙ (ap (λ (i : ℕ). replaced_by T s x (some i)) d ∙ ap (λ (a : Bool). replaced_by T s x (cond a (some (child_row (first_rows text n rows) 0 (tree T x))) (marked s x))) (sym r));
 }
 
-module _ (rows : List ℕ) (n : ℕ) (table marks : List ℕ) (x m : ℕ) (b : Bool) (L : Lines (length marks) table × (x < length marks)) (e : b ≡ eqb (get_or table (8 * x + 1) 0) 0) (z : b ≡ false) (v : (m ≡ get_or marks x 0) × (m < 2 ^ 32)) where
+module _ (rows : List ℕ) (n : ℕ) (table marks : List ℕ) (x m : ℕ) (b : Bool) (L : Lines (length marks) table) (k : x < length marks) (e : b ≡ eqb (get_or table (8 * x + 1) 0) 0) (z : b ≡ false) (v : (m ≡ get_or marks x 0) × (m < 2 ^ 32)) where
   replaced : (o : Option ℕ) → there m ≡ o → (text source : List ℕ) (notes : List HeldNote) (changed : List HeldChanged)
       → replaced_by (view (length marks) table source) (stored text n rows marks notes changed) x o ≡ site_of (gap_by (view (length marks) table source) (stored text n rows marks notes changed) 2 x x)
   unfolding gap_by stored marked
   replaced o q text source notes changed =
       let T : Table = view (length marks) table source in
       let s : Store = stored text n rows marks notes changed in
-      let r : root? T x ≡ false = root_told (length marks) table source L.0 x L.1 ∙ (sym e ∙ z) in
+      let r : root? T x ≡ false = root_told (length marks) table source L x k ∙ (sym e ∙ z) in
       ap (replaced_by T s x) (sym (ap there (sym v.0) ∙ q)) ∙ ap (λ (a : Bool). replaced_by T s x (cond a (some (child_row (first_rows text n rows) 0 (tree T x))) (marked s x))) (sym r)
 
   pub replaced_gone : m ≡ 0 → SiteAt rows n table marks 2 x x None

@@ -2,17 +2,18 @@
 #![tactic(auto)]
 
 ghost use Rattle.std.specs.Prelude.{◌≡◌, ◌+◌, ◌*◌, ◌≤◌, ◌<◌, length};
-ghost use Rattle.read_element_table.specs.Wellformed.{Lines};
 ghost use Rattle.rows_syntax_node.specs.Promises.{TreesBetween};
 ghost use Rattle.run_model.specs.Sums.{too_large_by};
 ghost use Rattle.run_tree_store.specs.Promises.{Prepared, GapOf, GapAfter, GapRun, RunSite, SiteAt};
 ghost use Rattle.run_tree_store.specs.Gaps.{mark_or_top, parent_mark};
 
+mod tree_store;
 mod trees;
 
 use read_element_table::{PARENT, TREE, entry, is_root};
 use record_changes::Operation;
 use rows_syntax_node::{Rows, child_row, children_between, rows_after, subtree};
+pub use tree_store::TreeStore;
 pub use trees::Trees;
 use words::word;
 
@@ -58,12 +59,12 @@ fn row_or_top(marks: &[u32], p: usize) -> usize
 }
 
 // The row of the parent of element `x`: 0, the root of all, for a root.
-fn parent_row(table: &[u32], marks: &[u32], x: usize) -> usize
-    requires { Lines (length marks.now) table.now × (x < length marks.now) }
-    ensures { result ≡ parent_mark table.now marks.now x }
+fn parent_row(store: &TreeStore, x: usize) -> usize
+    requires { x < length store.now.marks.now }
+    ensures { result ≡ parent_mark store.now.table.now store.now.marks.now x }
 {
-    let p = entry(table, x, PARENT);
-    row_or_top(marks, p)
+    let p = entry(store.table, x, PARENT);
+    row_or_top(store.marks, p)
 }
 
 // The number of trees of the rows `p` up to `q`: none if `q` comes first.
@@ -78,13 +79,12 @@ fn trees_between(rows: &Rows, p: usize, q: usize) -> usize
 }
 
 // The element `x` at row `m` gives way.
-fn gap_of(trees: &Trees, table: &[u32], x: usize, m: usize) -> Gap
-    requires m_in_bounds { m ≤ trees.now.rows.count }
-    requires lines { Lines (length trees.now.marks.now) table.now × (x < length trees.now.marks.now) }
-    ensures { GapOf trees.now.rows.words.now trees.now.rows.count table.now trees.now.marks.now x m result }
+fn gap_of(store: &TreeStore, x: usize, m: usize) -> Gap
+    requires { (m ≤ store.now.rows.count) × (x < length store.now.marks.now) }
+    ensures { GapOf store.now.rows.words.now store.now.rows.count store.now.table.now store.now.marks.now x m result }
 {
-    let parent = parent_row(table, trees.marks, x);
-    let to = rows_after(&trees.rows, m, 1);
+    let parent = parent_row(store, x);
+    let to = rows_after(&store.rows, m, 1);
     Gap {
         parent,
         from: m,
@@ -94,13 +94,12 @@ fn gap_of(trees: &Trees, table: &[u32], x: usize, m: usize) -> Gap
 }
 
 // The place behind the element `x` at row `m`.
-fn gap_after(trees: &Trees, table: &[u32], x: usize, m: usize) -> Gap
-    requires m_in_bounds { m ≤ trees.now.rows.count }
-    requires lines { Lines (length trees.now.marks.now) table.now × (x < length trees.now.marks.now) }
-    ensures { GapAfter trees.now.rows.words.now trees.now.rows.count table.now trees.now.marks.now x m result }
+fn gap_after(store: &TreeStore, x: usize, m: usize) -> Gap
+    requires { (m ≤ store.now.rows.count) × (x < length store.now.marks.now) }
+    ensures { GapAfter store.now.rows.words.now store.now.rows.count store.now.table.now store.now.marks.now x m result }
 {
-    let parent = parent_row(table, trees.marks, x);
-    let to = rows_after(&trees.rows, m, 1);
+    let parent = parent_row(store, x);
+    let to = rows_after(&store.rows, m, 1);
     Gap {
         parent,
         from: to,
@@ -110,14 +109,13 @@ fn gap_after(trees: &Trees, table: &[u32], x: usize, m: usize) -> Gap
 }
 
 // The run from the element `x` at row `m` to the element at row `k`.
-fn gap_run(trees: &Trees, table: &[u32], x: usize, m: usize, k: usize) -> Gap
-    requires k_in_bounds { k ≤ trees.now.rows.count }
-    requires lines { Lines (length trees.now.marks.now) table.now × (x < length trees.now.marks.now) }
-    ensures { GapRun trees.now.rows.words.now trees.now.rows.count table.now trees.now.marks.now x m k result }
+fn gap_run(store: &TreeStore, x: usize, m: usize, k: usize) -> Gap
+    requires { (k ≤ store.now.rows.count) × (x < length store.now.marks.now) }
+    ensures { GapRun store.now.rows.words.now store.now.rows.count store.now.table.now store.now.marks.now x m k result }
 {
-    let parent = parent_row(table, trees.marks, x);
-    let to = rows_after(&trees.rows, k, 1);
-    let lost = trees_between(&trees.rows, m, to);
+    let parent = parent_row(store, x);
+    let to = rows_after(&store.rows, k, 1);
+    let lost = trees_between(&store.rows, m, to);
     Gap {
         parent,
         from: m,
@@ -127,49 +125,45 @@ fn gap_run(trees: &Trees, table: &[u32], x: usize, m: usize, k: usize) -> Gap
 }
 
 // The run from the element `x` at row `m` to the element `y`, if that is still there.
-fn run_site(trees: &Trees, table: &[u32], x: usize, m: usize, y: usize) -> Option<Gap>
-    requires lines { Lines (length trees.now.marks.now) table.now × (x < length trees.now.marks.now) }
-    requires y_in_bounds { y < length trees.now.marks.now }
-    ensures { RunSite trees.now.rows.words.now trees.now.rows.count table.now trees.now.marks.now x m y result }
+fn run_site(store: &TreeStore, x: usize, m: usize, y: usize) -> Option<Gap>
+    requires { (x < length store.now.marks.now) × (y < length store.now.marks.now) }
+    ensures { RunSite store.now.rows.words.now store.now.rows.count store.now.table.now store.now.marks.now x m y result }
 {
-    let k = word(trees.marks, y);
+    let k = word(store.marks, y);
     if k == 0 {
         return None;
     }
-    Some(gap_run(trees, table, x, m, k))
+    Some(gap_run(store, x, m, k))
 }
 
 // Where a call 2 on the element `x` goes, if that is still there: a root is found by counting, and needs no mark, since its mark is gone once it was replaced before.
-fn replaced_site(trees: &Trees, table: &[u32], x: usize) -> Option<Gap>
-    requires some { 0 < trees.now.rows.count }
-    requires lines { Lines (length trees.now.marks.now) table.now × (x < length trees.now.marks.now) }
-    ensures { SiteAt trees.now.rows.words.now trees.now.rows.count table.now trees.now.marks.now 2 x x result }
+fn replaced_site(store: &TreeStore, x: usize) -> Option<Gap>
+    requires { x < length store.now.marks.now }
+    ensures { SiteAt store.now.rows.words.now store.now.rows.count store.now.table.now store.now.marks.now 2 x x result }
 {
-    if is_root(table, x) {
-        let t = entry(table, x, TREE);
-        let top = child_row(&trees.rows, 0, t);
-        return Some(gap_of(trees, table, x, top));
+    if is_root(store.table, x) {
+        let t = entry(store.table, x, TREE);
+        let top = child_row(&store.rows, 0, t);
+        return Some(gap_of(store, x, top));
     }
-    let m = word(trees.marks, x);
+    let m = word(store.marks, x);
     if m == 0 {
         return None;
     }
-    Some(gap_of(trees, table, x, m))
+    Some(gap_of(store, x, m))
 }
 
 // Rust: TreeState::apply, what it finds before it splices (TreeState::map_original_element). Where a change goes, by its operation, its target `x` and its end
 // `y`: none if a mark that it needs is gone, where the Rust panics.
-// The operation stays a number: any may come, and all but four are one gap. The table stays a slice: its lines alone are asked for, which is less than `Elements` holds.
-pub fn find_gap(trees: &Trees, table: &[u32], operation: usize, x: usize, y: usize) -> Option<Gap>
-    requires some { 0 < trees.now.rows.count }
-    requires lines { Lines (length trees.now.marks.now) table.now × (x < length trees.now.marks.now) }
-    requires y_in_bounds { y < length trees.now.marks.now }
-    ensures { SiteAt trees.now.rows.words.now trees.now.rows.count table.now trees.now.marks.now operation x y result }
+// The operation stays a number: any may come, and all but four are one gap.
+pub fn find_gap(store: &TreeStore, operation: usize, x: usize, y: usize) -> Option<Gap>
+    requires { (x < length store.now.marks.now) × (y < length store.now.marks.now) }
+    ensures { SiteAt store.now.rows.words.now store.now.rows.count store.now.table.now store.now.marks.now operation x y result }
 {
     if operation == Operation::Replace as usize {
-        return replaced_site(trees, table, x);
+        return replaced_site(store, x);
     }
-    let m = word(trees.marks, x);
+    let m = word(store.marks, x);
     if m == 0 {
         return None;
     }
@@ -182,12 +176,12 @@ pub fn find_gap(trees: &Trees, table: &[u32], operation: usize, x: usize, y: usi
         });
     }
     if operation == Operation::After as usize {
-        return Some(gap_after(trees, table, x, m));
+        return Some(gap_after(store, x, m));
     }
     if operation == Operation::ReplaceAll as usize {
-        return run_site(trees, table, x, m, y);
+        return run_site(store, x, m, y);
     }
-    Some(gap_of(trees, table, x, m))
+    Some(gap_of(store, x, m))
 }
 
 // ── Refusal 12 ──

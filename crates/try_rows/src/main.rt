@@ -92,7 +92,7 @@ fn measures(rt: &impl Print) -> io::Result<()> {
     let below = &words[6..15];
     print(rt, rows_syntax_node::trees_in(below))?;
     print(rt, rows_syntax_node::text_bytes(below))?;
-    print(rt, rows_syntax_node::height(below))?;
+    print(rt, rows_syntax_node::height(below).unwrap_or(65))?;
     let rows = Rows {
         count: 5,
         words: &words,

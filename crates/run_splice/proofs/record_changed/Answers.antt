@@ -1,13 +1,13 @@
 -- `record_changed` meets its contract.
 use borrow.Author.Rules.{rules}
-use Rattle.run_splice.proofs.Turns.{recorded_all, recorded_none, room_recorded}
+use Rattle.run_splice.proofs.Turns.{recorded_asks, recorded_all, recorded_none}
 use Rattle.run_splice.proofs.record_changed.Goals as goal
 
-pub returns-then-recorded-eq0 : goal.returns-then-recorded-eq0
-returns-then-recorded-eq0 c = search (recorded_none, rules)
+pub returns-in_default : goal.returns-in_default
+returns-in_default c = search (recorded_none, rules)
 
 pub add_changed-requires : goal.add_changed-requires
-add_changed-requires c = search (room_recorded, rules)
+add_changed-requires c = recorded_asks c.args.k c.args.at _ c.in-Some.is c.requires c.args.parts.now.bounded
 
 pub returns : goal.returns
 returns c = search (recorded_all, rules)
