@@ -6,7 +6,7 @@ use mathlib.Core.Path.{◌≡◌, refl, sym, ap, subst, ◌∙◌}
 use mathlib.Core.Bool.{Bool, true, false}
 use mathlib.Core.List.{List}
 use mathlib.Core.Option.{Option, none, some}
-use Prim.Native.Nat.{ℕ, suc, ◌+◌, ◌-◌, ◌*◌, ◌^◌, ◌≤◌, ◌<◌}
+use Prim.Native.Nat.{ℕ, suc, ◌+◌, ◌-◌, ◌*◌, ◌/◌, ◌^◌, ◌≤◌, ◌<◌}
 use native.Mathlib.Nat.{add-zero}
 use native.Mathlib.Omega.{arith}
 use lib.ListN.{length, get_or, drop, take, length-drop}
@@ -29,6 +29,7 @@ use Rattle.finish_model.specs.Alike.{find_row}
 use Rattle.finish_find.specs.Found.{found as found_by}
 use Rattle.finish_result.specs.Weighed.{Weighs}
 use Rattle.finish_result.specs.Answered.{Answered}
+use Rattle.finish_result.specs.Cut.{cut_answered, cut_weighs}
 use Rattle.edit_perform.specs.AtEnd.{AtEnd, Told as ElementsTold, withdrawn_in, Recounted}
 use Rattle.edit_perform.specs.declared.Ended.{Ended}
 use Rattle.plan_edit.specs.declared.Unplanned.{Unplanned}
@@ -60,9 +61,9 @@ behind_cut n changes = let e : 3584 + n - 3584 ≡ n = omega arith in rw e refl
 -- ── The result's bytes ──────────────────────────────────────────────────────────────────────────────────────
 
 module _ {h : Choices} {b rows notes changed : List ℕ} {d : Ended} (v : AtEnd h b rows notes changed d) (held out : List ℕ) (a : Result ℕ Refusal) (text : List ℕ) (t : text ≡ drop d.text b)
-    (f : (marks : List ℕ) → Answered held (result_of d.discarded d.climbs (stored text d.rows rows marks (notes_of d.notes notes) (changed_in d.changed changed))) out a) where
+    (f : (marks : List ℕ) → Answered held (result_of d.discarded d.climbs (stored text d.rows rows marks (notes_of (length (take (3 * d.notes) notes) / 3) (take (3 * d.notes) notes)) (changed_in (length (take d.changed changed)) (take d.changed changed)))) out a) where
   answered : (r : Result Told Refusal) → answer_told r ≡ of_length (answer_told a) → Tells (reached h Edit b (length held)) held r out
-  answered = answered_edit v a (λ marks. rw (← t) (f marks))
+  answered = answered_edit v a (λ marks. rw (← t) (cut_answered d.notes d.changed notes changed v.notes_within v.changed_within _ _ _ _ _ f marks))
 
   pub answered_13 : (e : Refusal) → a ≡ Err e → Tells (reached h Edit b (length held)) held (Err e) out
   unfolding of_length answer_told
@@ -116,7 +117,10 @@ tells_overlap {h} {b} {p = p} {j = j} {k = k} {held = held} {out = out} {r = r} 
 
 -- the account: 13 where the edit program's buffer could not hold the result, or the fates
 module _ {h : Choices} {b changes rows notes changed : List ℕ} {d : Ended} (v : AtEnd h b rows notes changed d × Recounted h b changes d) (held text : List ℕ) (t : text ≡ drop d.text b) {size : ℕ}
-    (w : Weighs text d.rows rows (notes_of d.notes notes) (changed_in d.changed changed) size) where
+    (u : Weighs text d.rows rows (notes_of (length (take (3 * d.notes) notes) / 3) (take (3 * d.notes) notes)) (changed_in (length (take d.changed changed)) (take d.changed changed)) size) where
+  w : Weighs text d.rows rows (notes_of d.notes notes) (changed_in d.changed changed) size
+  w = cut_weighs d.notes d.changed notes changed v.0.notes_within v.0.changed_within u
+
   pub account_refused : 65536 < size → Tells (reached h Account b (length held)) held (Err ShortResult) held
   unfolding outcome written left_in answer_told number
   account_refused l = rw (account_13 v.0 v.1 (rw t at w) (length held) l) (record { answer = refl; result = refl })

@@ -93,14 +93,13 @@ pub record RowsAtEnd (h : Choices) (b rows : List ℕ) (d : Ended) : Type 0 wher
   pub end : End
   pub ends : ending h b ≡ gives end
   pub held : rows_of end.world.trees ≡ first_rows (drop d.text b) d.rows rows
-  pub place : d.root ≡ 1
   pub within : 3 * d.rows ≤ length rows
   pub some : 1 ≤ d.rows
   pub few : d.rows ≤ 4097
 
 pub rows_at_end : {h : Choices} {b rows notes changed : List ℕ} {d : Ended} → AtEnd h b rows notes changed d → RowsAtEnd h b rows d
 unfolding store stored
-rows_at_end v = record { end = v.end; ends = v.ends; held = ap (λ (s : model.Store). s.rows) v.held; place = v.place; within = v.rows_within; some = v.some_rows; few = v.few_rows }
+rows_at_end v = record { end = v.end; ends = v.ends; held = ap (λ (s : model.Store). s.rows) v.held; within = v.rows_within; some = v.some_rows; few = v.few_rows }
 
 get_d_past : {A : Type 0} (l : List A) (k : ℕ) (d : A) → length l ≤ k → get_or l k d ≡ d
 get_d_past [] k d h = refl

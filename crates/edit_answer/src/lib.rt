@@ -14,11 +14,14 @@ ghost use Rattle.edit_answer.specs.AtEnd.{RowsAtEnd, ToKeep, old_node, overlap_t
 
 use choices::Choices;
 use edit_perform::Ended;
+use finish_arrays::Tally;
+use finish_model::Left;
 use plan_edit::Unplanned;
 use promises::{Job, Told};
 use read_element_table::Elements;
 use refusals::Refusal;
 use rows_syntax_node::Rows;
+use run_annotations::NOTE_WORDS;
 pub use share_rows::Thousandths;
 
 // How many bytes the edit program's result buffer has.
@@ -41,21 +44,25 @@ fn write_answer(
 {
     let from = d.text;
     let text = &batch[from..];
-    let all = Rows {
-        count: d.rows,
-        words: rows,
+    let left = Left {
+        rows: Rows {
+            count: d.rows,
+            words: rows,
+        },
     };
+    let tally = Tally {
+        discarded: d.discarded,
+        climbs: d.climbs,
+    };
+    let k = NOTE_WORDS * d.notes;
+    let c = d.changed;
     let n = finish_result::finish(
-        &all,
-        d.root,
-        notes,
-        d.notes,
-        changed,
-        d.changed,
+        &left,
+        &mut notes[..k],
+        &mut changed[..c],
         starts,
         text,
-        d.discarded,
-        d.climbs,
+        &tally,
         res,
     )?;
     Ok(Told::Bytes(n))
@@ -104,7 +111,7 @@ fn find_from(
         count: d.rows,
         words: rows,
     };
-    Told::Place(finish_find::find_in_tree(&all, d.root, kind, start))
+    Told::Place(finish_find::find_in_tree(&all, kind, start))
 }
 
 // The account from what the run of the batch leaves, or 13: where the edit program's buffer could not hold the result, or where this one cannot hold the account.
@@ -123,11 +130,15 @@ fn account_from(
 {
     let from = d.text;
     let text = &batch[from..];
-    let all = Rows {
-        count: d.rows,
-        words: rows,
+    let left = Left {
+        rows: Rows {
+            count: d.rows,
+            words: rows,
+        },
     };
-    let size = finish_result::result_size(&all, d.root, notes, d.notes, changed, d.changed, text);
+    let k = NOTE_WORDS * d.notes;
+    let c = d.changed;
+    let size = finish_result::result_size(&left, &notes[..k], &changed[..c], text);
     if PROGRAM_ROOM < size {
         return Err(Refusal::ShortResult);
     }
@@ -149,11 +160,13 @@ fn share_from(
     ensures { gives result ≡ of_share (share (meant choices) batch.now) }
 {
     let c = d.changed;
-    let all = Rows {
-        count: d.rows,
-        words: rows,
+    let left = Left {
+        rows: Rows {
+            count: d.rows,
+            words: rows,
+        },
     };
-    let s = share_rows::share(&all, d.root, &changed[..c]);
+    let s = share_rows::share(&left, &changed[..c]);
     Told::Of(s.quotient, s.remainder)
 }
 
@@ -178,7 +191,7 @@ fn kept_from(
         count: d.rows,
         words: rows,
     };
-    kept_rows::kept(&own, marks, &all, d.root, res)
+    kept_rows::kept(&own, marks, &all, res)
 }
 
 // The two below take the job, since one public `serve` serves all jobs: what they share, the plan and the run, is done before, and only here do their ways part.
@@ -197,7 +210,7 @@ fn overlapping(job: Job, j: usize, k: usize, res: &mut [u8]) -> Result<Told, Ref
 }
 
 // What the job answers from what is performed: its refusal, or what follows from the end of the run. Slices, and no `Work`: a job reads some of them while it writes
-// others, so that each would be lent by itself again.
+// others, so that each would be lent by itself again; thirteen parameters, since these are the eight that some job reads or writes.
 pub fn answer(
     choices: Choices,
     job: Job,

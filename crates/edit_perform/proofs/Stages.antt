@@ -137,9 +137,9 @@ module _ {h : definition.Choices} {b : List ℕ} {l : Layout} {t s changes runni
 
     pub steps_ended : (r : TreeState) → x ≡ Ok r → 3072 ≤ length notes
         → Performs h b t s changes rows notes changed marks
-        (Ok (record { text = l.text; elements = l.sizes.elements; recorded = c.recorded; root = r.root; rows = r.rows; notes = r.notes; changed = r.changed; discarded = c.discarded; climbs = c.climbs }))
+        (Ok (record { text = l.text; elements = l.sizes.elements; recorded = c.recorded; rows = r.rows; notes = r.notes; changed = r.changed; discarded = c.discarded; climbs = c.climbs }))
     steps_ended r e ln =
-        let d : Ended = record { text = l.text; elements = l.sizes.elements; recorded = c.recorded; root = r.root; rows = r.rows; notes = r.notes; changed = r.changed; discarded = c.discarded; climbs = c.climbs } in
+        let d : Ended = record { text = l.text; elements = l.sizes.elements; recorded = c.recorded; rows = r.rows; notes = r.notes; changed = r.changed; discarded = c.discarded; climbs = c.climbs } in
         let v = L.leaves in
         record {
           refuses = λ k i. absurd (let z : ◌≡◌ {A = ℕ} 0 1 = cc in omega arith);

@@ -42,7 +42,6 @@ pub record AtEnd (h : Choices) (b rows notes changed : List ℕ) (d : Ended) : T
   pub discarded : d.discarded ≡ length (keep (λ p. is_discarded p.fate) end.planned.changes)
   pub climbs : d.climbs ≡ end.planned.climbs
   -- and nothing is larger than its slice
-  pub place : d.root ≡ 1
   pub text_within : d.text ≤ length b
   pub rows_within : 3 * d.rows ≤ length rows
   pub some_rows : 1 ≤ d.rows

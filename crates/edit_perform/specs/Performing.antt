@@ -183,7 +183,7 @@ module _ {h : Choices} {b : List ℕ} {l : Layout} {t₀ s₀ t s : List ℕ} (v
 
     -- or what is held at the end is the definition's
     pub run_ended : (r : TreeState) → x ≡ Ok r → 3072 ≤ length notes
-        → AtEnd h b rows notes changed (record { text = l.text; elements = E; recorded = c.recorded; root = r.root; rows = r.rows; notes = r.notes; changed = r.changed; discarded = c.discarded; climbs = c.climbs })
+        → AtEnd h b rows notes changed (record { text = l.text; elements = E; recorded = c.recorded; rows = r.rows; notes = r.notes; changed = r.changed; discarded = c.discarded; climbs = c.climbs })
     unfolding executed_in ◌>>=◌ text store stored
     run_ended r e ln = go (ran a p) refl (sym (ap (executed_in text rows marks notes changed) e) ∙ ran_told)
       where
@@ -191,7 +191,7 @@ module _ {h : Choices} {b : List ℕ} {l : Layout} {t₀ s₀ t s : List ℕ} (v
         S = R.standing r e
 
         go : (o : Answer World) → ran a p ≡ o → gives (held_in text r rows marks notes changed) ≡ in_rows o
-            → AtEnd h b rows notes changed (record { text = l.text; elements = E; recorded = c.recorded; root = r.root; rows = r.rows; notes = r.notes; changed = r.changed; discarded = c.discarded; climbs = c.climbs })
+            → AtEnd h b rows notes changed (record { text = l.text; elements = E; recorded = c.recorded; rows = r.rows; notes = r.notes; changed = r.changed; discarded = c.discarded; climbs = c.climbs })
         go (refused n) i j = refused_gives (sym j)
         go (gives w) i j =
             let K = ran_known h b a p w v.accepted m.plan i in
@@ -204,7 +204,6 @@ module _ {h : Choices} {b : List ℕ} {l : Layout} {t₀ s₀ t s : List ℕ} (v
               held = sym same;
               discarded = m.discarded;
               climbs = m.climbs;
-              place = S.place;
               text_within = omega (arith, v.within.text);
               rows_within = S.long;
               some_rows = omega (arith, rows_some S);

@@ -23,13 +23,12 @@ use refusals::Refusal;
 use run_annotations::NOTE_WORDS;
 use run_execute::{Task, execute};
 
-// What a run leaves: where the batch's text starts, how many elements it has, how many changes are recorded (withdrawn ones among them), where the root of tree 0 stands, the rows, notes and changed elements that are held, and two numbers of the result.
+// What a run leaves: where the batch's text starts, how many elements it has, how many changes are recorded (withdrawn ones among them), the rows, notes and changed elements that are held, and two numbers of the result.
 #[derive(Clone, Copy)]
 pub struct Ended {
     pub text: usize,
     pub elements: usize,
     pub recorded: usize,
-    pub root: usize,
     pub rows: usize,
     pub notes: usize,
     pub changed: usize,
@@ -46,7 +45,7 @@ struct Plan<'a> {
     first: &'a [u32],
 }
 
-// The steps of the plan, over marks for just the batch's elements.
+// The steps of the plan, over marks for just the batch's elements. Over 40 lines by its clauses, as the next one is: nine lines name what is lent, the body has fewer.
 fn run_plan(
     choices: Choices,
     accepted: &Accepted,
@@ -95,7 +94,6 @@ fn run_plan(
         text: l.text,
         elements: s.elements,
         recorded: counts.recorded,
-        root: t.root,
         rows: t.rows,
         notes: t.notes,
         changed: t.changed,

@@ -9,9 +9,14 @@ ghost use Rattle.rows_model.specs.Row.{own, bytes, row_in, triples};
 ghost use Rattle.finish_arrays.specs.Starts.{Starts};
 ghost use Rattle.finish_arrays.specs.Sweep.{Swept};
 
-use rows_syntax_node::{MEASURE, ROW_WORDS, TEXT};
+mod tally;
 
-// Where the text of each row of a tree starts: what resolving its path would give, of all rows in one pass.
+use rows_syntax_node::{MEASURE, ROW_WORDS, TEXT};
+pub use tally::Tally;
+use words::NODE_KIND;
+
+// Where the text of each row of a tree starts: what resolving its path would give, of all rows in one pass. A row is read by its number, as the readers of rows take it:
+// over `chunks_exact` each would be told that row 0 is meant, and the sum be carried along all the same. So it is in the three loops below.
 pub fn fill_starts(tree: &[u32], out: &mut [u32])
     requires { (length tree.now ≤ 3 * length out.old) × (length tree.now < 3 * 2 ^ 16) × (bytes (triples [] tree.now) < 2 ^ 32) }
     ensures { Starts tree.now out.old out.new }
@@ -35,7 +40,8 @@ fn write_element(b: &mut [u8], kinds: usize, measures: usize, tree: &[u32], row:
     words::write_word(b, measures, measure);
 }
 
-// One sweep over a tree writes its kind words at `at` and its measures behind them. How many times it read an element.
+// One sweep over a tree writes its kind words at `at` and its measures behind them. How many times it read an element: that is promised of the sweep (document 02, Note 4), and
+// so it is counted.
 pub fn write_elements(b: &mut [u8], at: usize, tree: &[u32]) -> usize
     requires { (at + 8 * (length tree.now / 3) ≤ length b.old) × (length tree.now < 3 * 2 ^ 16) }
     ensures { Swept tree.now at b.old b.new result }
@@ -57,19 +63,18 @@ pub fn write_sizes(
     text: usize,
     changed: usize,
     notes: usize,
-    discarded: usize,
-    climbs: usize,
+    tally: &Tally,
 )
-    requires { (24 ≤ length b.old) × (elements < 2 ^ 32) × (text < 2 ^ 32) × (changed < 2 ^ 32) × (notes < 2 ^ 32) × (discarded < 2 ^ 32) × (climbs < 2 ^ 32) }
-    ensures { b.new ≡ paste b.old 0 (written (elements ∷ text ∷ changed ∷ notes ∷ discarded ∷ climbs ∷ [])) 24 }
+    requires { (24 ≤ length b.old) × (elements < 2 ^ 32) × (text < 2 ^ 32) × (changed < 2 ^ 32) × (notes < 2 ^ 32) }
+    ensures { b.new ≡ paste b.old 0 (written (elements ∷ text ∷ changed ∷ notes ∷ tally.now.discarded ∷ tally.now.climbs ∷ [])) 24 }
 {
     let six = [
         elements as u32,
         text as u32,
         changed as u32,
         notes as u32,
-        discarded as u32,
-        climbs as u32,
+        tally.discarded as u32,
+        tally.climbs as u32,
     ];
     words::write_words(b, 0, &six);
 }
@@ -80,7 +85,7 @@ fn own_text<'a>(tree: &[u32], i: usize, text: &'a [u8]) -> &'a [u8]
     ensures { result.now ≡ own (row_in text.now tree.now i) }
 {
     let kind = words::word(tree, ROW_WORDS * i);
-    if kind < 0x8000_0000 {
+    if kind < NODE_KIND {
         let from = words::word(tree, ROW_WORDS * i + TEXT);
         let to = from + words::word(tree, ROW_WORDS * i + MEASURE);
         if to <= text.len() {

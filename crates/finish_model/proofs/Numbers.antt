@@ -1,6 +1,6 @@
 -- The elements of the new tree by their rows: tree 0 in rows, numbers, text starts.
 -- Assumes nothing.
-use Rattle.std.specs.Prelude.{◌≡◌, refl, List, [], ◌∷◌, ◌++◌, map, ℕ, zero, suc, ◌+◌, ◌-◌, ◌≤◌, ◌<◌, length, take, drop, get_or}
+use Rattle.std.specs.Prelude.{◌≡◌, refl, List, [], ◌∷◌, ◌++◌, map, ℕ, zero, suc, ◌+◌, ◌-◌, ◌*◌, ◌≤◌, ◌<◌, length, take, drop, get_or}
 use Rattle.std.proofs.Common.{sym, ap, ◌∙◌, append_assoc, append-nil, arith, add-zero, length-append, length-drop, take_at, length-take-le, ne_eqb}
 use Rattle.std.proofs.Math.Option
 use Rattle.std.proofs.Math.Option.{some, bind}
@@ -12,12 +12,14 @@ use Rattle.definition.specs.Finishing.{new_tree, new_table, number_at}
 use Rattle.definition.specs.Running.{World}
 use Rattle.definition_laws.specs.Kin.{resolve_down}
 use Rattle.definition_laws.specs.Held.{Leads, number_found}
-use Rattle.rows_model.specs.Row.{Row, rows_of, rows_in, rows_all, skip, text_length, bytes}
+use Rattle.rows_model.specs.Row.{Row, rows_of, rows_in, rows_all, skip, text_length, bytes, first_rows}
 use Rattle.rows_model.specs.Place.{size, place, rows_after, subtree, in_run}
 use Rattle.rows_model.proofs.RowLaws.{skip_none, skip_tree, skip_le, size_all_elements}
 use Rattle.rows_model.proofs.PlaceLaws.{place_child, place_forest, after_at}
 use Rattle.rows_model.proofs.Moves.{strip_place}
 use Rattle.rows_model.proofs.Numbers.{element_row}
+use Rattle.rows_model.proofs.Words.{length_first}
+use Rattle.rows_syntax_node.specs.Promises.{Part}
 use Rattle.finish_model.specs.Finished.{first_tree, number_of, starts, start_of}
 
 -- ── Tree 0 in rows ──────────────────────────────────────────────────────────────────────────────────────────
@@ -44,6 +46,11 @@ tree_end rs = let e = length-take-le (skip 1 (drop 1 rs)) (drop 1 rs) (skip_le 1
 pub tree_few : (rs : List Row) → length (first_tree rs) ≤ length rs - 1
 unfolding first_tree subtree
 tree_few rs = omega (arith, length-take-le (skip 1 (drop 1 rs)) (drop 1 rs) (skip_le 1 (drop 1 rs)), skip_le 1 (drop 1 rs), length-drop 1 rs)
+
+-- so in words
+pub tree_short : {rows : List ℕ} {n : ℕ} {tree : List ℕ} → Part rows n 1 tree → 3 * n ≤ length rows → 1 ≤ n → length tree + 3 ≤ 3 * n
+unfolding first_tree
+tree_short {rows} {n} p h b = omega (arith, p.long [], tree_few (first_rows [] n rows), length_first [] n rows h)
 
 -- ── Numbers ─────────────────────────────────────────────────────────────────────────────────────────────────
 

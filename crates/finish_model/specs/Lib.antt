@@ -3,5 +3,7 @@
 --     Numbers    the number of an element of the new tree, and where its text starts, by its row
 --     Result     the result: the definition's
 --     Alike      the first node with a kind and a text start, by the rows
+--     Numbered   the number of an element of tree 0, as it is answered
 pub mod Finished
 pub mod Alike
+pub mod Numbered

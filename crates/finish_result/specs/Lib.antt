@@ -4,8 +4,10 @@
 --     Weighed   how many bytes it has, told before anything is sorted
 --     Answered  the answer, and what the buffer holds then
 --     Arrays    the arrays written one behind another
+--     Cut       notes and changed elements at the front of longer words
 pub mod SortKeys
 pub mod InTree
 pub mod Weighed
 pub mod Answered
 pub mod Arrays
+pub mod Cut

@@ -5,7 +5,7 @@ ghost use Rattle.std.specs.Prelude.{◌≡◌, ℕ, ◌+◌, ◌*◌, ◌/◌, �
 ghost use mathlib.Core.List.{List, flat_map, ◌∷◌, []};
 ghost use Rattle.std.proofs.Math.Seq.{paste};
 ghost use Rattle.definition.specs.Words.{written};
-ghost use Rattle.rows_model.specs.Row.{own, bytes, triples, first_rows};
+ghost use Rattle.rows_model.specs.Row.{own, bytes, triples};
 ghost use Rattle.run_annotations.specs.Changed.{changed_in};
 ghost use Rattle.run_annotations.specs.Notes.{notes_of};
 ghost use Rattle.run_tree_store.specs.Stored.{stored};
@@ -15,10 +15,11 @@ ghost use Rattle.finish_result.specs.Arrays.{note_column, element_column, rule_c
 ghost use Rattle.finish_result.specs.InTree.{result_in, changed_by, notes_by};
 ghost use Rattle.finish_result.specs.Weighed.{Weighs};
 
-use finish_arrays::{fill_starts, text_size, write_elements, write_sizes, write_text};
+use finish_arrays::{Tally, fill_starts, text_size, write_elements, write_sizes, write_text};
+use finish_model::{Left, first_tree};
 use finish_sort::{count_changed, count_notes, sort_changed, sort_notes};
 use refusals::Refusal;
-use rows_syntax_node::{ROW_WORDS, Rows, subtree};
+use rows_syntax_node::ROW_WORDS;
 use run_annotations::{NOTE_WORDS, NUMBER, changed_row, changed_rule};
 use words::{word, write_word};
 
@@ -42,15 +43,14 @@ fn write_front(
     size: usize,
     changed: usize,
     notes: usize,
-    discarded: usize,
-    climbs: usize,
+    tally: &Tally,
 ) -> usize
     requires tree_in_bounds { (24 + 8 * (length tree.now / 3) ≤ length b.old) × (length tree.now < 3 * 2 ^ 16) }
-    requires size_bound { (size < 2 ^ 32) × (changed < 2 ^ 32) × (notes < 2 ^ 32) × (discarded < 2 ^ 32) × (climbs < 2 ^ 32) }
-    ensures { Front tree.now (size ∷ changed ∷ notes ∷ discarded ∷ climbs ∷ []) b.old b.new result }
+    requires size_bound { (size < 2 ^ 32) × (changed < 2 ^ 32) × (notes < 2 ^ 32) }
+    ensures { Front tree.now (size ∷ changed ∷ notes ∷ tally.now.discarded ∷ tally.now.climbs ∷ []) b.old b.new result }
 {
     let elements = write_elements(b, 24, tree);
-    write_sizes(b, elements, size, changed, notes, discarded, climbs);
+    write_sizes(b, elements, size, changed, notes, tally);
     elements
 }
 
@@ -91,12 +91,11 @@ pub fn write_result(
     text: &[u8],
     changed: &[u32],
     notes: &[u32],
-    discarded: usize,
-    climbs: usize,
+    tally: &Tally,
     res: &mut [u8],
 ) -> Result<usize, Refusal>
-    requires { (length tree.now < 3 * 2 ^ 16) × (bytes (triples [] tree.now) < 2 ^ 32) × (length changed.now < 2 ^ 32) × (length notes.now < 2 ^ 32) × (discarded < 2 ^ 32) × (climbs < 2 ^ 32) }
-    ensures { Answered res.old (told_result discarded climbs tree.now text.now changed.now notes.now) res.new result }
+    requires { (length tree.now < 3 * 2 ^ 16) × (bytes (triples [] tree.now) < 2 ^ 32) × (length changed.now < 2 ^ 32) × (length notes.now < 2 ^ 32) }
+    ensures { Answered res.old (told_result tally.now.discarded tally.now.climbs tree.now text.now changed.now notes.now) res.new result }
 {
     let size = text_size(tree, text);
     let n = tree.len() / ROW_WORDS;
@@ -105,7 +104,7 @@ pub fn write_result(
     if res.len() < total {
         return Err(Refusal::ShortResult);
     }
-    let elements = write_front(res, tree, size, changed.len(), m, discarded, climbs);
+    let elements = write_front(res, tree, size, changed.len(), m, tally);
     write_rest(res, 24 + 8 * elements, tree, text, changed, notes);
     Ok(total)
 }
@@ -117,86 +116,49 @@ fn finish_tree(
     tree: &[u32],
     starts: &[u32],
     notes: &mut [u32],
-    k: usize,
     changed: &mut [u32],
-    c: usize,
     text: &[u8],
-    discarded: usize,
-    climbs: usize,
+    tally: &Tally,
     res: &mut [u8],
 ) -> Result<usize, Refusal>
-    requires { (length tree.now < 3 * 2 ^ 16) × (bytes (triples [] tree.now) < 2 ^ 32) × (3 * k ≤ length notes.old) × (k < 2 ^ 16) × (c ≤ length changed.old) × (c < 2 ^ 16) × (discarded < 2 ^ 32) × (climbs < 2 ^ 32) }
-    ensures { Answered res.old (result_in discarded climbs (triples text.now tree.now) (changed_by starts.now (length tree.now / 3) (changed_in c changed.old)) (notes_by starts.now (length tree.now / 3) (notes_of k notes.old))) res.new result }
+    requires { (length tree.now < 3 * 2 ^ 16) × (bytes (triples [] tree.now) < 2 ^ 32) × (length notes.old < 3 * 2 ^ 16) × (length changed.old < 2 ^ 16) }
+    ensures { Answered res.old (result_in tally.now.discarded tally.now.climbs (triples text.now tree.now) (changed_by starts.now (length tree.now / 3) (changed_in (length changed.old) changed.old)) (notes_by starts.now (length tree.now / 3) (notes_of (length notes.old / 3) notes.old))) res.new result }
 {
     let end = tree.len() / ROW_WORDS + 1;
-    let from = sort_changed(changed, c, end, starts);
-    let first = NOTE_WORDS * sort_notes(notes, k, end, starts);
-    let last = NOTE_WORDS * k;
-    write_result(
-        tree,
-        text,
-        &changed[from..c],
-        &notes[first..last],
-        discarded,
-        climbs,
-        res,
-    )
+    let from = sort_changed(changed, end, starts);
+    let first = NOTE_WORDS * sort_notes(notes, end, starts);
+    write_result(tree, text, &changed[from..], &notes[first..], tally, res)
 }
 
-// The result as bytes, from the rows of all trees, the row of tree 0's root, the notes and the changed elements by their rows, as the run leaves them; their length, or 13.
+// The result as bytes, from what the run leaves: the rows of all trees, just its notes and its changed elements by their rows; their length, or 13.
 pub fn finish(
-    rows: &Rows,
-    root: usize,
+    left: &Left,
     notes: &mut [u32],
-    k: usize,
     changed: &mut [u32],
-    c: usize,
     starts: &mut [u32],
     text: &[u8],
-    discarded: usize,
-    climbs: usize,
+    tally: &Tally,
     res: &mut [u8],
 ) -> Result<usize, Refusal>
-    requires rows_in_bounds { (1 ≤ rows.now.count) × (rows.now.count ≤ length starts.old + 1) × (bytes (first_rows text.now rows.now.count rows.now.words.now) < 2 ^ 32) }
-    requires k_in_bounds { (3 * k ≤ length notes.old) × (k < 2 ^ 16) × (c ≤ length changed.old) × (c < 2 ^ 16) × (discarded < 2 ^ 32) × (climbs < 2 ^ 32) }
-    requires root_value { root ≡ 1 }
-    ensures { (marks : List ℕ) → Answered res.old (result_of discarded climbs (stored text.now rows.now.count rows.now.words.now marks (notes_of k notes.old) (changed_in c changed.old))) res.new result }
+    requires rows_in_bounds { left.now.rows.count ≤ length starts.old + 1 }
+    requires few { (length notes.old < 3 * 2 ^ 16) × (length changed.old < 2 ^ 16) }
+    ensures { (marks : List ℕ) → Answered res.old (result_of tally.now.discarded tally.now.climbs (stored text.now left.now.rows.count left.now.rows.words.now marks (notes_of (length notes.old / 3) notes.old) (changed_in (length changed.old) changed.old))) res.new result }
 {
-    let tree = subtree(rows, root);
+    let tree = first_tree(&left.rows);
     fill_starts(tree, starts);
     let m = tree.len() / ROW_WORDS;
-    finish_tree(
-        tree,
-        &starts[..m],
-        notes,
-        k,
-        changed,
-        c,
-        text,
-        discarded,
-        climbs,
-        res,
-    )
+    finish_tree(tree, &starts[..m], notes, changed, text, tally, res)
 }
 
 // How many bytes the result has, from what the run leaves: told before anything is sorted or written.
-pub fn result_size(
-    rows: &Rows,
-    root: usize,
-    notes: &[u32],
-    k: usize,
-    changed: &[u32],
-    c: usize,
-    text: &[u8],
-) -> usize
-    requires rows_in_bounds { (1 ≤ rows.now.count) × (bytes (first_rows text.now rows.now.count rows.now.words.now) < 2 ^ 32) × (3 * k ≤ length notes.now) × (k < 2 ^ 16) × (c ≤ length changed.now) × (c < 2 ^ 16) }
-    requires root_value { root ≡ 1 }
-    ensures { Weighs text.now rows.now.count rows.now.words.now (notes_of k notes.now) (changed_in c changed.now) result }
+pub fn result_size(left: &Left, notes: &[u32], changed: &[u32], text: &[u8]) -> usize
+    requires { (length notes.now < 3 * 2 ^ 16) × (length changed.now < 2 ^ 16) }
+    ensures { Weighs text.now left.now.rows.count left.now.rows.words.now (notes_of (length notes.now / 3) notes.now) (changed_in (length changed.now) changed.now) result }
 {
-    let tree = subtree(rows, root);
+    let tree = first_tree(&left.rows);
     let elements = tree.len() / ROW_WORDS;
     let size = text_size(tree, text);
-    let changes = count_changed(changed, c, elements + 1);
-    let annotations = count_notes(notes, k, elements + 1);
+    let changes = count_changed(changed, elements + 1);
+    let annotations = count_notes(notes, elements + 1);
     bytes_of(elements, size, changes, annotations)
 }

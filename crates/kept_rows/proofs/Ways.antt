@@ -1,6 +1,8 @@
 -- Each answer, from what the code knows there.
 -- Assumes nothing.
-use Rattle.std.specs.Prelude.{Result, Ok, Err}
+use Rattle.std.specs.Prelude.{Result, Ok, Err, Option as Answered, Some, None, is_some as found}
+use Rattle.std.specs.List.{filter}
+use mathlib.Core.Bool.{Bool, true, false, cond}
 use mathlib.Core.Path.{◌≡◌, refl, sym, ap, ap₂, ◌∙◌}
 use mathlib.Core.List.{List, [], ◌∷◌, ◌++◌, map, flat_map, append-nil}
 use mathlib.Core.Option.{Option, none, some}
@@ -11,18 +13,18 @@ use native.Mathlib.Omega.{arith}
 use lib.ListN.{length, get_or, take, drop, take-append-drop, length-append, length-map}
 use lib.Seq.{paste, paste-zero, length-paste, length-take-le, take-suc, take_all}
 use borrow.Author.Tests.{lt-ltb, le-ltb}
-use Rattle.orders.specs.ListLaws.{zone_before, zone_inside, zone_after, map_append}
-use Rattle.definition.specs.Basics.{gives, ◌>>=◌, refuse}
+use Rattle.orders.specs.ListLaws.{map_append}
+use Rattle.definition.specs.Basics.{gives, is_some, ◌>>=◌, refuse}
 use Rattle.definition.specs.Words.{bytes, written}
 use Rattle.definition.specs.Account.{in_room}
 use Rattle.words.specs.Bytes.{length_written, written_append}
 use Rattle.words.specs.Parts.{paste_paste, paste_swap}
 use Rattle.rows_model.specs.Row.{first_rows}
 use Rattle.rows_model.specs.Place.{in_run, rows_after, subtree}
-use Rattle.rows_model.proofs.Words.{length_first}
 use Rattle.rows_syntax_node.specs.Promises.{Part}
 use Rattle.finish_model.specs.Finished.{first_tree}
-use Rattle.finish_model.proofs.Numbers.{tree_end, tree_few}
+use Rattle.finish_model.specs.Numbered.{told, told_some, told_none}
+use Rattle.finish_model.proofs.Numbers.{tree_end}
 use Rattle.promises.specs.Promises.{left_in}
 use Rattle.promises.specs.Keeping.{pair_bytes}
 use Rattle.promises.specs.Serving.{outcome, written as bytes_told, Tells}
@@ -32,55 +34,37 @@ use Rattle.refusals.specs.Numbers.{number, answered}
 use Rattle.refusals.specs.declared.Refusal.{Refusal}
 use Rattle.refusals.specs.declared.Refusal.TheVariants.{ShortResult}
 use Rattle.kept_rows.specs.Pairs.{pair_at, pair_of, pairs_from, kept_rows, pairs_append}
-use Rattle.kept_rows.specs.Promises.{Counts, pairs_over, PairWritten, tell_pairs}
+use Rattle.kept_rows.specs.Promises.{pairs_over, PairWritten, tell_pairs}
 
 -- ── One element ─────────────────────────────────────────────────────────────────────────────────────────────
 
-module _ (end m : ℕ) where
-  none_before : m < 1 → (x : ℕ) → pair_of end x m ≡ []
-  unfolding in_run pair_at
-  none_before h x = rw (zone_before m 1 end none (some (m - 1)) none h) refl
+module _ (end m : ℕ) {r : Answered ℕ} (q : r ≡ told (in_run 1 end m)) where
+  none_there : r ≡ None → (x : ℕ) → pair_of end x m ≡ []
+  unfolding pair_at
+  none_there z x = ap (pair_at x) (told_none (in_run 1 end m) q z)
 
-  none_behind : 1 ≤ m → end ≤ m → (x : ℕ) → pair_of end x m ≡ []
-  unfolding in_run pair_at
-  none_behind h k x = rw (zone_after m 1 end none (some (m - 1)) none h k) refl
-
-  one_there : 1 ≤ m → m < end → (x : ℕ) → pair_of end x m ≡ (x, m - 1) ∷ []
-  unfolding in_run pair_at
-  one_there h k x = rw (zone_inside m 1 end none (some (m - 1)) none h k) refl
-
-  pub counts_before : m < 1 → Counts end m 0
-  counts_before h = record { told = λ x. sym (ap length (none_before h x)); few = omega arith }
-
-  pub counts_behind : 1 ≤ m → end ≤ m → Counts end m 0
-  counts_behind h k = record { told = λ x. sym (ap length (none_behind h k x)); few = omega arith }
-
-  pub counts_there : 1 ≤ m → m < end → Counts end m 1
-  counts_there h k = record { told = λ x. sym (ap length (one_there h k x)); few = omega arith }
+  one_there : {n : ℕ} → r ≡ Some n → (x : ℕ) → pair_of end x m ≡ (x, n) ∷ []
+  unfolding pair_at
+  one_there z x = ap (pair_at x) (told_some (in_run 1 end m) q z)
 
   module _ (olds news x : ℕ) (b : List ℕ) where
-    nothing : pair_of end x m ≡ [] → PairWritten (pair_of end x m) olds news b b 0
-    nothing e = rw e (record { bytes = refl; told = paste-zero b news (written []) ∙ ap (λ (l : List ℕ). paste l news (written []) 0) (paste-zero b olds (written [])) })
-
-    pub written_before : m < 1 → PairWritten (pair_of end x m) olds news b b 0
-    written_before h = nothing (none_before h x)
-
-    pub written_behind : 1 ≤ m → end ≤ m → PairWritten (pair_of end x m) olds news b b 0
-    written_behind h k = nothing (none_behind h k x)
+    pub written_none : r ≡ None → PairWritten (pair_of end x m) olds news b b 0
+    written_none z = rw (none_there z x) (record { bytes = refl; told = paste-zero b news (written []) ∙ ap (λ (l : List ℕ). paste l news (written []) 0) (paste-zero b olds (written [])) })
 
     one_word : (w : ℕ) → bytes w ≡ written (w ∷ [])
     unfolding written flat_map
     one_word w = sym (append-nil (bytes w))
 
-    pub written_there : {b' out : List ℕ} → 1 ≤ m → m < end → b' ≡ paste b olds (bytes x) 4 → out ≡ paste b' news (bytes (m - 1)) 4 → PairWritten (pair_of end x m) olds news b out 4
-    written_there {b'} {out} h k p q = rw (one_there h k x) (record { bytes = refl; told = q ∙ (rw (p, one_word x, one_word (m - 1)) refl) })
+    module _ {n : ℕ} (z : r ≡ Some n) where
+      pub written_one : {b' out : List ℕ} → b' ≡ paste b olds (bytes x) 4 → out ≡ paste b' news (bytes n) 4 → PairWritten (pair_of end x m) olds news b out 4
+      written_one {b'} {out} s t = rw (one_there z x) (record { bytes = refl; told = t ∙ (rw (s, one_word x, one_word n) refl) })
 
-    pub room_there : 1 ≤ m → m < end → olds + 4 * length (pair_of end x m) ≤ length b → olds + 4 ≤ length b
-    room_there h k l = let e : length (pair_of end x m) ≡ 1 = ap length (one_there h k x) in omega arith
+      pub room_one : olds + 4 * length (pair_of end x m) ≤ length b → olds + 4 ≤ length b
+      room_one l = let e : length (pair_of end x m) ≡ 1 = ap length (one_there z x) in omega arith
 
-    -- the first word leaves room for the second
-    pub room_again : (b' : List ℕ) → length b' ≡ length b → 1 ≤ m → m < end → news + 4 * length (pair_of end x m) ≤ length b → news + 4 ≤ length b'
-    room_again b' s h k l = let e : length (pair_of end x m) ≡ 1 = ap length (one_there h k x) in omega arith
+      -- the first word leaves room for the second
+      pub room_again : (b' : List ℕ) → length b' ≡ length b → news + 4 * length (pair_of end x m) ≤ length b → news + 4 ≤ length b'
+      room_again b' s l = let e : length (pair_of end x m) ≡ 1 = ap length (one_there z x) in omega arith
 
 -- ── Counting ────────────────────────────────────────────────────────────────────────────────────────────────
 
@@ -106,30 +90,25 @@ pairs_most end x (m ∷ marks) = omega (arith, length-append (pair_of end x m) (
     one_at_most x none = omega arith
     one_at_most x (some n) = omega arith
 
--- the first i marks are counted
-pub record Counting (marks : List ℕ) (end count i : ℕ) : Type 0 where
-  pub inside : i ≤ length marks
-  pub told : count ≡ length (pairs_from end 0 (take i marks))
-  pub small : count ≤ i
+-- the marks that pass a test are as many as pairs, where the test says whether there is a number
+module _ (end : ℕ) (p : ℕ → Bool) (e : (m : ℕ) → p m ≡ is_some (in_run 1 end m)) where
+  pub marks_kept : (x : ℕ) (marks : List ℕ) → length {A = ℕ} (filter p marks) ≡ length {A = ℕ × ℕ} (pairs_from end x marks)
+  unfolding pairs_from pair_at is_some
+  marks_kept x [] = refl
+  marks_kept x (m ∷ marks) = go (in_run 1 end m) (p m) (e m) (marks_kept (suc x) marks)
+    where
+      go : (o : Option ℕ) (b : Bool) → b ≡ is_some o → length {A = ℕ} (filter p marks) ≡ length {A = ℕ × ℕ} (pairs_from end (suc x) marks) → length {A = ℕ} (cond b (m ∷ filter p marks) (filter p marks)) ≡ length {A = ℕ × ℕ} (pair_at x o ++ pairs_from end (suc x) marks)
+      go none true q h = let z = q in cc
+      go none false q h = h
+      go (some n) true q h = omega arith
+      go (some n) false q h = let z = q in cc
 
-pub counting : (marks : List ℕ) (end : ℕ) → Counting marks end 0 0
-unfolding pairs_from
-counting marks end = record { inside = omega arith; told = refl; small = omega arith }
+  pub kept_counted : (marks : List ℕ) {r : ℕ} → r ≡ length {A = ℕ} (filter p marks) → length marks < 2 ^ 16 → (r ≡ length (pairs_from end 0 marks)) × (r < 2 ^ 16)
+  kept_counted marks q h = (q ∙ marks_kept 0 marks, omega (arith, q, marks_kept 0 marks, pairs_most end 0 marks))
 
-module _ {marks : List ℕ} {end count i : ℕ} (v : Counting marks end count i) where
-  pub counting_next : {m r : ℕ} → i < length marks → m ≡ get_or marks i 0 → Counts end m r → Counting marks end (count + r) (i + 1)
-  counting_next {m} {r} h e c =
-      let more : length (pairs_from end 0 (take (i + 1) marks)) ≡ count + length (pair_of end i m) = ap length (pairs_next end marks i h) ∙ (length-append (pairs_from end 0 (take i marks)) (pair_of end i (get_or marks i 0)) ∙ (ap₂ (λ (a b : ℕ). a + b) (sym v.told) (ap (λ (n : ℕ). length (pair_of end i n)) (sym e)))) in
-      record { inside = omega arith; told = omega (arith, c.told i); small = omega (arith, v.small, c.few) }
-
-  pub counting_room : {m r : ℕ} → i < length marks → length marks < 2 ^ 16 → Counts end m r → count + r < 2 ^ 64
-  counting_room h k c = omega (arith, v.small, c.few)
-
-  pub counting_done : length marks ≤ i → count ≡ length (pairs_from end 0 marks)
-  counting_done h = v.told ∙ ap (λ (l : List ℕ). length (pairs_from end 0 l)) (take_all i marks h)
-
-  pub counting_small : length marks < 2 ^ 16 → count < 2 ^ 16
-  counting_small k = omega (arith, v.small, v.inside)
+-- what the test of a mark answers
+pub test_told : (end m : ℕ) {r : Answered ℕ} {b : Bool} → r ≡ told (in_run 1 end m) → b ≡ found r → b ≡ found (told (in_run 1 end m))
+test_told end m f g = g ∙ ap found f
 
 -- ── Writing ─────────────────────────────────────────────────────────────────────────────────────────────────
 
@@ -240,25 +219,22 @@ module _ (ps : List (ℕ × ℕ)) (held : List ℕ) {count : ℕ} (e : count ≡
 
 -- ── Tree 0, before and after ────────────────────────────────────────────────────────────────────────────────
 
-module _ {rows : List ℕ} {n root : ℕ} {tree : List ℕ} (p : Part rows n root tree) (q : root ≡ 1) where
+module _ {rows : List ℕ} {n : ℕ} {tree : List ℕ} (p : Part rows n 1 tree) where
   tree_rows : (text : List ℕ) → length tree / 3 ≡ length (first_tree (first_rows text n rows))
   unfolding first_tree
-  tree_rows text = omega (arith, p.long text, ap (λ (r : ℕ). length (subtree (first_rows text n rows) r)) q)
-
-  pub tree_within : 3 * n ≤ length rows → length tree / 3 ≤ n - 1
-  tree_within h = omega (arith, tree_rows [], tree_few (first_rows [] n rows), length_first [] n rows h)
+  tree_rows text = omega (arith, p.long text)
 
 -- the marks of the old tree's elements
-module _ {source : List ℕ} {c root : ℕ} {old : List ℕ} (p : Part source c root old) (q : root ≡ 1) (h : 3 * c ≤ length source) (marks : List ℕ) (k : c ≤ length marks + 1) where
+module _ {source : List ℕ} {c : ℕ} {old : List ℕ} (p : Part source c 1 old) (short : length old + 3 ≤ 3 * c) (marks : List ℕ) (k : c ≤ length marks + 1) where
   pub marks_cut : length old / 3 ≡ length (take (length old / 3) marks)
-  marks_cut = sym (length-take-le (length old / 3) marks (omega (arith, tree_within p q h)))
+  marks_cut = sym (length-take-le (length old / 3) marks (omega arith))
 
   pub marks_few : c ≤ 2 ^ 12 → length (take (length old / 3) marks) < 2 ^ 16
-  marks_few l = omega (arith, marks_cut, tree_within p q h)
+  marks_few l = omega (arith, marks_cut)
 
-  pub kept_told : {rows : List ℕ} {n : ℕ} {new held out : List ℕ} {r : Result Told Refusal} → Part rows n root new → Tells (tell_pairs (length held) (pairs_from (length new / 3 + 1) 0 (take (length old / 3) marks))) held r out → (before after : List ℕ)
+  pub kept_told : {rows : List ℕ} {n : ℕ} {new held out : List ℕ} {r : Result Told Refusal} → Part rows n 1 new → Tells (tell_pairs (length held) (pairs_from (length new / 3 + 1) 0 (take (length old / 3) marks))) held r out → (before after : List ℕ)
       → Tells (tell_pairs (length held) (kept_rows (first_rows before c source) (first_rows after n rows) marks)) held r out
   unfolding kept_rows
   kept_told {rows} {n} {new} v t before after =
-      let end : length new / 3 + 1 ≡ rows_after (first_rows after n rows) 1 1 = omega (arith, tree_rows v q after, tree_end (first_rows after n rows)) in
-      rw (← end, ← tree_rows p q before) t
+      let end : length new / 3 + 1 ≡ rows_after (first_rows after n rows) 1 1 = omega (arith, tree_rows v after, tree_end (first_rows after n rows)) in
+      rw (← end, ← tree_rows p before) t

@@ -1,6 +1,6 @@
 -- What each function promises, part by part.
 -- Assumes nothing.
-use Rattle.std.specs.Prelude.{◌≡◌, List, map, ℕ, ◌*◌, ◌≤◌, length}
+use Rattle.std.specs.Prelude.{◌≡◌, List, map, ℕ, ◌*◌, length}
 use Rattle.std.proofs.Math.Seq.{paste}
 use Rattle.definition.specs.Basics.{Answer, ◌>>=◌}
 use Rattle.definition.specs.Words.{written}
@@ -8,12 +8,6 @@ use Rattle.definition.specs.Account.{in_room}
 use Rattle.promises.specs.Keeping.{pair_bytes}
 use Rattle.promises.specs.Serving.{tell_bytes}
 use Rattle.promises.specs.declared.Told.{Told}
-use Rattle.kept_rows.specs.Pairs.{pair_of}
-
--- how many pairs an element with this mark makes, whatever its number
-pub record Counts (end m r : ℕ) : Type 0 where
-  pub told : (x : ℕ) → r ≡ length (pair_of end x m)
-  pub few : r ≤ 1
 
 -- pairs over bytes: the old numbers at `olds`, the new ones at `news`
 abbrev pub pairs_over : List (ℕ × ℕ) → ℕ → ℕ → List ℕ → List ℕ

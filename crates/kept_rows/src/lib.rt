@@ -7,36 +7,23 @@ ghost use Rattle.rows_model.specs.Row.{first_rows};
 ghost use Rattle.promises.specs.Keeping.{pair_bytes};
 ghost use Rattle.promises.specs.Serving.{Tells};
 ghost use Rattle.kept_rows.specs.Pairs.{pair_of, pairs_from, kept_rows};
-ghost use Rattle.kept_rows.specs.Promises.{Counts, PairWritten, tell_pairs};
+ghost use Rattle.kept_rows.specs.Promises.{PairWritten, tell_pairs};
 
+use finish_model::{first_tree, number_at};
 use promises::Told;
 use refusals::Refusal;
-use rows_syntax_node::{ROW_WORDS, Rows, subtree};
+use rows_syntax_node::{ROW_WORDS, Rows};
 use words::write_word;
-
-// How many pairs an element with this mark makes: 1 where it stands at one of the rows 1 up to `end`, else 0. (Tests as in `write_pair`: their two facts prove both alike.)
-fn pairs_of(mark: usize, end: usize) -> usize
-    ensures { Counts end mark result }
-{
-    if mark < 1 {
-        return 0;
-    }
-    if end <= mark {
-        return 0;
-    }
-    1
-}
 
 // How many of the elements with these marks survive in tree 0.
 fn count_kept(marks: &[u32], end: usize) -> usize
     requires { length marks.now < 2 ^ 16 }
     ensures { (result ≡ length (pairs_from end 0 marks.now)) × (result < 2 ^ 16) }
 {
-    let mut count = 0;
-    for mark in marks {
-        count += pairs_of(*mark as usize, end);
-    }
-    count
+    marks
+        .iter()
+        .filter(|mark| number_at(**mark as usize, end).is_some())
+        .count()
 }
 
 // The pair of the element `old` with this mark, if there is one: its old number is written at `olds`, its new one at `news`. How many bytes each has.
@@ -44,15 +31,14 @@ fn write_pair(b: &mut [u8], olds: usize, news: usize, old: usize, mark: usize, e
     requires { (olds + 4 * length (pair_of end old mark) ≤ length b.old) × (news + 4 * length (pair_of end old mark) ≤ length b.old) }
     ensures { PairWritten (pair_of end old mark) olds news b.old b.new result }
 {
-    if mark < 1 {
-        return 0;
+    match number_at(mark, end) {
+        None => 0,
+        Some(new) => {
+            write_word(b, olds, old);
+            write_word(b, news, new);
+            4
+        }
     }
-    if end <= mark {
-        return 0;
-    }
-    write_word(b, olds, old);
-    write_word(b, news, mark - 1);
-    4
 }
 
 // All pairs are written in one pass: the old numbers at the front, the new ones from `half` on.
@@ -79,19 +65,13 @@ fn hand_out(marks: &[u32], end: usize, res: &mut [u8]) -> Result<Told, Refusal>
     Ok(Told::Bytes(8 * count))
 }
 
-// THE SURVIVING PAIRS, from the batch's own rows, which are that of the node above all its elements and theirs, the marks of the elements, the rows of all trees as the run
-// leaves them, and the row of tree 0's root in both; or 13.
-pub fn kept(
-    own: &Rows,
-    marks: &[u32],
-    rows: &Rows,
-    root: usize,
-    res: &mut [u8],
-) -> Result<Told, Refusal>
-    requires { (1 ≤ own.now.count) × (own.now.count ≤ 2 ^ 12) × (own.now.count ≤ length marks.now + 1) × (1 ≤ rows.now.count) × (root ≡ 1) }
+// THE SURVIVING PAIRS, from the batch's own rows, which are that of the node above all its elements and theirs, the marks of the elements, and the rows of all trees as the run
+// leaves them; or 13.
+pub fn kept(own: &Rows, marks: &[u32], rows: &Rows, res: &mut [u8]) -> Result<Told, Refusal>
+    requires { (1 ≤ own.now.count) × (own.now.count ≤ 2 ^ 12) × (own.now.count ≤ length marks.now + 1) × (1 ≤ rows.now.count) }
     ensures { (before after : List ℕ) → Tells (tell_pairs (length res.old) (kept_rows (first_rows before own.now.count own.now.words.now) (first_rows after rows.now.count rows.now.words.now) marks.now)) res.old result res.new }
 {
-    let old = subtree(own, root).len() / ROW_WORDS;
-    let end = subtree(rows, root).len() / ROW_WORDS + 1;
+    let old = first_tree(own).len() / ROW_WORDS;
+    let end = first_tree(rows).len() / ROW_WORDS + 1;
     hand_out(&marks[..old], end, res)
 }

@@ -10,9 +10,12 @@ ghost use Rattle.series_answer.specs.Ends.{ToLeave, ToAnswer};
 
 use choices::Choices;
 use edit_perform::{Ended, Unplanned};
+use finish_arrays::Tally;
+use finish_model::Left;
 use finish_result::finish;
 use refusals::Refusal;
 use rows_syntax_node::Rows;
+use run_annotations::NOTE_WORDS;
 use series_leave::leave;
 use series_move::RunEnd;
 use series_tree::lacks_room;
@@ -44,17 +47,20 @@ fn answer_end<'a>(
     if lacks_room(&new, text, tree.len()) {
         return Err(Refusal::ShortResult);
     }
+    let left = Left { rows: new };
+    let tally = Tally {
+        discarded: d.discarded,
+        climbs: d.climbs,
+    };
+    let k = NOTE_WORDS * d.notes;
+    let c = d.changed;
     let n = finish(
-        &new,
-        d.root,
-        notes,
-        d.notes,
-        changed,
-        d.changed,
+        &left,
+        &mut notes[..k],
+        &mut changed[..c],
         starts,
         text,
-        d.discarded,
-        d.climbs,
+        &tally,
         res,
     )?;
     let run = RunEnd {

@@ -1,2 +1,2 @@
--- The loops over numbers: 20.
+-- Numbers   what the library's tests of the bookmarks' places are: 20
 pub mod Numbers

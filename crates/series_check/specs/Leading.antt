@@ -2,7 +2,8 @@
 -- Assumes nothing.
 use Rattle.std.proofs.Math.Path.{◌≡◌, refl, sym, ap}
 use Rattle.std.proofs.Common.{◌∙◌}
-use Rattle.std.specs.Prelude.{Bool, ◌||◌, Option as Answer, None, is_some as found, List, ℕ, ◌+◌, ◌-◌, ◌*◌, ◌^◌, ◌≤◌, ◌<◌, get_or, drop}
+use Rattle.std.specs.List.{list_all, range_with_len}
+use Rattle.std.specs.Prelude.{Bool, ◌||◌, ◌&&◌, zero, suc, Option as Answer, None, is_some as found, List, ℕ, ◌+◌, ◌-◌, ◌*◌, ◌^◌, ◌≤◌, ◌<◌, get_or, drop}
 use Rattle.std.proofs.Math.Bool.{true, false, not}
 use Rattle.std.proofs.Math.Option.{Option, none, some}
 use native.Mathlib.Omega.{arith}
@@ -69,33 +70,17 @@ module _ (rows b : List ℕ) (i : ℕ) {at n : ℕ} (ea : at ≡ 1 + 65 * i) (en
 
 -- ── All ─────────────────────────────────────────────────────────────────────────────────────────────────────
 
--- those before i do
-pub record Leading (rows b : List ℕ) (k i : ℕ) : Type 0 where
-  pub bound : i ≤ k
-  pub rest : (text : List ℕ) (t : Tree ℕ) → triples text rows ≡ rows_of t → any (lost t) (slots_from b k 0) ≡ any (lost t) (slots_from b k i)
+-- the library's test of the places from i on is the definition's of the slots
+pub lead_listed : (b : List ℕ) (k : ℕ) (t : Tree ℕ) (i n : ℕ) → k - i ≡ n → list_all (λ j. not (lost t (slot_at b j))) (range_with_len i n) ≡ not (any (lost t) (slots_from b k i))
+unfolding any
+lead_listed b k t i zero h = sym (ap (λ l. not (any (lost t) l)) (slots_none b k i (omega arith)))
+lead_listed b k t i (suc n) h =
+    ap (λ (x : Bool). not (lost t (slot_at b i)) && x) (lead_listed b k t (i + 1) n (omega arith))
+    ∙ (both (lost t (slot_at b i)) (any (lost t) (slots_from b k (i + 1))) ∙ sym (ap (λ l. not (any (lost t) l)) (slots_more b k i (omega arith))))
+  where
+    both : (x y : Bool) → (not x && not y) ≡ not (x || y)
+    both true y = refl
+    both false y = refl
 
-pub leading_start : (rows b : List ℕ) (k : ℕ) → Leading rows b k 0
-leading_start rows b k = record { bound = omega arith; rest = λ text t q. refl }
-
-module _ {rows b : List ℕ} {k i : ℕ} (v : Leading rows b k i) where
-  pub leading_lost : {r : Bool} → i < k → Leads rows (slot_at b i) r → not r ≡ true → AllLead rows b k false
-  unfolding any
-  leading_lost {r} h l e text t q = sym (ap not (v.rest text t q ∙ (ap (any (lost t)) (slots_more b k i h) ∙ ap (λ (x : Bool). x || any (lost t) (slots_from b k (i + 1))) (sym (turn r (lost t (slot_at b i)) (l text t q) e)))))
-    where
-      turn : (r x : Bool) → r ≡ not x → not r ≡ true → true ≡ x
-      turn r true q e = refl
-      turn true false q e = sym e
-      turn false false q e = sym q
-
-  pub leading_next : {r : Bool} → i < k → Leads rows (slot_at b i) r → not r ≡ false → Leading rows b k (i + 1)
-  unfolding any
-  leading_next {r} h l e = record { bound = omega arith; rest = λ text t q. v.rest text t q ∙ (ap (any (lost t)) (slots_more b k i h) ∙ ap (λ (x : Bool). x || any (lost t) (slots_from b k (i + 1))) (sym (turn r (lost t (slot_at b i)) (l text t q) e))) }
-    where
-      turn : (r x : Bool) → r ≡ not x → not r ≡ false → false ≡ x
-      turn r false q e = refl
-      turn true true q e = sym q
-      turn false true q e = sym e
-
-  pub leading_done : k ≤ i → AllLead rows b k true
-  unfolding any
-  leading_done h text t q = sym (ap not (v.rest text t q ∙ ap (any (lost t)) (slots_none b k i h)))
+pub all_told : {rows b : List ℕ} {k : ℕ} {r : Bool} → ((text : List ℕ) (t : Tree ℕ) → triples text rows ≡ rows_of t → r ≡ list_all (λ j. not (lost t (slot_at b j))) (range_with_len 0 k)) → AllLead rows b k r
+all_told {b = b} {k} h text t q = h text t q ∙ lead_listed b k t 0 k (omega arith)

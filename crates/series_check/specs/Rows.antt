@@ -44,20 +44,20 @@ rows_length o [] = refl
 rows_length o (e ∷ es) = omega (arith, rows_length (o + length_of e.0 e.1) es)
 
 -- the rows of the first i elements are written
-pub record Filling (tree : List ℕ) (n : ℕ) (rows₀ rows : List ℕ) (offset i : ℕ) : Type 0 where
+pub record Filling (tree : List ℕ) (kinds measures n : ℕ) (rows₀ rows : List ℕ) (offset i : ℕ) : Type 0 where
   pub bound : i ≤ n
   pub long : 3 * n ≤ length rows₀
   pub same : length rows ≡ length rows₀
-  pub words : rows ≡ paste rows₀ 0 (rows_from 0 (elements_at tree 8 (8 + 4 * n) n)) (3 * i)
-  pub rest : drop (3 * i) (rows_from 0 (elements_at tree 8 (8 + 4 * n) n)) ≡ rows_from offset (elements_from tree 8 (8 + 4 * n) n i)
-  pub sum : offset + text_sum (elements_from tree 8 (8 + 4 * n) n i) ≤ 16384
+  pub words : rows ≡ paste rows₀ 0 (rows_from 0 (elements_at tree kinds measures n)) (3 * i)
+  pub rest : drop (3 * i) (rows_from 0 (elements_at tree kinds measures n)) ≡ rows_from offset (elements_from tree kinds measures n i)
+  pub sum : offset + text_sum (elements_from tree kinds measures n i) ≤ 16384
 
-pub filling_start : (tree : List ℕ) (n : ℕ) (rows : List ℕ) → 3 * n ≤ length rows → text_sum (elements_at tree 8 (8 + 4 * n) n) ≤ 16384 → Filling tree n rows rows 0 0
-filling_start tree n rows l s =
-    let all = elements_all tree 8 (8 + 4 * n) n in
-    record { bound = omega arith; long = l; same = refl; words = paste-zero rows 0 (rows_from 0 (elements_at tree 8 (8 + 4 * n) n)); rest = ap (rows_from 0) (sym all); sum = omega (arith, ap text_sum all) }
+pub filling_start : (tree : List ℕ) (kinds measures n : ℕ) (rows : List ℕ) → 3 * n ≤ length rows → text_sum (elements_at tree kinds measures n) ≤ 16384 → Filling tree kinds measures n rows rows 0 0
+filling_start tree kinds measures n rows l s =
+    let all = elements_all tree kinds measures n in
+    record { bound = omega arith; long = l; same = refl; words = paste-zero rows 0 (rows_from 0 (elements_at tree kinds measures n)); rest = ap (rows_from 0) (sym all); sum = omega (arith, ap text_sum all) }
 
-module _ {tree : List ℕ} {n : ℕ} {rows₀ rows : List ℕ} {offset i : ℕ} (v : Filling tree n rows₀ rows offset i) where
+module _ {tree : List ℕ} {kinds measures n : ℕ} {rows₀ rows : List ℕ} {offset i : ℕ} (v : Filling tree kinds measures n rows₀ rows offset i) where
   -- there is room for three words more
   pub filling_room : i < n → 3 * i + 3 ≤ length rows
   filling_room h = omega (arith, v.long, v.same)
@@ -66,23 +66,23 @@ module _ {tree : List ℕ} {n : ℕ} {rows₀ rows : List ℕ} {offset i : ℕ} 
   pub filling_small : offset < 2 ^ 32
   filling_small = omega (arith, v.sum)
 
-  pub filling_next : {kind measure len : ℕ} {rows' : List ℕ} → i < n → (kind ≡ word (drop (8 + 4 * i) tree)) × (kind < 2 ^ 32) → (measure ≡ word (drop (8 + 4 * n + 4 * i) tree)) × (measure < 2 ^ 32)
-      → rows' ≡ paste rows (3 * i) (kind ∷ measure ∷ offset ∷ []) 3 → (len ≡ length_of kind measure) × (len ≤ measure) → Filling tree n rows₀ rows' (offset + len) (i + 1)
+  pub filling_next : {kind measure len : ℕ} {rows' : List ℕ} → i < n → (kind ≡ word (drop (kinds + 4 * i) tree)) × (kind < 2 ^ 32) → (measure ≡ word (drop (measures + 4 * i) tree)) × (measure < 2 ^ 32)
+      → rows' ≡ paste rows (3 * i) (kind ∷ measure ∷ offset ∷ []) 3 → (len ≡ length_of kind measure) × (len ≤ measure) → Filling tree kinds measures n rows₀ rows' (offset + len) (i + 1)
   unfolding rows_from text_sum
   filling_next {kind} {measure} {len} {rows'} h k m w l =
-      let s = rows_from 0 (elements_at tree 8 (8 + 4 * n) n) in
-      let more : elements_from tree 8 (8 + 4 * n) n i ≡ (kind, measure) ∷ elements_from tree 8 (8 + 4 * n) n (i + 1) = rw (k.0, m.0) (elements_more tree 8 (8 + 4 * n) n i h) in
-      let here : drop (3 * i) s ≡ kind ∷ measure ∷ offset ∷ rows_from (offset + length_of kind measure) (elements_from tree 8 (8 + 4 * n) n (i + 1)) = v.rest ∙ ap (rows_from offset) more in
-      let long : length s ≡ 3 * length (elements_at tree 8 (8 + 4 * n) n) = rows_length 0 (elements_at tree 8 (8 + 4 * n) n) in
+      let s = rows_from 0 (elements_at tree kinds measures n) in
+      let more : elements_from tree kinds measures n i ≡ (kind, measure) ∷ elements_from tree kinds measures n (i + 1) = rw (k.0, m.0) (elements_more tree kinds measures n i h) in
+      let here : drop (3 * i) s ≡ kind ∷ measure ∷ offset ∷ rows_from (offset + length_of kind measure) (elements_from tree kinds measures n (i + 1)) = v.rest ∙ ap (rows_from offset) more in
+      let long : length s ≡ 3 * length (elements_at tree kinds measures n) = rows_length 0 (elements_at tree kinds measures n) in
       let behind : 3 * (i + 1) ≡ 3 * i + 3 = omega arith in
       record {
         bound = omega arith;
         long = v.long;
         same = ap length w ∙ (length-paste rows (3 * i) (kind ∷ measure ∷ offset ∷ []) 3 (omega (arith, v.long, v.same)) (omega arith) ∙ v.same);
         words = w ∙ (ap (λ (r : List ℕ). paste r (3 * i) (kind ∷ measure ∷ offset ∷ []) 3) v.words ∙ paste_on rows₀ 0 s (3 * i) (kind ∷ measure ∷ offset ∷ []) 3 (3 * i) (3 * (i + 1)) (omega arith) (omega arith) (omega (arith, v.long)) (omega (arith, ap length here, length-drop (3 * i) s)) (sym (ap (take 3) here)));
-        rest = ap (λ (j : ℕ). drop j s) behind ∙ (sym (drop-drop 3 (3 * i) s) ∙ (ap (drop 3) here ∙ ap (λ (j : ℕ). rows_from (offset + j) (elements_from tree 8 (8 + 4 * n) n (i + 1))) (sym l.0)));
+        rest = ap (λ (j : ℕ). drop j s) behind ∙ (sym (drop-drop 3 (3 * i) s) ∙ (ap (drop 3) here ∙ ap (λ (j : ℕ). rows_from (offset + j) (elements_from tree kinds measures n (i + 1))) (sym l.0)));
         sum = omega (arith, v.sum, ap text_sum more, l.0);
       }
 
-  pub filling_done : n ≤ i → rows ≡ paste rows₀ 0 (rows_from 0 (elements_at tree 8 (8 + 4 * n) n)) (3 * n)
-  filling_done h = let e : i ≡ n = omega (arith, v.bound) in v.words ∙ ap (λ (j : ℕ). paste rows₀ 0 (rows_from 0 (elements_at tree 8 (8 + 4 * n) n)) (3 * j)) e
+  pub filling_done : n ≤ i → rows ≡ paste rows₀ 0 (rows_from 0 (elements_at tree kinds measures n)) (3 * n)
+  filling_done h = let e : i ≡ n = omega (arith, v.bound) in v.words ∙ ap (λ (j : ℕ). paste rows₀ 0 (rows_from 0 (elements_at tree kinds measures n)) (3 * j)) e

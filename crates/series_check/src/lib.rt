@@ -58,25 +58,14 @@ pub fn number_at(bookmarks: &[u32], i: usize) -> usize
 fn stands_again(bookmarks: &Bookmarks, i: usize, x: usize) -> bool
     ensures { result ≡ among (numbers_from bookmarks.now.words.now bookmarks.now.count i) x }
 {
-    for j in i..bookmarks.count {
-        if x == number_at(bookmarks.words, j) {
-            return true;
-        }
-    }
-    false
+    (i..bookmarks.count).any(|j| x == number_at(bookmarks.words, j))
 }
 
 // Whether a number is given twice.
 fn repeats(bookmarks: &Bookmarks) -> bool
     ensures { result ≡ not (no_repeat (numbers_from bookmarks.now.words.now bookmarks.now.count 0)) }
 {
-    for i in 0..bookmarks.count {
-        let x = number_at(bookmarks.words, i);
-        if stands_again(bookmarks, i + 1, x) {
-            return true;
-        }
-    }
-    false
+    (0..bookmarks.count).any(|i| stands_again(bookmarks, i + 1, number_at(bookmarks.words, i)))
 }
 
 // ── 21: paths ──
@@ -102,26 +91,20 @@ fn all_lead(rows: &[u32], bookmarks: &Bookmarks) -> bool
     requires { length rows.now < 3 * 2 ^ 16 }
     ensures { AllLead rows.now bookmarks.now.words.now bookmarks.now.count result }
 {
-    for i in 0..bookmarks.count {
-        if !leads(rows, bookmarks, i) {
-            return false;
-        }
-    }
-    true
+    (0..bookmarks.count).all(|i| leads(rows, bookmarks, i))
 }
 
 // ── The memory ──
 
-// The rows of the tree's `n` elements.
-fn fill_rows(tree: &[u8], n: usize, rows: &mut [u32])
-    requires { (8 + 8 * n ≤ length tree.now) × (3 * n ≤ length rows.old) × (n ≤ 4096) × (text_sum (elements_at tree.now 8 (8 + 4 * n) n) ≤ 16384) }
-    ensures { rows.new ≡ paste rows.old 0 (rows_from 0 (elements_at tree.now 8 (8 + 4 * n) n)) (3 * n) }
+// The rows of the tree's elements.
+fn fill_rows(columns: &Columns, rows: &mut [u32])
+    requires { (3 * columns.now.count ≤ length rows.old) × (text_sum (elements_at columns.now.bytes.now columns.now.kinds columns.now.measures columns.now.count) ≤ 16384) }
+    ensures { rows.new ≡ paste rows.old 0 (rows_from 0 (elements_at columns.now.bytes.now columns.now.kinds columns.now.measures columns.now.count)) (3 * columns.now.count) }
 {
-    let measures = SIZES + 4 * n;
     let mut offset: usize = 0;
-    for i in 0..n {
-        let kind = read_word(tree, SIZES + 4 * i);
-        let measure = read_word(tree, measures + 4 * i);
+    for i in 0..columns.count {
+        let kind = read_word(columns.bytes, columns.kinds + 4 * i);
+        let measure = read_word(columns.bytes, columns.measures + 4 * i);
         words::store(rows, ROW_WORDS * i, &[kind, measure, offset]);
         offset += read_spelling::length_of(kind, measure);
     }
@@ -153,7 +136,7 @@ fn judge_memory(
     if repeats(bookmarks) {
         return Err(Refusal::Bookmarks);
     }
-    fill_rows(tree, n, rows);
+    fill_rows(&columns, rows);
     let end = ROW_WORDS * n;
     if all_lead(&rows[..end], bookmarks) {
         return Ok(());

@@ -1,8 +1,7 @@
 // A later call of a series, from what is lent to the end of its run: 17, 18, 1, the memory's own lines, 2 to 7 with 16, 22, then planning and the steps (document 02, Note 14).
 #![tactic(auto)]
 
-ghost use Rattle.std.specs.Prelude.{◌≡◌, ◌+◌, ◌*◌, ◌≤◌, length, map, drop};
-ghost use Rattle.definition.specs.Words.{word};
+ghost use Rattle.std.specs.Prelude.{◌≡◌, ◌≤◌, length, map};
 ghost use Rattle.definition.specs.Answers.{with_choices};
 ghost use Rattle.choices.specs.Meant.{meant};
 ghost use Rattle.promises.specs.Lent.{held, Same};
@@ -23,7 +22,7 @@ use read_element_table::Elements;
 use read_layout::{Batch, Layout};
 use refusals::Refusal;
 use series_check::judge;
-use series_tree::same_tree;
+use series_tree::{LentTree, same_tree};
 
 // A tree left by a batch may have so many elements.
 const MOST_LATER: usize = 4096;
@@ -31,13 +30,12 @@ const MOST_LATER: usize = 4096;
 // Lines 2 to 7 with 16, and 22 after them.
 fn accept_same(
     b: &[u8],
-    tree: &[u8],
+    tree: &LentTree,
     table: &mut [u32],
     source: &mut [u32],
 ) -> Result<Layout, Refusal>
-    requires in_bounds { (16384 ≤ length table.old) × (6147 ≤ length source.old) }
-    requires in_bounds_2 { (8 ≤ length tree.now) × (8 + 8 * word tree.now + word (drop 4 tree.now) ≤ length tree.now) }
-    ensures { AcceptsOn b.now tree.now table.new source.new result }
+    requires { (16384 ≤ length table.old) × (6147 ≤ length source.old) }
+    ensures { AcceptsOn b.now tree.now.bytes.now table.new source.new result }
 {
     let l = accept(b, table, source)?;
     if same_tree(b, l, source, tree) {
@@ -62,7 +60,8 @@ pub fn perform(
     judge(MOST_LATER, tree, bookmarks, work.rows)?;
     let table = &mut *work.table;
     let source = &mut *work.source;
-    let layout = accept_same(b, tree, table, source)?;
+    let lent = LentTree { bytes: tree };
+    let layout = accept_same(b, &lent, table, source)?;
     let accepted = Accepted {
         batch: Batch { bytes: b, layout },
         elements: Elements {

@@ -1,7 +1,7 @@
 // Bookmarks moved by a run: a bookmark is an old element, and the element's mark says where it stands now.
 #![tactic(auto)]
 
-ghost use Rattle.std.specs.Prelude.{◌≡◌, ◌+◌, ◌*◌, ◌^◌, ◌≤◌, ◌<◌, length, get_or, take};
+ghost use Rattle.std.specs.Prelude.{◌≡◌, ◌==◌, not, ◌+◌, ◌*◌, ◌^◌, ◌≤◌, ◌<◌, length, get_or, take};
 ghost use Rattle.std.proofs.Math.Seq.{paste};
 ghost use Rattle.rows_model.specs.Place.{mark_of};
 ghost use Rattle.series_laws.specs.Follow.{kept};
@@ -43,10 +43,10 @@ fn write_path(run: &RunEnd, path: &[u32], out: &mut [u32])
     }
 }
 
-// The mark of the element to which a path leads, found in the batch's own rows: where it stands now, 0 where it is gone.
-fn mark_now(run: &RunEnd, path: &[u32]) -> usize
+// Whether the element to which a path leads, found in the batch's own rows, stands somewhere now: its mark is its row, 0 where it is gone.
+fn survives(run: &RunEnd, path: &[u32]) -> bool
     requires { Stands run.now.source.now run.now.elements run.now.marks.now run.now.rows.words.now run.now.rows.count path.now }
-    ensures { (s : Stands run.now.source.now run.now.elements run.now.marks.now run.now.rows.words.now run.now.rows.count path.now) → result ≡ mark_of s.stood.world.trees (moved_by s) }
+    ensures { (s : Stands run.now.source.now run.now.elements run.now.marks.now run.now.rows.words.now run.now.rows.count path.now) → result ≡ not (mark_of s.stood.world.trees (moved_by s) == 0) }
 {
     let old = Rows {
         count: run.elements + 1,
@@ -55,7 +55,7 @@ fn mark_now(run: &RunEnd, path: &[u32]) -> usize
     let tree = subtree(&old, 1);
     // It leads to an element.
     let found = resolve(tree, path).unwrap();
-    word(run.marks, found.row)
+    word(run.marks, found.row) != 0
 }
 
 // The path now of the element to which a path leads; false where it is gone.
@@ -64,7 +64,7 @@ fn path_now(run: &RunEnd, path: &[u32], out: &mut [u32]) -> bool
     requires path_in_bounds { length path.now ≤ length out.old }
     ensures { PathNow run.now.source.now run.now.elements run.now.marks.now run.now.rows.words.now run.now.rows.count path.now out.new result }
 {
-    if mark_now(run, path) == 0 {
+    if !survives(run, path) {
         return false;
     }
     write_path(run, path, out);
@@ -110,7 +110,8 @@ fn move_bookmark(
 
 // ── All bookmarks ──
 
-// The `k` bookmarks after a run: the survivors in their order, in the first slots. How many they are.
+// The `k` bookmarks after a run: the survivors in their order, in the first slots. How many they are. Counts, since the memory's format has one in its first word,
+// and fewer bookmarks leave the slots beyond theirs as they were.
 fn pack_bookmarks(run: &RunEnd, bookmarks: &mut [u32], k: usize, path: &mut [u32]) -> usize
     requires moving { Moving run.now.source.now run.now.elements run.now.marks.now run.now.rows.words.now run.now.rows.count bookmarks.old k }
     requires k_in_bounds { (1 + 65 * k ≤ length bookmarks.old) × (k < 2 ^ 32) × (63 ≤ length path.old) }

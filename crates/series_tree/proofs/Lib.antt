@@ -1,2 +1,1 @@
--- Comparing   words in bytes compared one by one
-pub mod Comparing
+-- Nothing beside the proofs of the functions.

@@ -14,16 +14,21 @@ ghost use Rattle.series_laws.specs.Lent.{tree_in, tree_bytes, tree_out, over};
 ghost use Rattle.series_tree.specs.Old.{Read, flat_at};
 ghost use Rattle.series_tree.specs.New.{flat_in, new_in};
 
+mod lent_tree;
+
 use check_clauses::same_bytes;
 use finish_arrays::{text_size, write_elements, write_text};
+use finish_model::first_tree;
+pub use lent_tree::LentTree;
 use read_layout::Layout;
-use rows_syntax_node::{ROW_WORDS, Rows, subtree, text_bytes};
+use rows_syntax_node::{ROW_WORDS, Rows, text_bytes};
 use series_check::SIZES;
 use words::{read_word, write_word};
 
 // ── 22 ──
 
-// Whether the `n` words at `i` of some bytes are those at `j` of others: just where their bytes are.
+// Whether the `n` words at `i` of some bytes are those at `j` of others: just where their bytes are, which the library compares. Beside `same_bytes`, since its two callers
+// would each show that words are the same where bytes are.
 fn same_words(a: &[u8], i: usize, b: &[u8], j: usize, n: usize) -> bool
     requires { (i + 4 * n ≤ length a.now) × (j + 4 * n ≤ length b.now) }
     ensures { result ≡ same_bytes (words n (drop i a.now)) (words n (drop j b.now)) }
@@ -39,44 +44,43 @@ fn same_arrays(
     text: usize,
     size: usize,
     bytes: usize,
-    tree: &[u8],
+    tree: &LentTree,
 ) -> bool
-    requires size_in_bounds { (kinds + 4 * size ≤ length b.now) × (measures + 4 * size ≤ length b.now) × (text + bytes ≤ length b.now) }
-    requires in_bounds { (8 ≤ length tree.now) × (8 + 8 * word tree.now + word (drop 4 tree.now) ≤ length tree.now) }
-    ensures { result ≡ same_tree (flat_at b.now kinds measures text size bytes) (tree_in (word tree.now) (word (drop 4 tree.now)) tree.now) }
+    requires { (kinds + 4 * size ≤ length b.now) × (measures + 4 * size ≤ length b.now) × (text + bytes ≤ length b.now) }
+    ensures { result ≡ same_tree (flat_at b.now kinds measures text size bytes) (tree_in (word tree.now.bytes.now) (word (drop 4 tree.now.bytes.now)) tree.now.bytes.now) }
 {
-    let n = read_word(tree, 0);
-    let m = read_word(tree, 4);
+    let lent = tree.bytes;
+    let n = read_word(lent, 0);
+    let m = read_word(lent, 4);
     if size != n {
         return false;
     }
     if bytes != m {
         return false;
     }
-    if !same_words(b, kinds, tree, SIZES, n) {
+    if !same_words(b, kinds, lent, SIZES, n) {
         return false;
     }
-    if !same_words(b, measures, tree, SIZES + 4 * n, n) {
+    if !same_words(b, measures, lent, SIZES + 4 * n, n) {
         return false;
     }
     let end = text + bytes;
     let from = SIZES + 8 * n;
     let to = from + m;
-    same_bytes(&b[text..end], &tree[from..to])
+    same_bytes(&b[text..end], &lent[from..to])
 }
 
 // 22: whether tree 0 of an accepted batch is the tree left before.
-pub fn same_tree(b: &[u8], l: Layout, source: &[u32], tree: &[u8]) -> bool
-    requires read { Read b.now l source.now }
-    requires in_bounds { (8 ≤ length tree.now) × (8 + 8 * word tree.now + word (drop 4 tree.now) ≤ length tree.now) }
-    ensures { (a : Accepted) → accepted b.now ≡ gives a → result ≡ same_tree (flat_of (old_tree a.trees)) (tree_in (word tree.now) (word (drop 4 tree.now)) tree.now) }
+pub fn same_tree(b: &[u8], l: Layout, source: &[u32], tree: &LentTree) -> bool
+    requires { Read b.now l source.now }
+    ensures { (a : Accepted) → accepted b.now ≡ gives a → result ≡ same_tree (flat_of (old_tree a.trees)) (tree_in (word tree.now.bytes.now) (word (drop 4 tree.now.bytes.now)) tree.now.bytes.now) }
 {
     let s = l.sizes;
     let old = Rows {
         count: s.elements + 1,
         words: source,
     };
-    let first = subtree(&old, 1);
+    let first = first_tree(&old);
     let bytes = text_bytes(first);
     same_arrays(
         b,
@@ -96,7 +100,7 @@ pub fn lacks_room(rows: &Rows, text: &[u8], space: usize) -> bool
     requires { (1 ≤ rows.now.count) × (bytes (first_rows text.now rows.now.count rows.now.words.now) < 2 ^ 32) }
     ensures { result ≡ ltb space (tree_bytes (length (new_in text.now rows.now.count rows.now.words.now).kinds) (length (new_in text.now rows.now.count rows.now.words.now).text)) }
 {
-    let tree = subtree(rows, 1);
+    let tree = first_tree(rows);
     let size = text_size(tree, text);
     space < SIZES + 8 * (tree.len() / ROW_WORDS) + size
 }
@@ -119,7 +123,7 @@ pub fn write_tree(memory: &mut [u8], rows: &Rows, text: &[u8])
     requires room { tree_bytes (length (new_in text.now rows.now.count rows.now.words.now).kinds) (length (new_in text.now rows.now.count rows.now.words.now).text) ≤ length memory.old }
     ensures { memory.new ≡ over (tree_out (new_in text.now rows.now.count rows.now.words.now)) memory.old }
 {
-    let tree = subtree(rows, 1);
+    let tree = first_tree(rows);
     let size = text_size(tree, text);
     write_flat(memory, tree, size, text);
 }

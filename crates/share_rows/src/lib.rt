@@ -1,11 +1,11 @@
 // The share of text rewritten (document 02, Note 10), from the rows and the changed elements that a run leaves.
 #![tactic(auto)]
 
-ghost use Rattle.std.specs.Prelude.{◌≡◌, List, [], ℕ, ◌*◌, ◌^◌, ◌≤◌, ◌<◌, length};
-ghost use Rattle.rows_model.specs.Row.{bytes, first_rows};
+ghost use Rattle.std.specs.Prelude.{◌≡◌, List, ℕ, ◌*◌, ◌^◌, ◌≤◌, ◌<◌, length};
 ghost use Rattle.share_rows.specs.Promises.{ElementBytes, ChangedText, ChangedTexts, Divided, Shares};
 
-use rows_syntax_node::{ROW_WORDS, Rows, subtree, text_bytes};
+use finish_model::{Left, first_tree, number_at};
+use rows_syntax_node::{ROW_WORDS, subtree, text_bytes};
 use run_annotations::changed_row;
 
 // Thousandths: whole quotient and exact remainder.
@@ -16,41 +16,37 @@ pub struct Thousandths {
 }
 
 // How long the text is of the element at a row, with all that is below it.
-fn element_bytes(rows: &Rows, row: usize) -> usize
-    requires { (row ≤ rows.now.count) × (bytes (first_rows [] rows.now.count rows.now.words.now) < 2 ^ 32) }
-    ensures { ElementBytes rows.now.words.now rows.now.count row result }
+fn element_bytes(left: &Left, row: usize) -> usize
+    requires { row ≤ left.now.rows.count }
+    ensures { ElementBytes left.now.rows.words.now left.now.rows.count row result }
 {
-    text_bytes(subtree(rows, row))
+    text_bytes(subtree(&left.rows, row))
 }
 
 // The same of a changed element, 0 for one that is none of the rows 1 up to `end`.
-fn changed_text(rows: &Rows, end: usize, w: usize) -> usize
-    requires { (end ≤ rows.now.count) × (bytes (first_rows [] rows.now.count rows.now.words.now) < 2 ^ 32) }
-    ensures { ChangedText rows.now.words.now rows.now.count end w result }
+fn changed_text(left: &Left, end: usize, w: usize) -> usize
+    requires { end ≤ left.now.rows.count }
+    ensures { ChangedText left.now.rows.words.now left.now.rows.count end w result }
 {
     let row = changed_row(w);
-    if row < 1 {
-        return 0;
+    match number_at(row, end) {
+        None => 0,
+        Some(_) => element_bytes(left, row),
     }
-    if end <= row {
-        return 0;
-    }
-    element_bytes(rows, row)
 }
 
 // The texts of the changed elements, added up: no byte is counted twice, since none of them lies in another (`ran_apart`).
-fn changed_texts(rows: &Rows, end: usize, changed: &[u32]) -> usize
-    requires { (end ≤ rows.now.count) × (bytes (first_rows [] rows.now.count rows.now.words.now) < 2 ^ 32) × (length changed.now < 2 ^ 16) }
-    ensures { ChangedTexts rows.now.words.now rows.now.count end changed.now result }
+fn changed_texts(left: &Left, end: usize, changed: &[u32]) -> usize
+    requires { (end ≤ left.now.rows.count) × (length changed.now < 2 ^ 16) }
+    ensures { ChangedTexts left.now.rows.words.now left.now.rows.count end changed.now result }
 {
-    let mut sum = 0;
-    for w in changed {
-        sum += changed_text(rows, end, *w as usize);
-    }
-    sum
+    changed
+        .iter()
+        .map(|w| changed_text(left, end, *w as usize))
+        .sum()
 }
 
-// A part of a text in thousandths; of an empty text 0 and 0.
+// A part of a text in thousandths; of an empty text 0 and 0. By `checked_div` and `checked_rem` each number would be an `Option`, and the two zeros be said at both.
 fn divide(part: usize, all: usize) -> Thousandths
     requires { part < 2 ^ 48 }
     ensures { Divided part all result }
@@ -67,13 +63,13 @@ fn divide(part: usize, all: usize) -> Thousandths
     }
 }
 
-// The share, from the rows of all trees, the row of tree 0's root, and the changed elements, as the run leaves them.
-pub fn share(rows: &Rows, root: usize, changed: &[u32]) -> Thousandths
-    requires { (1 ≤ rows.now.count) × (bytes (first_rows [] rows.now.count rows.now.words.now) < 2 ^ 32) × (length changed.now < 2 ^ 16) × (root ≡ 1) }
-    ensures { Shares rows.now.words.now rows.now.count changed.now result }
+// The share, from the rows of all trees and just the changed elements, as the run leaves them.
+pub fn share(left: &Left, changed: &[u32]) -> Thousandths
+    requires { length changed.now < 2 ^ 16 }
+    ensures { Shares left.now.rows.words.now left.now.rows.count changed.now result }
 {
-    let tree = subtree(rows, root);
+    let tree = first_tree(&left.rows);
     let all = text_bytes(tree);
     let end = tree.len() / ROW_WORDS + 1;
-    divide(changed_texts(rows, end, changed), all)
+    divide(changed_texts(left, end, changed), all)
 }

@@ -9,9 +9,7 @@ pub slice_bounds-share-end : goal.slice_bounds-share-end
 slice_bounds-share-end c = sym (length-take-le _ _ c.requires.changed_within)
 
 pub share-s-requires : goal.share-s-requires
-share-s-requires c =
-    let v = c.requires in
-    (v.some_rows, v.few_bytes [], few_used v, v.place)
+share-s-requires c = few_used c.requires
 
 pub returns : goal.returns
 returns c = share_answers c.requires c.share-s.ensures

@@ -1,11 +1,12 @@
 -- `write_answer` meets its contract: 13, or the bytes.
 use native.Mathlib.Omega.{arith}
 use Rattle.std.proofs.lemmas.Result.{err_from_is_err_and}
+use Rattle.finish_result.specs.Cut.{cut_few}
 use Rattle.edit_answer.proofs.Ends.{whole_rest, answered_13, answered_bytes}
 use Rattle.edit_answer.proofs.write_answer.Goals as goal
 
 pub finish-requires : goal.finish-requires
-finish-requires c = let v = c.requires in record { rows_in_bounds = (v.at_end.some_rows, omega (arith, v.at_end.few_rows, v.in_bounds), v.at_end.few_bytes _); k_in_bounds = (v.at_end.notes_within, v.at_end.few_notes, v.at_end.changed_within, v.at_end.few_changed, v.at_end.few_discarded, v.at_end.few_climbs); root_value = v.at_end.place }
+finish-requires c = let v = c.requires in let A = v.at_end in record { rows_in_bounds = omega (arith, A.few_rows, v.in_bounds); few = cut_few _ _ _ _ A.notes_within A.changed_within A.few_notes A.few_changed }
 
 pub returns-in_err-n : goal.returns-in_err-n
 returns-in_err-n c =

@@ -3,8 +3,8 @@ use Rattle.finish_find.proofs.Turns.{no_node, other_kind, by_start}
 use borrow.Author.Rules.{rules}
 use Rattle.finish_find.proofs.is_alike.Goals as goal
 
-pub returns-then-other-lt2147483648 : goal.returns-then-other-lt2147483648
-returns-then-other-lt2147483648 c = search (no_node, rules)
+pub returns-then-other-lt-NODE_KIND : goal.returns-then-other-lt-NODE_KIND
+returns-then-other-lt-NODE_KIND c = search (no_node, rules)
 
 pub returns-then-other-kind : goal.returns-then-other-kind
 returns-then-other-kind c = search (other_kind, rules)

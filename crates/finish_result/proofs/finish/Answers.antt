@@ -2,35 +2,20 @@
 use mathlib.Core.Path.{sym}
 use lib.Seq.{length-take-le}
 use native.Mathlib.Omega.{arith}
-use Rattle.finish_arrays.specs.NewTree.{tree_long, tree_bytes}
-use Rattle.finish_result.proofs.Stages.{finish_answered}
-use borrow.Author.Rules.{rules}
+use Rattle.finish_result.proofs.Stages.{tree_light, finish_answered}
 use Rattle.finish_result.proofs.finish.Goals as goal
 
 pub fill_starts-requires : goal.fill_starts-requires
-fill_starts-requires c =
-    let long = tree_long (rw c.requires.root_value at c.subtree-tree.ensures) c.args.rows.now.long c.requires.rows_in_bounds.0 in
-    let few = tree_bytes (rw c.requires.root_value at c.subtree-tree.ensures) c.args.text.now c.requires.rows_in_bounds.2 in
-    search rules
+fill_starts-requires c = (omega (arith, c.first_tree-tree.ensures.short, c.requires.rows_in_bounds), omega (arith, c.first_tree-tree.ensures.short, c.args.left.now.rows.few), tree_light c.first_tree-tree.ensures.part c.args.left.now.light)
 
 pub slice_bounds-finish_tree-end : goal.slice_bounds-finish_tree-end
-slice_bounds-finish_tree-end c =
-    let long = tree_long (rw c.requires.root_value at c.subtree-tree.ensures) c.args.rows.now.long c.requires.rows_in_bounds.0 in
-    omega arith
+slice_bounds-finish_tree-end c = omega (arith, c.first_tree-tree.ensures.short, c.requires.rows_in_bounds)
 
 pub slice_bounds-finish_tree-end-2 : goal.slice_bounds-finish_tree-end-2
-slice_bounds-finish_tree-end-2 c =
-    let long = tree_long (rw c.requires.root_value at c.subtree-tree.ensures) c.args.rows.now.long c.requires.rows_in_bounds.0 in
-    sym (length-take-le _ _ (omega arith))
+slice_bounds-finish_tree-end-2 c = sym (length-take-le _ _ (omega (arith, c.first_tree-tree.ensures.short, c.requires.rows_in_bounds)))
 
 pub finish_tree-requires : goal.finish_tree-requires
-finish_tree-requires c =
-    let long = tree_long (rw c.requires.root_value at c.subtree-tree.ensures) c.args.rows.now.long c.requires.rows_in_bounds.0 in
-    let few = tree_bytes (rw c.requires.root_value at c.subtree-tree.ensures) c.args.text.now c.requires.rows_in_bounds.2 in
-    search rules
+finish_tree-requires c = (omega (arith, c.first_tree-tree.ensures.short, c.args.left.now.rows.few), tree_light c.first_tree-tree.ensures.part c.args.left.now.light, c.requires.few.0, c.requires.few.1)
 
 pub returns : goal.returns
-returns c =
-    let p = rw c.requires.root_value at c.subtree-tree.ensures in
-    let long = tree_long p c.args.rows.now.long c.requires.rows_in_bounds.0 in
-    finish_answered p c.args.res.now c.args.text.now c.args.starts.now c.args.notes.now c.args.changed.now c.args.k c.args.c c.args.discarded c.args.climbs (omega (arith, c.requires.rows_in_bounds.1)) c.fill_starts.ensures c.finish_tree.ensures
+returns c = finish_answered c.first_tree-tree.ensures.part _ c.args.text.now c.args.starts.now _ _ _ _ (omega (arith, c.first_tree-tree.ensures.short, c.requires.rows_in_bounds)) c.fill_starts.ensures c.finish_tree.ensures

@@ -1,19 +1,16 @@
 -- `write_pair` meets its contract: nothing, or two words.
 use borrow.Author.Rules.{rules}
-use Rattle.kept_rows.proofs.Ways.{written_before, written_behind, written_there, room_there, room_again}
+use Rattle.kept_rows.proofs.Ways.{written_none, written_one, room_one, room_again}
 use Rattle.kept_rows.proofs.write_pair.Goals as goal
 
-pub returns-then-mark-lt1 : goal.returns-then-mark-lt1
-returns-then-mark-lt1 c = search (written_before, rules)
-
-pub returns-then-end-mark : goal.returns-then-end-mark
-returns-then-end-mark c = search (written_behind, rules)
+pub returns-in-None : goal.returns-in-None
+returns-in-None c = search (written_none, rules)
 
 pub write_word-requires : goal.write_word-requires
-write_word-requires c = search (room_there, rules)
+write_word-requires c = search (room_one, rules)
 
-pub write_word-requires-2 : goal.write_word-requires-2
-write_word-requires-2 c = search (room_again, rules)
+pub write_word-requires-in-Some : goal.write_word-requires-in-Some
+write_word-requires-in-Some c = search (room_again, rules)
 
-pub returns : goal.returns
-returns c = search (written_there, rules)
+pub returns-in-Some : goal.returns-in-Some
+returns-in-Some c = search (written_one, rules)

@@ -1,18 +1,14 @@
--- `all_lead` meets its contract. The paths passed lead to elements.
-use borrow.Author.Rules.{rules}
-use mathlib.Core.Path.{ap}
+-- `all_lead` meets its contract: the library's test of the places is the definition's.
+use Prim.Native.Nat.{ℕ}
 use mathlib.Core.Bool.{not}
-use Rattle.series_check.specs.Leading.{leading_start, leading_lost, leading_next, leading_done}
+use Rattle.std.proofs.Common.{arith, rules, tests}
+use Rattle.std.proofs.lemmas.Iterator.{YieldsList-from_range}
+use Rattle.std.proofs.lemmas.Iterator.Search.{all_from_yields_List}
+use Rattle.series_check.specs.Slots.{slot_at}
+use Rattle.series_check.specs.Leading.{lost, all_told}
 use Rattle.series_check.proofs.all_lead.Goals as goal
 
-pub loop-i-init : goal.loop-i-init
-loop-i-init c = search (leading_start, rules)
-
-pub returns-then-not-leads : goal.returns-then-not-leads
-returns-then-not-leads c = leading_lost c.loop-i.invariant c.loop-i-test.true c.leads.ensures (ap not c.if-not-leads.true)
-
-pub loop-i-preserved : goal.loop-i-preserved
-loop-i-preserved c = leading_next c.loop-i.invariant c.loop-i-test.true c.leads.ensures (ap not c.if-not-leads.false)
-
 pub returns : goal.returns
-returns c = search (leading_done, rules)
+returns c =
+    let m = c.args.bookmarks.now in
+    all_told (λ text t e. all_from_yields_List (λ (j : ℕ). not (lost t (slot_at m.words.now j))) _ _ _ c.all.ensures.ran (YieldsList-from_range 0 m.count m.count (search rules) (omega arith)) (λ x b q k. search (rules, tests)))

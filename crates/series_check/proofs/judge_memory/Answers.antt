@@ -15,7 +15,7 @@ pub returns-then-repeats : goal.returns-then-repeats
 returns-then-repeats c = remains_repeated _ _ _ c.requires.0 _ _ (sym c.if-not-spells.false ∙ c.spells.ensures) c.if-bookmarks-gt-MOST_BOOKMARKS.false (sym c.if-repeats.true ∙ c.repeats.ensures)
 
 pub fill_rows-requires : goal.fill_rows-requires
-fill_rows-requires c = (omega (arith, c.requires), omega (arith, c.requires), c.requires.1, omega (arith, accepts_sum 1 _ _ (sym (sym c.if-not-spells.false ∙ c.spells.ensures)), c.requires))
+fill_rows-requires c = (omega (arith, c.requires), omega (arith, accepts_sum 1 _ _ (sym (sym c.if-not-spells.false ∙ c.spells.ensures)), c.requires))
 
 pub slice_bounds-all_lead-end-2 : goal.slice_bounds-all_lead-end-2
 slice_bounds-all_lead-end-2 c = sym (part_long _ _ _ c.requires.0 _ _ (sym c.if-not-spells.false ∙ c.spells.ensures) c.if-bookmarks-gt-MOST_BOOKMARKS.false (sym c.if-repeats.false ∙ c.repeats.ensures) _ _ _ c.requires.3 c.requires.1 c.fill_rows.ensures refl)

@@ -1,16 +1,12 @@
--- `repeats` meets its contract. None of the numbers passed stands again.
-use borrow.Author.Rules.{rules}
-use Rattle.series_check.proofs.Numbers.{differing_start, differing_met, differing_next, differing_done}
+-- `repeats` meets its contract: the library's test of the places is the definition's.
+use Rattle.std.proofs.Common.{refl, arith, ◌∙◌, rules, tests}
+use Rattle.std.proofs.lemmas.Iterator.{YieldsList-from_range}
+use Rattle.std.proofs.lemmas.Iterator.Search.{any_from_yields_List}
+use Rattle.series_check.proofs.Numbers.{again, repeat_listed, again_told}
 use Rattle.series_check.proofs.repeats.Goals as goal
 
-pub loop-i-init : goal.loop-i-init
-loop-i-init c = differing_start _ _
-
-pub returns-then-stands_again : goal.returns-then-stands_again
-returns-then-stands_again c = differing_met c.loop-i.invariant c.loop-i-test.true c.number_at-x.ensures c.stands_again.ensures c.if-stands_again.true
-
-pub loop-i-preserved : goal.loop-i-preserved
-loop-i-preserved c = differing_next c.loop-i.invariant c.loop-i-test.true c.number_at-x.ensures c.stands_again.ensures c.if-stands_again.false
-
 pub returns : goal.returns
-returns c = search (differing_done, rules)
+returns c =
+    let m = c.args.bookmarks.now in
+    any_from_yields_List (again m.words.now m.count) _ _ _ c.any.ensures.ran (YieldsList-from_range 0 m.count m.count (search rules) (omega arith)) (λ x b q k. search (again_told, rules, tests))
+    ∙ repeat_listed m.words.now m.count 0 m.count (omega arith)

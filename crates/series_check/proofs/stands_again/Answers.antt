@@ -1,16 +1,16 @@
--- `stands_again` meets its contract. The bookmarks passed have other numbers.
-use borrow.Author.Rules.{rules}
-use Rattle.series_check.proofs.Numbers.{passing_start, passing_met, passing_next, passing_done}
+-- `stands_again` meets its contract: the library's test of the places is the definition's.
+use Prim.Native.Nat.{ℕ, ◌-◌}
+use lib.Dec.{eqb}
+use lib.ListN.{get_or}
+use Rattle.std.proofs.Common.{refl, ◌∙◌, rules, tests}
+use Rattle.std.proofs.lemmas.Iterator.{YieldsList-from_range}
+use Rattle.std.proofs.lemmas.Iterator.Search.{any_from_yields_List}
+use Rattle.series_check.specs.Slots.{slot_at}
+use Rattle.series_check.proofs.Numbers.{among_listed, number_told}
 use Rattle.series_check.proofs.stands_again.Goals as goal
 
-pub loop-j-init : goal.loop-j-init
-loop-j-init c = search (passing_start, rules)
-
-pub returns-then-x-number_at : goal.returns-then-x-number_at
-returns-then-x-number_at c = search (passing_met, rules)
-
-pub loop-j-preserved : goal.loop-j-preserved
-loop-j-preserved c = passing_next c.loop-j.invariant c.loop-j-test.true c.number_at.ensures c.if-x-number_at.false
-
 pub returns : goal.returns
-returns c = search (passing_done, rules)
+returns c =
+    let m = c.args.bookmarks.now in
+    any_from_yields_List (λ (j : ℕ). eqb c.args.x (get_or (slot_at m.words.now j) 0 0)) _ _ _ c.any.ensures.ran (YieldsList-from_range c.args.i m.count (m.count - c.args.i) (search rules) refl) (λ x b q k. search (number_told, rules, tests))
+    ∙ among_listed m.words.now m.count c.args.x c.args.i (m.count - c.args.i) refl

@@ -9,10 +9,10 @@ returns-in_err-l c =
     rw (p.1, p.2) (accepts_refused c.accept.ensures _ c.in_err-l.was)
 
 pub same_tree-requires : goal.same_tree-requires
-same_tree-requires c = record { read = accepts_read c.accept.ensures _ c.in_ok-l.was c.requires.in_bounds c.accept.auto.source; in_bounds = c.requires.in_bounds_2 }
+same_tree-requires c = accepts_read c.accept.ensures _ c.in_ok-l.was c.requires c.accept.auto.source
 
 pub returns-then-same_tree : goal.returns-then-same_tree
-returns-then-same_tree c = accepts_same c.accept.ensures _ c.in_ok-l.was _ c.same_tree.ensures c.requires.in_bounds c.if-same_tree.true
+returns-then-same_tree c = accepts_same c.accept.ensures _ c.in_ok-l.was _ c.same_tree.ensures c.requires c.if-same_tree.true
 
 pub returns : goal.returns
 returns c = accepts_22 c.accept.ensures _ c.in_ok-l.was _ c.same_tree.ensures c.if-same_tree.false

@@ -25,14 +25,15 @@ returns-in_err-judge-clause-performs c =
     let p = err_from_is_err_and c.from_residual-in_err-judge.result c.from_residual-in_err-judge.ensures.1 in
     rw (p.1, p.2) (performs_early (before_judged _ _ _ c.refused_first.ensures (ap answered c.in_ok-refused_first.was) c.judge.ensures) _ (ap answered c.in_err-judge.was))
 
-pub accept_same-requires-clause-in_bounds : goal.accept_same-requires-clause-in_bounds
-accept_same-requires-clause-in_bounds c = let v = long_enough _ _ _ _ _ _ _ _ _ (early_passed _ _ c.refused_first.ensures c.in_ok-refused_first.was).1 in (v.0.0, v.0.1)
+pub accept_same-requires : goal.accept_same-requires
+accept_same-requires c = let v = long_enough _ _ _ _ _ _ _ _ _ (early_passed _ _ c.refused_first.ensures c.in_ok-refused_first.was).1 in (v.0.0, v.0.1)
 
-pub accept_same-requires-clause-in_bounds_2 : goal.accept_same-requires-clause-in_bounds_2
+pub invariant_of-lent : goal.invariant_of-lent
 unfolding answered
-accept_same-requires-clause-in_bounds_2 c =
+invariant_of-lent c =
     let P = before_passes _ _ _ (before_judged _ _ _ c.refused_first.ensures (ap answered c.in_ok-refused_first.was) c.judge.ensures) (ap answered c.in_ok-judge.was) in
-    lent_within most_later _ _ P.lent
+    let w = lent_within most_later _ _ P.lent in
+    record { sizes = w.0; whole = w.1 }
 
 pub invariant_of-accepted : goal.invariant_of-accepted
 invariant_of-accepted c = record { within = (c.accept_same.ensures.left _ c.in_ok-layout.was).leaves.within }

@@ -9,7 +9,7 @@ pub returns-then-size-n : goal.returns-then-size-n
 returns-then-size-n c = other_size _ _ _ _ _ _ _ c.read_word-n.ensures c.read_word-m.ensures c.if-size-n.true
 
 pub returns-then-bytes-m : goal.returns-then-bytes-m
-returns-then-bytes-m c = other_length _ _ _ _ _ _ _ c.read_word-n.ensures c.read_word-m.ensures c.requires.size_in_bounds.2 (omega (arith, c.requires.in_bounds, c.read_word-n.ensures.0, c.read_word-m.ensures.0)) c.if-bytes-m.true
+returns-then-bytes-m c = other_length _ _ _ _ _ _ _ c.read_word-n.ensures c.read_word-m.ensures c.requires.2 (omega (arith, c.args.tree.now.whole, c.read_word-n.ensures.0, c.read_word-m.ensures.0)) c.if-bytes-m.true
 
 pub returns-then-not-same_words : goal.returns-then-not-same_words
 returns-then-not-same_words c = other_kinds _ _ _ _ _ _ _ c.read_word-n.ensures c.read_word-m.ensures c.if-size-n.false c.same_words.ensures (ap not c.if-not-same_words.true)

@@ -1,13 +1,13 @@
 -- `share` meets its contract: the text of tree 0, the texts of what is changed there, and their quotient.
-use borrow.Author.Rules.{rules}
-use Rattle.share_rows.proofs.Ways.{part_short, end_within, shares}
+use native.Mathlib.Omega.{arith}
+use Rattle.share_rows.proofs.Ways.{shares}
 use Rattle.share_rows.proofs.share.Goals as goal
 
 pub text_bytes-all-requires : goal.text_bytes-all-requires
-text_bytes-all-requires c = search (part_short, rules)
+text_bytes-all-requires c = omega (arith, c.first_tree-tree.ensures.short, c.args.left.now.rows.few)
 
 pub changed_texts-requires : goal.changed_texts-requires
-changed_texts-requires c = search (end_within, rules)
+changed_texts-requires c = (omega (arith, c.first_tree-tree.ensures.short), c.requires)
 
 pub returns : goal.returns
-returns c = search (shares, rules)
+returns c = shares c.first_tree-tree.ensures.part c.text_bytes-all.ensures c.changed_texts.ensures c.divide.ensures
