@@ -21,6 +21,7 @@ use series_move::RunEnd;
 use series_tree::lacks_room;
 
 // At the end of the run: 13 where the memory or the result slice is too short, before anything is written; else both are written, and the result has so many bytes. `starts` is for where each element's text starts.
+// Over 40 lines by its twelve parameters, of which a part of the body would be handed ten again.
 fn answer_end<'a>(
     choices: Choices,
     batch: &[u8],

@@ -82,5 +82,5 @@ lead_listed b k t i (suc n) h =
     both true y = refl
     both false y = refl
 
-pub all_told : {rows b : List ℕ} {k : ℕ} {r : Bool} → ((text : List ℕ) (t : Tree ℕ) → triples text rows ≡ rows_of t → r ≡ list_all (λ j. not (lost t (slot_at b j))) (range_with_len 0 k)) → AllLead rows b k r
-all_told {b = b} {k} h text t q = h text t q ∙ lead_listed b k t 0 k (omega arith)
+pub all_told : (rows b : List ℕ) (k : ℕ) {r : Bool} → ((text : List ℕ) (t : Tree ℕ) → triples text rows ≡ rows_of t → r ≡ list_all (λ j. not (lost t (slot_at b j))) (range_with_len 0 k)) → AllLead rows b k r
+all_told rows b k h text t q = h text t q ∙ lead_listed b k t 0 k (omega arith)

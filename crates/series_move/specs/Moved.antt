@@ -26,10 +26,10 @@ is_zero {m} t z = go (eqb m 0) refl (sym t ∙ z)
   where
     go : (b : Bool) → eqb m 0 ≡ b → not b ≡ false → m ≡ 0
     go true e z = eqb-true m 0 e
-    go false e z = bool_absurd z refl
+    go false e z = bool_absurd refl z
 
 no_zero : {m : ℕ} {q : Bool} → q ≡ not (eqb m 0) → q ≡ true → ¬ (m ≡ 0)
-no_zero {m} t z e = let w : false ≡ true = sym (t ∙ ap not (eq-eqb m 0 e)) ∙ z in bool_absurd refl w
+no_zero {m} t z e = let w : false ≡ true = sym (t ∙ ap not (eq-eqb m 0 e)) ∙ z in bool_absurd w refl
 
 module _ {source : List ℕ} {e : ℕ} {marks rows : List ℕ} {n : ℕ} {path : List ℕ} {q : Bool} (t : (s : Stands source e marks rows n path) → q ≡ not (eqb (mark_of s.stood.world.trees (moved_by s)) 0)) where
   pub now_survives : q ≡ true → Stands source e marks rows n path → Survives source e marks rows n path

@@ -1,4 +1,5 @@
 -- `answer_end` meets its contract.
+use mathlib.Core.List.{[]}
 use native.Mathlib.Omega.{arith}
 use Rattle.std.proofs.lemmas.Result.{err_from_is_err_and}
 use Rattle.finish_result.specs.Cut.{cut_few, cut_answered}
@@ -15,7 +16,7 @@ pub returns-then-lacks_room : goal.returns-then-lacks_room
 returns-then-lacks_room c = ends_full c.requires _ (rest_told c.args.d.text c.args.batch.now) c.lacks_room.ensures c.if-lacks_room.true _
 
 pub invariant_of-left : goal.invariant_of-left
-invariant_of-left c = let A = c.requires.ends.ends in record { some = A.some_rows; light = A.few_bytes _ }
+invariant_of-left c = let A = c.requires.ends.ends in record { some = A.some_rows; light = A.few_bytes [] }
 
 pub invariant_of-tally : goal.invariant_of-tally
 invariant_of-tally c = let A = c.requires.ends.ends in record { few_discarded = A.few_discarded; few_climbs = A.few_climbs }
