@@ -133,6 +133,7 @@ fn fitted(rows: &Rows, list: &SpliceList) -> Result<(), SpliceRefusal>
 
 // The first refusal: if a slice is beyond its limit, then if there is no room, then if the list does not fit a tree or is not apart. It takes slices and counts,
 // since it is the test of what `Rows` and `SpliceList` hold.
+#[tactic(auto, using(crate::proofs::Turns::beyond_limits, crate::proofs::Turns::roomless, crate::proofs::Turns::all_judged))]
 pub fn judged(
     rows: &[u32],
     e: usize,

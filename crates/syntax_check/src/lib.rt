@@ -11,6 +11,7 @@ use check_claim::{Claims, Tree, Verdict, Work};
 use refusals::Refusal;
 
 // The number of a verdict.
+#[tactic(auto, using(crate::proofs::Cases::few, crate::proofs::Cases::tells_refused, crate::proofs::Cases::tells_accepted, crate::proofs::Cases::tells_rejected))]
 fn verdict_number(verdict: Result<Verdict, Refusal>) -> i64
     requires { By check_numbers (answer_of verdict) }
     ensures { result ≡ verdict_number (answer_of verdict) }
