@@ -1,5 +1,6 @@
 // Planning: from an accepted batch to the changes that run, in order, and the notes where they settle; refusals 8, 9 and 10. In two stages: what is withdrawn and
 // what becomes of each other change (`judge_changes`), then where dependents and notes go. Nothing is edited meanwhile: the run need not think of overlaps, owners or order again.
+// Rows have their count beside them, and the table comes alone: record_changes and plan_edge say why.
 #![tactic(auto)]
 
 ghost use Rattle.std.specs.Prelude.{◌≡◌, ◌++◌, ◌+◌, ◌*◌, ◌≤◌, length, drop, replicate};

@@ -12,7 +12,7 @@ use Rattle.orders.specs.Tree.{node, forest}
 use Rattle.definition.specs.Basics.{Answer, refused, gives, ◌>>=◌}
 use Rattle.definition.specs.Choices.{Choices}
 use Rattle.definition.specs.Elements.{Table, table}
-use Rattle.definition.specs.Refusals.{Accepted, accepted}
+use Rattle.definition.specs.Refusals.{Accepted}
 use Rattle.definition.specs.Planning.{Planned, Judgement, overlaps, fated}
 use Rattle.definition.specs.Withdrawing.{numbers_left}
 use Rattle.definition.specs.Rewriting.{Note, mapping, rewritten}

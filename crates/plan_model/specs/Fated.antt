@@ -13,7 +13,7 @@ use Rattle.definition.specs.Recording.{Recorded, recorded}
 use Rattle.definition.specs.Planning.{key, sorted, changes_of}
 use Rattle.definition.specs.EdgeRule.{fates_by}
 use Rattle.definition.specs.Withdrawing.{withdrawals_by, staying}
-use Rattle.record_changes.specs.ChangeRow.{ChangeRow, rows_of, operation}
+use Rattle.record_changes.specs.ChangeRow.{ChangeRow, rows_of}
 use Rattle.record_changes.specs.ChangeRowLaws.{row_at}
 use Rattle.record_queue.specs.Recorded.{recorded_at}
 use Rattle.record_queue.specs.RecordedRows.{change_rows}

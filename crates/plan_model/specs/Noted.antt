@@ -1,8 +1,6 @@
 -- The settled notes in words: the definition's first notes, by their rows.
 -- Assumes nothing.
 use Rattle.std.specs.Prelude.{ℕ, suc}
-use Rattle.definition.specs.Elements.{row}
-use Rattle.rows_model.specs.Place.{place}
 use Rattle.run_model.specs.Store.{HeldNote}
 
 -- a settled note (element, number, queue place) by its row: element e stands at row e + 1

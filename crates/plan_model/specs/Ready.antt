@@ -8,7 +8,7 @@ use Rattle.orders.specs.ListLaws.{All-map, passes_none}
 use Rattle.orders.specs.Tree.{Tree}
 use Rattle.definition.specs.Basics.{gives, any}
 use Rattle.definition.specs.Elements.{Table, table}
-use Rattle.definition.specs.Refusals.{Call, calls, wrong_call, wrong_mapping, wrong_note, Accepted, accepted}
+use Rattle.definition.specs.Refusals.{Call, wrong_call, wrong_mapping, wrong_note, Accepted, accepted}
 use Rattle.definition.specs.Words.{words}
 use Rattle.definition_laws.specs.Accepted.{accepts}
 use Rattle.definition_laws.specs.Right.{neither}

@@ -1,4 +1,5 @@
-// Rewriting dependents: the targets of a change inside a replaced node move into the replacement, and its row is made anew.
+// Rewriting dependents: the targets of a change inside a replaced node move into the replacement, and its row is made anew. Rows come with a place or a count:
+// record_changes says why.
 #![tactic(auto)]
 
 ghost use Rattle.std.specs.Prelude.{◌≡◌, cond, ◌+◌, ◌*◌, ◌≤◌, ◌<◌, length, get_or, eqb};

@@ -80,7 +80,7 @@ fn if_root(depth: usize, x: usize, y: usize) -> usize
     y
 }
 
-// The element with the number `owner` - 1 is closed: where its text ends, and the element after its subtree.
+// The element with the number `owner` - 1 is closed: where its text ends, and the element after its subtree. By its place, since the table is lent to be written.
 fn close(table: &mut [u32], owner: usize, end: usize, after: usize)
     requires { (8 * owner ≤ length table.old) × (end < 2 ^ 32) × (after < 2 ^ 32) }
     ensures { table.new ≡ ended owner end after table.old }
@@ -95,7 +95,7 @@ fn close(table: &mut [u32], owner: usize, end: usize, after: usize)
 
 // The words of all elements in the table, and their rows behind the first row of the source. Each turn closes the innermost open element, if all its
 // children have come, or opens the next one; closing gives its words 5 and 6, which hold `s` and `i` till then. So it is a `while`: a `for` over elements
-// would need a second loop inside.
+// would need a second loop inside. Beside `spells`: read_spelling says why.
 fn fill_elements(columns: &Columns, trees: usize, table: &mut [u32], source: &mut [u32])
     requires in_bounds { (columns.now.count ≤ 2048) × (8 * columns.now.count ≤ length table.old) × (3 * (columns.now.count + 1) ≤ length source.old) }
     requires accepted { Accepted trees (elements_of columns.now) }

@@ -80,7 +80,7 @@ pub fn within_limits(s: Sizes) -> bool
         && s.notes <= 256
 }
 
-// The arrays stand one after another.
+// The arrays stand one after another. That sizes are within their limits stays a clause: those that are read may not be, so a value would be a second type of sizes.
 fn placed(s: Sizes) -> Layout
     requires { Limits s }
     ensures { result ≡ layout_of (sizes_of s) }

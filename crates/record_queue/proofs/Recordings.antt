@@ -3,10 +3,11 @@
 use mathlib.Core.Bool.{Bool, true, false, cond, ◌&&◌, and-true, and-false}
 use mathlib.Core.List.{List, [], ◌∷◌, ◌++◌, head_d, zip}
 use mathlib.Core.Option.{Option, map}
-use Rattle.std.specs.Prelude.{Option as Maybe, None, Some, unwrap_or}
+use Rattle.std.specs.Prelude.{Option as Maybe, None, Some, unwrap_or, IfSome, MatchOption}
 use mathlib.Core.Path.{◌≡◌, refl, sym, ap, ◌∙◌}
-use Prim.Native.Nat.{ℕ, suc, ◌+◌, ◌-◌, ◌*◌, ◌^◌, ◌≤◌, ◌<◌}
+use Prim.Native.Nat.{ℕ, zero, suc, ◌+◌, ◌-◌, ◌*◌, ◌^◌, ◌≤◌, ◌<◌}
 use native.Mathlib.Numerals.{add-one}
+use Rattle.std.proofs.Common.{add-zero, rules}
 use native.Mathlib.Omega.{arith}
 use lib.ListN.{length, get_or, take, drop, length-drop, drop_of_length-le, take-append-drop}
 use lib.Seq.{paste, get_or-drop, split_at, drop-drop, drop-paste}
@@ -120,6 +121,23 @@ module _ {w : List ℕ} {start count x k : ℕ} (v : Seeking w start count x k) 
           inside = omega arith;
           same = v.same ∙ rw (add-one k) (place_passed (meets_single x) (rows_of count w) k (row_at w k) (omega (arith, length_rows_of count w)) (known ∙ q));
         }
+
+module _ (w : List ℕ) (start count x : ℕ) (h : start ≤ count) where
+  -- no row of those before start + j is met
+  passing : (j : ℕ) → start + j ≤ count → ((k : ℕ) → start ≤ k → k < start + j → false ≡ meets_single x (row_at w k)) → Seeking w start count x (start + j)
+  passing zero l n = rw (add-zero start) (seeking_start w start count x h)
+  passing (suc j) l n =
+      let e : start + suc j ≡ start + j + 1 = omega arith in
+      rw e (seeking_next (passing j (omega arith) (λ k a b. n k a (omega arith))) (omega arith) (n (start + j) (omega arith) (omega arith)) refl)
+
+  passed : (i : ℕ) → start ≤ i → i ≤ count → ((k : ℕ) → start ≤ k → k < i → false ≡ meets_single x (row_at w k)) → Seeking w start count x i
+  passed i a b n = let e : start + (i - start) ≡ i = omega arith in rw e at (passing (i - start) (omega arith) (λ k c d. n k c (omega arith)))
+
+  -- the first row that is met
+  pub first_place : (r : Maybe ℕ) → MatchOption r ((k : ℕ) → start ≤ k → k < count → false ≡ meets_single x (row_at w k)) (λ i. (start ≤ i) × (i < count) × (true ≡ meets_single x (row_at w i)) × ((k : ℕ) → start ≤ k → k < i → false ≡ meets_single x (row_at w k)))
+      → (unwrap_or r count ≡ start + place (meets_single x) (drop start (rows_of count w))) × IfSome r (λ k. k < count)
+  first_place None n = (seeking_none (passed count h (omega arith) n) (omega arith), search rules)
+  first_place (Some i) m = (seeking_found (passed i m.0 (omega arith) m.3) m.1 m.2 refl, m.1)
 
 module _ (w : List ℕ) (start count op x : ℕ) (t : Bool) (e : t ≡ is_single op) where
   -- the place is sought if the operation merges; else no row is met

@@ -1,4 +1,4 @@
-// Recording: from the calls of an accepted batch to change rows, editor after editor.
+// Recording: from the calls of an accepted batch to change rows, editor after editor. Rows come with a place or a count: record_changes says why.
 #![tactic(auto)]
 
 ghost use Rattle.std.specs.Prelude.{◌≡◌, ◌+◌, ◌*◌, ◌^◌, ◌≤◌, ◌<◌, length, drop, unwrap_or, IfSome};
@@ -52,17 +52,11 @@ fn meets(rows: &[u32], k: usize, target: usize) -> bool
 }
 
 // The place of the first row of the present editor that a change of this target, whose operation merges, meets.
-#[tactic(auto, using(crate::proofs::Recordings::seeking_start, crate::proofs::Recordings::seeking_found, crate::proofs::Recordings::seeking_next, crate::proofs::Recordings::seeking_none))]
 fn single_place(rows: &[u32], q: Queue, target: usize) -> Option<usize>
     requires { (q.start ≤ q.count) × (q.count ≤ 256) × (14 * q.count ≤ length rows.now) }
     ensures { (unwrap_or result q.count ≡ q.start + place (meets_single target) (drop q.start (rows_of q.count rows.now))) × IfSome result (λ k. k < q.count) }
 {
-    for k in q.start..q.count {
-        if meets(rows, k, target) {
-            return Some(k);
-        }
-    }
-    None
+    (q.start..q.count).find(|&k| meets(rows, k, target))
 }
 
 // The place of the first row of the present editor that a change of this operation and target meets.

@@ -1,4 +1,5 @@
-// The row of a dependent with the ends that it has in the replacement: written as recording writes rows, with fate, owner and rule number kept.
+// The row of a dependent with the ends that it has in the replacement: written as recording writes rows, with fate, owner and rule number kept. Rows come with a
+// place: record_changes says why.
 #![tactic(auto)]
 
 ghost use Rattle.std.specs.Prelude.{[], ◌∷◌, ◌≡◌, ℕ, ◌+◌, ◌*◌, ◌≤◌, ◌<◌, length};
