@@ -1,16 +1,30 @@
 -- Which call is chosen, from the tests that led there.
 -- Assumes nothing.
-use mathlib.Core.Path.{◌≡◌}
+use mathlib.Core.Path.{◌≡◌, refl}
 use mathlib.Core.Bool.{Bool, true, false}
-use mathlib.Core.List.{[], ◌∷◌}
-use Prim.Native.Nat.{ℕ, ◌+◌, ◌/◌, ◌%◌, ◌≤◌, ◌<◌}
+use mathlib.Core.List.{List, [], ◌∷◌}
+use Prim.Native.Nat.{ℕ, ◌+◌, ◌-◌, ◌/◌, ◌%◌, ◌≤◌, ◌<◌}
 use native.Mathlib.Omega.{arith}
-use lib.ListN.{get_or}
+use lib.ListN.{length, get_or}
+use Rattle.std.specs.Prelude.{Option}
+use Rattle.std.specs.List.{slice_get}
+use Rattle.std.specs.Option.{unwrap_or}
 use borrow.Author.Tests.{ne_eqb, lt-ltb, le-ltb}
 use Rattle.load_laws.specs.Load.{separator, block, block_token, donor, call, rule_drawn, replaced, token_drawn, donor_drawn, other_drawn, first_calls, free_call, own_call, further_editor, call_at}
 use Rattle.load_laws.specs.Draws.{none}
 use Rattle.load_draws.specs.declared.DrawnCall.{DrawnCall}
-use Rattle.load_draws.specs.Called.{Called}
+use Rattle.load_draws.specs.Called.{call_of, Called}
+
+-- ── A call ──────────────────────────────────────────────────────────────────────────────────────────────────
+
+-- two elements at most, in two places
+pub listed_in : (o t r : ℕ) (l : List ℕ) (p q : Option ℕ) (x y : ℕ) → length l ≤ 2 → p ≡ slice_get l 0 → q ≡ slice_get l (length l - 1) → x ≡ unwrap_or p 0 → y ≡ unwrap_or q 0
+    → Called (record { operation = o; target = t; rule = r; count = length l; first = x; second = y }) (call r o t l)
+unfolding call_of
+listed_in o t r [] p q x y h e f g k = record { call = refl; few = omega arith }
+listed_in o t r (a ∷ []) p q x y h e f g k = record { call = rw (g, e) refl; few = omega arith }
+listed_in o t r (a ∷ b ∷ []) p q x y h e f g k = record { call = rw (g, e, k, f) refl; few = omega arith }
+listed_in o t r (a ∷ b ∷ c ∷ l) p q x y h e f g k = absurd (omega arith)
 
 -- ── Calls 0, 1 and 2 ────────────────────────────────────────────────────────────────────────────────────────
 

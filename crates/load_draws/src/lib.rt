@@ -1,7 +1,7 @@
 // The draws of a starting number, and the call that they choose (document 02, Note 12; docs/LOAD.md).
 #![tactic(auto)]
 
-ghost use Rattle.std.specs.Prelude.{◌≡◌, ◌∷◌, [], ◌<◌, get_or};
+ghost use Rattle.std.specs.Prelude.{◌≡◌, ◌<◌, ◌≤◌, length, get_or};
 ghost use Rattle.load_laws.specs.Load.{next as next_of, drawn as drawn_of, separator as separator_of, block as block_of, block_token, donor as donor_of, call, replaced, token_drawn, donor_drawn, other_drawn, first_calls, free_call, own_call, call_at};
 ghost use Rattle.load_laws.specs.Draws.{none};
 ghost use Rattle.load_draws.specs.Called.{Called};
@@ -119,46 +119,18 @@ fn other_drawn(place: u32) -> u32
     donor(place / 4096)
 }
 
-// A call that lists nothing. This and the next two stay three: one that took a slice of elements would ask that they are two at most, and test for each place
-// whether there is one; a closure has no place in them, since nothing is computed.
-fn listing_none(rule: u32, operation: u32, target: u32) -> DrawnCall
-    ensures { Called result (call rule operation target []) }
+// A call that lists these elements. Where it lists one, that stands in both places.
+fn listing(rule: u32, operation: u32, target: u32, listed: &[u32]) -> DrawnCall
+    requires { length listed.now ≤ 2 }
+    ensures { Called result (call rule operation target listed.now) }
 {
     DrawnCall {
         operation,
         target,
         rule,
-        count: 0,
-        first: 0,
-        second: 0,
-    }
-}
-
-// A call that lists one element.
-fn listing_one(rule: u32, operation: u32, target: u32, first: u32) -> DrawnCall
-    ensures { Called result (call rule operation target (first ∷ [])) }
-{
-    DrawnCall {
-        operation,
-        target,
-        rule,
-        count: 1,
-        first,
-        second: 0,
-    }
-}
-
-// A call that lists two elements.
-fn listing_two(rule: u32, operation: u32, target: u32, first: u32, second: u32) -> DrawnCall
-    ensures { Called result (call rule operation target (first ∷ second ∷ [])) }
-{
-    DrawnCall {
-        operation,
-        target,
-        rule,
-        count: 2,
-        first,
-        second,
+        count: listed.len() as u32,
+        first: listed.first().copied().unwrap_or(0),
+        second: listed.last().copied().unwrap_or(0),
     }
 }
 
@@ -169,9 +141,14 @@ pub fn first_call(i: u32, d: u32) -> DrawnCall
     ensures { Called result (get_or (first_calls d) i none) }
 {
     match i {
-        0 => listing_one(d / 16, REPLACE, replaced_block(d), REPLACEMENT),
-        1 => listing_one(d / 16, AFTER, block_token(d % 64, d / 64 % 4), donor(0)),
-        _ => listing_one(d / 16, AFTER, block_token(d / 1024, d / 256 % 4), donor(1)),
+        0 => listing(d / 16, REPLACE, replaced_block(d), &[REPLACEMENT]),
+        1 => listing(d / 16, AFTER, block_token(d % 64, d / 64 % 4), &[donor(0)]),
+        _ => listing(
+            d / 16,
+            AFTER,
+            block_token(d / 1024, d / 256 % 4),
+            &[donor(1)],
+        ),
     }
 }
 
@@ -185,13 +162,13 @@ fn free_call(later: bool, b: u32, what: u32, place: u32) -> DrawnCall
     let token = token_drawn(b, place);
     let first = donor_drawn(place);
     match what % 8 {
-        0 => listing_one(rule, FIRST_CHILD, block(b), first),
-        1 | 2 => listing_one(rule, AFTER, token, first),
-        3 => listing_two(rule, AFTER, separator(b), first, other_drawn(place)),
-        4 | 5 => listing_one(rule, REPLACE, token, first),
-        6 => listing_none(rule, DELETE, token),
-        _ if later => listing_none(rule, DELETE, block(b)),
-        _ => listing_one(rule, AFTER, separator(b), first),
+        0 => listing(rule, FIRST_CHILD, block(b), &[first]),
+        1 | 2 => listing(rule, AFTER, token, &[first]),
+        3 => listing(rule, AFTER, separator(b), &[first, other_drawn(place)]),
+        4 | 5 => listing(rule, REPLACE, token, &[first]),
+        6 => listing(rule, DELETE, token, &[]),
+        _ if later => listing(rule, DELETE, block(b), &[]),
+        _ => listing(rule, AFTER, separator(b), &[first]),
     }
 }
 
@@ -205,9 +182,9 @@ fn own_call(b: u32, what: u32, place: u32) -> DrawnCall
     let token = token_drawn(b, place);
     let first = donor_drawn(place);
     if what % 2 == 0 {
-        return listing_two(rule, REPLACE_BY_MANY, token, first, other_drawn(place));
+        return listing(rule, REPLACE_BY_MANY, token, &[first, other_drawn(place)]);
     }
-    listing_two(rule, REPLACE_RUN, block_token(b, 0), token, first)
+    listing(rule, REPLACE_RUN, block_token(b, 0), &[token, first])
 }
 
 // Call i, from 3 on, from its two draws.
@@ -218,7 +195,7 @@ pub fn call_at(i: u32, what: u32, place: u32) -> DrawnCall
 {
     match i {
         ..32 => free_call(false, place % 64, what, place),
-        32 => listing_none(0, FURTHER_EDITOR, 0),
+        32 => listing(0, FURTHER_EDITOR, 0, &[]),
         33..64 => free_call(true, 64 + place % 32, what, place),
         _ => own_call(i + 32, what, place),
     }
