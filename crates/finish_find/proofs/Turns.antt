@@ -2,18 +2,20 @@
 -- Assumes nothing.
 use mathlib.Core.Path.{◌≡◌, refl, sym, ap, ◌∙◌}
 use mathlib.Core.Bool.{Bool, true, false}
-use mathlib.Core.List.{List}
-use Prim.Native.Nat.{ℕ, ◌+◌, ◌*◌, ◌/◌, ◌^◌, ◌≤◌, ◌<◌}
+use mathlib.Core.List.{List, ◌∷◌}
+use Prim.Native.Nat.{ℕ, zero, suc, ◌+◌, ◌-◌, ◌*◌, ◌^◌, ◌≤◌, ◌<◌}
 use native.Mathlib.Omega.{arith}
 use native.Mathlib.Numerals.{add-one}
 use lib.Dec.{eqb}
-use lib.ListN.{length, get_or, drop}
+use lib.ListN.{length, get_or, take, drop}
 use borrow.Author.Tests.{le-leb, lt-leb, eq-eqb, ne_eqb}
 use Rattle.std.specs.Prelude.{Some, None}
 use Rattle.definition.specs.Elements.{is_node}
-use Rattle.rows_model.specs.Row.{kind, row_in, triples, first_rows}
-use Rattle.rows_model.proofs.Words.{kind_word, triples_at, triples_end}
-use Rattle.rows_syntax_node.specs.Promises.{Measured, Part}
+use Rattle.rows_model.specs.Row.{Row, kind, owes, skip, row_in, first_rows}
+use Rattle.rows_model.specs.Place.{subtree}
+use Rattle.rows_model.proofs.RowLaws.{skip_none}
+use Rattle.rows_model.proofs.Words.{kind_word, first_at, first_end}
+use Rattle.rows_syntax_node.specs.Promises.{Counted, Measured}
 use Rattle.finish_model.specs.Finished.{first_tree}
 use Rattle.finish_model.specs.Alike.{alike_words, alike_from, find_row}
 use Rattle.finish_find.specs.Found.{found}
@@ -35,45 +37,53 @@ module _ (k start w s : ℕ) where
 
 -- ── The loop ────────────────────────────────────────────────────────────────────────────────────────────────
 
--- none of the first i rows is alike, and their text is `sum` long
-pub record Finding (tree : List ℕ) (k start sum i : ℕ) : Type 0 where
-  pub inside : i ≤ length tree / 3
+-- the rows of the next trees, the first row apart
+part_cons : (o : ℕ) (l l' : List Row) (r : Row) → l ≡ r ∷ l' → 0 < o → take (skip o l) l ≡ r ∷ take (skip (o - 1 + owes r) l') l'
+part_cons zero l l' r e h = absurd (omega arith)
+part_cons (suc o) l l' r e h = let q : suc o - 1 ≡ o = omega arith in rw (e, q)
+
+-- none of the rows from row 1 up to row i is alike, their text is `sum` long, and `owed` more elements end the tree
+pub record Finding (rows : List ℕ) (n k start sum owed i : ℕ) : Type 0 where
+  pub low : 1 ≤ i
+  pub high : i ≤ n
   pub small : sum ≤ 2 ^ 32 * i
-  pub rest : (text : List ℕ) → find_row (triples text tree) k start ≡ alike_from k start i sum (drop i (triples text tree))
+  pub few : owed ≤ 2 ^ 32 * i
+  pub rest : (text : List ℕ) → find_row (first_tree (first_rows text n rows)) k start ≡ alike_from k start (i - 1) sum (take (skip owed (drop i (first_rows text n rows))) (drop i (first_rows text n rows)))
 
-pub finding_start : (tree : List ℕ) (k start : ℕ) → Finding tree k start 0 0
-unfolding find_row
-finding_start tree k start = record { inside = omega arith; small = omega arith; rest = λ text. refl }
+pub finding_start : {rows : List ℕ} {n k start : ℕ} → 1 ≤ n → Finding rows n k start 0 1 1
+unfolding find_row first_tree subtree
+finding_start h = record { low = omega arith; high = h; small = omega arith; few = omega arith; rest = λ text. refl }
 
-module _ {tree : List ℕ} {k start sum i : ℕ} (v : Finding tree k start sum i) where
-  module _ {w : ℕ} {b : Bool} (h : i < length tree / 3) (e : (w ≡ get_or tree (3 * i) 0) × (w < 2 ^ 32)) (t : b ≡ alike_words k start w sum) where
-    tested : (text : List ℕ) → alike_words k start (kind (row_in text tree i)) sum ≡ b
-    tested text = ap (λ x. alike_words k start x sum) (kind_word text (get_or tree (3 * i) 0) (get_or tree (3 * i + 1) 0) (get_or tree (3 * i + 2) 0) ∙ sym e.0) ∙ sym t
+module _ {rows : List ℕ} {n k start sum owed i : ℕ} (v : Finding rows n k start sum owed i) (long : 3 * n ≤ length rows) where
+  module _ {w : ℕ} {b : Bool} (o : owed ≡ 0 → ⊥) (h : i < n) (e : (w ≡ get_or rows (3 * i) 0) × (w < 2 ^ 32)) (t : b ≡ alike_words k start w sum) where
+    tested : (text : List ℕ) → alike_words k start (kind (row_in text rows i)) sum ≡ b
+    tested text = ap (λ x. alike_words k start x sum) (kind_word text (get_or rows (3 * i) 0) (get_or rows (3 * i + 1) 0) (get_or rows (3 * i + 2) 0) ∙ sym e.0) ∙ sym t
 
-    found_at : b ≡ true → (text : List ℕ) → Some i ≡ found (find_row (triples text tree) k start)
+    -- the row at hand, and those behind it
+    parted : (text : List ℕ) → take (skip owed (drop i (first_rows text n rows))) (drop i (first_rows text n rows))
+        ≡ row_in text rows i ∷ take (skip (owed - 1 + owes (row_in text rows i)) (drop (suc i) (first_rows text n rows))) (drop (suc i) (first_rows text n rows))
+    parted text = part_cons owed (drop i (first_rows text n rows)) (drop (suc i) (first_rows text n rows)) (row_in text rows i) (first_at text n rows long i h) (omega arith)
+
+    pub found_here : b ≡ true → (text : List ℕ) → Some (i - 1) ≡ found (find_row (first_tree (first_rows text n rows)) k start)
     unfolding found alike_from
-    found_at y text = rw (v.rest text, triples_at text i tree (omega arith), tested text, y)
+    found_here y text = rw (v.rest text, parted text, tested text, y)
 
-    pub found_here : {rows : List ℕ} {n : ℕ} → Part rows n 1 tree → b ≡ true → (text : List ℕ) → Some i ≡ found (find_row (first_tree (first_rows text n rows)) k start)
-    unfolding first_tree
-    found_here p y text = found_at y text ∙ ap (λ rs. found (find_row rs k start)) (p.told text)
-
-    pub finding_next : {r : ℕ} → b ≡ false → Measured tree i r → Finding tree k start (sum + r) (i + 1)
+    pub finding_next : {m r : ℕ} → b ≡ false → Counted rows i m → Measured rows i r → Finding rows n k start (sum + r) (owed - 1 + m) (i + 1)
     unfolding alike_from
-    finding_next {r} y d = record {
-      inside = omega arith;
-      small = omega (arith, v.small, d.small);
-      rest = λ text. v.rest text ∙ rw (triples_at text i tree (omega arith), tested text, y, add-one i, d.own text);
-    }
+    finding_next {m} {r} y c d =
+        let z : i + 1 - 1 ≡ suc (i - 1) = omega (arith, v.low) in
+        record {
+          low = omega (arith, v.low);
+          high = omega arith;
+          small = omega (arith, v.small, d.small);
+          few = omega (arith, v.few, c.small);
+          rest = λ text. v.rest text ∙ rw (parted text, tested text, y, z, add-one i, d.own text, c.count text);
+        }
 
-  -- the sum is a word of the machine
-  pub finding_room : {r n : ℕ} → Measured tree i r → length tree + 3 ≤ 3 * n → n < 2 ^ 16 → sum + r < 2 ^ 64
-  finding_room d s f = omega (arith, v.small, v.inside, d.small)
-
-  found_nowhere : length tree / 3 ≤ i → (text : List ℕ) → None ≡ found (find_row (triples text tree) k start)
+  pub found_out : n ≤ i → (text : List ℕ) → None ≡ found (find_row (first_tree (first_rows text n rows)) k start)
   unfolding found alike_from
-  found_nowhere h text = rw (v.rest text, triples_end text i tree (omega arith))
+  found_out h text = rw (v.rest text, first_end text n rows long i h)
 
-  pub found_out : {rows : List ℕ} {n : ℕ} → Part rows n 1 tree → length tree / 3 ≤ i → (text : List ℕ) → None ≡ found (find_row (first_tree (first_rows text n rows)) k start)
-  unfolding first_tree
-  found_out p h text = found_nowhere h text ∙ ap (λ rs. found (find_row rs k start)) (p.told text)
+  pub found_nowhere : owed ≡ 0 → (text : List ℕ) → None ≡ found (find_row (first_tree (first_rows text n rows)) k start)
+  unfolding found alike_from
+  found_nowhere z text = rw (v.rest text, z, skip_none (drop i (first_rows text n rows)))

@@ -11,10 +11,10 @@ ghost use Rattle.finish_model.specs.Alike.{alike_words, find_row};
 ghost use Rattle.finish_find.specs.Found.{found};
 ghost use Rattle.finish_find.specs.OldStart.{TreesTold, PathFrom};
 
-use finish_model::first_tree;
+use finish_model::ROOT;
 use read_element_table::{AFTER, CHILD, Elements, PARENT, WORDS, entry};
 use rows_path::resolve;
-use rows_syntax_node::{ROW_WORDS, Rows, text_length};
+use rows_syntax_node::{ROW_WORDS, Rows, child_count, text_length};
 use words::{NODE_KIND, word};
 
 // ── The old node ──
@@ -68,18 +68,24 @@ fn is_alike(kind: usize, start: usize, other: usize, sum: usize) -> bool
     sum == start
 }
 
-// The number of the first node of tree 0 with this kind word and text start, from the rows of all trees.
+// The number of the first node of tree 0 with this kind word and text start, from the rows of all trees. The tree ends where no element is owed: each row is one owed less, and a
+// node's row owes its children. So the tree is walked once; over `first_tree` its end would be looked for first, a second walk.
 pub fn find_in_tree(rows: &Rows, kind: usize, start: usize) -> Option<usize>
     requires { 1 ≤ rows.now.count }
     ensures { (text : List ℕ) → result ≡ found (find_row (first_tree (first_rows text rows.now.count rows.now.words.now)) kind start) }
 {
-    let tree = first_tree(rows);
     let mut sum = 0;
-    for i in 0..tree.len() / ROW_WORDS {
-        if is_alike(kind, start, word(tree, ROW_WORDS * i), sum) {
-            return Some(i);
+    let mut owed = 1;
+    for i in ROOT..rows.count {
+        if owed == 0 {
+            return None;
         }
-        sum += text_length(tree, i);
+        let other = word(rows.words, ROW_WORDS * i);
+        if is_alike(kind, start, other, sum) {
+            return Some(i - ROOT);
+        }
+        owed = owed - 1 + child_count(rows.words, i);
+        sum += text_length(rows.words, i);
     }
     None
 }
