@@ -50,7 +50,7 @@ fn plain_word(k: u32, m: u32, o: u32) -> u32
     o
 }
 
-// Such third words in each of the first `n` rows. By the number of each row: std has no law of what `chunks_exact_mut` leaves, and `plain` tells the first rows of lent room by their count.
+// Such third words in each of the first `n` rows. By the number of each row: tried with `chunks_exact_mut`, but once such a loan is over a proof knows how long the slice is, and none of its words.
 fn make_plain(rows: &mut [u32], n: usize)
     requires { (3 * n ≤ length rows.old) × (n < 2 ^ 16) }
     ensures { rows.new ≡ plain n rows.old }
