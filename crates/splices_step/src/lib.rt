@@ -10,17 +10,17 @@ ghost use Rattle.splices_model.specs.Reading.{Stocked};
 
 use rows_syntax_node::{MEASURE, ROW_WORDS, Rows, child_row, rows_after, trees_in};
 use run_splice::splice;
-use splices_model::{SpliceList, Splices};
+use splices_model::{Splice, SpliceList, Splices};
 use words::{NODE_KIND, word};
 
 // ── To the left ──
 
 // Whether the first of two runs in one parent is left of the second.
 #[tactic(auto, unfolding(crate::specs::Promises::left_run))]
-fn left_run(number: usize, from: usize, to: usize, number2: usize, from2: usize, to2: usize) -> bool
-    ensures { result ≡ left_run number from to number2 from2 to2 }
+fn left_run(first: Splice, second: Splice) -> bool
+    ensures { result ≡ left_run first.number first.from first.to second.number second.from second.to }
 {
-    to <= from2 && (from < to2 || number2 < number)
+    first.to <= second.from && (first.from < second.to || second.number < first.number)
 }
 
 // Whether splice `j` is in the parent of splice `i` and left of it.
@@ -31,7 +31,7 @@ fn left_of(splices: &Splices, i: usize, j: usize) -> bool
 {
     let s = splices.get(i);
     let t = splices.get(j);
-    t.parent == s.parent && left_run(t.number, t.from, t.to, s.number, s.from, s.to)
+    t.parent == s.parent && left_run(t, s)
 }
 
 // The number of trees that splice `j` brings.
