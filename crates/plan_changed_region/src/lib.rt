@@ -41,6 +41,7 @@ fn outer_region(rows: &[u32], j: usize) -> Option<usize>
 
 // Rust: `rposition` over the regions in EditPlan::build. Of the stack whose last region is told by `top`, index + 1, 0 = none: the place of the last region that
 // contains the range from `from` to `to`. The way out from region to region has no range to count over: its loop stays.
+#[tactic(auto, using(crate::proofs::Regions::popping_start, crate::proofs::Regions::popping_falls, crate::proofs::Regions::popping_next, crate::proofs::Regions::popping_found, crate::proofs::Regions::popping_none))]
 fn enclosing_region(rows: &[u32], top: usize, from: usize, to: usize) -> Option<usize>
     requires { (top ≤ 256) × Outward rows.now top }
     ensures { one_past result ≡ enclosing from to rows.now top top }
