@@ -47,6 +47,7 @@ pub fn next(present: u32) -> u32
 }
 
 // The next draw: the upper 16 bits of what the generator holds after it.
+#[tactic(auto, unfolding(load_laws::specs::Load::drawn))]
 pub fn drawn(present: u32) -> u32
     ensures { result ≡ drawn_of present }
 {
@@ -90,6 +91,7 @@ fn donor(d: u32) -> u32
 }
 
 // The block that call 0 replaces.
+#[tactic(auto, unfolding(load_laws::specs::Load::replaced))]
 pub fn replaced_block(d: u32) -> u32
     ensures { result ≡ block_of (replaced d) }
 {
@@ -97,6 +99,7 @@ pub fn replaced_block(d: u32) -> u32
 }
 
 // The token of block i that a place names.
+#[tactic(auto, unfolding(load_laws::specs::Load::token_drawn))]
 fn token_drawn(i: u32, place: u32) -> u32
     requires { i < 128 }
     ensures { result ≡ block_token i (token_drawn place) }
@@ -105,6 +108,7 @@ fn token_drawn(i: u32, place: u32) -> u32
 }
 
 // The donor that a place names.
+#[tactic(auto, unfolding(load_laws::specs::Load::donor_drawn))]
 fn donor_drawn(place: u32) -> u32
     ensures { result ≡ donor_drawn place }
 {
@@ -112,6 +116,7 @@ fn donor_drawn(place: u32) -> u32
 }
 
 // The other donor that a place names.
+#[tactic(auto, unfolding(load_laws::specs::Load::other_drawn))]
 fn other_drawn(place: u32) -> u32
     requires { place < 65536 }
     ensures { result ≡ other_drawn place }
