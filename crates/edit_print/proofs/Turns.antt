@@ -17,9 +17,9 @@ use Rattle.definition.specs.Elements.{is_node, kind_of}
 use Rattle.words.specs.Bytes.{length_words}
 use Rattle.words.specs.Parts.{set_paste}
 use Rattle.definition_laws.specs.Basics.{flat_map_append}
-use Rattle.result_laws.specs.Decoded.{told, decoded}
-use Rattle.edit_print.specs.Printable.{Fits}
-use Rattle.edit_print.specs.Lines.{Put, put_more, digits_length, spaced, spaced_length, texts_length, line_of, line_of_length, pairs_at, pairs_length, pair_at, pair_line, changed_line, changed_length, note_line, element_length, hex_length, text_length}
+use Rattle.result_laws.specs.Decoded.{told, decoded, text_at}
+use Rattle.edit_print.specs.Printable.{Fits, Printable}
+use Rattle.edit_print.specs.Lines.{Put, put_more, digits_length, spaced, spaced_length, texts_length, line_of, line_of_length, pairs_at, pairs_length, pair_at, pair_line, array_lines, changed_line, changed_length, note_line, element_length, hex_length, text_length}
 
 -- ── A byte and digits ───────────────────────────────────────────────────────────────────────────────────────
 
@@ -239,57 +239,64 @@ pub refusal_put : {d : List ℕ} (k : ℕ) {l : List ℕ} {to : ℕ} → Put d 0
 unfolding print line line_of ascii spaced
 refusal_put k p = p
 
-regroup : (a b c d e : List ℕ) → a ++ b ++ c ++ d ++ e ≡ a ++ (b ++ c) ++ (d ++ e)
+regroup : (a b c d e : List ℕ) → a ++ b ++ c ++ d ++ e ≡ a ++ (b ++ c ++ (d ++ e))
 regroup a b c d e = simp append_assoc
 
 -- what is printed of a result, in the parts that are written
-told_printed : (b : List ℕ) (n t c m x y : ℕ) → 24 + 8 * n + 8 * c + 8 * m + t ≤ length b
-    → print (gives (told b n t c m x y)) ≡ line_of (111 ∷ 107 ∷ []) (n ∷ t ∷ c ∷ m ∷ x ∷ y ∷ [])
-    ++ (flat_map element_line (pairs_at b 24 n) ++ text_line (take t (drop (24 + 8 * n + 8 * c + 8 * m) b)))
-    ++ (flat_map changed_line (pairs_at b (24 + 8 * n) c) ++ flat_map note_line (pairs_at b (24 + 8 * n + 8 * c) m))
-unfolding print told six_sizes pairs_at changed_line note_line line line_of ascii spaced
+told_printed : (b : List ℕ) (n t c m x y : ℕ) → text_at n c m + t ≤ length b → print (gives (told b n t c m x y)) ≡ line_of (111 ∷ 107 ∷ []) (n ∷ t ∷ c ∷ m ∷ x ∷ y ∷ []) ++ array_lines b n t c m
+unfolding print told six_sizes pairs_at changed_line note_line line line_of ascii spaced array_lines
 told_printed b n t c m x y h =
-    let from = 24 + 8 * n + 8 * c + 8 * m in
+    let from = text_at n c m in
     let k : length (take t (drop from b)) ≡ t = length-take-le t (drop from b) (omega (arith, length-drop from b)) in
     rw (length_words n (drop 24 b), length_words c (drop (24 + 8 * n) b), length_words m (drop (24 + 8 * n + 8 * c) b), k)
     (regroup (line_of (111 ∷ 107 ∷ []) (n ∷ t ∷ c ∷ m ∷ x ∷ y ∷ [])) (flat_map element_line (pairs_at b 24 n)) (text_line (take t (drop from b))) (flat_map changed_line (pairs_at b (24 + 8 * n) c))
     (flat_map note_line (pairs_at b (24 + 8 * n + 8 * c) m)))
 
-module _ (b d : List ℕ) (n t c m x y : ℕ) {l : List ℕ} {to : ℕ} (q : Fits (length b) (length d) n t c m) (p : Put d 0 (line_of (111 ∷ 107 ∷ []) (n ∷ t ∷ c ∷ m ∷ x ∷ y ∷ [])) l to) where
-  sized_end : to ≤ 69
-  sized_end = omega (arith, p.end, line_of_length (111 ∷ 107 ∷ []) (n ∷ t ∷ c ∷ m ∷ x ∷ y ∷ []))
-
+-- the arrays and the text, behind what stands already
+module _ (b l : List ℕ) (n t c m at : ℕ) (room : at + 24 * n + 2 * t + 6 + 30 * c + 27 * m ≤ length l) where
   -- where the text stands
   abbrev texts : ℕ
-  texts = 24 + 8 * n + 8 * c + 8 * m
+  texts = text_at n c m
 
-  -- behind the sizes there is room for the elements and the text
-  pub sized_room : length l ≡ length d → to + 24 * n + (2 * length (take (texts + t - texts) (drop texts b)) + 6) ≤ length l
-  sized_room e = let f : texts + t - texts ≡ t = omega arith in rw f (omega (arith, sized_end, q.fits, part_length t texts b))
+  -- there is room for the elements and the text
+  pub text_fits : at + 24 * n + (2 * length (take (texts + t - texts) (drop texts b)) + 6) ≤ length l
+  text_fits = let f : texts + t - texts ≡ t = omega arith in rw f (omega (arith, room, part_length t texts b))
 
-  module _ {l₂ : List ℕ} {to₂ : ℕ} (p₂' : Put l to (flat_map element_line (pairs_at b 24 n) ++ text_line (take (texts + t - texts) (drop texts b))) l₂ to₂) where
-    p₂ : Put l to (flat_map element_line (pairs_at b 24 n) ++ text_line (take t (drop texts b))) l₂ to₂
-    p₂ = let f : texts + t - texts ≡ t = omega arith in rw f at p₂'
+  module _ {l₂ : List ℕ} {to₂ : ℕ} (p' : Put l at (flat_map element_line (pairs_at b 24 n) ++ text_line (take (texts + t - texts) (drop texts b))) l₂ to₂) where
+    p : Put l at (flat_map element_line (pairs_at b 24 n) ++ text_line (take t (drop texts b))) l₂ to₂
+    p = let f : texts + t - texts ≡ t = omega arith in rw f at p'
 
-    treed_end : to₂ ≤ 75 + 24 * n + 2 * t
+    treed_end : to₂ ≤ at + 24 * n + 2 * t + 6
     treed_end =
-        let text = take t (drop (24 + 8 * n + 8 * c + 8 * m) b) in
+        let text = take t (drop texts b) in
         let k = length-append (flat_map element_line (pairs_at b 24 n)) (text_line text) in
         let j = texts_length element_line 24 element_length (pairs_at b 24 n) in
         let i = ap (λ x. 24 * x) (pairs_length b 24 n) in
-        omega (arith, sized_end, p₂.end, text_length text, part_length t (24 + 8 * n + 8 * c + 8 * m) b)
+        omega (arith, p.end, text_length text, part_length t texts b)
 
     -- and behind those for the changed elements and the notes
-    pub treed_room : length l₂ ≡ length d → to₂ + 30 * c + 27 * m ≤ length l₂
-    treed_room e = omega (arith, treed_end, q.fits)
+    pub treed_room : length l₂ ≡ length l → to₂ + 30 * c + 27 * m ≤ length l₂
+    treed_room e = omega (arith, treed_end, room)
 
-    pub result_put : {l₃ : List ℕ} {to₃ : ℕ} → length l ≡ length d
-        → Put l₂ to₂ (flat_map changed_line (pairs_at b (24 + 8 * n) c) ++ flat_map note_line (pairs_at b (24 + 8 * n + 8 * c) m)) l₃ to₃ → Put d 0 (print (gives (told b n t c m x y))) l₃ to₃
-    result_put e p₃ =
-        rw (told_printed b n t c m x y q.whole)
-        (put_more (put_more p p₂ (omega (arith, sized_end, q.fits))) p₃ (omega (arith, treed_end, q.fits)))
+    pub arrays_put : {l₃ : List ℕ} {to₃ : ℕ} → Put l₂ to₂ (flat_map changed_line (pairs_at b (24 + 8 * n) c) ++ flat_map note_line (pairs_at b (24 + 8 * n + 8 * c) m)) l₃ to₃ → Put l at (array_lines b n t c m) l₃ to₃
+    unfolding array_lines
+    arrays_put q = put_more p q (omega (arith, treed_end, room))
 
-pub decoded_put : {d : List ℕ} (b : List ℕ) {n t c m x y : ℕ} {l : List ℕ} {to : ℕ} → n ≡ word b → t ≡ word (drop 4 b) → c ≡ word (drop 8 b) → m ≡ word (drop 12 b) → x ≡ word (drop 16 b) → y ≡ word (drop 20 b)
-    → Put d 0 (print (gives (told b n t c m x y))) l to → Put d 0 (print (gives (decoded b))) l to
-unfolding decoded
-decoded_put b e₁ e₂ e₃ e₄ e₅ e₆ p = rw (← e₁, ← e₂, ← e₃, ← e₄, ← e₅, ← e₆) p
+-- the sizes, and what they tell behind their line
+module _ (b d : List ℕ) {n t c m : ℕ} (e₁ : n ≡ word b) (e₂ : t ≡ word (drop 4 b)) (e₃ : c ≡ word (drop 8 b)) (e₄ : m ≡ word (drop 12 b)) (q : Printable b (length d)) where
+  fits : Fits (length b) (length d) n t c m
+  fits = rw (e₁, e₂, e₃, e₄) q
+
+  pub arrays_whole : text_at n c m + t ≤ length b
+  arrays_whole = fits.whole
+
+  module _ (x y : ℕ) {l : List ℕ} {to : ℕ} (p : Put d 0 (line_of (111 ∷ 107 ∷ []) (n ∷ t ∷ c ∷ m ∷ x ∷ y ∷ [])) l to) where
+    sized_end : to ≤ 69
+    sized_end = omega (arith, p.end, line_of_length (111 ∷ 107 ∷ []) (n ∷ t ∷ c ∷ m ∷ x ∷ y ∷ []))
+
+    pub sized_room : length l ≡ length d → to + 24 * n + 2 * t + 6 + 30 * c + 27 * m ≤ length l
+    sized_room e = omega (arith, sized_end, fits.fits)
+
+    pub result_put : {l' : List ℕ} {to' : ℕ} → x ≡ word (drop 16 b) → y ≡ word (drop 20 b) → Put l to (array_lines b n t c m) l' to' → Put d 0 (print (gives (decoded b))) l' to'
+    unfolding decoded
+    result_put e₅ e₆ r = rw (← e₁, ← e₂, ← e₃, ← e₄, ← e₅, ← e₆) (rw (told_printed b n t c m x y fits.whole) (put_more p r (omega (arith, sized_end, fits.fits))))

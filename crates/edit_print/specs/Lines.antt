@@ -10,6 +10,7 @@ use Rattle.std.proofs.lemmas.List.Edits.{take-paste}
 use Rattle.definition.specs.Words.{word, words}
 use Rattle.definition.specs.Elements.{is_node, kind_of}
 use Rattle.definition.specs.Printed.{ascii, digits, decimal, hex, line, element_line, text_line}
+use Rattle.result_laws.specs.Decoded.{text_at}
 use Rattle.words.specs.Bytes.{length_words, get_d_words}
 use Rattle.words.specs.Parts.{paste_paste}
 
@@ -65,6 +66,13 @@ note_line m = line "note" (m.0 ∷ m.1 ∷ [])
 -- pairs out of two arrays of n words, one behind the other
 unfoldable pub pairs_at : List ℕ → ℕ → ℕ → List (ℕ × ℕ)
 pairs_at b from n = zip (words n (drop from b)) (words n (drop (from + 4 * n) b))
+
+-- the lines of n elements, of t bytes of text, of c changed elements and of m notes, as they stand behind the sizes in the bytes b
+unfoldable pub array_lines : List ℕ → ℕ → ℕ → ℕ → ℕ → List ℕ
+array_lines b n t c m =
+    flat_map element_line (pairs_at b 24 n)
+    ++ text_line (take t (drop (text_at n c m) b))
+    ++ (flat_map changed_line (pairs_at b (24 + 8 * n) c) ++ flat_map note_line (pairs_at b (24 + 8 * n + 8 * c) m))
 
 pub digits_length : (k n : ℕ) → length (digits k n) ≤ k
 unfolding digits

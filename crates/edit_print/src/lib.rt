@@ -5,9 +5,9 @@ ghost use Rattle.std.specs.Prelude.{◌≡◌, ◌+◌, ◌*◌, ◌≤◌, ◌<
 ghost use mathlib.Core.List.{◌∷◌, [], ◌++◌, flat_map};
 ghost use Rattle.definition.specs.Printed.{digits, hex_digit, hex, element_line, text_line, print};
 ghost use Rattle.definition.specs.Basics.{refused, gives};
-ghost use Rattle.result_laws.specs.Decoded.{told, decoded};
-ghost use Rattle.edit_print.specs.Printable.{Fits, Printable};
-ghost use Rattle.edit_print.specs.Lines.{Put, spaced, line_of, pair_line, changed_line, note_line};
+ghost use Rattle.result_laws.specs.Decoded.{decoded, text_at};
+ghost use Rattle.edit_print.specs.Printable.{Printable};
+ghost use Rattle.edit_print.specs.Lines.{Put, spaced, line_of, pair_line, changed_line, note_line, array_lines};
 ghost use Rattle.edit_print.specs.Held.{pairs_of};
 
 mod pairs;
@@ -119,13 +119,13 @@ fn put_element(out: &mut [u8], at: usize, kind: usize, measure: usize) -> usize
     requires { at + 24 ≤ length out.old }
     ensures { Put out.old at (element_line (kind, measure)) out.new result }
 {
-    if kind < 0x8000_0000 {
+    if kind < words::NODE_KIND {
         return put_line(out, at, b"t", &[kind % 65536, measure]);
     }
     put_line(out, at, b"n", &[kind % 65536, measure])
 }
 
-// The lines of elements, each a kind word and a measure, are written at `at`.
+// The lines of elements, each a kind word and a measure, are written at `at`. Beside `put_pairs`: over a closure that writes one line, the contract would name each line's text, its most bytes and what the closure asks, and be longer than the loop.
 fn put_elements(out: &mut [u8], at: usize, elements: &Pairs) -> usize
     requires { at + 24 * elements.now.count ≤ length out.old }
     ensures { Put out.old at (flat_map element_line (pairs_of elements.now)) out.new result }
@@ -173,24 +173,22 @@ fn put_found(out: &mut [u8], at: usize, changed: &Pairs, notes: &Pairs) -> usize
     put_pairs(out, to, b"note", notes)
 }
 
-// What is printed of the result that the sizes and the arrays in `b` tell is written at the front.
-fn put_result(
+// The lines of the arrays and of the text, behind the sizes in `b`, are written at `at`.
+fn put_arrays(
     out: &mut [u8],
+    at: usize,
     b: &[u8],
     element_count: usize,
     text_length: usize,
     changed_count: usize,
     note_count: usize,
-    discarded: usize,
-    climbs: usize,
 ) -> usize
-    requires { Fits (length b.now) (length out.old) element_count text_length changed_count note_count }
-    ensures { Put out.old 0 (print (gives (told b.now element_count text_length changed_count note_count discarded climbs))) out.new result }
+    requires { (text_at element_count changed_count note_count + text_length ≤ length b.now) × (at + 24 * element_count + 2 * text_length + 6 + 30 * changed_count + 27 * note_count ≤ length out.old) }
+    ensures { Put out.old at (array_lines b.now element_count text_length changed_count note_count) out.new result }
 {
     let changed_at = ARRAYS + 8 * element_count;
     let notes_at = changed_at + 8 * changed_count;
     let text_at = notes_at + 8 * note_count;
-    let end = text_at + text_length;
     let elements = Pairs {
         bytes: b,
         at: ARRAYS,
@@ -206,44 +204,28 @@ fn put_result(
         at: notes_at,
         count: note_count,
     };
-    let sized = put_line(
-        out,
-        0,
-        b"ok",
-        &[
-            element_count,
-            text_length,
-            changed_count,
-            note_count,
-            discarded,
-            climbs,
-        ],
-    );
-    let treed = put_tree(out, sized, &elements, &b[text_at..end]);
+    let treed = put_tree(out, at, &elements, &b[text_at..text_at + text_length]);
     put_found(out, treed, &changed, &notes)
 }
 
-// What is printed of the result whose bytes are `b` is written at the front.
+// What is printed of the result whose bytes are `b` is written at the front: its sizes, and what they tell behind them.
 pub fn print_result(out: &mut [u8], b: &[u8]) -> usize
     requires { Printable b.now (length out.old) }
     ensures { Put out.old 0 (print (gives (decoded b.now))) out.new result }
 {
-    let element_count = words::read_word(b, result_laws::ELEMENTS);
-    let text_length = words::read_word(b, result_laws::TEXT);
-    let changed_count = words::read_word(b, result_laws::CHANGED);
-    let note_count = words::read_word(b, result_laws::NOTES);
+    let elements = words::read_word(b, result_laws::ELEMENTS);
+    let text = words::read_word(b, result_laws::TEXT);
+    let changed = words::read_word(b, result_laws::CHANGED);
+    let notes = words::read_word(b, result_laws::NOTES);
     let discarded = words::read_word(b, result_laws::DISCARDED);
     let climbs = words::read_word(b, result_laws::CLIMBS);
-    put_result(
+    let sized = put_line(
         out,
-        b,
-        element_count,
-        text_length,
-        changed_count,
-        note_count,
-        discarded,
-        climbs,
-    )
+        0,
+        b"ok",
+        &[elements, text, changed, notes, discarded, climbs],
+    );
+    put_arrays(out, sized, b, elements, text, changed, notes)
 }
 
 // What is printed of a refusal is written at the front.

@@ -2,7 +2,7 @@
 
 ghost use Rattle.std.specs.Prelude.{◌+◌, ◌*◌, ◌≤◌, length};
 
-// The first numbers of `count` pairs stand from `at` on, the second ones behind those.
+// The first numbers of `count` pairs stand from `at` on, the second ones behind those. Not two `WordList`s, of which every clause would ask that they are equally long; nor one of both arrays, of which half the words would be the count.
 #[derive(Clone, Copy)]
 pub struct Pairs<'a> {
     pub bytes: &'a [u8],

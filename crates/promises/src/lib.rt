@@ -4,7 +4,7 @@
 ghost use Rattle.std.specs.Prelude.{◌≡◌};
 ghost use Rattle.definition.specs.Answers.{too_short};
 ghost use Rattle.promises.specs.Lent.{held, Same};
-ghost use Rattle.promises.specs.Slices.{needed, lengths, zeros, zeroed};
+ghost use Rattle.promises.specs.Slices.{needed, lengths, zeros, zeroed, filled};
 
 // What is asked of a batch: its edit, where a node of tree 0 stands then, what becomes of each change, how much of the text is rewritten, or which elements of
 // tree 0 survive, and where.
@@ -73,4 +73,31 @@ pub fn clear_all(work: &mut Work)
     work.marks.fill(0);
     work.rows.fill(0);
     work.prepared.fill(0);
+}
+
+// Runs something on work slices of the lengths of docs/WORK.md, all of whose words are `word`.
+pub fn with_work<R, F: FnOnce(&mut Work) -> R>(word: u32, run: F) -> R
+    requires { (w : _) → held w.now ≡ filled word → F.pre run w }
+    ensures { (w : _) × (v : _) × (held w.now ≡ filled word) × F.post run w result v }
+{
+    let mut table = [word; 16384];
+    let mut source = [word; 6147];
+    let mut changes = [word; 3840];
+    let mut notes = [word; 3072];
+    let mut incoming = [word; 3072];
+    let mut changed = [word; 1024];
+    let mut marks = [word; 2048];
+    let mut rows = [word; 12291];
+    let mut prepared = [word; 12288];
+    run(&mut Work {
+        table: &mut table,
+        source: &mut source,
+        changes: &mut changes,
+        notes: &mut notes,
+        incoming: &mut incoming,
+        changed: &mut changed,
+        marks: &mut marks,
+        rows: &mut rows,
+        prepared: &mut prepared,
+    })
 }
