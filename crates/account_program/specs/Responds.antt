@@ -16,8 +16,7 @@ use Rattle.promises.specs.Slices.{needed, lengths}
 use Rattle.promises.specs.Promises.{left_in, Accounts, wrongly_chosen, with_long}
 use Rattle.edit_print.specs.Lines.{Put, put_fits, put_front}
 use Rattle.account_lines.specs.Short.{most_text, account_short, room_enough}
-use Rattle.edit_algo.specs.Numbers.{answer_of}
-use Rattle.refusals.specs.Numbers.{number}
+use Rattle.refusals.specs.Numbers.{number, answered}
 use Rattle.refusals.specs.declared.Refusal.{Refusal}
 
 -- the account of the batch b, which a wrong choice refuses first
@@ -43,13 +42,6 @@ pub judged_in_room : (h : Choices) (bs : List ℕ) → account_printed h (take 6
 unfolding account_printed
 judged_in_room h bs = rw (take-take 65536 65536 bs (omega arith)) refl
 
--- the bytes that are judged are no more than the buffer has
-pub front_within : (read : ℕ) (b : List ℕ) → 65536 ≡ length b → read ≤ length b → length (take read b) ≤ 65536
-front_within read b e h = omega (arith, length-take-le read b h)
-
-pub front_long : (read : ℕ) (b : List ℕ) → read ≤ length b → read ≡ length (take read b)
-front_long read b h = sym (length-take-le read b h)
-
 -- ── From what is promised ───────────────────────────────────────────────────────────────────────────────────
 
 -- where no work slice is too short and there is room for every account, 1 does not come, and 13 only where the edit program's buffer could not hold the result
@@ -66,15 +58,15 @@ accounted_whole h work b room s m = go (chosen h) refl
     go (gives u) c = with_long h work (account h b >>= in_room room) c s ∙ roomy (account h b) refl
 
 -- an answer that keeps its promise tells the account
-pub account_tells : {h : Choices} {b held : List ℕ} {work : List (List ℕ)} {holds : List ℕ} {left : List (List ℕ)} {r : Result ℕ Refusal} → Accounts h b held work (answer_of r) holds left → 8192 ≡ length held → length holds ≡ length held
+pub account_tells : {h : Choices} {b held : List ℕ} {work : List (List ℕ)} {holds : List ℕ} {left : List (List ℕ)} {r : Result ℕ Refusal} → Accounts h b held work (answered r) holds left → 8192 ≡ length held → length holds ≡ length held
     → too_short (lengths needed work) ≡ false → Tells h b r holds
-unfolding answer_of left_in ◌>>=◌
+unfolding answered left_in ◌>>=◌
 account_tells {h} {b} {held} {work} {holds} {left} {r} p e l s = record { says = go r (recount h b) refl (p.answer ∙ ap (λ (x : basics.Answer (List ℕ)). x >>= λ text. gives (length text)) same) (p.result ∙ ap (left_in held) same); long = omega arith }
   where
     same : accounted h (lengths needed work) b (length held) ≡ recount h b
     same = accounted_whole h (lengths needed work) b (length held) s (omega arith)
 
-    go : (r : Result ℕ Refusal) (o : basics.Answer (List ℕ)) → recount h b ≡ o → answer_of r ≡ (recount h b >>= λ text. gives (length text)) → holds ≡ left_in held (recount h b) → Says h b r holds
+    go : (r : Result ℕ Refusal) (o : basics.Answer (List ℕ)) → recount h b ≡ o → answered r ≡ (recount h b >>= λ text. gives (length text)) → holds ≡ left_in held (recount h b) → Says h b r holds
     go (Err k) (refused n) i m q =
         let z : ◌≡◌ {A = basics.Answer ℕ} (refused (number k)) (refused n) = rw i at m in
         let y : n ≡ number k = cc in

@@ -32,7 +32,7 @@ use Rattle.edit_perform.specs.AtEnd.{Overlapped, Performs, PerformsWith, early, 
 use Rattle.edit_perform.specs.Ending.{ending, edit_ending, found_ending}
 use Rattle.edit_perform.specs.declared.Ended.{Ended}
 use Rattle.edit_answer.specs.AtEnd.{unless, unless_refused, unless_done, unless_overlap, share_ending, pairs_ending, ToAnswer}
-use Rattle.edit_algo.specs.Numbers.{answer_of, element_of, share_of, TellsLength, TellsPlace, TellsShare, LengthTold, PlaceTold, ShareTold}
+use Rattle.edit_algo.specs.Numbers.{element_of, share_of, TellsLength, TellsPlace, TellsShare, LengthTold, PlaceTold, ShareTold}
 
 -- ── Refused, or at the end of the run ───────────────────────────────────────────────────────────────────────
 
@@ -92,12 +92,12 @@ module _ {told : Result Told Refusal} where
   given_told e i x h = sym (ap answered (e ∙ ap Ok i)) ∙ h
 
   pub length_refused : {f : Refusal} → told ≡ Err f → TellsLength told (Err f)
-  unfolding of_length answer_of
+  unfolding of_length answered
   length_refused {f} e (refused k) h = let y : ◌≡◌ {A = basics.Answer Told} (refused (number f)) (refused k) = refusal_told e (refused k) h in let same : number f ≡ k = cc in ap refused same
   length_refused {f} e (gives k) h = refused_gives (refusal_told e (gives (Bytes k)) h)
 
   pub length_told : {t : Told} {n : ℕ} → told ≡ Ok t → t ≡ Bytes n → TellsLength told (Ok n)
-  unfolding of_length answer_of
+  unfolding of_length answered
   length_told e i (refused k) h = refused_gives (sym (given_told e i (refused k) h))
   length_told {n = n} e i (gives k) h = let y : gives (Bytes n) ≡ gives (Bytes k) = given_told e i (gives (Bytes k)) h in let same : n ≡ k = cc in ap gives same
 
@@ -185,7 +185,7 @@ module _ (h : Choices) {b held holds : List ℕ} {work left : List (List ℕ)} {
   share_parts s = let (a, e, k) = serves_shares h s in (a, e)
 
 -- what is told of an edit keeps the promise of `edit`
-pub edits_told : (h : Choices) (b held holds : List ℕ) (work left : List (List ℕ)) (told : Result Told Refusal) (r : Result ℕ Refusal) → Serves h Edit b held work told holds left → TellsLength told r → Edits h b held work (answer_of r) holds left
+pub edits_told : (h : Choices) (b held holds : List ℕ) (work left : List (List ℕ)) (told : Result Told Refusal) (r : Result ℕ Refusal) → Serves h Edit b held work told holds left → TellsLength told r → Edits h b held work (answered r) holds left
 edits_told h b held holds work left told r s f = let (a, e, k) = serves_edits h s in subst (λ (x : basics.Answer ℕ). Edits h b held work x holds left) (sym (f a e)) k
 
 -- and of an element that of `find_element`
@@ -193,7 +193,7 @@ pub finds_told : (h : Choices) (b held holds : List ℕ) (n : ℕ) (work left : 
 finds_told h b held holds n work left told r s f = let (a, e, k) = serves_finds h s in subst (λ (x : basics.Answer (Option ℕ)). Finds h b n work x left) (sym (f a e)) k
 
 -- what is told of an account keeps the promise of `account`
-pub accounts_told : (h : Choices) (b held holds : List ℕ) (work left : List (List ℕ)) (told : Result Told Refusal) (r : Result ℕ Refusal) → Serves h Account b held work told holds left → TellsLength told r → Accounts h b held work (answer_of r) holds left
+pub accounts_told : (h : Choices) (b held holds : List ℕ) (work left : List (List ℕ)) (told : Result Told Refusal) (r : Result ℕ Refusal) → Serves h Account b held work told holds left → TellsLength told r → Accounts h b held work (answered r) holds left
 accounts_told h b held holds work left told r s f = let (a, e, k) = serves_accounts h s in subst (λ (x : basics.Answer ℕ). Accounts h b held work x holds left) (sym (f a e)) k
 
 -- what is told of a share keeps the promise of `share`
@@ -201,5 +201,5 @@ pub shares_told : (h : Choices) (b held holds : List ℕ) (work left : List (Lis
 shares_told h b held holds work left told r s f = let (a, e, k) = serves_shares h s in subst (λ (x : basics.Answer (ℕ × ℕ)). Shares h b work x left) (sym (f a e)) k
 
 -- and of the pairs that of `kept`
-pub keeps_told : (h : Choices) (b held holds : List ℕ) (work left : List (List ℕ)) (told : Result Told Refusal) (r : Result ℕ Refusal) → Serves h Kept b held work told holds left → TellsLength told r → Keeps h b held work (answer_of r) holds left
+pub keeps_told : (h : Choices) (b held holds : List ℕ) (work left : List (List ℕ)) (told : Result Told Refusal) (r : Result ℕ Refusal) → Serves h Kept b held work told holds left → TellsLength told r → Keeps h b held work (answered r) holds left
 keeps_told h b held holds work left told r s f = let (a, e, k) = serves_keeps h s in subst (λ (x : basics.Answer ℕ). Keeps h b held work x holds left) (sym (f a e)) k

@@ -16,11 +16,6 @@ unfoldable pub share_of : Result Thousandths Refusal → basics.Answer (ℕ × �
 share_of (Err e) = refused (number e)
 share_of (Ok s) = gives (s.quotient, s.remainder)
 
--- the refusal's number, or how many bytes the result has
-unfoldable pub answer_of : Result ℕ Refusal → basics.Answer ℕ
-answer_of (Err e) = refused (number e)
-answer_of (Ok k) = gives k
-
 -- the refusal's number, or the element that is found, or none
 unfoldable pub element_of : Result (prelude.Option ℕ) Refusal → basics.Answer (Option ℕ)
 element_of (Err e) = refused (number e)
@@ -29,7 +24,7 @@ element_of (Ok (Some e)) = gives (some e)
 
 -- an outcome that tells an answer of an edit is that answer
 abbrev pub TellsLength : Result Told Refusal → Result ℕ Refusal → Type 0
-TellsLength told r = (a : basics.Answer ℕ) → answered told ≡ of_length a → answer_of r ≡ a
+TellsLength told r = (a : basics.Answer ℕ) → answered told ≡ of_length a → answered r ≡ a
 
 -- and one that tells an answer on an element
 abbrev pub TellsPlace : Result Told Refusal → Result (prelude.Option ℕ) Refusal → Type 0

@@ -5,7 +5,8 @@ ghost use Rattle.choices.specs.Meant.{meant};
 ghost use Rattle.promises.specs.Lent.{held, Same};
 ghost use Rattle.promises.specs.Promises.{Edits, Finds, Accounts, Shares, Keeps};
 ghost use Rattle.promises.specs.Serving.{Serves};
-ghost use Rattle.edit_algo.specs.Numbers.{answer_of, element_of, share_of, LengthTold, PlaceTold, ShareTold, TellsLength, TellsPlace, TellsShare};
+ghost use Rattle.refusals.specs.Numbers.{answered};
+ghost use Rattle.edit_algo.specs.Numbers.{element_of, share_of, LengthTold, PlaceTold, ShareTold, TellsLength, TellsPlace, TellsShare};
 
 use choices::Choices;
 use edit_answer::Thousandths;
@@ -102,7 +103,7 @@ pub fn edit(
     work: &mut Work,
 ) -> Result<usize, Refusal>
     ensures same { Same work.old work.new }
-    ensures edits { Edits (meant choices) batch.now res.old (held work.old) (answer_of result) res.new (held work.new) }
+    ensures edits { Edits (meant choices) batch.now res.old (held work.old) (answered result) res.new (held work.new) }
 {
     answer_in(serve(choices, Job::Edit, batch, res, work))
 }
@@ -130,7 +131,7 @@ pub fn account(
     work: &mut Work,
 ) -> Result<usize, Refusal>
     ensures same { Same work.old work.new }
-    ensures accounts { Accounts (meant choices) batch.now res.old (held work.old) (answer_of result) res.new (held work.new) }
+    ensures accounts { Accounts (meant choices) batch.now res.old (held work.old) (answered result) res.new (held work.new) }
 {
     answer_in(serve(choices, Job::Account, batch, res, work))
 }
@@ -154,7 +155,7 @@ pub fn kept(
     work: &mut Work,
 ) -> Result<usize, Refusal>
     ensures same { Same work.old work.new }
-    ensures keeps { Keeps (meant choices) batch.now res.old (held work.old) (answer_of result) res.new (held work.new) }
+    ensures keeps { Keeps (meant choices) batch.now res.old (held work.old) (answered result) res.new (held work.new) }
 {
     answer_in(serve(choices, Job::Kept, batch, res, work))
 }

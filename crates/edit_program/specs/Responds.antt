@@ -19,10 +19,6 @@ pub judged_in_room : (h : Choices) (bs : List ℕ) → printed h (take 65536 bs)
 unfolding printed
 judged_in_room h bs = rw (take-take 65536 65536 bs (omega arith)) refl
 
--- the bytes that are judged are no more than the buffer has
-pub front_within : (read : ℕ) (b : List ℕ) → 65536 ≡ length b → read ≤ length b → length (take read b) ≤ 65536
-front_within read b e h = omega (arith, length-take-le read b h)
-
 -- what is shown of an answer that tells of the first bytes of the buffer
 pub responds : {h : Choices} (b : List ℕ) (read : ℕ) (r : Result ℕ Refusal) (result : List ℕ) {d l : List ℕ} {to : ℕ} → read ≤ length b → Tells h (take read b) r result → Put d 0 (told r result) l to → length l ≡ length d → Responds h b read l to
 responds b read r result {d} {l} {to} c t p e = record {

@@ -14,8 +14,7 @@ use Rattle.definition.specs.Printed.{print, printed}
 use Rattle.definition_laws.specs.Answers.{refused_gives}
 use Rattle.definition_laws.proofs.Limits.{edit_within}
 use Rattle.promises.specs.Slices.{needed, lengths}
-use Rattle.edit_algo.specs.Numbers.{answer_of}
-use Rattle.refusals.specs.Numbers.{number}
+use Rattle.refusals.specs.Numbers.{number, answered}
 use Rattle.refusals.specs.declared.Refusal.{Refusal}
 use Rattle.promises.specs.Promises.{Edits, applied, wrongly_chosen}
 use Rattle.result_laws.proofs.Worded.{Bytes, edit_worded}
@@ -45,8 +44,8 @@ told (Err k) result = print (refused (number k))
 told (Ok n) result = print (gives (decoded (take n result)))
 
 module _ (h : Choices) (b held : List ℕ) (work : List (List ℕ)) (holds : List ℕ) (left : List (List ℕ)) where
-  pub edit_showable : (r : Result ℕ Refusal) (room : ℕ) → 190000 ≤ room → Edits h b held work (answer_of r) holds left → Showable r holds room
-  unfolding answer_of
+  pub edit_showable : (r : Result ℕ Refusal) (room : ℕ) → 190000 ≤ room → Edits h b held work (answered r) holds left → Showable r holds room
+  unfolding answered
   edit_showable (Err k) room m p = omega arith
   edit_showable (Ok n) room m p =
       let d = demand_1 h b held work (gives n) holds left p in
@@ -58,8 +57,8 @@ module _ (h : Choices) (b held : List ℕ) (work : List (List ℕ)) (holds : Lis
       }
 
   -- the bytes of the result alone are read as the whole slice is
-  edit_told : (r : Result ℕ Refusal) → Bytes b → Edits h b held work (answer_of r) holds left → told r holds ≡ print (answer_in (answer_of r) holds)
-  unfolding answer_of answer_in
+  edit_told : (r : Result ℕ Refusal) → Bytes b → Edits h b held work (answered r) holds left → told r holds ≡ print (answer_in (answered r) holds)
+  unfolding answered answer_in
   edit_told (Err k) v p = refl
   edit_told (Ok n) v p =
       let f = (demand_1 h b held work (gives n) holds left p).finished n refl in
@@ -94,16 +93,16 @@ pub record Tells (h : Choices) (b : List ℕ) (r : Result ℕ Refusal) (result :
   pub tells : told r result ≡ printed h b
 
 -- a wrong choice refuses the edit, and that is what is printed
-wrong_tells : {h : Choices} {b held : List ℕ} {work : List (List ℕ)} {holds : List ℕ} {left : List (List ℕ)} (r : Result ℕ Refusal) (k : ℕ) → chosen h ≡ refused k → Edits h b held work (answer_of r) holds left → told r holds ≡ printed h b
-unfolding printed answer_of edited applied ◌>>=◌
+wrong_tells : {h : Choices} {b held : List ℕ} {work : List (List ℕ)} {holds : List ℕ} {left : List (List ℕ)} (r : Result ℕ Refusal) (k : ℕ) → chosen h ≡ refused k → Edits h b held work (answered r) holds left → told r holds ≡ printed h b
+unfolding printed answered edited applied ◌>>=◌
 wrong_tells {h} {b} {held} {work} {holds} {left} r k c p = go r (p.answer ∙ rw (wrongly_chosen h (lengths needed work) (applied h b (length held)) k c) refl)
   where
-    go : (r : Result ℕ Refusal) → answer_of r ≡ refused k → told r holds ≡ printed h b
+    go : (r : Result ℕ Refusal) → answered r ≡ refused k → told r holds ≡ printed h b
     go (Err n) e = let y : number n ≡ k = cc in rw (c, y) refl
     go (Ok n) e = refused_gives (sym e)
 
 -- where the slices are long enough, so does every answer that keeps its promise
-pub edit_tells : {h : Choices} {b held : List ℕ} {work : List (List ℕ)} {holds : List ℕ} {left : List (List ℕ)} {r : Result ℕ Refusal} → Edits h b held work (answer_of r) holds left → 65536 ≡ length held → too_short (lengths needed work) ≡ false
+pub edit_tells : {h : Choices} {b held : List ℕ} {work : List (List ℕ)} {holds : List ℕ} {left : List (List ℕ)} {r : Result ℕ Refusal} → Edits h b held work (answered r) holds left → 65536 ≡ length held → too_short (lengths needed work) ≡ false
     → length b ≤ 65536 → Bytes b → Tells h b r holds
 edit_tells {h} {b} {held} {work} {holds} {left} {r} p e s n v =
     record { showable = λ room m. edit_showable h b held work holds left r room m p; tells = go (chosen h) refl }
@@ -112,4 +111,4 @@ edit_tells {h} {b} {held} {work} {holds} {left} {r} p e s n v =
     go (refused k) c = wrong_tells r k c p
     go (gives u) c =
         let whole = take_all 65536 b n in
-        edit_told h b held work holds left r v p ∙ printed_run h b held work (answer_of r) holds left (rw whole p) (rw whole v) c s (sym e)
+        edit_told h b held work holds left r v p ∙ printed_run h b held work (answered r) holds left (rw whole p) (rw whole v) c s (sym e)

@@ -9,7 +9,7 @@ ghost use Rattle.program_choices.specs.Given.{arguments, Given, Gives};
 use choices::Choices;
 use std::env::{Env, FillError};
 
-// The number of an argument that is not one digit: no choice has it.
+// The number of an argument that is not one digit: no choice has it. Not an `Option`: `Choices` holds any number, and what is given stays so until `judge` refuses it.
 const NO_CHOICE: usize = 10;
 
 // The digit that an argument is.
@@ -56,13 +56,9 @@ pub struct Arguments {
 
 // How many arguments there are, the program's name among them.
 fn count(rt: &impl Env) -> usize {
-    let mut none = [0u8; 0];
-    for i in 0..usize::MAX {
-        if let Err(FillError::NotPresent) = rt.arg(i, &mut none) {
-            return i;
-        }
-    }
-    usize::MAX
+    (0..usize::MAX)
+        .find(|i| matches!(rt.arg(*i, &mut [0u8; 0]), Err(FillError::NotPresent)))
+        .unwrap_or(usize::MAX)
 }
 
 // Reads the first two arguments into the fronts of `first` and `second`. One that is longer is read as an empty one, so it is no choice either. Promised is that

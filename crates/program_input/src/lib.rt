@@ -1,4 +1,4 @@
-// A program's batch, read from its input, and its arguments.
+// A program's batch, read from its input, and its arguments; words printed in a line.
 #![tactic(auto)]
 
 ghost use Rattle.std.specs.Prelude.{◌≡◌, ◌<◌, ◌≤◌, ◌^◌, ℕ, List, length, take, IfOk, OnOk};
@@ -154,4 +154,12 @@ pub fn read_argument(rt: &impl Env, i: usize, buf: &mut [u8]) -> usize
         Ok(n) => n,
         Err(_) => 0,
     }
+}
+
+// Prints words in a line.
+pub fn print_words(rt: &impl Print, words: &[u32]) -> io::Result<()> {
+    for word in words {
+        print!(rt; "{word} ")?;
+    }
+    println!(rt)
 }

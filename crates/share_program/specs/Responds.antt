@@ -34,9 +34,6 @@ pub judged_in_room : (h : Choices) (bs : List ℕ) → share_printed h (take 655
 unfolding share_printed
 judged_in_room h bs = rw (take-take 65536 65536 bs (omega arith)) refl
 
-pub front_long : (read : ℕ) (b : List ℕ) → read ≤ length b → read ≡ length (take read b)
-front_long read b h = sym (length-take-le read b h)
-
 -- ── From what is promised ───────────────────────────────────────────────────────────────────────────────────
 
 -- where no work slice is too short, 1 does not come

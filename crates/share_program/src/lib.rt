@@ -9,7 +9,6 @@ ghost use Rattle.share_program.specs.Responds.{judged_in_room};
 
 use choices::Choices;
 use program_input::Program;
-use promises::Work;
 use std::io;
 use std::io::{Read, Write};
 use std::rt::Env;
@@ -28,28 +27,9 @@ impl Program<65536, 64> for Sharing {
     ghost room = { λ out e. e };
 
     fn answer(&self, batch: &[u8], read: usize, out: &mut [u8]) -> usize {
-        // The work slices are made here, of the lengths of docs/WORK.md.
-        let mut table = [0u32; 16384];
-        let mut source = [0u32; 6147];
-        let mut changes = [0u32; 3840];
-        let mut notes = [0u32; 3072];
-        let mut incoming = [0u32; 3072];
-        let mut changed = [0u32; 1024];
-        let mut marks = [0u32; 2048];
-        let mut rows = [0u32; 12291];
-        let mut prepared = [0u32; 12288];
-        let mut work = Work {
-            table: &mut table,
-            source: &mut source,
-            changes: &mut changes,
-            notes: &mut notes,
-            incoming: &mut incoming,
-            changed: &mut changed,
-            marks: &mut marks,
-            rows: &mut rows,
-            prepared: &mut prepared,
-        };
-        let told = edit_algo::share(self.choices, &batch[..read], &mut work);
+        let told = promises::with_work(0, |work| {
+            edit_algo::share(self.choices, &batch[..read], work)
+        });
         match told {
             Err(refusal) => edit_print::print_refusal(out, refusal.number()),
             Ok(share) => edit_print::put_line(out, 0, b"share", &[share.quotient, share.remainder]),

@@ -1,37 +1,26 @@
 // Runs the functions on rows: S is root(X(a), b) with one-letter tokens, as the only tree under the root of all.
 #![tactic(auto)]
 
+use program_input::print_words;
 use rows_path::{Resolved, resolve};
 use rows_syntax_node::Rows;
 use std::io;
+use words::NODE_KIND;
 
-const S: [u32; 15] = [
-    0x8000_0000,
-    1,
-    0,
-    0x8000_0001,
-    2,
-    0,
-    0x8000_0005,
-    1,
-    0,
-    2,
-    1,
-    0,
-    3,
-    1,
-    1,
-];
+// The least kind of a node.
+const NODE: u32 = NODE_KIND as u32;
+
+const S: [u32; 15] = [NODE, 1, 0, NODE + 1, 2, 0, NODE + 5, 1, 0, 2, 1, 0, 3, 1, 1];
 
 // The same with room for one more row.
 const ROOM: [u32; 18] = [
-    0x8000_0000,
+    NODE,
     1,
     0,
-    0x8000_0001,
+    NODE + 1,
     2,
     0,
-    0x8000_0005,
+    NODE + 5,
     1,
     0,
     2,
@@ -51,13 +40,6 @@ fn print(rt: &impl Print, n: usize) -> io::Result<()> {
 
 fn end_line(rt: &impl Print) -> io::Result<()> {
     println!(rt)
-}
-
-fn print_words(rt: &impl Print, words: &[u32]) -> io::Result<()> {
-    for word in words {
-        print!(rt; "{word} ")?;
-    }
-    end_line(rt)
 }
 
 // An element's row, and where its text starts.
@@ -126,16 +108,7 @@ fn delete(rt: &impl Print) -> io::Result<()> {
 // The whole tree by a node with c.
 fn replace_root(rt: &impl Print) -> io::Result<()> {
     let mut rows = ROOM;
-    let n = rows_syntax_node::splice_rows(
-        &mut rows,
-        5,
-        0,
-        1,
-        5,
-        1,
-        &[0x8000_0001, 1, 0, 4, 1, 2],
-        1,
-    );
+    let n = rows_syntax_node::splice_rows(&mut rows, 5, 0, 1, 5, 1, &[NODE + 1, 1, 0, 4, 1, 2], 1);
     print(rt, n)?;
     print_words(rt, &rows)?;
     let mut marks = [1u32, 2, 3, 4];

@@ -3,6 +3,7 @@
 // The old tree is root(X(a, b), Y(c), d), with one-letter tokens: rows 0 to 6.
 #![tactic(auto)]
 
+use program_input::print_words;
 use splices_model::{SPLICE_WORDS, SpliceRefusal};
 use std::io;
 use words::copy_in;
@@ -97,14 +98,6 @@ const ORDERS4: [[u32; 4]; 24] = [
 
 // ── Printing ──
 
-// The first `n` words.
-fn print_words(rt: &impl Print, words: &[u32], n: usize) -> io::Result<()> {
-    for word in words.iter().take(n) {
-        print!(rt; "{word} ")?;
-    }
-    println!(rt)
-}
-
 // ── One order ──
 
 // Splice `o` of the list becomes splice `k`.
@@ -179,8 +172,8 @@ fn try_list<const C: usize>(rt: &impl Print, list: &[u32], orders: &[[u32; C]]) 
         Ok(n) => {
             if agree(list, orders, n, &rows, &marks) {
                 println!(rt; "{n} ")?;
-                print_words(rt, &rows, 42)?;
-                return print_words(rt, &marks, 7);
+                print_words(rt, &rows)?;
+                return print_words(rt, &marks);
             }
             println!(rt; "orders differ")
         }

@@ -3,6 +3,7 @@
 
 ghost use Rattle.std.specs.Prelude.{◌≡◌};
 
+use program_input::print_words;
 use read_spelling::Columns;
 use std::io;
 
@@ -21,13 +22,6 @@ fn columns(bytes: &[u8; 40]) -> Columns<'_>
         measures: 20,
         count: 5,
     }
-}
-
-fn print_words(rt: &impl Print, words: &[u32]) -> io::Result<()> {
-    for word in words {
-        print!(rt; "{word} ")?;
-    }
-    println!(rt)
 }
 
 // Whether the elements spell so many trees with so many bytes of text.

@@ -1,7 +1,8 @@
 -- `answer` meets its contract.
 -- Assumes nothing.
 use borrow.Author.Rules.{rules}
-use Rattle.account_program.specs.Responds.{front_within, refused_responds, told_responds}
+use Rattle.program_input.specs.Told.{front_within}
+use Rattle.account_program.specs.Responds.{refused_responds, told_responds}
 use Rattle.account_program.proofs.AccountingProgram655368192.answer.Goals as goal
 
 pub account_batch-told-requires : goal.account_batch-told-requires

@@ -1,6 +1,7 @@
 -- `answer` meets its contract: what is shown is told of the bytes that are judged.
 -- Assumes nothing.
-use Rattle.edit_program.specs.Responds.{front_within, responds}
+use Rattle.program_input.specs.Told.{front_within}
+use Rattle.edit_program.specs.Responds.{responds}
 use borrow.Author.Rules.{rules}
 use Rattle.edit_program.proofs.EditingProgram65536190000.answer.Goals as goal
 
