@@ -2,7 +2,9 @@
 -- Assumes nothing.
 use mathlib.Core.Path.{◌≡◌, refl, sym, ap, ◌∙◌}
 use mathlib.Core.List.{List, [], ◌++◌, map, flat_map}
-use Prim.Native.Nat.{ℕ, suc, ◌+◌, ◌-◌, ◌*◌, ◌/◌, ◌^◌, ◌≤◌, ◌<◌}
+use Rattle.std.specs.List.{sum, range_with_len}
+use Rattle.std.proofs.lemmas.List.Sums.{sum_by-cons}
+use Prim.Native.Nat.{ℕ, zero, suc, ◌+◌, ◌-◌, ◌*◌, ◌/◌, ◌^◌, ◌≤◌, ◌<◌}
 use native.Mathlib.Omega.{arith}
 use native.Mathlib.Nat.{zero-add, add-zero, sub_self}
 use native.Mathlib.Numerals.{add-one}
@@ -164,31 +166,26 @@ module _ (tree text : List ℕ) (i : ℕ) {k : ℕ} (e : k ≡ get_or tree (3 * 
     pub own_outside : length text < o + m → [] ≡ own (row_in text tree i)
     own_outside l = rw (← e, ← a, ← b, lt-ltb k 2147483648 h, lt-leb (o + m) (length text) l)
 
--- the text of the first i rows is `sum` long
-pub record Sizing (tree text : List ℕ) (sum i : ℕ) : Type 0 where
-  pub inside : 3 * i ≤ length tree
-  pub rest : length (flat_map own (triples text tree)) ≡ sum + length (flat_map own (drop i (triples text tree)))
+module _ (tree text : List ℕ) where
+  -- how long the own text of row i is
+  abbrev pub part_at : ℕ → ℕ
+  part_at i = length (own (row_in text tree i))
 
-pub sizing_start : (tree text : List ℕ) → Sizing tree text 0 0
-sizing_start tree text = record { inside = omega arith; rest = omega arith }
-
-module _ {tree text : List ℕ} {sum i : ℕ} (v : Sizing tree text sum i) where
-  module _ {s : List ℕ} (h : i < length tree / 3) (e : s ≡ own (row_in text tree i)) where
-    sizing_more : length (flat_map own (triples text tree)) ≡ sum + (length s + length (flat_map own (drop (suc i) (triples text tree))))
-    unfolding flat_map
-    sizing_more = v.rest ∙ rw (triples_at text i tree (omega arith), ← e) (ap (λ (n : ℕ). sum + n) (length-append s (flat_map own (drop (suc i) (triples text tree)))))
-
-    pub sizing_small : bytes (triples [] tree) < 2 ^ 32 → sum + length s < 2 ^ 32
-    sizing_small b = omega (arith, sizing_more, own_few (triples text tree), bytes_any text [] tree)
-
-    pub sizing_next : Sizing tree text (sum + length s) (i + 1)
-    sizing_next = record { inside = omega arith; rest = rw (add-one i) (sizing_more ∙ omega arith) }
-
-  pub sizing_done : length tree / 3 ≤ i → bytes (triples [] tree) < 2 ^ 32 → (sum ≡ length (flat_map own (triples text tree))) × (sum < 2 ^ 32)
+  -- the library's sum from row i on is the length of the text of those rows
+  parts_summed : (i n : ℕ) → i + n ≡ length tree / 3 → sum (map part_at (range_with_len i n)) ≡ length (flat_map own (drop i (triples text tree)))
   unfolding flat_map
-  sizing_done h b =
-      let e : length (flat_map own (triples text tree)) ≡ sum = v.rest ∙ rw (triples_end text i tree (omega arith)) (omega arith) in
-      (sym e, omega (arith, own_few (triples text tree), bytes_any text [] tree))
+  parts_summed i zero e = sym (ap (λ rs. length (flat_map own rs)) (triples_end text i tree (omega arith)))
+  parts_summed i (suc n) e =
+      let rest = parts_summed (i + 1) n (omega arith) in
+      let more : length (flat_map own (drop i (triples text tree))) ≡ part_at i + length (flat_map own (drop (suc i) (triples text tree))) =
+      ap (λ rs. length (flat_map own rs)) (triples_at text i tree (omega arith)) ∙ length-append (own (row_in text tree i)) (flat_map own (drop (suc i) (triples text tree))) in
+      sum_by-cons (λ x. x) (part_at i) (map part_at (range_with_len (i + 1) n)) ∙ (ap (λ (m : ℕ). part_at i + m) (rest ∙ ap (λ (j : ℕ). length (flat_map own (drop j (triples text tree)))) (add-one i)) ∙ sym more)
+
+  pub text_summed : sum (map part_at (range_with_len 0 (length tree / 3))) ≡ length (flat_map own (triples text tree))
+  text_summed = parts_summed 0 (length tree / 3) (omega arith)
+
+  pub text_few : bytes (triples [] tree) < 2 ^ 32 → length (flat_map own (triples text tree)) < 2 ^ 32
+  text_few b = omega (arith, own_few (triples text tree), bytes_any text [] tree)
 
 -- l is d with the text of the first i rows written from `at` up to `to`
 pub record Texting (tree text d : List ℕ) (at : ℕ) (l : List ℕ) (to i : ℕ) : Type 0 where

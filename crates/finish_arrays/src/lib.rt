@@ -16,7 +16,7 @@ pub use tally::Tally;
 use words::NODE_KIND;
 
 // Where the text of each row of a tree starts: what resolving its path would give, of all rows in one pass. A row is read by its number, as the readers of rows take it:
-// over `chunks_exact` each would be told that row 0 is meant, and the sum be carried along all the same. So it is in the three loops below.
+// over `chunks_exact` each would be told that row 0 is meant, and the sum be carried along all the same. So it is in the two loops below.
 pub fn fill_starts(tree: &[u32], out: &mut [u32])
     requires { (length tree.now ≤ 3 * length out.old) × (length tree.now < 3 * 2 ^ 16) × (bytes (triples [] tree.now) < 2 ^ 32) }
     ensures { Starts tree.now out.old out.new }
@@ -101,12 +101,9 @@ pub fn text_size(tree: &[u32], text: &[u8]) -> usize
     requires { (length tree.now < 3 * 2 ^ 16) × (bytes (triples [] tree.now) < 2 ^ 32) }
     ensures { (result ≡ length (flat_map own (triples text.now tree.now))) × (result < 2 ^ 32) }
 {
-    let mut sum = 0;
-    for i in 0..tree.len() / ROW_WORDS {
-        let part = own_text(tree, i, text);
-        sum += part.len();
-    }
-    sum
+    (0..tree.len() / ROW_WORDS)
+        .map(|i| own_text(tree, i, text).len())
+        .sum()
 }
 
 // The text of a tree is written at `at`.

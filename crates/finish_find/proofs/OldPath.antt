@@ -50,14 +50,14 @@ path_top n w s L e h z = go (get_or w (8 * e + 3) 0) (L.root e h z).0
     go d q = rw (q, path_to, z)
 
 module _ {n : ℕ} {w : List ℕ} {k : ℕ} {a : List ℕ} where
-  pub rising_start : {p : ℕ} → Lines n w × (k < n) × (length a ≡ 64) → (p ≡ get_or w (8 * k + 1) 0) × (p < 2 ^ 32) → Rising n w k a k 64 p
+  pub rising_start : {p : ℕ} → (k < n) × (length a ≡ 64) → (p ≡ get_or w (8 * k + 1) 0) × (p < 2 ^ 32) → Rising n w k a k 64 p
   rising_start h e = record {
-    here = h.1;
+    here = h.0;
     parent = e.0;
     deeper = refl;
     high = omega arith;
-    long = h.2;
-    rest = λ s. sym (ap (λ r. path_to w s (get_or w (8 * k + 3) 0) k ++ r) (drop_of_length-le a {i = 64} (omega (arith, h.2))) ∙ append-nil (path_to w s (get_or w (8 * k + 3) 0) k));
+    long = h.1;
+    rest = λ s. sym (ap (λ r. path_to w s (get_or w (8 * k + 3) 0) k ++ r) (drop_of_length-le a {i = 64} (omega (arith, h.1))) ∙ append-nil (path_to w s (get_or w (8 * k + 3) 0) k));
   }
 
 module _ {n : ℕ} {w : List ℕ} {k : ℕ} {a : List ℕ} {at from p : ℕ} (v : Rising n w k a at from p) (L : Lines n w) (hk : k < n) where

@@ -1,10 +1,9 @@
 // `find_element`: where the old node's text starts, and in the new tree the first node in preorder with its kind word and that start.
 #![tactic(auto)]
 
-ghost use Rattle.std.specs.Prelude.{◌≡◌, List, ℕ, ◌*◌, ◌^◌, ◌≤◌, ◌<◌, length};
+ghost use Rattle.std.specs.Prelude.{◌≡◌, List, ℕ, ◌≤◌, ◌<◌, length};
 ghost use Rattle.definition.specs.Elements.{row, tree as tree_of};
 ghost use Rattle.read_element_table.specs.Held.{view_of};
-ghost use Rattle.read_element_table.specs.Wellformed.{Lines};
 ghost use Rattle.rows_model.specs.Row.{first_rows};
 ghost use Rattle.finish_model.specs.Finished.{first_tree};
 ghost use Rattle.finish_model.specs.Alike.{alike_words, find_row};
@@ -21,10 +20,11 @@ use words::{NODE_KIND, word};
 
 // The path of element `k` in its tree: the child numbers from the root down to it. They are written upward from the end of `path`, and so stand there
 // in order. Where they begin.
-fn path_in_tree(table: &[u32], n: usize, k: usize, path: &mut [u32; 64]) -> usize
-    requires { Lines n table.now × (k < n) × (length path.old ≡ 64) }
-    ensures { PathFrom n table.now k path.new result }
+fn path_in_tree(elements: &Elements, k: usize, path: &mut [u32; 64]) -> usize
+    requires { (k < elements.now.count) × (length path.old ≡ 64) }
+    ensures { PathFrom elements.now.count elements.now.table.now k path.new result }
 {
+    let table = elements.table;
     let mut at = k;
     let mut from: usize = 64;
     let mut parent = entry(table, k, PARENT);
@@ -45,7 +45,7 @@ pub fn old_start(elements: &Elements, k: usize) -> usize
     ensures { result ≡ (row (view_of elements.now) k).start }
 {
     let mut path = [0u32; 64];
-    let from = path_in_tree(elements.table, elements.count, k, &mut path);
+    let from = path_in_tree(elements, k, &mut path);
     let end = entry(elements.table, 0, AFTER);
     let to = ROW_WORDS * (end + 1);
     // Its own path leads to it.

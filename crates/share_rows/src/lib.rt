@@ -1,7 +1,7 @@
 // The share of text rewritten (document 02, Note 10), from the rows and the changed elements that a run leaves.
 #![tactic(auto)]
 
-ghost use Rattle.std.specs.Prelude.{◌≡◌, List, ℕ, ◌*◌, ◌^◌, ◌≤◌, ◌<◌, length};
+ghost use Rattle.std.specs.Prelude.{◌^◌, ◌≤◌, ◌<◌, length};
 ghost use Rattle.share_rows.specs.Promises.{ElementBytes, ChangedText, ChangedTexts, Divided, Shares};
 
 use finish_model::{Left, first_tree, number_at};
