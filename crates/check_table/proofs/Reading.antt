@@ -2,7 +2,7 @@
 -- Assumes nothing.
 use mathlib.Core.Path.{◌≡◌, refl, sym, ap, ◌∙◌}
 use mathlib.Core.Bool.{Bool, true, false, ◌&&◌}
-use mathlib.Core.List.{List, [], ◌∷◌, ◌++◌, zip, append_assoc, append-nil}
+use mathlib.Core.List.{List, [], ◌∷◌, ◌++◌, map, zip, append_assoc, append-nil}
 use Prim.Native.Nat.{ℕ, zero, suc, ◌+◌, ◌-◌, ◌*◌, ◌≤◌, ◌<◌}
 use native.Mathlib.Omega.{arith}
 use lib.Dec.{eqb}
@@ -12,6 +12,7 @@ use mathlib.Core.Logic.{inl, inr}
 use Rattle.std.specs.Prelude.{Option, None, Some}
 use Rattle.orders.specs.ListLaws.{bool_absurd, bool?, lt_or_le}
 use Rattle.check_table.specs.declared.Next.{Next}
+use Rattle.check_table.specs.declared.Open.{Open}
 use Rattle.check_table.specs.Next.{Opened, Opens}
 use Rattle.read_spelling.specs.Spelling.{children_of, length_of, stands, fills, accepts}
 use Rattle.read_spelling.specs.SpellingLaws.{fills_close, stands_shallow, fills_open, fills_short, fills_long, fills_end, fills_over}
@@ -27,11 +28,6 @@ set_below (y ∷ l) zero x n h k zero = k
 set_below (y ∷ l) zero x n h k (suc j) = h (suc j)
 set_below (y ∷ l) (suc i) x n h k zero = h 0
 set_below (y ∷ l) (suc i) x n h k (suc j) = set_below l i x n (λ j'. h (suc j')) k j
-
-zeros_below : (m n j : ℕ) → get_or (replicate m 0) j 0 ≤ n
-zeros_below zero n j = omega arith
-zeros_below (suc m) n zero = omega arith
-zeros_below (suc m) n (suc j) = zeros_below m n j
 
 -- the element that is told may be opened
 pub opened : {kinds measures : List ℕ} {i d sum bytes : ℕ} {o : Option Next} {e : Next} → Opens kinds measures i d sum bytes o → o ≡ Some e → Opened kinds measures i d sum bytes e
@@ -54,10 +50,6 @@ module _ (kinds measures : List ℕ) (bytes : ℕ) where
     pub small : (j : ℕ) → get_or owner j 0 ≤ i
     pub verdict : accepts 1 bytes (zip kinds measures) ≡ fills bytes (stack 0 left d) sum (pairs_from kinds measures i)
     pub words : words_of (zip kinds measures) ≡ take (4 * i) table ++ words_from (stack 0 left d) (stack 0 owner d) i sum (pairs_from kinds measures i)
-
-  pub reading_start : {table : List ℕ} → Reading table table (set (replicate 65 0) 0 1) (replicate 65 0) 1 0 0
-  unfolding accepts stack words_of pairs_from
-  reading_start = record { inside = omega arith; long = refl; owners = refl; same = refl; low = omega arith; few = omega arith; small = zeros_below 65 0; verdict = refl; words = refl }
 
 module _ {kinds measures : List ℕ} {bytes : ℕ} {table₀ table left owner : List ℕ} {d sum i : ℕ} (v : Reading kinds measures bytes table₀ table left owner d sum i) where
   -- an element to which no child is to come is closed
@@ -168,3 +160,72 @@ module _ {kinds measures : List ℕ} {bytes : ℕ} {table₀ table left owner : 
         pub reading_next : {e : Next} {table' : List ℕ} → o ≡ Some e → 4 * length kinds ≤ length table₀ → table' ≡ paste table (4 * i) (e.kind ∷ sum ∷ e.end ∷ get_or owner (d - 1) 0 ∷ []) 4
             → Reading kinds measures bytes table₀ table' (set (set left (d - 1) (get_or left (d - 1) 0 - 1)) d e.children) (set owner d (i + 1)) (d + 1) e.end (i + 1)
         reading_next {e} z hl et = let f : Opened kinds measures i d sum bytes e = opened w z in reading_open f.there f.kind refl refl f.stands refl f.children f.end f.fits hl et
+
+-- ── Open elements as values ─────────────────────────────────────────────────────────────────────────────────
+
+-- how many of its children are to come, and whose child comes next
+abbrev pub lefts : List Open → List ℕ
+lefts l = map (λ o. o.left) l
+
+abbrev pub owners_of : List Open → List ℕ
+owners_of l = map (λ o. o.owner) l
+
+-- one of which there is none
+abbrev pub shut : Open
+shut = record { left = 0; owner = 0 }
+
+map_set : (f : Open → ℕ) (l : List Open) (i : ℕ) (x : Open) → map f (set l i x) ≡ set (map f l) i (f x)
+map_set f [] i x = refl
+map_set f (y ∷ l) zero x = refl
+map_set f (y ∷ l) (suc i) x = ap {B = List ℕ} (λ r. f y ∷ r) (map_set f l i x)
+
+pub left_at : (l : List Open) (i : ℕ) → get_or (lefts l) i 0 ≡ (get_or l i shut).left
+left_at [] i = refl
+left_at (y ∷ l) zero = refl
+left_at (y ∷ l) (suc i) = left_at l i
+
+pub owner_at : (l : List Open) (i : ℕ) → get_or (owners_of l) i 0 ≡ (get_or l i shut).owner
+owner_at [] i = refl
+owner_at (y ∷ l) zero = refl
+owner_at (y ∷ l) (suc i) = owner_at l i
+
+-- that above the tree, whose one child is the root
+abbrev pub above : Open
+above = record { left = 1; owner = 0 }
+
+none_above : (m j : ℕ) → get_or (owners_of (replicate m above)) j 0 ≤ 0
+none_above zero j = omega arith
+none_above (suc m) zero = omega arith
+none_above (suc m) (suc j) = none_above m j
+
+module _ (kinds measures : List ℕ) (bytes : ℕ) (table : List ℕ) where
+  pub walk_start : Reading kinds measures bytes table table (lefts (replicate 65 above)) (owners_of (replicate 65 above)) 1 0 0
+  unfolding accepts stack words_of pairs_from
+  walk_start = record { inside = omega arith; long = refl; owners = refl; same = refl; low = omega arith; few = omega arith; small = none_above 65; verdict = refl; words = refl }
+
+module _ {kinds measures : List ℕ} {bytes : ℕ} {table₀ table : List ℕ} (open' : List Open) {d sum i : ℕ} (v : Reading kinds measures bytes table₀ table (lefts open') (owners_of open') d sum i) where
+  pub walk_close : 0 < d → (get_or open' (d - 1) shut).left ≡ 0 → Reading kinds measures bytes table₀ table (lefts open') (owners_of open') (d - 1) sum i
+  walk_close h e = reading_close v h (left_at open' (d - 1) ∙ e)
+
+  pub walk_owner : (j : ℕ) → (get_or open' j shut).owner ≤ i
+  walk_owner j = omega (arith, v.small j, owner_at open' j)
+
+  module _ (alike : length measures ≡ length kinds) (h : 0 < d) (ne : (get_or open' (d - 1) shut).left ≡ 0 → ⊥) {o : Option Next} (w : Opens kinds measures i d sum bytes o) where
+    pub walk_refused : o ≡ None → Reads (zip kinds measures) bytes false table
+    walk_refused z = reading_refused v alike h (λ q. ne (sym (left_at open' (d - 1)) ∙ q)) w z
+
+    pub walk_next : {e : Next} {table' : List ℕ} → o ≡ Some e → 4 * length kinds ≤ length table₀ → table' ≡ paste table (4 * i) (e.kind ∷ sum ∷ e.end ∷ (get_or open' (d - 1) shut).owner ∷ []) 4
+        → Reading kinds measures bytes table₀ table'
+        (lefts (set (set open' (d - 1) (record { left = (get_or open' (d - 1) shut).left - 1; owner = (get_or open' (d - 1) shut).owner })) d (record { left = e.children; owner = i + 1 })))
+        (owners_of (set (set open' (d - 1) (record { left = (get_or open' (d - 1) shut).left - 1; owner = (get_or open' (d - 1) shut).owner })) d (record { left = e.children; owner = i + 1 })))
+        (d + 1) e.end (i + 1)
+    walk_next {e} {table'} z hl et =
+        let x : Open = record { left = (get_or open' (d - 1) shut).left - 1; owner = (get_or open' (d - 1) shut).owner } in
+        let y : Open = record { left = e.children; owner = i + 1 } in
+        let p : lefts (set (set open' (d - 1) x) d y) ≡ set (set (lefts open') (d - 1) (get_or (lefts open') (d - 1) 0 - 1)) d e.children =
+        map_set (λ o. o.left) (set open' (d - 1) x) d y ∙ ap (λ (l : List ℕ). set l d e.children) (map_set (λ o. o.left) open' (d - 1) x ∙ ap (λ (n : ℕ). set (lefts open') (d - 1) (n - 1)) (sym (left_at open' (d - 1)))) in
+        let q : owners_of (set (set open' (d - 1) x) d y) ≡ set (owners_of open') d (i + 1) =
+        map_set (λ o. o.owner) (set open' (d - 1) x) d y
+        ∙ ap (λ (l : List ℕ). set l d (i + 1)) (map_set (λ o. o.owner) open' (d - 1) x ∙ (ap (λ (n : ℕ). set (owners_of open') (d - 1) n) (sym (owner_at open' (d - 1))) ∙ set-get_or (owners_of open') (d - 1) 0)) in
+        let t : table' ≡ paste table (4 * i) (e.kind ∷ sum ∷ e.end ∷ get_or (owners_of open') (d - 1) 0 ∷ []) 4 = et ∙ ap (λ (n : ℕ). paste table (4 * i) (e.kind ∷ sum ∷ e.end ∷ n ∷ []) 4) (sym (owner_at open' (d - 1))) in
+        rw (p, q) (reading_next v alike h (λ n. ne (sym (left_at open' (d - 1)) ∙ n)) w z hl t)

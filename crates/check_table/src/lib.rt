@@ -67,24 +67,28 @@ fn element_at(
     })
 }
 
+// An open element: how many of its children are to come, and its number + 1, 0 for what is above the tree.
+#[derive(Clone, Copy)]
+struct Open {
+    left: usize,
+    owner: usize,
+}
+
 // Line 5 of one tree with `bytes` bytes of text; where it accepts, the words of all elements stand in the table. Each turn closes the innermost open element,
 // if all its children have come, or opens the next one: a token has none. So it is a `while`: a `for` over elements would need a second loop inside. The walk of `read_spelling::spells` and of
-// `read_element_table::fill_elements`, of which the first writes nothing and the last eight words: one walk with a closure would owe each law of the three through the closure. What is left and
-// whose it is are two arrays, since the laws of a stack speak of numbers.
+// `read_element_table::fill_elements`, of which the first writes nothing and the last eight words: one walk with a closure would owe each law of the three through the closure.
 pub fn read_tree(kinds: &[u32], measures: &[u32], bytes: usize, table: &mut [u32]) -> bool
     requires { (length measures.now ≡ length kinds.now) × (length kinds.now ≤ 4096) × (4 * length kinds.now ≤ length table.old) × (bytes ≤ 16384) }
     ensures { Reads (zip kinds.now measures.now) bytes result table.new }
 {
-    let mut left = [0usize; 65];
-    let mut owner = [0usize; 65];
-    left[0] = 1;
+    let mut open = [Open { left: 1, owner: 0 }; 65];
     let mut d: usize = 1;
     let mut sum: usize = 0;
     let mut i: usize = 0;
     while 0 < d {
         let top = d - 1;
-        let x = left[top];
-        if x == 0 {
+        let parent = open[top];
+        if parent.left == 0 {
             d = top;
         } else {
             let Some(element) = element_at(kinds, measures, i, d, sum, bytes) else {
@@ -93,11 +97,16 @@ pub fn read_tree(kinds: &[u32], measures: &[u32], bytes: usize, table: &mut [u32
             words::store(
                 table,
                 WORDS * i,
-                &[element.kind, sum, element.end, owner[top]],
+                &[element.kind, sum, element.end, parent.owner],
             );
-            left[top] = x - 1;
-            left[d] = element.children;
-            owner[d] = i + 1;
+            open[top] = Open {
+                left: parent.left - 1,
+                owner: parent.owner,
+            };
+            open[d] = Open {
+                left: element.children,
+                owner: i + 1,
+            };
             d += 1;
             sum = element.end;
             i += 1;
