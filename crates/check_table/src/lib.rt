@@ -75,8 +75,8 @@ struct Open {
 }
 
 // Line 5 of one tree with `bytes` bytes of text; where it accepts, the words of all elements stand in the table. Each turn closes the innermost open element,
-// if all its children have come, or opens the next one: a token has none. So it is a `while`: a `for` over elements would need a second loop inside. The walk of `read_spelling::spells` and of
-// `read_element_table::fill_elements`, of which the first writes nothing and the last eight words: one walk with a closure would owe each law of the three through the closure.
+// if all its children have come, or opens the next one: a token has none. So it is a `while`: a `for` over elements would need a second loop inside.
+// Beside the walks `read_spelling::spells`, which writes nothing, and `read_element_table::fill_elements`, which writes eight words: as one, with closures, it would owe their laws through these.
 pub fn read_tree(kinds: &[u32], measures: &[u32], bytes: usize, table: &mut [u32]) -> bool
     requires { (length measures.now ≡ length kinds.now) × (length kinds.now ≤ 4096) × (4 * length kinds.now ≤ length table.old) × (bytes ≤ 16384) }
     ensures { Reads (zip kinds.now measures.now) bytes result table.new }
@@ -94,11 +94,8 @@ pub fn read_tree(kinds: &[u32], measures: &[u32], bytes: usize, table: &mut [u32
             let Some(element) = element_at(kinds, measures, i, d, sum, bytes) else {
                 return false;
             };
-            words::store(
-                table,
-                WORDS * i,
-                &[element.kind, sum, element.end, parent.owner],
-            );
+            let row = [element.kind, sum, element.end, parent.owner];
+            words::store(table, WORDS * i, &row);
             open[top] = Open {
                 left: parent.left - 1,
                 owner: parent.owner,
