@@ -3,10 +3,10 @@
 use Rattle.std.specs.Prelude.{Result, Ok, Err, Option as Answered, Some, None, is_some as found}
 use Rattle.std.specs.List.{filter}
 use mathlib.Core.Bool.{Bool, true, false, cond}
-use mathlib.Core.Path.{◌≡◌, refl, sym, ap, ap₂, ◌∙◌}
+use mathlib.Core.Path.{◌≡◌, refl, sym, ap, ◌∙◌}
 use mathlib.Core.List.{List, [], ◌∷◌, ◌++◌, map, flat_map, append-nil}
 use mathlib.Core.Option.{Option, none, some}
-use Prim.Native.Nat.{ℕ, suc, ◌+◌, ◌-◌, ◌*◌, ◌/◌, ◌^◌, ◌≤◌, ◌<◌}
+use Prim.Native.Nat.{ℕ, suc, ◌+◌, ◌*◌, ◌/◌, ◌^◌, ◌≤◌, ◌<◌}
 use native.Mathlib.Nat.{zero-add}
 use native.Mathlib.Numerals.{add-one}
 use native.Mathlib.Omega.{arith}
@@ -20,7 +20,7 @@ use Rattle.definition.specs.Account.{in_room}
 use Rattle.words.specs.Bytes.{length_written, written_append}
 use Rattle.words.specs.Parts.{paste_paste, paste_swap}
 use Rattle.rows_model.specs.Row.{first_rows}
-use Rattle.rows_model.specs.Place.{in_run, rows_after, subtree}
+use Rattle.rows_model.specs.Place.{in_run, rows_after}
 use Rattle.rows_syntax_node.specs.Promises.{Part}
 use Rattle.finish_model.specs.Finished.{first_tree}
 use Rattle.finish_model.specs.Numbered.{told, told_some, told_none}

@@ -1,5 +1,5 @@
 -- `repeats` meets its contract: the library's test of the places is the definition's.
-use Rattle.std.proofs.Common.{refl, arith, ◌∙◌, rules, tests}
+use Rattle.std.proofs.Common.{arith, ◌∙◌, rules, tests}
 use Rattle.std.proofs.lemmas.Iterator.{YieldsList-from_range}
 use Rattle.std.proofs.lemmas.Iterator.Search.{any_from_yields_List}
 use Rattle.series_check.proofs.Numbers.{again, repeat_listed, again_told}
