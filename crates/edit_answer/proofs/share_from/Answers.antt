@@ -1,6 +1,5 @@
 -- `share_from` meets its contract: the share of what the run leaves is the batch's.
 use mathlib.Core.Path.{sym}
-use mathlib.Core.List.{[]}
 use lib.Seq.{length-take-le}
 use Rattle.edit_answer.proofs.Ends.{few_used, share_answers}
 use Rattle.edit_answer.proofs.share_from.Goals as goal
