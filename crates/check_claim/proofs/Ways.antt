@@ -4,11 +4,11 @@ use mathlib.Core.Path.{◌≡◌, refl, sym, ap, ◌∙◌}
 use mathlib.Core.Bool.{Bool, true, false, not, ◌||◌}
 use mathlib.Core.List.{List, [], ◌∷◌, zip, zip_with}
 use mathlib.Core.Logic.{◌⊎◌, inl, inr}
-use Prim.Native.Nat.{ℕ, ◌≤◌, ◌<◌}
+use Prim.Native.Nat.{ℕ, ◌≤◌}
 use native.Mathlib.Omega.{arith}
 use lib.Dec.{leb, ltb, eqb}
 use lib.ListN.{length, replicate, length-replicate}
-use borrow.Author.Tests.{lt-ltb, le-ltb, ltb-true, ltb-false, eq-eqb, ne_eqb, eqb-true, not-false}
+use borrow.Author.Tests.{ltb-true, ltb-false, eq-eqb, ne_eqb, eqb-true, not-false}
 use Rattle.orders.specs.ListLaws.{either_false, All-map}
 use Rattle.definition.specs.Basics.{Answer, gives, refused, ◌>>=◌, refuse, any}
 use Rattle.definition.specs.Answers.{too_short, with_work}
@@ -35,26 +35,6 @@ module _ (o n p m : List ℕ) where
   abbrev Short : Bool → Type 0
   Short r = r ≡ too_short (lengths checker_needs (o ∷ n ∷ p ∷ m ∷ []))
 
-  pub short_old : length o < 16384 → Short true
-  unfolding too_short lengths checker_needs any zip zip_with
-  short_old h = rw (lt-ltb (length o) 16384 h) refl
-
-  pub short_new : 16384 ≤ length o → length n < 16384 → Short true
-  unfolding too_short lengths checker_needs any zip zip_with
-  short_new h k = rw (le-ltb (length o) 16384 h, lt-ltb (length n) 16384 k) refl
-
-  pub short_partners : 16384 ≤ length o → 16384 ≤ length n → length p < 4096 → Short true
-  unfolding too_short lengths checker_needs any zip zip_with
-  short_partners h k l = rw (le-ltb (length o) 16384 h, le-ltb (length n) 16384 k, lt-ltb (length p) 4096 l) refl
-
-  pub short_marks : 16384 ≤ length o → 16384 ≤ length n → 4096 ≤ length p → Short (ltb (length m) 4096)
-  unfolding too_short lengths checker_needs any zip zip_with
-  short_marks h k l = rw (le-ltb (length o) 16384 h, le-ltb (length n) 16384 k, le-ltb (length p) 4096 l) (go (ltb (length m) 4096))
-    where
-      go : (b : Bool) → b ≡ (b || false)
-      go true = refl
-      go false = refl
-
   pub long_enough : (r : Bool) → Short r → r ≡ false → (16384 ≤ length o) × (16384 ≤ length n) × (4096 ≤ length p) × (4096 ≤ length m)
   unfolding too_short lengths checker_needs any zip zip_with
   long_enough r e h =
@@ -64,24 +44,7 @@ module _ (o n p m : List ℕ) where
       let (d, q) = either_false (ltb (length m) 4096) false q in
       (ltb-false (length o) 16384 a, ltb-false (length n) 16384 b, ltb-false (length p) 4096 c, ltb-false (length m) 4096 d)
 
-  pub cleared : {o' n' p' m' : List ℕ} → o' ≡ replicate (length o) 0 → n' ≡ replicate (length n) 0 → p' ≡ replicate (length p) 0 → m' ≡ replicate (length m) 0 → (o' ∷ n' ∷ p' ∷ m' ∷ []) ≡ zeroed (o ∷ n ∷ p ∷ m ∷ [])
-  unfolding zeroed zeros
-  cleared a b c d = rw (a, b, c, d) refl
-
 -- ── Sizes ───────────────────────────────────────────────────────────────────────────────────────────────────
-
-module _ (k m t : ℕ) where
-  pub big_kinds : 4096 < k → true ≡ big_sizes k m t
-  unfolding big_sizes
-  big_kinds h = rw (lt-ltb 4096 k h)
-
-  pub big_measures : k ≤ 4096 → 4096 < m → true ≡ big_sizes k m t
-  unfolding big_sizes
-  big_measures h j = rw (le-ltb 4096 k h, lt-ltb 4096 m j)
-
-  pub big_text : k ≤ 4096 → m ≤ 4096 → ltb 16384 t ≡ big_sizes k m t
-  unfolding big_sizes
-  big_text h j = rw (le-ltb 4096 k h, le-ltb 4096 m j)
 
 module _ (k m t k' m' t' o n : ℕ) {x : Bool} (ex : x ≡ big_sizes k m t) where
   abbrev Size : Result (Unit {0}) Refusal → Type 0

@@ -16,15 +16,10 @@ use Rattle.orders.specs.ListLaws.{both_true}
 use Rattle.rows_syntax_node.specs.Promises.{Counted}
 use Rattle.rows_model.specs.Row.{Row, owes, row_in, triples}
 use Rattle.rows_model.proofs.Words.{triples_at, triples_end}
-use Rattle.splices_model.specs.Cuts.{part_at}
-use Rattle.splices_model.specs.Bounds.{rows_to, part_is}
+use Rattle.splices_model.specs.Bounds.{rows_to}
 use Rattle.splices_model.specs.Verdict.{owed, closed, bounded_at, fit_at, fits_to, limited, roomy, judged_by, all_more, fits_each}
 use Rattle.splices_apart.specs.Promises.{RowsTo, ApartAll}
 use Rattle.splices_check.specs.Promises.{Closes, FitsAll, OneTree, Fitted, Judged}
-
--- what `word` tells
-abbrev Read : ℕ → ℕ → Type 0
-Read x y = (x ≡ y) × (x < 2 ^ 32)
 
 -- ── Whole trees ─────────────────────────────────────────────────────────────────────────────────────────────
 
@@ -53,11 +48,6 @@ module _ {run : List ℕ} {o i : ℕ} (v : Owing run o i) where
   pub owing_done : length run / 3 ≤ i → Closes run (eqb o 0)
   unfolding closed owed
   owing_done h = record { says = λ text. sym (ap (λ n. eqb n 0) (v.rest text ∙ ap (owed o) (triples_end text i run (omega arith)))) }
-
--- ── One splice ──────────────────────────────────────────────────────────────────────────────────────────────
-
-pub part_closes : (s p : List ℕ) (j : ℕ) {a m : ℕ} {r : Bool} → Read a (get_or s (6 * j + 4) 0) → Read m (get_or s (6 * j + 5) 0) → Closes (take (3 * a + 3 * m - 3 * a) (drop (3 * a) p)) r → Closes (part_at s p j) r
-part_closes s p j h k t = rw (part_is s p j h.0 k.0) at t
 
 -- ── Every splice ────────────────────────────────────────────────────────────────────────────────────────────
 
