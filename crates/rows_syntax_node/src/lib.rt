@@ -211,7 +211,7 @@ fn moved_word(x: u32, p: u32, q: u32, m: u32) -> u32
     x + m - (q - p)
 }
 
-// The same for every mark. All is in words, so that the loop becomes vector code.
+// The same for every mark. All is in words, so that the loop becomes vector code; no value as run_annotations' `Shift`, since these two functions alone would take it here.
 pub fn shift_marks(marks: &mut [u32], p: usize, q: usize, m: usize)
     requires { (p ≤ q) × (q < 2 ^ 16) × (m < 2 ^ 16) × All (λ x. x < 2 ^ 16) marks.old }
     ensures { Shifted marks.old p q m marks.new }

@@ -184,6 +184,7 @@ fn take_note(
 
 // Rust: `annotations_below` in TreeStore::prepare_element. Of some notes those in the rows `p` up to `q` go behind the first `count` of `out`,
 // where `p` comes to stand at the row `at`: how many there are now, or none if they are more than there is room for.
+// Its loop counts as that of `move_notes`: one note is told by its place in the words in both, and by chunks each would need laws of its own.
 pub fn notes_in(
     notes: &[u32],
     p: usize,

@@ -20,6 +20,7 @@ use words::{copy_in, word};
 
 // Rust: TreeState::splice, of the tree and its edits. The rows `p` up to `q`, `lost` children of the node at row `parent`, give way to a run of `gain`
 // trees, and every mark moves with them: where the Rust replays all edits on a path, a mark says at once where its element stands. The new number of rows.
+// The gap stays four numbers, since a splice list has one of its own (splices_step::Gap).
 pub fn splice(
     rows: &mut [u32],
     n: usize,
@@ -44,6 +45,7 @@ pub fn splice(
 // ── Notes ──
 
 // How many of some notes stay.
+// Its loop counts: no law of the library tells which chunks `chunks_exact` gives to `filter` and `count`.
 pub fn notes_left(notes: &[u32], shift: &Shift) -> usize
     requires { length notes.now < 3 * 2 ^ 16 }
     ensures { NotesLeft notes.now shift.now.from shift.now.to shift.now.count result }
