@@ -44,41 +44,31 @@ struct Counts {
     whole: usize,
 }
 
-// Whether every word is 0.
-fn is_zero(s: &[u32]) -> bool {
-    s.iter().all(|word| *word == 0)
-}
-
 // Whether every work slice is all zeros.
 fn all_zero(work: &Work) -> bool {
-    is_zero(work.table)
-        && is_zero(work.source)
-        && is_zero(work.changes)
-        && is_zero(work.notes)
-        && is_zero(work.incoming)
-        && is_zero(work.changed)
-        && is_zero(work.marks)
-        && is_zero(work.rows)
-        && is_zero(work.prepared)
+    [
+        &work.table[..],
+        &work.source[..],
+        &work.changes[..],
+        &work.notes[..],
+        &work.incoming[..],
+        &work.changed[..],
+        &work.marks[..],
+        &work.rows[..],
+        &work.prepared[..],
+    ]
+    .iter()
+    .all(|slice| slice.iter().all(|word| *word == 0))
 }
 
-// What a result slice is to hold at `i`: the recorded result, and beyond it what it held.
-fn wanted(expected: &[u8], i: usize) -> u8 {
-    if i < expected.len() {
-        expected[i]
-    } else {
-        BYTE
-    }
-}
-
-// Whether a result slice holds what it is to hold.
+// Whether a result slice holds the recorded result, and beyond it what it held.
 fn holds(res: &[u8], expected: &[u8]) -> bool {
-    res.iter()
-        .enumerate()
-        .all(|(i, byte)| *byte == wanted(expected, i))
+    res.strip_prefix(expected)
+        .is_some_and(|rest| rest.iter().all(|byte| *byte == BYTE))
 }
 
-// Whether what an edit comes to is the recorded: a refusal, or 0 and the result's length.
+// Whether what an edit comes to is the recorded: a refusal, or 0 and the result's length. A number, here and in `is_due`, since a case records any word; as an
+// `Option<Refusal>` it would need each refusal by its number.
 fn is_answer(told: Result<Told, Refusal>, refusal: usize, length: usize) -> bool {
     match told {
         Err(refused) => refused.number() == refusal,
@@ -88,11 +78,10 @@ fn is_answer(told: Result<Told, Refusal>, refusal: usize, length: usize) -> bool
 }
 
 // Whether a found element is the recorded one; a refused batch finds none.
-fn is_element(told: Result<Told, Refusal>, refusal: usize, found: usize) -> bool {
+fn is_element(told: Result<Told, Refusal>, refusal: usize, found: Option<usize>) -> bool {
     match told {
         Err(refused) => refused.number() == refusal,
-        Ok(Told::Place(None)) => found == NONE,
-        Ok(Told::Place(Some(at))) => at == found,
+        Ok(Told::Place(place)) => place == found,
         Ok(_) => false,
     }
 }
@@ -109,28 +98,10 @@ fn run_job(
     batch: &[u8],
     res: &mut [u8],
 ) -> Option<Result<Told, Refusal>> {
-    let mut table = [WORD; 16384];
-    let mut source = [WORD; 6147];
-    let mut changes = [WORD; 3840];
-    let mut notes = [WORD; 3072];
-    let mut incoming = [WORD; 3072];
-    let mut changed = [WORD; 1024];
-    let mut marks = [WORD; 2048];
-    let mut rows = [WORD; 12291];
-    let mut prepared = [WORD; 12288];
-    let mut work = Work {
-        table: &mut table,
-        source: &mut source,
-        changes: &mut changes,
-        notes: &mut notes,
-        incoming: &mut incoming,
-        changed: &mut changed,
-        marks: &mut marks,
-        rows: &mut rows,
-        prepared: &mut prepared,
-    };
-    let told = serve(choices, job, batch, res, &mut work);
-    if all_zero(&work) { Some(told) } else { None }
+    promises::with_work(WORD, |work| {
+        let told = serve(choices, job, batch, res, work);
+        all_zero(work).then_some(told)
+    })
 }
 
 // Whether the edit of a batch, its result slice and its work slices are as recorded.
@@ -148,7 +119,7 @@ fn find_agrees(
     batch: &[u8],
     number: usize,
     refusal: usize,
-    found: usize,
+    found: Option<usize>,
 ) -> bool {
     let mut none = [BYTE; 0];
     let Some(told) = run_job(choices, Job::Find(number), batch, &mut none) else {
@@ -170,6 +141,7 @@ fn next_found<R: Read>(
     let Some(found) = read_word(from)? else {
         return Ok(false);
     };
+    let found = (found != NONE).then_some(found);
     Ok(find_agrees(choices, batch, number, refusal, found))
 }
 
@@ -188,9 +160,7 @@ fn all_found<R: Read>(
     }
     let mut all = true;
     for _ in 0..n {
-        if !next_found(from, choices, batch, refusal)? {
-            all = false;
-        }
+        all &= next_found(from, choices, batch, refusal)?;
     }
     Ok(all)
 }
