@@ -1,4 +1,5 @@
 // The account's text (document 02, Notes 5 and 9), written into a lent slice. It is drafted first, so that 13 is told before anything is written.
+// Bounds of one number stand as clauses: a value around each would be no plainer than its bound.
 #![tactic(auto)]
 
 ghost use Rattle.std.specs.Prelude.{◌+◌, ◌*◌, ◌≤◌, length, take};

@@ -1,4 +1,5 @@
 // From what a run leaves to what each job answers.
+// An index of what is read stands as a clause: a value around each would be no plainer than its bound.
 #![tactic(auto)]
 
 ghost use Rattle.std.specs.Prelude.{◌≡◌, ◌≤◌, ◌<◌, length};

@@ -1,4 +1,5 @@
 // From a batch to what its run leaves: refusals 17 and 18, lines 1 to 7, planning, and the steps.
+// Room in a lent slice stands as a clause: a value around each would be no plainer than its bound.
 #![tactic(auto)]
 
 ghost use Rattle.std.specs.Prelude.{◌≡◌, ◌≤◌, length, map};

@@ -1,4 +1,6 @@
 // Finishing: text starts, and the result's sizes and arrays written as bytes.
+// Bounds of one number stand as clauses: a value around each would be no plainer than its bound.
+// That a tree's text can be counted stands in clauses: a tree is a part of the rows, of which `finish_model::Left` knows it.
 #![tactic(auto)]
 
 ghost use Rattle.std.specs.Prelude.{◌≡◌, ◌+◌, ◌*◌, ◌/◌, ◌^◌, ◌≤◌, ◌<◌, length, get_or};

@@ -1,4 +1,5 @@
 // `find_element`: where the old node's text starts, and in the new tree the first node in preorder with its kind word and that start.
+// Bounds of one number and an index of what is read stand as clauses: a value around each would be no plainer than its bound.
 #![tactic(auto)]
 
 ghost use Rattle.std.specs.Prelude.{◌≡◌, List, ℕ, ◌≤◌, ◌<◌, length};

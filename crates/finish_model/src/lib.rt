@@ -1,4 +1,5 @@
 // Tree 0 among the rows that a run leaves: it stands first, right behind the node above all trees.
+// Bounds of one number stand as clauses: a value around each would be no plainer than its bound.
 #![tactic(auto)]
 
 ghost use Rattle.std.specs.Prelude.{◌≡◌, ◌+◌, ◌*◌, ◌≤◌, length};

@@ -1,4 +1,5 @@
 // The surviving elements of tree 0 as pairs (document 02, Note 11), from the marks and the rows that a run leaves.
+// Bounds of one number stand as clauses: a value around each would be no plainer than its bound.
 #![tactic(auto)]
 
 ghost use Rattle.std.specs.Prelude.{◌≡◌, List, ℕ, ◌+◌, ◌*◌, ◌^◌, ◌≤◌, ◌<◌, length};

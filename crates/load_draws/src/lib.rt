@@ -1,4 +1,5 @@
 // The draws of a starting number, and the call that they choose (document 02, Note 12; docs/LOAD.md).
+// Bounds of one number stand as clauses: a value around each would be no plainer than its bound.
 #![tactic(auto)]
 
 ghost use Rattle.std.specs.Prelude.{◌≡◌, ◌<◌, ◌≤◌, length, get_or};

@@ -1,6 +1,7 @@
 // What becomes of each change: own, dependent or discarded, by the regions of earlier changes. The region around a change is the one that its fate
 // names, so the rows' own words hold the stacks: a stack is the place of its last region, and each region's owner is the one below.
 // Rows have their count beside them: record_changes says why.
+// Bounds of one number and room in a lent slice stand as clauses: a value around each would be no plainer than its bound.
 #![tactic(auto)]
 
 ghost use Rattle.std.specs.Prelude.{◌≡◌, cond, ◌++◌, suc, ◌+◌, ◌-◌, ◌*◌, ◌^◌, ◌≤◌, ◌<◌, length, get_or, set, drop, eqb};

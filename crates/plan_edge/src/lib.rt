@@ -1,6 +1,7 @@
 // What becomes of each change by edge rule 1: own, dependent or discarded, by where it stands in the tree. The Rust goes by offsets: plan_changed_region.
 // Rows have their count beside them: record_changes says why. The table comes alone and not in `Elements`, since nothing is asked of it: past its end words are 0.
 // Rows and table are no one value: no fact binds them, the rows are written between, and each clause would name both through the value.
+// Bounds of one number and room in a lent slice stand as clauses: a value around each would be no plainer than its bound.
 #![tactic(auto)]
 
 ghost use Rattle.std.specs.Prelude.{◌≡◌, false, ◌++◌, suc, ◌+◌, ◌-◌, ◌*◌, ◌^◌, ◌≤◌, ◌<◌, length, get_or, drop};

@@ -1,6 +1,8 @@
 // Planning: from an accepted batch to the changes that run, in order, and the notes where they settle; refusals 8, 9 and 10. In two stages: what is withdrawn and
 // what becomes of each other change (`judge_changes`), then where dependents and notes go. Nothing is edited meanwhile: the run need not think of overlaps, owners or order again.
 // Rows have their count beside them, and the table comes alone: record_changes and plan_edge say why.
+// Bounds of one number and room in a lent slice stand as clauses: a value around each would be no plainer than its bound.
+// `Ready` stands in clauses, since it names the definition's trees, which are data: as a field each proof would have to show that it has one proof at most.
 #![tactic(auto)]
 
 ghost use Rattle.std.specs.Prelude.{◌≡◌, ◌++◌, ◌+◌, ◌*◌, ◌≤◌, length, drop, replicate};

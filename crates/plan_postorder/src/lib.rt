@@ -1,4 +1,5 @@
 // The order in which changes run: dependents before their owner, siblings from the highest key to the lowest.
+// Bounds of one number stand as clauses: a value around each would be no plainer than its bound.
 #![tactic(auto)]
 
 ghost use Rattle.std.specs.Prelude.{◌≡◌, ◌++◌, ◌+◌, ◌^◌, ◌≤◌, ◌<◌, length, take, drop, replicate};

@@ -1,5 +1,6 @@
 // Rewriting dependents: the targets of a change inside a replaced node move into the replacement, and its row is made anew. Rows come with a place or a count:
 // record_changes says why.
+// Bounds of one number, an index of what is read and room in a lent slice stand as clauses: a value around each would be no plainer than its bound.
 #![tactic(auto)]
 
 ghost use Rattle.std.specs.Prelude.{◌≡◌, cond, ◌+◌, ◌*◌, ◌≤◌, ◌<◌, length, get_or, eqb};

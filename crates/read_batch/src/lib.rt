@@ -1,4 +1,5 @@
 // Lines 2 to 7, with 16 right after 6.
+// Room in a lent slice stands as a clause: a value around each would be no plainer than its bound.
 #![tactic(auto)]
 
 ghost use Rattle.std.specs.Prelude.{◌≡◌, not, ◌≤◌, length};

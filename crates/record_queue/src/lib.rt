@@ -1,4 +1,5 @@
 // Recording: from the calls of an accepted batch to change rows, editor after editor. Rows come with a place or a count: record_changes says why.
+// Bounds of one number and the order of two numbers stand as clauses: a value around each would be no plainer than its bound.
 #![tactic(auto)]
 
 ghost use Rattle.std.specs.Prelude.{◌≡◌, ◌+◌, ◌*◌, ◌^◌, ◌≤◌, ◌<◌, length, drop, unwrap_or, IfSome};

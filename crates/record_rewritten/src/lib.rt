@@ -1,5 +1,6 @@
 // The row of a dependent with the ends that it has in the replacement: written as recording writes rows, with fate, owner and rule number kept. Rows come with a
 // place: record_changes says why.
+// Bounds of one number, an index of what is read and room in a lent slice stand as clauses: a value around each would be no plainer than its bound.
 #![tactic(auto)]
 
 ghost use Rattle.std.specs.Prelude.{[], ◌∷◌, ◌≡◌, ℕ, ◌+◌, ◌*◌, ◌≤◌, ◌<◌, length};

@@ -1,4 +1,5 @@
 // Paths in the rows of a tree: the element to which a path leads, and where its text starts.
+// Bounds of one number stand as clauses: a value around each would be no plainer than its bound.
 #![tactic(auto)]
 
 ghost use Rattle.std.specs.Prelude.{◌*◌, ◌^◌, ◌<◌, length};

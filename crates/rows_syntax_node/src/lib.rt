@@ -1,4 +1,6 @@
 // Rows of three words in preorder: the kind word, the measure, and where a token's text starts in the text of all.
+// Bounds of one number, the order of two numbers and room in a lent slice stand as clauses: a value around each would be no plainer than its bound.
+// A run of rows is a part of the rows, as document 01 has it: that it is of whole rows stands in clauses.
 #![tactic(auto)]
 
 ghost use Rattle.std.specs.Prelude.{◌≡◌, ◌+◌, ◌-◌, ◌*◌, ◌%◌, ◌^◌, ◌≤◌, ◌<◌, length, get_or};

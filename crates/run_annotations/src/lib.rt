@@ -1,4 +1,5 @@
 // The changed elements and the notes that are held, moved through one splice.
+// Bounds of one number and an index of what is read stand as clauses: a value around each would be no plainer than its bound.
 #![tactic(auto)]
 
 ghost use Rattle.std.specs.Prelude.{◌≡◌, ◌+◌, ◌-◌, ◌*◌, ◌/◌, ◌%◌, ◌^◌, ◌≤◌, ◌<◌, length, get_or};

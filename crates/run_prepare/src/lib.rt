@@ -1,5 +1,6 @@
 // What the listed elements of a step yield: their rows one behind another, the number of rows of each, and the notes that come along.
 // The slices that are lent to be written stay apart, as run_tree_state says.
+// Room in a lent slice stands as a clause: a value around each would be no plainer than its bound.
 #![tactic(auto)]
 
 ghost use Rattle.std.specs.Prelude.{◌/◌, ◌≤◌, ◌<◌, length};

@@ -1,5 +1,7 @@
 // One splice of what is held, slice by slice: rows and marks, notes, changed elements.
 // The slices that are written stay apart, as run_tree_state says.
+// Bounds of one number, the order of two numbers and room in a lent slice stand as clauses: a value around each would be no plainer than its bound.
+// That a run is of whole rows and that marks are rows stands in clauses: the one is a part of the rows, the others are written.
 #![tactic(auto)]
 
 ghost use Rattle.std.specs.Prelude.{◌≡◌, ◌+◌, ◌-◌, ◌*◌, ◌/◌, ◌%◌, ◌^◌, ◌≤◌, ◌<◌, length, get_or};

@@ -2,6 +2,8 @@
 // go through together. 12 is decided before anything is written.
 // These four stay slices here and in the crates above, and what is prepared for a step does there: a step reads some of them while it writes others, so that each
 // function would begin by lending the fields of one value by themselves again; no plainer.
+// The order of two numbers and room in a lent slice stand as clauses: a value around each would be no plainer than its bound.
+// `Open` stands in clauses, since it is of slices that are written.
 #![tactic(auto)]
 
 ghost use Rattle.std.specs.Prelude.{◌≡◌, List, ℕ, ◌+◌, ◌-◌, ◌*◌, ◌/◌, ◌^◌, ◌≤◌, ◌<◌, length};

@@ -1,4 +1,5 @@
 // What a lent memory is held to: lines 3, 4, 5, 20 and 21 (document 02, Note 14). How the memory lies in its two slices: series_laws/specs/Lent.antt.
+// Bounds of one number stand as clauses: a value around each would be no plainer than its bound.
 #![tactic(auto)]
 
 ghost use Rattle.std.specs.Prelude.{◌≡◌, not, ◌+◌, ◌*◌, ◌^◌, ◌≤◌, ◌<◌, length, get_or};

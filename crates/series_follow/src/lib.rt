@@ -1,4 +1,5 @@
 // A later call of a series, from what is lent to the end of its run: 17, 18, 1, the memory's own lines, 2 to 7 with 16, 22, then planning and the steps (document 02, Note 14).
+// Room in a lent slice stands as a clause: a value around each would be no plainer than its bound.
 #![tactic(auto)]
 
 ghost use Rattle.std.specs.Prelude.{◌≡◌, ◌≤◌, length, map};

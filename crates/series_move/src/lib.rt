@@ -1,4 +1,5 @@
 // Bookmarks moved by a run: a bookmark is an old element, and the element's mark says where it stands now.
+// Bounds of one number stand as clauses: a value around each would be no plainer than its bound.
 #![tactic(auto)]
 
 ghost use Rattle.std.specs.Prelude.{◌≡◌, ◌==◌, not, ◌+◌, ◌*◌, ◌^◌, ◌≤◌, ◌<◌, length, get_or, take};

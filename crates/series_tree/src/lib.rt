@@ -1,4 +1,5 @@
 // The tree of a memory: whether a batch's tree 0 is that tree (22), whether the new tree fits (13), and that tree written.
+// Bounds of one number stand as clauses: a value around each would be no plainer than its bound.
 #![tactic(auto)]
 
 ghost use Rattle.std.specs.Prelude.{◌≡◌, ◌+◌, ◌*◌, ◌/◌, ◌^◌, ◌≤◌, ◌<◌, ltb, length, drop};

@@ -1,5 +1,6 @@
 // The first refusal of a list of splices, six words each (number, row of its parent in the old tree, from, to, where its prepared rows start, how many they are):
 // whether the slices have room for it, it fits the old tree and is apart. Nothing is written.
+// Bounds of one number and an index of what is read stand as clauses: a value around each would be no plainer than its bound.
 #![tactic(auto)]
 
 ghost use Rattle.std.specs.Prelude.{◌≡◌, ◌+◌, ◌*◌, ◌^◌, ◌<◌, length, get_or, take};

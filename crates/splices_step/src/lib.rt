@@ -1,5 +1,7 @@
 // One splice of a list on the rows and marks of one old tree. Six words a splice: number, row of its parent in the old tree, from, to, where its prepared rows
 // start, how many they are. The mark of an old element is the row where it stands now.
+// Bounds of one number and an index of what is read stand as clauses: a value around each would be no plainer than its bound.
+// That marks are rows stands in clauses, since they are written.
 #![tactic(auto)]
 
 ghost use Rattle.std.specs.Prelude.{◌≡◌, true, ◌+◌, ◌*◌, ◌^◌, ◌≤◌, ◌<◌, length, get_or};

@@ -1,4 +1,5 @@
 // The writer: lists laid out as a batch (document 02, Note 2).
+// Room in a lent slice stands as a clause: a value around each would be no plainer than its bound.
 #![tactic(auto)]
 
 ghost use Rattle.std.specs.Prelude.{◌≡◌, ◌≤◌, length, map};

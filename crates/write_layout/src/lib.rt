@@ -1,4 +1,5 @@
 // Lists laid out as a batch: which can be, and each array behind the one before it.
+// That lists are in step stands in clauses and in no field of `Lists`: a caller makes the value of any lists, and `can_be_laid` tells whether they are.
 #![tactic(auto)]
 
 ghost use Rattle.std.specs.Prelude.{◌≡◌, not, ◌++◌, ◌+◌, ◌*◌, ◌≤◌, ◌<◌, length, get_or, leb};
