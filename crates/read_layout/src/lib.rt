@@ -51,7 +51,7 @@ pub struct Layout {
 }
 
 // The seven sizes at the front of a batch.
-fn read_sizes(b: &[u8]) -> Sizes
+pub fn read_sizes(b: &[u8]) -> Sizes
     requires { 28 ≤ length b.now }
     ensures { sizes_of result ≡ sizes b.now }
 {

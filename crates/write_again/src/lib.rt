@@ -74,28 +74,20 @@ fn write_arrays(
     write_lists(&lists, destination)
 }
 
-// The seven sizes at the front of a batch.
-fn read_sizes(b: &[u8]) -> Sizes
-    requires { 28 ≤ length b.now }
-    ensures { Worded result }
-{
-    Sizes {
-        trees: words::read_word(b, 0),
-        elements: words::read_word(b, 4),
-        text: words::read_word(b, 8),
-        calls: words::read_word(b, 12),
-        listed: words::read_word(b, 16),
-        mappings: words::read_word(b, 20),
-        notes: words::read_word(b, 24),
-    }
-}
-
 // How many words a batch of these sizes has behind them.
 fn word_count(z: Sizes) -> usize
     requires { Worded z }
     ensures { result ≡ word_count z }
 {
     2 * (z.elements + z.calls + z.mappings + z.notes) + z.listed
+}
+
+// How many bytes it has.
+fn byte_count(z: Sizes) -> usize
+    requires { Worded z }
+    ensures { result ≡ 28 + 4 * word_count z + z.text }
+{
+    read_layout::ARRAYS + 4 * word_count(z) + z.text
 }
 
 // A batch of these sizes, with `n` words behind them.
@@ -114,14 +106,13 @@ pub fn write_again(b: &[u8], destination: &mut [u8]) -> Result<usize, Refusal> {
     if b.len() < read_layout::ARRAYS {
         return Err(Refusal::ShortBatch);
     }
-    let z = read_sizes(b);
-    let n = word_count(z);
-    if read_layout::ARRAYS + 4 * n + z.text != b.len() {
+    let z = read_layout::read_sizes(b);
+    if byte_count(z) != b.len() {
         return Err(Refusal::Length);
     }
     // A batch that is longer than the list has room for has a size beyond its limit.
     if 65536 < b.len() {
         return Err(Refusal::Lists);
     }
-    write_words(b, z, n, destination)
+    write_words(b, z, word_count(z), destination)
 }
