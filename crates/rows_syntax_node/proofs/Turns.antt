@@ -1,5 +1,7 @@
 -- The loops: for each its invariant, that it holds at the start, after a turn, and what it says at the end.
 -- Assumes nothing.
+use Rattle.std.specs.List.{sum, range_with_len}
+use Rattle.std.proofs.lemmas.List.Sums.{sum_by-cons}
 use mathlib.Core.Path.{◌≡◌, refl, sym, ap, ◌∙◌}
 use mathlib.Core.List.{List, [], ◌∷◌, ◌++◌, map, append-nil}
 use Rattle.std.specs.Prelude.{None, Some}
@@ -20,7 +22,7 @@ use Rattle.rows_model.specs.Place.{rows_after, child_row, between, subtree, reme
 use Rattle.rows_model.proofs.RowLaws.{skip_none, height_closed}
 use Rattle.rows_model.proofs.Marks.{marks_below}
 use Rattle.rows_model.proofs.Words.{node_row, token_owes, token_length, first_at, first_end, length_triples, triples_at, triples_end, triples_append, triples_take, triples_drop, triples_set, length_first, words_between}
-use Rattle.rows_syntax_node.specs.Promises.{Counted, Measured, After, ChildAt, TreesIn, TreesBetween, Bytes, height_by, Height, Part, Appended, Spliced, Moved, Shifted}
+use Rattle.rows_syntax_node.specs.Promises.{Counted, Measured, After, ChildAt, TreesIn, TreesBetween, height_by, Height, Part, Appended, Spliced, Moved, Shifted}
 
 -- ── One row ─────────────────────────────────────────────────────────────────────────────────────────────────
 
@@ -143,34 +145,20 @@ module _ {marks : List ℕ} {p q m : ℕ} {l : List ℕ} {i : ℕ} (v : Shifting
 
 -- ── A run ───────────────────────────────────────────────────────────────────────────────────────────────────
 
--- the text of the first i rows is summed
-pub record Summing (run : List ℕ) (sum i : ℕ) : Type 0 where
-  pub inside : 3 * i ≤ length run
-  pub small : sum ≤ 2 ^ 32 * i
-  pub rest : (text : List ℕ) → bytes (triples text run) ≡ sum + bytes (drop i (triples text run))
+module _ (text run : List ℕ) where
+  -- how long the own text of row i is
+  abbrev pub own_at : ℕ → ℕ
+  own_at i = text_length (row_in text run i)
 
-pub summing_start : (run : List ℕ) → Summing run 0 0
-summing_start run = record { inside = omega arith; small = omega arith; rest = λ text. omega arith }
+  -- the library's sum from row i on is the length of the text of those rows
+  own_from : (i n : ℕ) → i + n ≡ length run / 3 → sum (map own_at (range_with_len i n)) ≡ bytes (drop i (triples text run))
+  own_from i zero e = sym (ap bytes (triples_end text i run (omega arith)))
+  own_from i (suc n) e =
+      let rest = own_from (i + 1) n (omega arith) in
+      sum_by-cons (λ x. x) (own_at i) (map own_at (range_with_len (i + 1) n)) ∙ (ap (λ (m : ℕ). own_at i + m) (rest ∙ ap (λ (j : ℕ). bytes (drop j (triples text run))) (add-one i)) ∙ sym (ap bytes (triples_at text i run (omega arith))))
 
-module _ {run : List ℕ} {sum i : ℕ} (v : Summing run sum i) where
-  pub summing_next : {r : ℕ} → 3 * i + 2 < length run → Measured run i r → Summing run (sum + r) (i + 1)
-  summing_next h c =
-      record {
-        inside = omega arith;
-        small = omega (arith, v.small, c.small);
-        rest = λ text. rw (add-one i) (v.rest text ∙ rw (triples_at text i run h) (omega (arith, c.own text)));
-      }
-
-  -- the same, where the turns are counted in rows
-  pub summing_row : {r : ℕ} → i < length run / 3 → Measured run i r → Summing run (sum + r) (i + 1)
-  summing_row h = summing_next (omega arith)
-
-  pub summing_done : length run < 3 * 2 ^ 16 → length run / 3 ≤ i → Bytes run sum
-  summing_done k h =
-      record {
-        sum = λ text. sym (v.rest text ∙ rw (triples_end text i run (omega arith)) (omega arith));
-        small = omega (arith, v.small, v.inside);
-      }
+  pub own_summed : sum (map own_at (range_with_len 0 (length run / 3))) ≡ bytes (triples text run)
+  own_summed = own_from 0 (length run / 3) (omega arith)
 
 -- trees begun, and elements owed of the last
 pub record Grouping (run : List ℕ) (trees o i : ℕ) : Type 0 where

@@ -86,7 +86,7 @@ pub fn subtree<'a>(rows: &Rows<'a>, at: usize) -> &'a [u32]
 
 // ── A run of rows, as a slice of its own ──
 
-// The number of trees of a run.
+// The number of trees of a run. A `for`, since what a row adds is told by what is owed before it.
 pub fn trees_in(run: &[u32]) -> usize
     requires { length run.now < 3 * 2 ^ 16 }
     ensures { TreesIn run.now result }
@@ -117,11 +117,9 @@ pub fn text_bytes(run: &[u32]) -> usize
     requires { length run.now < 3 * 2 ^ 16 }
     ensures { Bytes run.now result }
 {
-    let mut sum = 0;
-    for i in 0..run.len() / ROW_WORDS {
-        sum += text_length(run, i);
-    }
-    sum
+    (0..run.len() / ROW_WORDS)
+        .map(|i| text_length(run, i))
+        .sum()
 }
 
 // The greatest depth in a run, none where it is more than 64.
