@@ -4,18 +4,14 @@
 // Bounds of one number stand as clauses: a value around each would be no plainer than its bound.
 #![tactic(auto)]
 
-ghost use Rattle.std.specs.Prelude.{◌^◌, ◌<◌, ◌≤◌, length};
-
 use choices::Choices;
 use program_input::{read_part, read_word};
-use promises::Work;
 use refusals::Refusal;
-use series_check::{PATH, PATH_LENGTH, SLOT_WORDS, slot_at};
+use series_check::SLOT_WORDS;
 use std::io;
 use std::io::{Read, Write};
-use words::word;
 
-// The most words that a work slice needs.
+// The most words of the rows and of the bookmarks.
 const WORDS: usize = 16384;
 
 // A path, by its child numbers.
@@ -26,32 +22,25 @@ fn print_path<W: Write>(to: &mut W, path: &[u32]) -> io::Result<()> {
     Ok(())
 }
 
-// Bookmark `i`: its number and its path, where it stands in the slice.
-fn print_bookmark<W: Write>(to: &mut W, bookmarks: &[u32], i: usize) -> io::Result<()>
-    requires { i < 2 ^ 32 }
-{
-    let at = slot_at(i);
-    if bookmarks.len() < at + SLOT_WORDS {
+// A bookmark in its slot: its number and its path.
+fn print_bookmark<W: Write>(to: &mut W, slot: &[u32]) -> io::Result<()> {
+    let [number, steps, path @ ..] = slot else {
         return Ok(());
+    };
+    write!(to, " {number}=")?;
+    match path.get(..*steps as usize) {
+        Some(path) => print_path(to, path),
+        None => Ok(()),
     }
-    write!(to, " {}=", word(bookmarks, at))?;
-    let n = word(bookmarks, at + PATH_LENGTH);
-    if 63 < n {
-        return Ok(());
-    }
-    let from = at + PATH;
-    let end = from + n;
-    print_path(to, &bookmarks[from..end])
 }
 
 // All bookmarks in a line.
 fn print_bookmarks<W: Write>(to: &mut W, bookmarks: &[u32]) -> io::Result<()> {
-    if bookmarks.is_empty() {
+    let Some((count, slots)) = bookmarks.split_first() else {
         return Ok(());
-    }
-    let k = word(bookmarks, 0);
-    for i in 0..k {
-        print_bookmark(to, bookmarks, i)?;
+    };
+    for slot in slots.chunks_exact(SLOT_WORDS).take(*count as usize) {
+        print_bookmark(to, slot)?;
     }
     writeln!(to)
 }
@@ -73,34 +62,10 @@ fn play_batch<W: Write>(
     tree: &mut [u8],
     bookmarks: &mut [u32],
 ) -> io::Result<()> {
-    let mut table = [0u32; WORDS];
-    let mut source = [0u32; WORDS];
-    let mut changes = [0u32; WORDS];
-    let mut notes = [0u32; WORDS];
-    let mut incoming = [0u32; WORDS];
-    let mut changed = [0u32; WORDS];
-    let mut marks = [0u32; WORDS];
-    let mut rows = [0u32; WORDS];
-    let mut prepared = [0u32; WORDS];
-    let mut work = Work {
-        table: &mut table,
-        source: &mut source,
-        changes: &mut changes,
-        notes: &mut notes,
-        incoming: &mut incoming,
-        changed: &mut changed,
-        marks: &mut marks,
-        rows: &mut rows,
-        prepared: &mut prepared,
-    };
-    let told = series::follow(
-        Choices { edge, stronger: 0 },
-        batch,
-        tree,
-        bookmarks,
-        res,
-        &mut work,
-    );
+    let choices = Choices { edge, stronger: 0 };
+    let told = promises::with_work(0, |work| {
+        series::follow(choices, batch, tree, bookmarks, res, work)
+    });
     print_told(to, told)
 }
 
@@ -155,11 +120,10 @@ fn play<R: Read, W: Write>(
     batches: usize,
 ) -> io::Result<()> {
     let mut rows = [0u32; WORDS];
-    let number = match series::start(tree, bookmarks, &mut rows) {
-        Ok(()) => 0,
-        Err(refusal) => refusal.number(),
-    };
-    write!(to, "start {number}")?;
+    match series::start(tree, bookmarks, &mut rows) {
+        Ok(()) => write!(to, "start 0")?,
+        Err(refusal) => write!(to, "start {}", refusal.number())?,
+    }
     print_bookmarks(to, bookmarks)?;
     play_batches(from, to, tree, bookmarks, batches)
 }
