@@ -56,7 +56,13 @@ module _ (a b c d e f g h i : List ℕ) where
       let (i₁, q) = short_first _ _ _ q in
       ((a₁, b₁, c₁), (g₁, d₁, e₁, f₁, h₁, i₁))
 
--- slices of just the lengths that they need are long enough
+-- slices of the lengths of docs/WORK.md are long enough
+pub lengths_suffice : (a b c d e f g h i : List ℕ) → 16384 ≡ length a → 6147 ≡ length b → 3840 ≡ length c → 3072 ≡ length d → 3072 ≡ length e → 1024 ≡ length f → 2048 ≡ length g
+    → 12291 ≡ length h → 12288 ≡ length i → too_short (lengths needed (a ∷ b ∷ c ∷ d ∷ e ∷ f ∷ g ∷ h ∷ i ∷ [])) ≡ false
+unfolding too_short lengths needed zip any
+lengths_suffice a b c d e f g h i p₁ p₂ p₃ p₄ p₅ p₆ p₇ p₈ p₉ = rw (← p₁, ← p₂, ← p₃, ← p₄, ← p₅, ← p₆, ← p₇, ← p₈, ← p₉)
+
+-- and so are those of just these lengths that hold one word
 pub filled_suffice : (word : ℕ) → too_short (lengths needed (filled word)) ≡ false
 unfolding too_short lengths needed filled zip any
 filled_suffice word = refl

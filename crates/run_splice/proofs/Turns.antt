@@ -2,7 +2,6 @@
 -- Assumes nothing.
 use Rattle.std.specs.Prelude as prelude
 use Rattle.std.specs.Prelude.{None, Some, Bool, true, false}
-use Rattle.std.specs.Option.{is_some}
 use mathlib.Core.Path.{◌≡◌, refl, sym, ap, ◌∙◌}
 use mathlib.Core.List.{List, [], ◌∷◌, ◌++◌, append-nil}
 use mathlib.Core.Option
@@ -16,14 +15,13 @@ use lib.Seq.{paste, drop-drop, get_or-drop}
 use Rattle.orders.specs.Lists.{All, more, pick}
 use Rattle.orders.specs.ListLaws.{All-map}
 use Rattle.orders.specs.Tree.{shift}
+use Rattle.orders.proofs.TreeLaws.{shift_before, shift_inside, shift_after}
 use Rattle.words.specs.Parts.{get_d_below, get_d_inside}
 use Rattle.rows_syntax_node.specs.Promises.{Spliced, Shifted}
 use Rattle.run_model.specs.Store.{HeldNote, with_row}
 use Rattle.run_annotations.specs.Notes.{note_of, notes_of, note_at, note_row, notes_to, notes_same}
 use Rattle.run_annotations.specs.Changed.{changed_in, Ruled, count_by}
-use Rattle.run_annotations.specs.Places.{part_rows}
-use Rattle.run_annotations.specs.Promises.{row_told, Moved, RowsMoved, moved_note, NotesMoved, RowsAdded}
-use Rattle.run_splice.specs.Coming.{Coming}
+use Rattle.run_annotations.specs.Promises.{RowsMoved, moved_note, NotesMoved, RowsAdded}
 use Rattle.run_splice.specs.Promises.{SplicedMarks, NotesLeft, NotesSpliced, Recorded, ChangedSpliced}
 
 -- ── Rows and marks ──────────────────────────────────────────────────────────────────────────────────────────
@@ -58,47 +56,38 @@ stays_by : (n : HeldNote) (o : Option ℕ) → length (more (Option.map (with_ro
 stays_by n none = refl
 stays_by n (some x) = refl
 
--- and a row stays where it is told
-stays_told : (s : Option ℕ) {o : prelude.Option ℕ} → o ≡ row_told s → is_some o ≡ true → length (more s []) ≡ 1
-unfolding row_told
-stays_told none e h = let z : is_some {T = ℕ} None ≡ true = rw e at h in let w : ◌≡◌ {A = ℕ} 0 1 = cc in absurd (omega arith)
-stays_told (some x) e h = refl
-
-goes_told : (s : Option ℕ) {o : prelude.Option ℕ} → o ≡ row_told s → is_some o ≡ false → length (more s []) ≡ 0
-unfolding row_told
-goes_told none e h = refl
-goes_told (some x) e h = let z : is_some (Some x) ≡ false = rw e at h in let w : ◌≡◌ {A = ℕ} 0 1 = cc in absurd (omega arith)
-
 -- the first i notes are looked at, and r of them stay
-pub record Staying (l : List ℕ) (p q m i r : ℕ) : Type 0 where
-  pub count : r ≡ length (pick (moved_note p q m) (notes_of i l))
+pub record Staying (l : List ℕ) (p q i r : ℕ) : Type 0 where
+  pub count : (m : ℕ) → r ≡ length (pick (moved_note p q m) (notes_of i l))
   pub most : r ≤ i
   pub inside : i ≤ length l / 3
 
-pub staying_start : (l : List ℕ) (p q m : ℕ) → Staying l p q m 0 0
+pub staying_start : (l : List ℕ) (p q : ℕ) → Staying l p q 0 0
 unfolding pick notes_of
-staying_start l p q m = record { count = refl; most = omega arith; inside = omega arith }
+staying_start l p q = record { count = λ m. refl; most = omega arith; inside = omega arith }
 
-module _ {l : List ℕ} {p q m i r : ℕ} (v : Staying l p q m i r) where
-  staying_one : {n : ℕ} → i < length l / 3 → length (more (moved_note p q m (note_at l i)) []) ≡ n → n ≤ 1 → Staying l p q m (i + 1) (r + n)
-  staying_one h e b = record {
-    count = rw (add-one i, notes_to l i) (omega (arith, pick_more (moved_note p q m) (notes_of i l) (note_at l i), v.count, e));
+module _ {l : List ℕ} {p q i r : ℕ} (v : Staying l p q i r) where
+  staying_one : {x n : ℕ} → i < length l / 3 → (x ≡ get_or l (3 * i) 0) × (x < 2 ^ 32) → ((m : ℕ) → length (more (shift p q m x) []) ≡ n) → n ≤ 1 → Staying l p q (i + 1) (r + n)
+  staying_one {x} h e w b = record {
+    count = λ m.
+        let f : length (more (moved_note p q m (note_at l i)) []) ≡ length (more (shift p q m x) []) = stays_by (note_at l i) (shift p q m (note_at l i).row) ∙ ap (λ (y : ℕ). length (more (shift p q m y) [])) (note_row l i ∙ sym e.0) in
+        rw (add-one i, notes_to l i) (omega (arith, pick_more (moved_note p q m) (notes_of i l) (note_at l i), v.count m, f, w m));
     most = omega (arith, v.most);
     inside = omega arith;
   }
 
-  module _ {x : ℕ} {o : prelude.Option ℕ} (h : i < length l / 3) (e : (x ≡ get_or l (3 * i) 0) × (x < 2 ^ 32)) (w : Moved p q m x o) where
-    by_row : length (more (moved_note p q m (note_at l i)) []) ≡ length (more (shift p q m x) [])
-    by_row = stays_by (note_at l i) (shift p q m (note_at l i).row) ∙ ap (λ (y : ℕ). length (more (shift p q m y) [])) (note_row l i ∙ sym e.0)
+  module _ {x : ℕ} (h : i < length l / 3) (e : (x ≡ get_or l (3 * i) 0) × (x < 2 ^ 32)) where
+    pub staying_before : {r' : ℕ} → x < p → r' ≡ r + 1 → Staying l p q (i + 1) r'
+    staying_before k n = rw n (staying_one h e (λ m. rw (shift_before p q m x k) refl) (omega arith))
 
-    pub staying_stays : {b : Bool} {r' : ℕ} → b ≡ is_some o → b ≡ true → r' ≡ r + 1 → Staying l p q m (i + 1) r'
-    staying_stays y z n = rw n (staying_one h (by_row ∙ stays_told (shift p q m x) w.row (sym y ∙ z)) (omega arith))
+    pub staying_after : {r' : ℕ} → p ≤ x → q ≤ x → r' ≡ r + 1 → Staying l p q (i + 1) r'
+    staying_after j k n = rw n (staying_one h e (λ m. rw (shift_after p q m x j k) refl) (omega arith))
 
-    pub staying_goes : {b : Bool} {r' : ℕ} → b ≡ is_some o → b ≡ false → r' ≡ r → Staying l p q m (i + 1) r'
-    staying_goes y z n = rw (n, ← add-zero r) (staying_one h (by_row ∙ goes_told (shift p q m x) w.row (sym y ∙ z)) (omega arith))
+    pub staying_inside : {r' : ℕ} → p ≤ x → x < q → r' ≡ r → Staying l p q (i + 1) r'
+    staying_inside j k n = rw (n, ← add-zero r) (staying_one h e (λ m. rw (shift_inside p q m x j k) refl) (omega arith))
 
-  pub staying_done : length l / 3 ≤ i → NotesLeft l p q m r
-  staying_done h = let e : i ≡ length l / 3 = omega (arith, v.inside) in record { count = rw (← e) v.count; most = omega (arith, v.most) }
+  pub staying_done : length l / 3 ≤ i → NotesLeft l p q r
+  staying_done h = let e : i ≡ length l / 3 = omega (arith, v.inside) in record { count = λ m. rw (← e) (v.count m); most = omega (arith, v.most) }
 
 -- ── Notes moved, and notes behind them ──────────────────────────────────────────────────────────────────────
 
@@ -130,18 +119,9 @@ notes_spliced {l} {k} {p} {q} {m} {incoming} {moved} {out} {r} whole long h s e 
 
 -- ── Changed elements ────────────────────────────────────────────────────────────────────────────────────────
 
--- parts that stand in bounds from the row a on do so from the row b on
-places_small : (d a b : ℕ) (sizes : List ℕ) → b ≡ d + a → d < 2 ^ 16 → All (λ x. x < 2 ^ 16) (part_rows a sizes) → All (λ x. x < 131072) (part_rows b sizes)
-unfolding part_rows
-places_small d a b [] e k h = tt
-places_small d a b (n ∷ sizes) e k h = (let z = h.0 in omega arith, places_small d (a + n) (b + n) sizes (omega arith) k h.1)
-
--- a change that records: its rule number has its bits, there is room, and the parts stand in bounds
-pub recorded_asks : (k at : ℕ) {rule : ℕ} (m : ℕ) {recorded : prelude.Option ℕ} {run sizes incoming : List ℕ} → recorded ≡ Some rule → (k + count_by recorded (length sizes) ≤ m) × Ruled recorded × (at < 2 ^ 16) → Coming run sizes incoming
-    → (k + length sizes ≤ m) × (rule < 4096) × (at < 2 ^ 16) × (length sizes < 2 ^ 12) × All (λ x. x < 2 ^ 16) sizes × All (λ x. x < 131072) (part_rows at sizes)
-recorded_asks k at {rule} m {recorded} {run} {sizes} {incoming} e h w =
-    let z : (k + length sizes ≤ m) × (rule < 4096) × (at < 2 ^ 16) = rw e at h in
-    (z.0, z.1, z.2, omega (arith, w.few_parts), w.sized, places_small at 0 at sizes (omega arith) z.2 w.placed)
+-- a change that records: its rule number has its bits, and there is room
+pub recorded_asks : (k : ℕ) {rule : ℕ} (m n at : ℕ) {recorded : prelude.Option ℕ} → recorded ≡ Some rule → (k + count_by recorded n ≤ m) × Ruled recorded × (at < 2 ^ 16) → (k + n ≤ m) × (rule < 4096) × (at < 2 ^ 16)
+recorded_asks k {rule} m n at {recorded} e h = rw e at h
 
 pub recorded_all : {l : List ℕ} {k at rule : ℕ} {recorded : prelude.Option ℕ} {sizes out : List ℕ} {r : ℕ} → recorded ≡ Some rule → RowsAdded l k at rule sizes out r → Recorded l k at recorded sizes out r
 recorded_all e s = rw e (record { rows = s.rows; count = s.count })

@@ -18,9 +18,9 @@ pub record SplicedMarks (rows : List ℕ) (n : ℕ) (marks : List ℕ) (parent p
   pub moved : marked ≡ map (moved_mark p q (length run / 3)) marks
   pub below : All (λ x. x < r) marked
 
--- the number of notes that stay
-pub record NotesLeft (notes : List ℕ) (p q m r : ℕ) : Type 0 where
-  pub count : r ≡ length (pick (moved_note p q m) (notes_in notes))
+-- the number of notes that stay, whatever comes in
+pub record NotesLeft (notes : List ℕ) (p q r : ℕ) : Type 0 where
+  pub count : (m : ℕ) → r ≡ length (pick (moved_note p q m) (notes_in notes))
   pub most : r ≤ length notes / 3
 
 -- the notes moved, and behind them those that come in

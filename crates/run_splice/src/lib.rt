@@ -8,14 +8,12 @@ ghost use Rattle.std.specs.Prelude.{◌≡◌, ◌+◌, ◌-◌, ◌*◌, ◌/�
 ghost use Rattle.orders.specs.Lists.{All, pick};
 ghost use Rattle.run_annotations.specs.Notes.{notes_of};
 ghost use Rattle.run_annotations.specs.Changed.{changed_in, Ruled, count_by};
+ghost use Rattle.run_annotations.specs.Places.{part_rows};
 ghost use Rattle.run_annotations.specs.Promises.{moved_note};
 ghost use Rattle.run_splice.specs.Promises.{SplicedMarks, NotesLeft, NotesSpliced, Recorded, ChangedSpliced};
 
-mod parts;
-
-pub use parts::Parts;
 use rows_syntax_node::{ROW_WORDS, shift_marks, splice_rows};
-use run_annotations::{NOTE_WORDS, Shift, add_changed, move_changed, move_notes, moved};
+use run_annotations::{NOTE_WORDS, Shift, add_changed, move_changed, move_notes};
 use words::{copy_in, word};
 
 // ── Rows and marks ──
@@ -46,15 +44,16 @@ pub fn splice(
 
 // ── Notes ──
 
-// How many of some notes stay.
+// How many of some notes are at none of the rows `p` up to `q`.
 // Its loop counts: no law of the library tells which chunks `chunks_exact` gives to `filter` and `count`.
-pub fn notes_left(notes: &[u32], shift: &Shift) -> usize
-    requires { length notes.now < 3 * 2 ^ 16 }
-    ensures { NotesLeft notes.now shift.now.from shift.now.to shift.now.count result }
+pub fn notes_left(notes: &[u32], p: usize, q: usize) -> usize
+    requires { (length notes.now < 3 * 2 ^ 16) × (p ≤ q) }
+    ensures { NotesLeft notes.now p q result }
 {
     let mut left = 0;
     for i in 0..notes.len() / NOTE_WORDS {
-        if moved(shift, word(notes, NOTE_WORDS * i)).is_some() {
+        let x = word(notes, NOTE_WORDS * i);
+        if x < p || q <= x {
             left += 1;
         }
     }
@@ -62,14 +61,15 @@ pub fn notes_left(notes: &[u32], shift: &Shift) -> usize
 }
 
 // The first `k` notes moved, and behind them those that come in. The new number of notes.
-pub fn splice_notes(notes: &mut [u32], k: usize, shift: &Shift, parts: &Parts) -> usize
+pub fn splice_notes(notes: &mut [u32], k: usize, shift: &Shift, incoming: &[u32]) -> usize
     requires k_in_bounds { (3 * k ≤ length notes.old) × All (λ n. n.row < 2 ^ 16) (notes_of k notes.old) }
-    requires room { 3 * (length (pick (moved_note shift.now.from shift.now.to shift.now.count) (notes_of k notes.old)) + length parts.now.notes.now / 3) ≤ length notes.old }
-    ensures { NotesSpliced notes.old k shift.now.from shift.now.to shift.now.count parts.now.notes.now notes.new result }
+    requires whole { length incoming.now % 3 ≡ 0 }
+    requires room { 3 * (length (pick (moved_note shift.now.from shift.now.to shift.now.count) (notes_of k notes.old)) + length incoming.now / 3) ≤ length notes.old }
+    ensures { NotesSpliced notes.old k shift.now.from shift.now.to shift.now.count incoming.now notes.new result }
 {
     let r = move_notes(notes, k, shift);
-    copy_in(notes, NOTE_WORDS * r, parts.notes);
-    r + parts.notes.len() / NOTE_WORDS
+    copy_in(notes, NOTE_WORDS * r, incoming);
+    r + incoming.len() / NOTE_WORDS
 }
 
 // ── Changed elements ──
@@ -80,15 +80,16 @@ fn record_changed(
     k: usize,
     at: usize,
     recorded: Option<usize>,
-    parts: &Parts,
+    sizes: &[u32],
 ) -> usize
-    requires { (k + count_by recorded (length parts.now.sizes.now) ≤ length changed.old) × Ruled recorded × (at < 2 ^ 16) }
-    ensures { Recorded changed.old k at recorded parts.now.sizes.now changed.new result }
+    requires room { (k + count_by recorded (length sizes.now) ≤ length changed.old) × Ruled recorded × (at < 2 ^ 16) }
+    requires bounded { (length sizes.now < 2 ^ 12) × All (λ x. x < 2 ^ 16) sizes.now × All (λ x. x < 131072) (part_rows at sizes.now) }
+    ensures { Recorded changed.old k at recorded sizes.now changed.new result }
 {
     let Some(rule) = recorded else {
         return k;
     };
-    add_changed(changed, k, at, rule, parts.sizes)
+    add_changed(changed, k, at, rule, sizes)
 }
 
 // The first `k` changed elements moved, and behind them the parts if the change records. The new number of changed elements.
@@ -97,12 +98,13 @@ pub fn splice_changed(
     k: usize,
     shift: &Shift,
     recorded: Option<usize>,
-    parts: &Parts,
+    sizes: &[u32],
 ) -> usize
     requires k_in_bounds { All (λ c. c.row < 2 ^ 16) (changed_in k changed.old) }
-    requires room { (k + count_by recorded (length parts.now.sizes.now) ≤ length changed.old) × Ruled recorded }
-    ensures { ChangedSpliced changed.old k shift.now.from shift.now.to shift.now.count recorded parts.now.sizes.now changed.new result }
+    requires room { (k + count_by recorded (length sizes.now) ≤ length changed.old) × Ruled recorded }
+    requires bounded { (length sizes.now < 2 ^ 12) × All (λ x. x < 2 ^ 16) sizes.now × All (λ x. x < 131072) (part_rows shift.now.from sizes.now) }
+    ensures { ChangedSpliced changed.old k shift.now.from shift.now.to shift.now.count recorded sizes.now changed.new result }
 {
     let r = move_changed(changed, k, shift);
-    record_changed(changed, r, shift.from, recorded, parts)
+    record_changed(changed, r, shift.from, recorded, sizes)
 }

@@ -23,7 +23,7 @@ use Rattle.run_annotations.specs.Changed.{changed_in, rule_by, count_by}
 use Rattle.run_annotations.specs.Places.{part_rows}
 use Rattle.run_tree_store.specs.Stored.{stored}
 use Rattle.run_tree_store.specs.declared.Gap.{Gap}
-use Rattle.run_splice.specs.Coming.{Coming}
+use Rattle.run_tree_state.specs.Coming.{Coming}
 use Rattle.run_tree_state.specs.Store.{gap_told, Open}
 use Rattle.run_tree_state.specs.Applied.{executed_in, judged_store, Applied}
 use Rattle.run_tree_state.specs.declared.TreeState.{TreeState}

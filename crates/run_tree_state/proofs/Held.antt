@@ -18,14 +18,23 @@ use Rattle.run_annotations.specs.Changed.{rule_by, put_by}
 use Rattle.run_annotations.specs.Promises.{moved_note}
 use Rattle.run_tree_store.specs.Stored.{stored}
 use Rattle.run_tree_store.specs.declared.Gap.{Gap}
-use Rattle.run_splice.specs.Coming.{Coming}
+use Rattle.run_tree_state.specs.Coming.{Coming}
 use Rattle.run_splice.specs.Promises.{SplicedMarks, NotesSpliced, ChangedSpliced}
 use Rattle.run_tree_state.specs.Store.{gap_told, Open, StoreSpliced}
 use Rattle.run_tree_state.specs.declared.TreeState.{TreeState}
 
+-- parts that stand in bounds from the row a on do so from the row b on
+places_small : (d a b : ℕ) (sizes : List ℕ) → b ≡ d + a → d < 2 ^ 16 → All (λ x. x < 2 ^ 16) (part_rows a sizes) → All (λ x. x < 131072) (part_rows b sizes)
+unfolding part_rows
+places_small d a b [] e k h = tt
+places_small d a b (n ∷ sizes) e k h = (let z = h.0 in omega arith, places_small d (a + n) (b + n) sizes (omega arith) k h.1)
+
 module _ {s : TreeState} {rows marks notes changed : List ℕ} {g : Gap} {recorded : prelude.Option ℕ} {run sizes incoming : List ℕ} (v : Open s rows marks notes changed g recorded (length sizes)) (w : Coming run sizes incoming) where
   pub shift_low : g.to < 2 ^ 16
   shift_low = omega (arith, v.high, v.few)
+
+  pub asks_sizes : (length sizes < 2 ^ 12) × All (λ x. x < 2 ^ 16) sizes × All (λ x. x < 131072) (part_rows g.from sizes)
+  asks_sizes = (omega (arith, w.few_parts), w.sized, places_small g.from 0 g.from sizes (omega arith) (omega (arith, v.order, shift_low)) w.placed)
 
   pub asks_rows : (3 * (s.rows - (g.to - g.from)) + length run ≤ length rows) × (3 * (length (pick (moved_note g.from g.to (length run / 3)) (notes_of s.notes notes)) + length incoming / 3) ≤ length notes)
       → ((3 * s.rows ≤ length rows) × (s.rows < 2 ^ 16) × (g.parent < g.from) × (g.from ≤ g.to) × (g.to ≤ s.rows) × All (λ m. m < s.rows) marks)

@@ -27,7 +27,7 @@ use Rattle.run_annotations.specs.Changed.{rule_by}
 use Rattle.run_annotations.specs.Promises.{moved_note}
 use Rattle.run_tree_store.specs.Stored.{stored}
 use Rattle.run_tree_store.specs.declared.Gap.{Gap}
-use Rattle.run_splice.specs.Coming.{Coming}
+use Rattle.run_tree_state.specs.Coming.{Coming}
 use Rattle.run_splice.specs.Promises.{NotesLeft}
 use Rattle.run_tree_state.specs.Store.{held_in, gap_told, Comes, Open, StoreSpliced}
 use Rattle.run_tree_state.specs.Sizes.{BytesBetween, size_by, rows_then, bytes_then, notes_then, large_then, StepSize}
@@ -90,7 +90,7 @@ size_deep rows notes s g run incoming above v e f = record { answer = λ text. r
 module _ (rows notes : List ℕ) (s : TreeState) (g : Gap) (run incoming : List ℕ) (above : ℕ) {lost left come deep : ℕ} {o : prelude.Option ℕ}
     (a : BytesBetween rows s.rows g.from g.to lost)
     (k : 3 * s.notes ≤ length notes)
-    (b : NotesLeft (take (3 * s.notes) notes) g.from g.to (length run / 3) left)
+    (b : NotesLeft (take (3 * s.notes) notes) g.from g.to left)
     (d : Bytes run come)
     (e : Height run o)
     (h : o ≡ Some deep)
@@ -106,7 +106,7 @@ module _ (rows notes : List ℕ) (s : TreeState) (g : Gap) (run incoming : List 
   large_then_lem text =
       let z = height_some e h text in
       let y : deep ≡ min 65 (height (triples text run)) = omega arith in
-      let n : left ≡ length (pick (moved_note g.from g.to (length run / 3)) (notes_of s.notes notes)) = b.count ∙ ap (λ (l : List HeldNote). length (pick (moved_note g.from g.to (length run / 3)) l)) (notes_part s.notes notes k) in
+      let n : left ≡ length (pick (moved_note g.from g.to (length run / 3)) (notes_of s.notes notes)) = b.count (length run / 3) ∙ ap (λ (l : List HeldNote). length (pick (moved_note g.from g.to (length run / 3)) l)) (notes_part s.notes notes k) in
       j ∙ by_same refl (bytes_then_lem text) (ap (λ (i : ℕ). i + length incoming / 3) n) (ap (λ (i : ℕ). above + i) y)
 
   pub size_large : t ≡ true → StepSize rows notes s g run incoming above None

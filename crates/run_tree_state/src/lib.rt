@@ -15,12 +15,13 @@ ghost use Rattle.run_tree_state.specs.Store.{Open, StoreSpliced};
 ghost use Rattle.run_tree_state.specs.Sizes.{BytesBetween, StepSize};
 ghost use Rattle.run_tree_state.specs.Applied.{Applied};
 
+mod parts;
 mod site;
 
+pub use parts::Parts;
 use refusals::Refusal;
 use rows_syntax_node::{ROW_WORDS, Rows, height, text_bytes};
 use run_annotations::{NOTE_WORDS, Shift};
-pub use run_splice::Parts;
 use run_splice::{notes_left, splice_changed, splice_notes};
 use run_tree_store::too_large;
 pub use site::Site;
@@ -63,8 +64,8 @@ fn splice_store(
     let r = run_splice::splice(
         rows, s.rows, marks, gap.parent, gap.from, gap.to, gap.lost, parts.run, gain,
     );
-    let k = splice_notes(notes, s.notes, &shift, parts);
-    let l = splice_changed(changed, s.changed, &shift, site.recorded, parts);
+    let k = splice_notes(notes, s.notes, &shift, parts.notes);
+    let l = splice_changed(changed, s.changed, &shift, site.recorded, parts.sizes);
     TreeState {
         root: s.root,
         rows: r,
@@ -160,20 +161,15 @@ fn step_size(rows: &[u32], notes: &[u32], s: TreeState, site: &Site, parts: &Par
     ensures { StepSize rows.now notes.now s site.now.gap parts.now.run.now parts.now.notes.now site.now.above result }
 {
     let gap = site.gap;
-    let shift = Shift {
-        from: gap.from,
-        to: gap.to,
-        count: parts.run.len() / ROW_WORDS,
-    };
     let held = Rows {
         count: s.rows,
         words: rows,
     };
     let end = NOTE_WORDS * s.notes;
     let lost = bytes_between(&held, gap.from, gap.to);
-    let left = notes_left(&notes[..end], &shift);
+    let left = notes_left(&notes[..end], gap.from, gap.to);
     let bytes = s.bytes + text_bytes(parts.run) - lost;
-    let n = s.rows - (gap.to - gap.from) + shift.count;
+    let n = s.rows - (gap.to - gap.from) + parts.run.len() / ROW_WORDS;
     let depth = site.above + height(parts.run)?;
     if too_large(n, bytes, left + parts.notes.len() / NOTE_WORDS, depth) {
         return None;

@@ -6,9 +6,6 @@ use borrow.Author.Rules.{rules}
 use Rattle.run_tree_state.proofs.Sizing.{bytes_enough, height_some, size_deep, size_fits, size_large}
 use Rattle.run_tree_state.proofs.step_size.Goals as goal
 
-pub invariant_of-shift : goal.invariant_of-shift
-invariant_of-shift c = let w = c.args.parts.now.bounded in record { order = c.requires.rows_in_bounds.2; low = omega arith; few = omega (arith, w.short) }
-
 pub overflow_sub-bytes : goal.overflow_sub-bytes
 overflow_sub-bytes c = let e : c.bytes_between-lost.result ≤ c.args.s.bytes = bytes_enough c.bytes_between-lost.ensures c.requires.bytes_bound.1 in omega arith
 

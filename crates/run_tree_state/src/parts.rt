@@ -1,6 +1,6 @@
 // What comes in with a step, as one value.
 
-ghost use Rattle.run_splice.specs.Coming.{Coming, coming_prop};
+ghost use Rattle.run_tree_state.specs.Coming.{Coming, coming_prop};
 
 // Rust: `replacement`, prepared. The rows of all parts as a run, the number of rows of each, and the notes that come along.
 #[derive(Clone, Copy)]
