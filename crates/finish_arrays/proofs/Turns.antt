@@ -20,7 +20,6 @@ use Rattle.words.specs.Parts.{paste_on, paste_swap}
 use Rattle.rows_model.proofs.RowLaws.{bytes_append}
 use Rattle.rows_model.proofs.Words.{kind_word, measure_word, node_row, length_triples, triples_at, triples_end}
 use Rattle.rows_syntax_node.specs.Promises.{Measured}
-use Rattle.rows_syntax_node.proofs.Turns.{Summing, summing_start, summing_next}
 use Rattle.finish_model.specs.Finished.{starts}
 use Rattle.finish_model.proofs.Numbers.{starts_at}
 use Rattle.finish_arrays.specs.Starts.{Starts, length_starts, starts_listed}
@@ -28,6 +27,23 @@ use Rattle.finish_arrays.specs.Sweep.{elements_over, Swept, row_each}
 use Rattle.finish_arrays.specs.TextSizes.{bytes_any, own_few}
 
 -- ── Text starts ─────────────────────────────────────────────────────────────────────────────────────────────
+
+-- the text of the first i rows is summed
+pub record Summing (run : List ℕ) (sum i : ℕ) : Type 0 where
+  pub inside : 3 * i ≤ length run
+  pub small : sum ≤ 2 ^ 32 * i
+  pub rest : (text : List ℕ) → bytes (triples text run) ≡ sum + bytes (drop i (triples text run))
+
+summing_start : (run : List ℕ) → Summing run 0 0
+summing_start run = record { inside = omega arith; small = omega arith; rest = λ text. omega arith }
+
+summing_next : {run : List ℕ} {sum i r : ℕ} → Summing run sum i → 3 * i + 2 < length run → Measured run i r → Summing run (sum + r) (i + 1)
+summing_next {run} {sum} {i} v h c =
+    record {
+      inside = omega arith;
+      small = omega (arith, v.small, c.small);
+      rest = λ text. rw (add-one i) (v.rest text ∙ rw (triples_at text i run h) (omega (arith, c.own text)));
+    }
 
 -- l is d with the starts of the first i rows at its front; their text is `sum` long
 pub record Starting (tree d l : List ℕ) (sum i : ℕ) : Type 0 where

@@ -1,9 +1,7 @@
 -- `text_size` meets its contract: the library's sum over the rows, which are no longer than the words say.
 use native.Mathlib.Omega.{arith}
-use Prim.Native.Nat.{◌/◌, ◌^◌}
-use mathlib.Core.List.{map}
+use Prim.Native.Nat.{◌/◌}
 use lib.ListN.{length}
-use Rattle.std.specs.List.{range_with_len}
 use Rattle.std.proofs.Common.{◌∙◌, rules, tests}
 use Rattle.std.proofs.lemmas.Iterator.{YieldsList-from_range, YieldsList-from_map}
 use Rattle.std.proofs.lemmas.Iterator.Consumers.{sum_from_yields_List, fits_from_yields_list}
