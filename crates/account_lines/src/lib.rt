@@ -61,7 +61,7 @@ fn put_account(out: &mut [u8], rows: &[u32], withdrawn: &[u32]) -> usize
     to
 }
 
-// A draft goes to the front of the result, or 13.
+// A draft goes to the front of the result, or 13. Beside `write_batch::copy_out`: another refusal and another answer, so that one function would take both.
 fn hand_out(draft: &[u8], res: &mut [u8]) -> Result<Told, Refusal>
     ensures { Tells (tell_in (length res.old) draft.now) res.old result res.new }
 {

@@ -8,6 +8,7 @@ ghost use Rattle.choices.specs.Meant.{meant};
 
 use refusals::Refusal;
 
+// Two numbers and no enums: C and a program's arguments give any number, and `judge` is what refuses it.
 // The edge rule: 0 goes by offsets, 1 by where elements stand in the tree (document 02, Note 6). Stronger rules first: 0 is off, 1 is on (Note 9).
 #[derive(Clone, Copy)]
 pub struct Choices {

@@ -42,8 +42,8 @@ fn write_element(b: &mut [u8], kinds: usize, measures: usize, tree: &[u32], row:
     words::write_word(b, measures, measure);
 }
 
-// One sweep over a tree writes its kind words at `at` and its measures behind them. How many times it read an element: that is promised of the sweep (document 02, Note 4), and
-// so it is counted.
+// One sweep over a tree writes its kind words at `at` and its measures behind them. How many times it read an element: that is promised of the sweep, as document 02 asks (Note 4: each
+// element is read once), and so it is counted.
 pub fn write_elements(b: &mut [u8], at: usize, tree: &[u32]) -> usize
     requires { (at + 8 * (length tree.now / 3) ≤ length b.old) × (length tree.now < 3 * 2 ^ 16) }
     ensures { Swept tree.now at b.old b.new result }

@@ -3,7 +3,7 @@
 --     Keys       what changed elements and notes are sorted by
 --     Sorted     what the functions promise, in words
 --     Halved     places told by a test: those that pass stand on the left
---     Counted    how many are picked, counted one by one
+--     Counted    how many are picked, counted by the library
 pub mod Items
 pub mod Halved
 pub mod Keys

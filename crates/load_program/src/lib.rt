@@ -73,8 +73,8 @@ pub fn serve<W: Write>(argument: &[u8], to: &mut W) -> io::Result<usize>
 }
 
 // The whole program. An argument of more than 32 bytes is read as an empty one, so it is no starting number. No contract says which bytes the operating
-// system gives, nor how many of those written it takes. 0 bytes are printed just of what tells no starting number: `serve` answers a length, as those of the
-// other programs do, and an `Option` of it would be that test again.
+// system gives, nor how many of those written it takes. 0 bytes are printed just of what tells no starting number: what is promised of `serve` is the
+// length of what it prints, and an `Option` of it would be that test again.
 pub fn run<R: Env + Print + Eprint>(rt: &R) -> io::Result<()> {
     let mut argument = [0u8; 32];
     let length = program_input::read_argument(rt, 1, &mut argument);

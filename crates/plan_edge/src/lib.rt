@@ -221,14 +221,14 @@ fn region_of(rows: &[u32], n: usize, table: &[u32], k: usize) -> Option<usize>
     region
 }
 
-// The region of each change, as many as `regions` holds: index + 1, 0 = none. By number: once `iter_mut` is over, a proof knows how long the slice is, and none of its words.
+// The region of each change, as many as `regions` holds: index + 1, 0 = none.
 fn find_regions(rows: &[u32], table: &[u32], regions: &mut [u32])
     requires { length regions.old ≤ 256 }
     ensures { regions.new ≡ regions_of table.now rows.now (length regions.old) }
 {
     let n = regions.len();
-    for k in 0..n {
-        regions[k] = region_of(rows, n, table, k).map_or(0, |j| j as u32 + 1);
+    for (k, region) in regions.iter_mut().enumerate() {
+        *region = region_of(rows, n, table, k).map_or(0, |j| j as u32 + 1);
     }
 }
 

@@ -3,3 +3,5 @@ pub mod Sorting
 pub mod Settling
 pub mod Rewriting
 pub mod Judging
+-- Laws of the discarded changes, counted row by row.
+pub mod Counting

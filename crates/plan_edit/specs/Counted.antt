@@ -43,7 +43,7 @@ row_stays r h = go r.fate h
     go (suc zero) h = refl
     go (suc (suc k)) h = absurd (omega arith)
 
-discarded_cons : (r : ChangeRow) (rs : List ChangeRow) → discarded_of (r ∷ rs) ≡ cond (discards r) (suc (discarded_of rs)) (discarded_of rs)
+pub discarded_cons : (r : ChangeRow) (rs : List ChangeRow) → discarded_of (r ∷ rs) ≡ cond (discards r) (suc (discarded_of rs)) (discarded_of rs)
 unfolding discarded_of
 discarded_cons r rs = rw (keep_cons discards r rs) (go (discards r))
   where
@@ -53,7 +53,7 @@ discarded_cons r rs = rw (keep_cons discards r rs) (go (discards r))
 
 -- ── Row by row ──────────────────────────────────────────────────────────────────────────────────────────────
 
-none_left : discarded_of [] ≡ 0
+pub none_left : discarded_of [] ≡ 0
 unfolding discarded_of keep pick
 none_left = refl
 

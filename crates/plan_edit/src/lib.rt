@@ -2,7 +2,7 @@
 // what becomes of each other change (`judge_changes`), then where dependents and notes go. Nothing is edited meanwhile: the run need not think of overlaps, owners or order again.
 // Rows have their count beside them, and the table comes alone: record_changes and plan_edge say why.
 // Bounds of one number and room in a lent slice stand as clauses: a value around each would be no plainer than its bound.
-// `Ready` stands in clauses, since it names the definition's trees, which are data: as a field each proof would have to show that it has one proof at most.
+// `Ready` stands in clauses, since it names the definition's trees, which are data: as a field it would be truncated, and each proof that reads it would have to show that its own goal has one proof at most.
 #![tactic(auto)]
 
 ghost use Rattle.std.specs.Prelude.{◌≡◌, ◌++◌, ◌+◌, ◌*◌, ◌≤◌, length, drop, replicate};
@@ -48,7 +48,8 @@ pub struct Fated {
     pub staying: usize,
 }
 
-// Why there is no plan: a refusal; where it is 8, the numbers of the two changes that overlap.
+// Why there is no plan: a refusal; where it is 8, the numbers of the two changes that overlap. Neither an Option nor a Result: the numbers go to the account alone, so that they are
+// no part of a `Refusal`.
 #[derive(Clone, Copy, Debug, PartialEq, Eq)]
 pub enum Unplanned {
     Refused(Refusal),

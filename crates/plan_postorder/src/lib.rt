@@ -10,8 +10,8 @@ ghost use Rattle.plan_postorder.specs.Links.{OwnerOf, Links, owned_by, linked_to
 use record_changes::{Fate, field};
 use words::word;
 
-// Rust: PlanEntry::parent. The owner of the change at place `k`, index + 1, 0 = none: the list of `first` into which it is linked. None of a change that never
-// runs.
+// Rust: PlanEntry::parent. The list of `first` into which the change at place `k` is linked: that of its owner, index + 1, or list 0 of a change that has no owner. None of a change that
+// never runs.
 #[tactic(auto, using(crate::proofs::Linking::owner_none, crate::proofs::Linking::owner_discarded, crate::proofs::Linking::owner_dependent, crate::proofs::Linking::owner_outside))]
 fn owner_of(rows: &[u32], k: usize) -> Option<usize>
     requires { k < 2 ^ 32 }

@@ -1,25 +1,29 @@
 -- Each answer, from what was done, and the loop's invariant.
 -- Assumes nothing.
 use Rattle.std.specs.Prelude as prelude
-use Rattle.std.specs.Prelude.{None, Some, Bool, true, false}
+use Rattle.std.specs.Prelude.{None, Some, Bool, true, false, cond, ◌||◌, leb, ltb}
+use Rattle.std.specs.List.{filter, range_with_len}
+use Rattle.std.proofs.lemmas.List.Sums.{length-filter, count_by-le-length}
+use Rattle.std.proofs.lemmas.List.FromFn.{length-range_with_len}
+use mathlib.Core.Logic.{inl, inr}
+use borrow.Author.Tests.{lt-ltb, le-ltb, le-leb, lt-leb}
 use mathlib.Core.Path.{◌≡◌, refl, sym, ap, ◌∙◌}
 use mathlib.Core.List.{List, [], ◌∷◌, ◌++◌, append-nil}
 use mathlib.Core.Option
 use mathlib.Core.Option.{Option, none, some}
 use Prim.Native.Nat.{ℕ, zero, suc, ◌+◌, ◌*◌, ◌/◌, ◌%◌, ◌^◌, ◌≤◌, ◌<◌}
 use native.Mathlib.Nat.{add-zero, zero-add}
-use native.Mathlib.Numerals.{add-one}
 use native.Mathlib.Omega.{arith}
 use lib.ListN.{length, get_or, drop}
 use lib.Seq.{paste, drop-drop, get_or-drop}
 use Rattle.orders.specs.Lists.{All, more, pick}
-use Rattle.orders.specs.ListLaws.{All-map}
+use Rattle.orders.specs.ListLaws.{All-map, lt_or_le}
 use Rattle.orders.specs.Tree.{shift}
 use Rattle.orders.proofs.TreeLaws.{shift_before, shift_inside, shift_after}
 use Rattle.words.specs.Parts.{get_d_below, get_d_inside}
 use Rattle.rows_syntax_node.specs.Promises.{Spliced, Shifted}
 use Rattle.run_model.specs.Store.{HeldNote, with_row}
-use Rattle.run_annotations.specs.Notes.{note_of, notes_of, note_at, note_row, notes_to, notes_same}
+use Rattle.run_annotations.specs.Notes.{note_of, notes_of, note_at, note_row, notes_same}
 use Rattle.run_annotations.specs.Changed.{changed_in, Ruled, count_by}
 use Rattle.run_annotations.specs.Promises.{RowsMoved, moved_note, NotesMoved, RowsAdded}
 use Rattle.run_splice.specs.Promises.{SplicedMarks, NotesLeft, NotesSpliced, Recorded, ChangedSpliced}
@@ -41,53 +45,41 @@ spliced_marks rows n marks parent p q lost run gain out marked r h k a s t = rec
 
 -- ── Notes that stay ─────────────────────────────────────────────────────────────────────────────────────────
 
--- what is picked of a list with one element more
-pick_more : {X Y : Type 0} (f : X → Option Y) (l : List X) (x : X) → length (pick f (l ++ (x ∷ []))) ≡ length (pick f l) + length (more (f x) [])
-unfolding pick
-pick_more f [] x = sym (zero-add _)
-pick_more {X} {Y} f (y ∷ l) x = go (f y) (pick_more f l x)
-  where
-    go : (o : Option Y) → length (pick f (l ++ (x ∷ []))) ≡ length (pick f l) + length (more (f x) []) → length (more o (pick f (l ++ (x ∷ [])))) ≡ length (more o (pick f l)) + length (more (f x) [])
-    go none e = e
-    go (some z) e = omega arith
-
 -- a note stays where its row stays
 stays_by : (n : HeldNote) (o : Option ℕ) → length (more (Option.map (with_row n) o) []) ≡ length (more o [])
 stays_by n none = refl
 stays_by n (some x) = refl
 
--- the first i notes are looked at, and r of them stay
-pub record Staying (l : List ℕ) (p q i r : ℕ) : Type 0 where
-  pub count : (m : ℕ) → r ≡ length (pick (moved_note p q m) (notes_of i l))
-  pub most : r ≤ i
-  pub inside : i ≤ length l / 3
+module _ (l : List ℕ) (p q : ℕ) (o : p ≤ q) where
+  -- whether the note at a place stays
+  abbrev pub stays_at : ℕ → Bool
+  stays_at i = ltb (get_or l (3 * i) 0) p || leb q (get_or l (3 * i) 0)
 
-pub staying_start : (l : List ℕ) (p q : ℕ) → Staying l p q 0 0
-unfolding pick notes_of
-staying_start l p q = record { count = λ m. refl; most = omega arith; inside = omega arith }
+  row_stays : (m x : ℕ) → length (more (shift p q m x) []) ≡ cond (ltb x p || leb q x) 1 0
+  row_stays m x = elim (lt_or_le x p) [
+    | inl h ↦ rw (shift_before p q m x h, lt-ltb x p h) refl
+    | inr h ↦ elim (lt_or_le x q) [ inl k ↦ rw (shift_inside p q m x h k, le-ltb x p h, lt-leb q x k) refl | inr k ↦ rw (shift_after p q m x h k, le-ltb x p h, le-leb q x k) refl ]
+  ]
 
-module _ {l : List ℕ} {p q i r : ℕ} (v : Staying l p q i r) where
-  staying_one : {x n : ℕ} → i < length l / 3 → (x ≡ get_or l (3 * i) 0) × (x < 2 ^ 32) → ((m : ℕ) → length (more (shift p q m x) []) ≡ n) → n ≤ 1 → Staying l p q (i + 1) (r + n)
-  staying_one {x} h e w b = record {
-    count = λ m.
-        let f : length (more (moved_note p q m (note_at l i)) []) ≡ length (more (shift p q m x) []) = stays_by (note_at l i) (shift p q m (note_at l i).row) ∙ ap (λ (y : ℕ). length (more (shift p q m y) [])) (note_row l i ∙ sym e.0) in
-        rw (add-one i, notes_to l i) (omega (arith, pick_more (moved_note p q m) (notes_of i l) (note_at l i), v.count m, f, w m));
-    most = omega (arith, v.most);
-    inside = omega arith;
-  }
+  note_stays : (m i : ℕ) → length (more (moved_note p q m (note_at l i)) []) ≡ cond (stays_at i) 1 0
+  note_stays m i = stays_by (note_at l i) (shift p q m (note_at l i).row) ∙ (ap (λ (y : ℕ). length (more (shift p q m y) [])) (note_row l i) ∙ row_stays m (get_or l (3 * i) 0))
 
-  module _ {x : ℕ} (h : i < length l / 3) (e : (x ≡ get_or l (3 * i) 0) × (x < 2 ^ 32)) where
-    pub staying_before : {r' : ℕ} → x < p → r' ≡ r + 1 → Staying l p q (i + 1) r'
-    staying_before k n = rw n (staying_one h e (λ m. rw (shift_before p q m x k) refl) (omega arith))
+  -- the library's count of the places from i on is that of the notes that are picked
+  staying_from : (m n i : ℕ) → length (filter stays_at (range_with_len i n)) ≡ length (pick (moved_note p q m) (notes_of n (drop (3 * i) l)))
+  unfolding pick notes_of note_at
+  staying_from m zero i = refl
+  staying_from m (suc n) i =
+      let f : 3 * i + 3 ≡ 3 * (i + 1) = omega arith in
+      rw (drop-drop 3 (3 * i) l, f) (go (stays_at i) (moved_note p q m (note_at l i)) (note_stays m i) _ _ _ (staying_from m n (i + 1)))
+    where
+      go : (b : Bool) (y : Option HeldNote) → length (more y []) ≡ cond b 1 0 → (k : List ℕ) (x : ℕ) (hs : List HeldNote) → length k ≡ length hs → length (cond b (x ∷ k) k) ≡ length (more y hs)
+      go true none e k x hs h = omega arith
+      go true (some z) e k x hs h = omega arith
+      go false none e k x hs h = h
+      go false (some z) e k x hs h = omega arith
 
-    pub staying_after : {r' : ℕ} → p ≤ x → q ≤ x → r' ≡ r + 1 → Staying l p q (i + 1) r'
-    staying_after j k n = rw n (staying_one h e (λ m. rw (shift_after p q m x j k) refl) (omega arith))
-
-    pub staying_inside : {r' : ℕ} → p ≤ x → x < q → r' ≡ r → Staying l p q (i + 1) r'
-    staying_inside j k n = rw (n, ← add-zero r) (staying_one h e (λ m. rw (shift_inside p q m x j k) refl) (omega arith))
-
-  pub staying_done : length l / 3 ≤ i → NotesLeft l p q r
-  staying_done h = let e : i ≡ length l / 3 = omega (arith, v.inside) in record { count = λ m. rw (← e) (v.count m); most = omega (arith, v.most) }
+  pub notes_counted : {r : ℕ} → r ≡ length (filter stays_at (range_with_len 0 (length l / 3))) → NotesLeft l p q r
+  notes_counted e = record { count = λ m. e ∙ staying_from m (length l / 3) 0; most = omega (arith, e, length-filter stays_at (range_with_len 0 (length l / 3)), count_by-le-length stays_at (range_with_len 0 (length l / 3)), length-range_with_len 0 (length l / 3)) }
 
 -- ── Notes moved, and notes behind them ──────────────────────────────────────────────────────────────────────
 

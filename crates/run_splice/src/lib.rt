@@ -4,7 +4,7 @@
 // That a run is of whole rows and that marks are rows stands in clauses: the one is a part of the rows, the others are written.
 #![tactic(auto)]
 
-ghost use Rattle.std.specs.Prelude.{◌≡◌, ◌+◌, ◌-◌, ◌*◌, ◌/◌, ◌%◌, ◌^◌, ◌≤◌, ◌<◌, length, get_or};
+ghost use Rattle.std.specs.Prelude.{◌≡◌, ◌+◌, ◌-◌, ◌*◌, ◌/◌, ◌%◌, ◌^◌, ◌≤◌, ◌<◌, ◌||◌, leb, ltb, length, get_or};
 ghost use Rattle.orders.specs.Lists.{All, pick};
 ghost use Rattle.run_annotations.specs.Notes.{notes_of};
 ghost use Rattle.run_annotations.specs.Changed.{changed_in, Ruled, count_by};
@@ -44,20 +44,21 @@ pub fn splice(
 
 // ── Notes ──
 
+// Whether the row `x` is none of the rows `p` up to `q`.
+fn stays(x: usize, p: usize, q: usize) -> bool
+    ensures { result ≡ (ltb x p || leb q x) }
+{
+    x < p || q <= x
+}
+
 // How many of some notes are at none of the rows `p` up to `q`.
-// Its loop counts: no law of the library tells which chunks `chunks_exact` gives to `filter` and `count`.
 pub fn notes_left(notes: &[u32], p: usize, q: usize) -> usize
     requires { (length notes.now < 3 * 2 ^ 16) × (p ≤ q) }
     ensures { NotesLeft notes.now p q result }
 {
-    let mut left = 0;
-    for i in 0..notes.len() / NOTE_WORDS {
-        let x = word(notes, NOTE_WORDS * i);
-        if x < p || q <= x {
-            left += 1;
-        }
-    }
-    left
+    (0..notes.len() / NOTE_WORDS)
+        .filter(|i| stays(word(notes, NOTE_WORDS * *i), p, q))
+        .count()
 }
 
 // The first `k` notes moved, and behind them those that come in. The new number of notes.

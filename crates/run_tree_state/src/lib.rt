@@ -153,7 +153,6 @@ fn bytes_between(rows: &Rows, p: usize, q: usize) -> usize
 }
 
 // How many text bytes a step makes what is held, none if that is too large, decided before it writes: the gap gives way to the parts.
-// It makes the same `Shift` as `splice_store`: a function that answers it would have to promise each field, and be longer than the two.
 fn step_size(rows: &[u32], notes: &[u32], s: TreeState, site: &Site, parts: &Parts) -> Option<usize>
     requires rows_in_bounds { (3 * s.rows ≤ length rows.now) × (s.rows ≤ 4097) × (site.now.gap.from ≤ site.now.gap.to) × (site.now.gap.to ≤ s.rows) }
     requires notes_in_bounds { (3 * s.notes ≤ length notes.now) × (s.notes ≤ 1024) }

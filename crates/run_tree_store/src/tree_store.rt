@@ -8,7 +8,7 @@ ghost use Rattle.run_tree_store.specs.Placed.{placed_prop, lines_prop};
 use rows_syntax_node::Rows;
 
 // Rust: TreeStore, as a change finds its place in it. The rows of all trees, the row at which each element stands (0 for one that is gone), and the element
-// table. Its lines alone are known, which is less than `Elements` holds.
+// table. Its lines alone are known, which is less than `Elements` holds. Not over a `Trees`: each clause and each reader of rows or marks would name both.
 #[derive(Clone, Copy)]
 pub struct TreeStore<'a, 'b> {
     pub rows: Rows<'a>,

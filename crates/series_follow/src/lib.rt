@@ -45,7 +45,8 @@ fn accept_same(
     Err(Refusal::AnotherTree)
 }
 
-// From what is lent to what the run leaves, or the first refusal before 13. The rows are first for the memory's tree.
+// From what is lent to what the run leaves, or the first refusal before 13. The rows are first for the memory's tree. Beside `edit_perform::perform`: what is common is
+// `plan_and_run`, and what comes before it is told of other answers.
 pub fn perform(
     choices: Choices,
     b: &[u8],

@@ -1,1 +1,2 @@
--- Nothing beside the proofs of the functions.
+-- Comparing   laws of words in bytes compared one by one; the library compares them now
+pub mod Comparing

@@ -96,8 +96,6 @@ const ORDERS4: [[u32; 4]; 24] = [
     [3, 2, 1, 0],
 ];
 
-// ── Printing ──
-
 // ── One order ──
 
 // Splice `o` of the list becomes splice `k`.

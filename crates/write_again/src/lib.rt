@@ -22,7 +22,7 @@ fn part_words(words: &[u32], operations: &mut [u32], counts: &mut [u32], rules: 
     }
 }
 
-// Lists are written, with work slices of their own.
+// Lists are written, with work slices of their own: three, made twice in all (load_program), which a function over a closure would not shorten.
 fn write_lists(lists: &Lists, destination: &mut [u8]) -> Result<usize, Refusal> {
     let mut draft = [0u8; 49180];
     let mut table = [0u32; 16384];

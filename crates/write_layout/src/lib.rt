@@ -137,7 +137,7 @@ fn append_sizes(draft: &mut [u8], lists: &Lists) -> usize
     append_words(draft, 0, &seven)
 }
 
-// The call words, behind the first `at` bytes.
+// The call words, behind the first `at` bytes. Beside `finish_result::write_column`: over a closure each item would owe what is said here of the word of a call.
 fn append_calls(draft: &mut [u8], at: usize, lists: &Lists) -> usize
     requires operations_len { (length lists.now.operations.now ≡ length lists.now.counts.now) × (length lists.now.operations.now ≡ length lists.now.rules.now) }
     requires operations_in_bounds { at + 4 * length lists.now.operations.now ≤ length draft.old }

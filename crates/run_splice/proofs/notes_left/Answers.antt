@@ -1,15 +1,16 @@
--- `notes_left` meets its contract. Of the notes passed, those that stay are counted.
-use borrow.Author.Rules.{rules}
-use Rattle.run_splice.proofs.Turns.{staying_start, staying_before, staying_inside, staying_after, staying_done}
+-- `notes_left` meets its contract: the library keeps as many places as notes stay.
+use Prim.Native.Nat.{◌/◌}
+use native.Mathlib.Omega.{arith}
+use lib.ListN.{length}
+use Rattle.std.proofs.Common.{rules, tests}
+use Rattle.std.proofs.lemmas.Iterator.{YieldsList-from_range}
+use Rattle.std.proofs.lemmas.Iterator.Consumers.{YieldsList-from_filter, count_from_yields_List}
+use Rattle.run_splice.proofs.Turns.{stays_at, notes_counted}
 use Rattle.run_splice.proofs.notes_left.Goals as goal
-use Rattle.run_splice.proofs.notes_left.Goals.{then-x-p, then-x-p-via-then-x-p, then-x-p-via-else-x-p+then-q-x, else-x-p+else-q-x}
-
-pub loop-i-init : goal.loop-i-init
-loop-i-init c = search (staying_start, rules)
-
-pub loop-i-preserved : goal.loop-i-preserved
-loop-i-preserved c =
-    elim c.if-x-p.branch [ then-x-p w ↦ elim w.then-x-p.branch [ then-x-p-via-then-x-p u ↦ search (staying_before, rules) | then-x-p-via-else-x-p+then-q-x u ↦ search (staying_after, rules) ] | else-x-p+else-q-x w ↦ search (staying_inside, rules) ]
 
 pub returns : goal.returns
-returns c = search (staying_done, rules)
+returns c =
+    let l = c.args.notes.now in
+    let o = c.requires.1 in
+    notes_counted l c.args.p c.args.q o
+    (count_from_yields_List c.filter.result _ c.count.ensures.ran (YieldsList-from_filter _ (stays_at l c.args.p c.args.q o) (YieldsList-from_range 0 (length l / 3) (length l / 3) (search rules) (omega arith)) c.filter.ensures.closure (λ x b q k. search (rules, tests))))
