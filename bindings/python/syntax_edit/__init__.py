@@ -1,8 +1,8 @@
 """A package over the proved syntax tree editor, the checker of another editor's output and series of edits with bookmarks.
 
-A `Batch` (trees, calls, mappings, notes) is told to a `BatchBuilder` and laid out by the library's writer; an `Editor`, which owns the work memory, answers it with an `Answer` (the new
-tree, its changed elements, its notes) or raises a `Refusal`: every batch of bytes gets one of the two. A `Checker` judges a `Claim`, what another editor says of its own output. A
-`Series` edits batch after batch on the tree that the one before left, and its bookmarks follow. The names are those of the Rust crate in ``bindings/rust``.
+A `Batch` (trees, calls, mappings, notes) is told to a `BatchBuilder` and laid out by the library's writer; an `Editor`, which owns the work memory, answers it with an `Answer`
+(the new tree, its changed elements, its notes) or raises a `Refusal`: every batch of bytes gets one of the two. A `Checker` judges a `Claim`, what another editor says of its own
+output. A `Series` edits batch after batch on the tree that the one before left, and its bookmarks follow. The names are those of the Rust crate in ``bindings/rust``.
 
 ``bindings/python/build`` makes the shared library; it is loaded by the first call. ``python3 -m syntax_edit show FILE`` shows a batch as text.
 """

@@ -11,6 +11,7 @@ from .show import picture
 
 
 def _arguments() -> argparse.ArgumentParser:
+    """What may be asked for."""
     parser = argparse.ArgumentParser(prog="python3 -m syntax_edit", description="The proved syntax tree editor, for people.")
     commands = parser.add_subparsers(dest="command", required=True)
     it = commands.add_parser("show", help="shows a batch as text: its trees, what became of each call, the new tree and its text")

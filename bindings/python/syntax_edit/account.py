@@ -13,6 +13,7 @@ class Own:
     """The change is performed on its own."""
 
     def __str__(self) -> str:
+        """The words of the account."""
         return "own"
 
 
@@ -23,6 +24,7 @@ class Dependent:
     change: int
 
     def __str__(self) -> str:
+        """The words of the account."""
         return f"dependent {self.change}"
 
 
@@ -33,6 +35,7 @@ class Discarded:
     change: int
 
     def __str__(self) -> str:
+        """The words of the account."""
         return f"discarded {self.change}"
 
 
@@ -43,6 +46,7 @@ class Withdrawn:
     change: int
 
     def __str__(self) -> str:
+        """The words of the account."""
         return f"withdrawn {self.change}"
 
 

@@ -11,7 +11,7 @@ from .tree import NODE, Element, Flat, Node, Note, elements_of
 
 @dataclass(frozen=True)
 class Answer:
-    """The new tree with its changed elements and its notes. ``str`` gives document 01's printed form."""
+    """The new tree with its changed elements and its notes. ``str`` gives the printed form of document 01."""
 
     #: The elements of the new tree in preorder.
     elements: Tuple[Element, ...]
@@ -50,6 +50,7 @@ class Answer:
         return Flat.of(self.elements)
 
     def __str__(self) -> str:
+        """Document 01's printed form."""
         sizes = (len(self.elements), len(self.text), len(self.changed), len(self.notes), self.discarded, self.climb_steps)
         lines = ["ok " + " ".join(map(str, sizes))]
         lines += [f"{'n' if isinstance(it, Node) else 't'} {it.kind} {it.measure}" for it in self.elements]

@@ -89,15 +89,19 @@ class Batch:
     """A batch as bytes. Any bytes may be one: an editor answers or refuses them."""
 
     def __init__(self, data: bytes) -> None:
+        """A batch of these bytes, which are copied."""
         self.bytes = bytes(memoryview(data))
 
     def __eq__(self, other: object) -> bool:
+        """Batches are equal if their bytes are."""
         return isinstance(other, Batch) and self.bytes == other.bytes
 
     def __hash__(self) -> int:
+        """That of the bytes."""
         return hash(self.bytes)
 
     def __repr__(self) -> str:
+        """How long it is."""
         return f"Batch(of {len(self.bytes)} bytes)"
 
     @staticmethod
@@ -161,12 +165,13 @@ def _written(lists: Lists) -> Batch:
 class BatchBuilder:
     """Builds a batch.
 
-    Trees are told in preorder by `open`, `token` and `close`, or by ``with batch.node(kind):``, tree 0 (the one that is edited) first; `open` and `token` give the element's number, by
-    which calls, mappings and notes name it. Whether all is within its limits and well formed is judged by the writer. A number that fits no 32-bit word, and a kind that fits no 16 bits,
-    raises `OverflowError` where it is told.
+    Trees are told in preorder by `open`, `token` and `close`, or by ``with batch.node(kind):``, tree 0 (the one that is edited) first; `open` and `token` give the element's
+    number, by which calls, mappings and notes name it. Whether all is within its limits and well formed is judged by the writer. A number that fits no 32-bit word, and a kind that
+    fits no 16 bits, raises `OverflowError` where it is told.
     """
 
     def __init__(self) -> None:
+        """Without any tree or call."""
         self._trees = 0
         self._kinds = array("I")
         self._measures = array("I")
@@ -230,6 +235,7 @@ class BatchBuilder:
         return root
 
     def _element(self, word: int, measure: int) -> int:
+        """A further element, a child of the node that is open. Its number."""
         self._kinds.append(word)
         self._measures.append(measure)
         if self._open:
@@ -283,6 +289,7 @@ class BatchBuilder:
             self._call(NEXT_EDITOR, 0, [])
 
     def _call(self, operation: int, target: int, listed: Iterable[int]) -> None:
+        """A further call, by the present rule."""
         # What fits no word raises before any list has grown.
         target, held = _word(target), array("I", [*listed])
         self._operations.append(operation)

@@ -1,7 +1,7 @@
 """The changes that an account numbers, found from a batch's calls.
 
-An account speaks of changes by their place in sorted order. Here calls are recorded and sorted as document 01 says ("Recording", "Planning"), so that each line can be told beside its
-calls. Nothing here judges a batch: what becomes of each change is the library's answer.
+An account speaks of changes by their place in sorted order. Here calls are recorded and sorted as document 01 says ("Recording", "Planning"), so that each line can be told beside
+its calls. Nothing here judges a batch: what becomes of each change is the library's answer.
 """
 
 from __future__ import annotations
@@ -89,6 +89,7 @@ def _parent_depth(shape: Shape, change: Change) -> int:
 
 
 def _rank(change: Change) -> int:
+    """Insertions first, then runs, then replacements, which calls 3 and 4 are too."""
     if change.operation in (INSERT_FIRST, INSERT_AFTER):
         return 0
     return 1 if change.operation == REPLACE_ALL else 2

@@ -28,13 +28,14 @@ class Checker:
     """The checker with its work memory, 160 KiB. One for each thread that checks at the same time."""
 
     def __init__(self) -> None:
+        """A checker with its own work memory."""
         self._work = raw.checker_work()
 
     def check(self, claim: Claim) -> bool:
         """Whether a claim is accepted. Raises its `Refusal`: 3, 4, 5 or 19.
 
-        It is accepted exactly if the roots are paired; no element is paired twice; paired elements have equal kinds and, for tokens, equal text; the parents of others than the roots
-        are a pair; paired siblings stand in the same order in both trees; and every unpaired new element is at or below a changed one, and no paired one is.
+        It is accepted exactly if the roots are paired; no element is paired twice; paired elements have equal kinds and, for tokens, equal text; the parents of others than the
+        roots are a pair; paired siblings stand in the same order in both trees; and every unpaired new element is at or below a changed one, and no paired one is.
         """
         old, new = [(it.kinds, it.measures, bytes(it.text)) for it in (claim.old, claim.new)]
         return told(raw.check(old, new, claim.olds, claim.news, claim.changed, self._work)) == raw.ACCEPTED

@@ -24,10 +24,12 @@ class Share(NamedTuple):
 class Editor:
     """The editor with its choices, its work memory (235 KiB) and a result buffer in which every answer fits. One for each thread that edits at the same time.
 
-    ``edge`` is the edge rule, ``stronger`` the choice of stronger rules first: `Choices` says what they are. Every call takes a `Batch` or its bytes, answers or raises a `Refusal`.
+    ``edge`` is the edge rule, ``stronger`` the choice of stronger rules first: `Choices` says what they are. Every call takes a `Batch` or its bytes, and answers or raises a
+    `Refusal`.
     """
 
     def __init__(self, edge: int = 0, stronger: int = 0) -> None:
+        """An editor by these choices, with its own work memory."""
         self.choices = Choices(edge, stronger)
         self._work = raw.work()
         self._result = raw.room(raw.MOST_ANSWER)

@@ -83,7 +83,8 @@ class Choices(NamedTuple):
     """How a batch is edited. The default is what rust-analyzer does.
 
     ``edge`` is the edge rule, to which replacement or run a change at its edge belongs: 0 by text ranges, 1 by where elements stand in the tree; any other number is refused (17).
-    ``stronger`` is stronger rules first, off (0) or on (1): whether a replacement or run is withdrawn that overlaps a kept one of a higher rule number; any other number is refused (18).
+    ``stronger`` is stronger rules first, off (0) or on (1): whether a replacement or run is withdrawn that overlaps a kept one of a higher rule number; any other number is refused
+    (18).
     """
 
     edge: int = 0
@@ -178,6 +179,7 @@ def _number(number: int) -> int:
 
 
 def _by(choices: Choices) -> Tuple[int, int]:
+    """Both choices as the library takes them."""
     return _number(choices[0]), _number(choices[1])
 
 

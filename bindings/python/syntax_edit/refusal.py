@@ -36,24 +36,28 @@ class Refusal(Exception):
     """
 
     def __init__(self, number: int) -> None:
+        """The refusal of this number, 1 to 22."""
         super().__init__(number)
         self.number = number
         self.meaning = MEANINGS[number]
 
     def __str__(self) -> str:
+        """In words."""
         return f"refused {self.number}: {self.meaning}"
 
 
 class Overlap(Refusal):
-    """Refusal 8 as an account tells it: changes ``first`` and ``second``, in sorted order, overlap, and no later one overlaps before the second."""
+    """Refusal 8 as an account tells it: changes ``first`` and ``second``, in sorted order, overlap, and none overlaps an earlier one before the second does."""
 
     def __init__(self, first: int, second: int) -> None:
+        """The overlap of these two."""
         super().__init__(8)
         self.args = (first, second)
         self.first = first
         self.second = second
 
     def __str__(self) -> str:
+        """In words."""
         return f"changes {self.first} and {self.second} overlap"
 
 
@@ -65,6 +69,7 @@ class Unbalanced(Unfit):
     """A node was opened and not closed, or closed and not opened."""
 
     def __str__(self) -> str:
+        """In words."""
         return "nodes are not opened and closed in pairs"
 
 
@@ -72,6 +77,7 @@ class Loose(Unfit):
     """A token stands outside every tree."""
 
     def __str__(self) -> str:
+        """In words."""
         return "a token stands outside every tree"
 
 

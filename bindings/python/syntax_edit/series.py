@@ -21,9 +21,13 @@ _SIZES = 8
 
 
 class Series:
-    """A series of edits with its memory (the present tree and the bookmarks that are left), its work memory and a result buffer in which every answer fits. `Series.start` begins one."""
+    """A series of edits with its memory (the present tree and the bookmarks that are left), its work memory and a result buffer in which every answer fits.
+
+    `Series.start` begins one.
+    """
 
     def __init__(self, tree: raw.Room, bookmarks: raw.Words) -> None:
+        """A series with this memory, which `start` has judged."""
         self._tree = tree
         self._bookmarks = bookmarks
         self._work = raw.work()
@@ -41,7 +45,8 @@ class Series:
     def follow(self, batch: Union[Batch, bytes], edge: int = 0, stronger: int = 0) -> Answer:
         """The answer of a batch whose tree 0 is the present tree; then the new tree is the present one, and each bookmark has moved with its element or was dropped with it.
 
-        Raises the `Refusal`, 22 if tree 0 is another tree; then the series is as it was. A batch has at most 2,048 elements: once the present tree has more, every batch is refused (22).
+        Raises the `Refusal`, 22 if tree 0 is another tree; then the series is as it was. A batch has at most 2,048 elements: once the present tree has more, every batch is
+        refused (22).
         """
         length = told(raw.series_follow(Choices(edge, stronger), as_bytes(batch), self._tree, self._bookmarks, self._result, self._work))
         answer = Answer.read(bytes(memoryview(self._result)[:length]))

@@ -8,7 +8,10 @@ from .tree import Element, Token
 
 
 class Place(NamedTuple):
-    """Where an element stands. ``start`` and ``end`` are byte offsets in its own tree, ``depth`` counts ancestors with the element itself, ``after`` is the number after all below it."""
+    """Where an element stands.
+
+    ``start`` and ``end`` are byte offsets in its own tree, ``depth`` counts ancestors with the element itself, ``after`` is the number after all below it.
+    """
 
     tree: int
     parent: Optional[int]
@@ -22,6 +25,7 @@ class Shape:
     """Elements in preorder, tree after tree, with the place of each. They must spell whole trees, as those of a well-formed batch and of an answer do."""
 
     def __init__(self, elements: Sequence[Element]) -> None:
+        """The places of these elements."""
         self.elements = elements
         self.places: List[Place] = []
         self._text = b"".join(it.text for it in elements if isinstance(it, Token))

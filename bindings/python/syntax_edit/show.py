@@ -47,6 +47,7 @@ def _row(shape: Shape, number: int, width: int) -> str:
 
 
 def _width(shape: Shape) -> int:
+    """How many digits the numbers have."""
     return len(str(len(shape.elements) - 1))
 
 
@@ -61,10 +62,12 @@ def _trees(view: View) -> List[str]:
 
 
 def _title(view: View, tree: int) -> str:
+    """What stands over a tree."""
     return f"tree {tree}" if tree else "tree 0, which is edited" + (" (- goes)" if view.gone else "")
 
 
 def _mappings(view: View) -> List[str]:
+    """Which node is mapped to which."""
     pairs = [f"  {words.element(view.shape, i)} to {words.element(view.shape, o)}" for i, o in view.contents.mappings]
     return ["", "mapped"] + pairs if pairs else []
 

@@ -18,6 +18,7 @@ class View:
     """A well-formed batch and its answer or its refusal. Raises the refusal of one that is not well formed (2 to 7, 16)."""
 
     def __init__(self, data: bytes, edge: int = 0, stronger: int = 0) -> None:
+        """These bytes by these choices."""
         self.contents = Batch.read(data)
         self.shape = Shape(self.contents.elements)
         #: The changes in sorted order, and the place of each call's.
@@ -37,6 +38,7 @@ class View:
             self.refusal = refusal
 
     def _ask(self, data: bytes, editor: Editor) -> None:
+        """What the library says of the batch."""
         # The account first: of refusal 8 it names the two changes.
         self.fates = editor.account(data)
         assert len(self.fates) == len(self.changes), "an account has a line for each recorded change"
@@ -55,8 +57,8 @@ class View:
 def put_in(view: View, answer: Answer, edge: int) -> Mapping[int, List[int]]:
     """By each call the changed elements that it put in.
 
-    The batch is edited once more, each call as by a rule of its own number: without stronger rules first rule numbers say who put an element in and play no other part. What is withdrawn
-    has left before.
+    The batch is edited once more, each call as by a rule of its own number: without stronger rules first rule numbers say who put an element in and play no other part. What is
+    withdrawn has left before.
     """
     calls = [Call(it.operation, it.target, it.listed, 0 if it.operation == NEXT_EDITOR else i + 1) for i, it in enumerate(view.calls)]
     left = tuple(it for i, it in enumerate(calls) if not _withdrawn(view, i))

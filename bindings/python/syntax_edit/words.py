@@ -61,6 +61,7 @@ def call(shape: Shape, it: Call) -> str:
 
 
 def _asked(shape: Shape, it: Call) -> str:
+    """What a call asks for."""
     target = element(shape, it.target)
     if it.operation == INSERT_FIRST:
         return f"insert {elements(shape, it.listed)} first into {target}"

@@ -43,7 +43,8 @@ class Headers(unittest.TestCase):
         self.assertEqual(tuple(it["SYNTAX_" + name] for name in names), raw.LENGTHS)
         names = ("OLD", "NEW", "PARTNERS", "MARKS")
         self.assertEqual(tuple(it["SYNTAX_CLAIM_" + name] for name in names), raw.CHECKER_LENGTHS)
-        for name in ("MOST_ANSWER", "MOST_ACCOUNT", "MOST_KEPT", "DRAFT", "MOST_RULE", "MOST_LOAD", "NONE", "START_ROWS", "MOST_TREE", "MOST_BOOKMARKS", "SLOT", "LONGEST_PATH", "ACCEPTED"):
+        names = "MOST_ANSWER MOST_ACCOUNT MOST_KEPT DRAFT MOST_RULE MOST_LOAD NONE START_ROWS MOST_TREE MOST_BOOKMARKS SLOT LONGEST_PATH ACCEPTED"
+        for name in names.split():
             self.assertEqual(it["SYNTAX_" + name], getattr(raw, name), name)
         self.assertEqual(it["SYNTAX_MOST_BATCH"], raw.DRAFT)
 

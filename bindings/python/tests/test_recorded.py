@@ -1,7 +1,7 @@
 """The recorded cases of the oracle, 582 of the Rust and 27 of choices of their own: every byte of every answer, every refusal, every recorded `find_element` call.
 
-The recording has no accounts, shares and pairs. They are held to what it has: the same refusals, the count of discarded changes, the share that the recorded changed elements make, and the
-checker, which accepts the recorded tree with these pairs where no root is replaced and no change is dependent.
+The recording has no accounts, shares and pairs. They are held to what it has: the same refusals, the count of discarded changes, the share that the recorded changed elements make,
+and the checker, which accepts the recorded tree with these pairs where no root is replaced and no change is dependent.
 """
 
 import unittest

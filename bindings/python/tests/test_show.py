@@ -123,9 +123,9 @@ class Calls(unittest.TestCase):
         )
 
     def test_a_change_of_another_tree(self):
-        """d is put behind c, in tree 1; that tree's root then goes into tree 0 with both."""
+        """The root of tree 1 goes into tree 0; then d is put behind c, in tree 1."""
         lines = self.lines(lambda it: (it.batch.insert_after(it.c, [it.d]), it.batch.insert_after(it.b, [it.c - 1])))
-        self.assertEqual([it for it in lines if it.startswith("  ")], ["    change 1: own, in tree 1", "    change 0: own, now element 4"])
+        self.assertEqual([it for it in lines if it.startswith("  ")], ["    change 0: own, in tree 1", "    change 1: own, now element 4"])
 
     def test_nothing_to_do(self):
         text = show(S().batch.finish())
@@ -135,7 +135,9 @@ class Calls(unittest.TestCase):
 
 class Texts(unittest.TestCase):
     def test_in_a_line(self):
-        for text, wanted in [(b"a", "a"), (b"", '""'), (b"a b", '"a b"'), (b'a"\n\t', '"a\\"\\n\\t"'), (b"\xff\x1b", "\\xff\\x1b"), ("é".encode(), "é"), (b"x" * 50, "x" * 38 + "..")]:
+        for text, wanted in [
+            (b"a", "a"), (b"", '""'), (b"a b", '"a b"'), (b'a"\n\t', '"a\\"\\n\\t"'), (b"\xff\x1b", "\\xff\\x1b"), ("é".encode(), "é"), (b"x" * 50, "x" * 38 + ".."),
+        ]:  # fmt: skip
             self.assertEqual(words.shown(text), wanted)
 
     def test_lines_stay_lines(self):
