@@ -216,18 +216,19 @@ class BatchBuilder:
     def token(self, kind: int, text: Union[bytes, str] = b"") -> int:
         """A token of this text (a ``str`` goes in as UTF-8). Its number."""
         held = text.encode() if isinstance(text, str) else text
+        word = token_word(kind)
         if not self._open:
             self._fault = self._fault or Loose
-        number = self._element(token_word(kind), len(held))
+        number = self._element(word, len(held))
         self._text += held
         return number
 
     def tree(self, tree: Flat) -> int:
         """A further tree, told whole: the number of its root, which those of its other elements follow in preorder."""
-        if self._open:
-            self._fault = self._fault or Unbalanced
         root = len(self._kinds)
         kinds, measures = array("I", [*tree.kinds]), array("I", [*tree.measures])
+        if self._open:
+            self._fault = self._fault or Unbalanced
         self._trees += 1
         self._kinds.extend(kinds)
         self._measures.extend(measures)

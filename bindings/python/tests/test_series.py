@@ -90,8 +90,8 @@ class Following(unittest.TestCase):
 
     def test_by_either_rule(self):
         """The closing call, and two rule books."""
-        close = lambda it, c, d: (it.delete(3), it.insert_after(1, [c]))  # noqa: E731
-        for edge, text in ((0, b"ab"), (1, b"acb")):
+        close = lambda it, c, d: (it.replace_all(2, 3, []), it.insert_after(1, [c]))  # noqa: E731
+        for edge, text in ((0, b"b"), (1, b"cb")):
             self.assertEqual(Series.start(TREE, ALL).follow(on(TREE, close), edge).text, text)
         books = lambda it, c, d: (it.rule(1).replace(1, c), it.next_editor(), it.rule(2).replace(1, d))  # noqa: E731
         self.assertEqual(Series.start(TREE).follow(on(TREE, books), stronger=1).text, b"db")
