@@ -31,7 +31,7 @@ def picture(batch: Union[Batch, bytes], edge: int = 0, stronger: int = 0) -> Pic
         return Picture(f"{refusal}\n", refusal)
     lines = _trees(view) + _mappings(view) + _calls(view)
     lines += _answered(view, view.answer) if view.answer else _refused(view)
-    return Picture("".join(line.rstrip() + "\n" for line in lines), view.refusal)
+    return Picture("".join(line + "\n" for line in lines), view.refusal)
 
 
 def show(batch: Union[Batch, bytes], edge: int = 0, stronger: int = 0) -> str:

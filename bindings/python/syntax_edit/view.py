@@ -3,11 +3,12 @@
 from __future__ import annotations
 
 from collections import defaultdict
+from dataclasses import replace
 from typing import Dict, FrozenSet, List, Mapping, Optional, Sequence
 
 from .account import Fate, Withdrawn
 from .answer import Answer
-from .batch import NEXT_EDITOR, Batch, Call, Contents
+from .batch import NEXT_EDITOR, Batch, Call
 from .changes import in_order, recorded
 from .editor import Editor, Share
 from .refusal import Refusal
@@ -62,8 +63,7 @@ def put_in(view: View, answer: Answer, edge: int) -> Mapping[int, List[int]]:
     """
     calls = [Call(it.operation, it.target, it.listed, 0 if it.operation == NEXT_EDITOR else i + 1) for i, it in enumerate(view.calls)]
     left = tuple(it for i, it in enumerate(calls) if not _withdrawn(view, i))
-    held = view.contents
-    again = Editor(edge).edit(Contents(held.trees, held.elements, left, held.mappings, held.notes).write())
+    again = Editor(edge).edit(replace(view.contents, calls=left).write())
     assert (again.elements, again.changed) == (answer.elements, answer.changed), "rule numbers play no other part"
     found = defaultdict(list)
     for element, rule in zip(again.changed, again.rules):
