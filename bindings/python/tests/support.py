@@ -139,4 +139,4 @@ def filled(length: int, by: int = 0xA5) -> Any:
 
 def cleared(work: raw.Work) -> bool:
     """Whether all slices are all zeros."""
-    return not any(any(bytes(it)) for it in work)
+    return not any(bytes(it).strip(b"\0") for it in work)
