@@ -116,7 +116,7 @@ class Batch:
         """What the batch of these bytes says. Raises its `Refusal` where lines 2 to 7 or 16 refuse it; that is the library's to judge."""
         held = as_bytes(data)
         _judge(held)
-        return _contents(held)
+        return taken_apart(held)
 
 
 def as_bytes(batch: Union[Batch, bytes]) -> bytes:
@@ -131,8 +131,8 @@ def _judge(data: bytes) -> None:
         raise Refusal(-answer)
 
 
-def _contents(data: bytes) -> Contents:
-    """What a well-formed batch says: nine arrays behind the sizes, then the text."""
+def taken_apart(data: bytes) -> Contents:
+    """What a batch says that lines 2 to 5 pass: nine arrays behind the sizes, then the text. Its calls may name what there is not."""
     sizes = Sizes(*unpack_from("<7I", data))
     arrays, at = [], 28
     e, c, m, a = sizes.elements, sizes.calls, sizes.mappings, sizes.notes

@@ -3,13 +3,14 @@
 from __future__ import annotations
 
 from collections import defaultdict
-from typing import Dict, List, Mapping, NamedTuple, Optional, Union
+from typing import Dict, FrozenSet, List, Mapping, NamedTuple, Optional, Sequence, Union
 
 from . import words
 from .account import Dependent, Discarded, Own
 from .answer import Answer
-from .batch import Batch, as_bytes
+from .batch import Batch, as_bytes, taken_apart
 from .changes import Change
+from .fault import fault
 from .refusal import Overlap, Refusal
 from .shape import Shape
 from .tree import Token
@@ -24,19 +25,32 @@ class Picture(NamedTuple):
 
 
 def picture(batch: Union[Batch, bytes], edge: int = 0, stronger: int = 0) -> Picture:
-    """The whole picture of a batch, or its refusal in words where lines 2 to 7 or 16 refuse it."""
+    """The whole picture of a batch; of one that is not well formed only what can be shown, and the refusal."""
+    data = as_bytes(batch)
     try:
-        view = View(as_bytes(batch), edge, stronger)
+        view = View(data, edge, stronger)
     except Refusal as refusal:
-        return Picture(f"{refusal}\n", refusal)
-    lines = _trees(view) + _mappings(view) + _calls(view)
+        return Picture(_text(_malformed(data, refusal)), refusal)
+    lines = _trees(view.shape, view.gone) + _mappings(view) + _calls(view)
     lines += _answered(view, view.answer) if view.answer else _refused(view)
-    return Picture("".join(line + "\n" for line in lines), view.refusal)
+    return Picture(_text(lines), view.refusal)
 
 
 def show(batch: Union[Batch, bytes], edge: int = 0, stronger: int = 0) -> str:
     """The text of the picture."""
     return picture(batch, edge, stronger).text
+
+
+def _text(lines: Sequence[str]) -> str:
+    """The lines as one text."""
+    return "".join(line + "\n" for line in lines)
+
+
+def _malformed(data: bytes, refusal: Refusal) -> List[str]:
+    """The refusal in words. What 6, 16 and 7 refuse has trees to show, and a first call, mapping or note that is refused."""
+    if refusal.number not in (6, 7, 16):
+        return [str(refusal)]
+    return _trees(Shape(taken_apart(data).elements), frozenset()) + ["", str(refusal), f"    {fault(data)}"]
 
 
 def _row(shape: Shape, number: int, width: int) -> str:
@@ -51,19 +65,15 @@ def _width(shape: Shape) -> int:
     return len(str(len(shape.elements) - 1))
 
 
-def _trees(view: View) -> List[str]:
+def _trees(shape: Shape, gone: FrozenSet[int]) -> List[str]:
     """The trees of the batch. What of tree 0 does not survive has a minus."""
     lines: List[str] = []
-    for number, place in enumerate(view.shape.places):
+    for number, place in enumerate(shape.places):
         if place.depth == 1:
-            lines += ["", _title(view, place.tree)] if number else [_title(view, 0)]
-        lines.append(f"  {'-' if number in view.gone else ' '} {_row(view.shape, number, _width(view.shape))}")
+            title = "tree 0, which is edited" + (" (- goes)" if gone else "")
+            lines += ["", f"tree {place.tree}"] if place.tree else [title]
+        lines.append(f"  {'-' if number in gone else ' '} {_row(shape, number, _width(shape))}")
     return lines
-
-
-def _title(view: View, tree: int) -> str:
-    """What stands over a tree."""
-    return f"tree {tree}" if tree else "tree 0, which is edited" + (" (- goes)" if view.gone else "")
 
 
 def _mappings(view: View) -> List[str]:

@@ -6,6 +6,7 @@ import subprocess
 import sys
 import tempfile
 import unittest
+from dataclasses import replace
 from pathlib import Path
 
 from support import PRINTED_CASE, ROOT, S, example, recorded_cases, told
@@ -46,6 +47,7 @@ class Pictures(unittest.TestCase):
             path.write_text(script)
             status, batch, fault = run(str(path))
         self.assertEqual((status, fault), (0, ""))
+        self.assertIn("    change 3: own, now element 8\n", show(batch, edge=1))
         shown = dict(it[2:].split("\n", 1) for it in blocks() if it.startswith("$ "))
         self.assertEqual(len(shown), 2)
         for line, wanted in shown.items():
@@ -74,6 +76,45 @@ class Refused(unittest.TestCase):
     def test_what_is_not_well_formed(self):
         self.assertEqual(show(PRINTED_CASE[:27]), f"refused 2: {MEANINGS[2]}\n")
         self.assertEqual(show(PRINTED_CASE[:-1]), f"refused 4: {MEANINGS[4]}\n")
+
+    def malformed(self, place, word):
+        """The last two lines of the printed case with one word replaced: the refusal, and what it is about."""
+        lines = show(PRINTED_CASE[: 4 * place] + word.to_bytes(4, "little") + PRINTED_CASE[4 * place + 4 :]).splitlines()
+        self.assertEqual(lines[:6], show(PRINTED_CASE).splitlines()[:6])
+        return lines[-2:]
+
+    def test_the_first_that_is_not_well_formed(self):
+        """The call word is word 17, then its target, what it lists, the note's element and its number."""
+        for place, word, number, wanted in [
+            (17, 263, 6, "call 0: operation 7, target 1, lists 4"),
+            (17, 1, 6, "the counts of the calls do not add up to the listed elements"),
+            (17, 513 | 3 << 20, 6, "the counts of the calls do not add up to the listed elements"),
+            (18, 0, 6, "call 0: operation 1, target 0, lists 4"),
+            (19, 5, 6, "call 0: operation 1, target 1, lists 5"),
+            (20, 5, 7, "note 0: number 9 on element 5"),
+            (21, 0, 7, "note 0: number 0 on element 4"),
+        ]:
+            self.assertEqual(self.malformed(place, word), [f"refused {number}: {MEANINGS[number]}", "    " + wanted])
+
+    def test_a_mapping_to_a_root_and_a_call_that_lists_too_many(self):
+        it = S()
+        it.batch.map(it.root, it.x)
+        data = bytearray(it.batch.finish().bytes)
+        data[-8:-4] = (it.root).to_bytes(4, "little")
+        self.assertIn("\n    mapping 0: element 0 to element ", show(data))
+        it = S()
+        it.batch.insert_after(it.b, [it.c] * 41)
+        it.batch.rule(9).insert_after(it.b, [it.c])
+        read = Batch.read(it.batch.finish())
+        for calls in ((read.calls[1], read.calls[0]), read.calls):
+            data = bytearray(replace(read, calls=calls).write().bytes)
+            elements, at = data[4], calls.index(read.calls[0])
+            # One more in the size, in the call's word and in the list.
+            data[16] += 1
+            data[4 * (7 + 2 * elements + at) + 1] += 1
+            where = 4 * (7 + 2 * elements + 4)
+            data[where:where] = it.c.to_bytes(4, "little")
+            self.assertTrue(show(data).endswith(f"\nrefused 16: {MEANINGS[16]}\n    call {at}: operation 1, target 3, lists 42 elements\n"))
 
     def test_choices(self):
         for edge, stronger, number in ((2, 0, 17), (0, 2, 18)):
@@ -165,6 +206,9 @@ class Whole(unittest.TestCase):
                 if case.refusal and case.refusal != 13:
                     self.assertEqual(refusal.number, case.refusal)
                     self.assertIn(f"refused {case.refusal}: {MEANINGS[case.refusal]}\n", text)
+                    # Of 6, 7 and 16 the last line says what is not well formed.
+                    last = text.splitlines()[-1]
+                    self.assertEqual(case.refusal in (6, 7, 16), last.startswith(("    call ", "    mapping ", "    note ", "    the counts ")))
                 else:
                     self.assertIsNone(refusal)
                     self.assertTrue(text.splitlines()[-1].startswith(f"{len(Editor(*case.choices).edit(case.batch).elements)} elements, "))
