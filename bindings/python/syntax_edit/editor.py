@@ -42,7 +42,10 @@ class Editor:
         return answer
 
     def account(self, batch: Union[Batch, bytes]) -> List[Fate]:
-        """What becomes of each change of a batch, in sorted order. Where two overlap it raises `Overlap`, which is refusal 8 and names them."""
+        """What becomes of each change of a batch, in sorted order. Where two overlap it raises `Overlap`, which is refusal 8 and names them.
+
+        A batch whose answer has more than 65,536 bytes is refused (13), as by the programs; `edit` has room for it.
+        """
         length = told(raw.account(self.choices, as_bytes(batch), self._result, self._work))
         found = accounts.read(self._held(length).decode("ascii"))
         if isinstance(found, Overlap):

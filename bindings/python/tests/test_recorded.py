@@ -61,14 +61,14 @@ class Recorded(unittest.TestCase):
 
 class Accounts(unittest.TestCase):
     def test_refusals(self):
-        """The same numbers, and of 8 a pair of changes; 13 is not for want of room here."""
+        """The same numbers, and of 8 a pair of changes. 13 is the account's, as the programs', however much room it has; shares and pairs have no long result."""
         for number, case in enumerate(CASES):
             editor = Editor(*case.choices)
-            if case.refusal in (0, 13):
+            if not case.refusal:
                 continue
             with self.subTest(case=number):
                 for ask in (editor.share, editor.kept):
-                    self.assertEqual(number_of(lambda: ask(case.batch)), case.refusal)
+                    self.assertEqual(number_of(lambda: ask(case.batch)), None if case.refusal == 13 else case.refusal)
                 with self.assertRaises(Overlap if case.refusal == 8 else Refusal) as raised:
                     editor.account(case.batch)
                 self.assertEqual(raised.exception.number, case.refusal)
