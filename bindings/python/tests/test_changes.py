@@ -38,6 +38,11 @@ class Recording(unittest.TestCase):
         calls = lambda it: (it.batch.rule(1).replace(x, c), it.batch.next_editor(), it.batch.replace(x, d))  # noqa: E731
         self.assertEqual(self.changes(calls), [(2, x, (c,), 1, [0], 0), (2, x, (d,), 1, [2], 2)])
 
+    def test_a_root_is_its_own_target_parent(self):
+        """So its replacement stands behind an insertion at its start."""
+        calls = lambda it: (it.batch.replace(it.root, it.c - 1), it.batch.insert_first(it.root, [it.c]))  # noqa: E731
+        self.assertEqual([(it[0], it[1]) for it in self.changes(calls)], [(0, 0), (2, 0)])
+
     def test_order(self):
         """By start, then depth of target parent, then insert, run, replace; a run with equal ends is call 4."""
         root, x, a, b = range(4)

@@ -137,6 +137,9 @@ class Starts(unittest.TestCase):
         series = Series.start(tree, [(1, deepest)])
         series.follow(on(tree, lambda it, c, d: it.insert_first(62, [c + 1])))
         self.assertEqual(series.bookmarks, [(1, (0,) * 62 + (1,))])
+        # .. and the tree that is left has a longest path whose last step tells.
+        self.assertEqual(Series.start(series.tree, series.bookmarks).bookmarks, [(1, (0,) * 62 + (1,))])
+        self.assertEqual(self.refused(series.tree, [(1, (0,) * 62 + (2,))]), 21)
 
 
 # ------------------------------------------------------------------ the calls themselves, over slices of any length
