@@ -4,7 +4,7 @@
 use Rattle.std.specs.Prelude.{◌≡◌, Bool, ◌&&◌, leb, eqb, length, get_or, set, replicate}
 use Rattle.std.proofs.Math.Path.{refl, ap}
 use Rattle.std.proofs.Common.{sym, ◌∙◌, get_or-set_same, get_or-set_other}
-use Rattle.std.proofs.Math.Bool.{true, false, cond}
+use Rattle.std.proofs.Math.Bool.{true, false, cond, and-false}
 use mathlib.Core.List.{List, [], ◌∷◌}
 use Rattle.std.proofs.Math.Option.{Option, none, some, map}
 use Prim.Native.Nat.{ℕ, zero, suc, ◌+◌, ◌≤◌, ◌<◌}
@@ -123,11 +123,7 @@ module _ (T : Table) (cs : List Change) where
   -- change n is of another tree: it leaves every region
   stands_other : (t n : ℕ) (p : Region → Bool) → eqb (tree_of T (at cs n)) t ≡ false → last_below (suc n) (stands t p (suc n)) ≡ last_below n (stands t p n)
   unfolding stands every_below spares
-  stands_other t n p e = last_no (stands t p (suc n)) n (rw e (none (adds_region T (at cs n)))) ∙ last_same n (stands t p (suc n)) (stands t p n) (λ k h. rw (e, lt-ltb k n h))
-    where
-      none : (b : Bool) → (b && false) ≡ false
-      none true = refl
-      none false = refl
+  stands_other t n p e = last_no (stands t p (suc n)) n (rw e (and-false (adds_region T (at cs n)))) ∙ last_same n (stands t p (suc n)) (stands t p n) (λ k h. rw (e, lt-ltb k n h))
 
   -- it is of tree t: what still stands contains it too
   stands_later : (t n : ℕ) (p : Region → Bool) → eqb (tree_of T (at cs n)) t ≡ true

@@ -8,6 +8,7 @@ use mathlib.Core.List.{List, [], ◌∷◌, ◌++◌, map, flat_map}
 use Rattle.std.proofs.Math.Option.{Option, none, some}
 use Prim.Native.Nat.{ℕ, suc, ◌+◌, ◌-◌, ◌*◌, ◌≤◌}
 use Rattle.definition.specs.Basics.{Answer, ◌>>=◌, numbered}
+use Rattle.definition_laws.specs.Stages.{numbered_length}
 use Rattle.definition.specs.Planning.{Fate, own, dependent, discarded}
 use Rattle.definition.specs.Printed.{ascii, digits, decimal, line}
 use Rattle.definition.specs.Withdrawing.{staying, numbers_left}
@@ -97,11 +98,6 @@ line_length n (planned own) = rest_length n (32 ∷ 111 ∷ 119 ∷ 110 ∷ []) 
 line_length n (planned (dependent k)) = rest_length n (32 ∷ 100 ∷ 101 ∷ 112 ∷ 101 ∷ 110 ∷ 100 ∷ 101 ∷ 110 ∷ 116 ∷ []) (k ∷ []) (omega arith)
 line_length n (planned (discarded k)) = rest_length n (32 ∷ 100 ∷ 105 ∷ 115 ∷ 99 ∷ 97 ∷ 114 ∷ 100 ∷ 101 ∷ 100 ∷ []) (k ∷ []) (omega arith)
 line_length n (withdrawn k) = rest_length n (32 ∷ 119 ∷ 105 ∷ 116 ∷ 104 ∷ 100 ∷ 114 ∷ 97 ∷ 119 ∷ 110 ∷ []) (k ∷ []) (omega arith)
-
-numbered_length : {A : Type 0} (n : ℕ) (l : List A) → length (numbered n l) ≡ length l
-unfolding numbered
-numbered_length n [] = refl
-numbered_length n (x ∷ l) = ap suc (numbered_length (suc n) l)
 
 pub lines_length : (ss : List Said) → length (said_lines ss) ≤ 32 * length ss
 unfolding said_lines

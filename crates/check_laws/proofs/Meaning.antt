@@ -3,7 +3,7 @@
 use Rattle.std.specs.Prelude.{◌≡◌, Bool, ◌&&◌, ◌||◌, ◌⊎◌, ◌↔◌, ℕ, ◌<◌, leb, ltb}
 use Rattle.std.proofs.Math.Path.{refl}
 use Rattle.std.proofs.Common.{sym, ap, ◌∙◌, subst, inl, inr, arith}
-use Rattle.std.proofs.Math.Bool.{true, false, not}
+use Rattle.std.proofs.Math.Bool.{true, false, not, or-true}
 use mathlib.Core.List.Memᴰ
 use mathlib.Core.List.{List, [], ◌∷◌, map, zip, zip_with, ◌++◌, Memᴰ}
 use Rattle.std.proofs.Math.Option.{Option, none, some}
@@ -151,10 +151,6 @@ module _ (os ns : List (Tree ℕ)) (P : List (ℕ × ℕ)) (changed : List ℕ) 
   abbrev N : Table
   N = table 0 0 ns
 
-  or : (b : Bool) → (b || true) ≡ true
-  or true = refl
-  or false = refl
-
   -- ── 3 ──
 
   alike_said : Says os ns P changed → pairs_alike os ns P ≡ true
@@ -179,7 +175,7 @@ module _ (os ns : List (Tree ℕ)) (P : List (ℕ × ℕ)) (changed : List ℕ) 
     where
       one : (x y : ℕ) → ((x ≡ 0) × (y ≡ 0)) ⊎ ParentsPair O N P x y → ((eqb x 0 && eqb y 0) || are_pair P (parent O x) (parent N y)) ≡ true
       one x y (inl z) = rw (eq-eqb x 0 z.0, eq-eqb y 0 z.1)
-      one x y (inr k) = rw (k.up, k.up', mem_pair P k.old k.new k.paired) (or (eqb x 0 && eqb y 0))
+      one x y (inr k) = rw (k.up, k.up', mem_pair P k.old k.new k.paired) (or-true (eqb x 0 && eqb y 0))
 
   said_parents : parents_paired os ns P ≡ true → (x y : ℕ) → Memᴰ (x, y) P → ((x ≡ 0) × (y ≡ 0)) ⊎ ParentsPair O N P x y
   unfolding parents_paired are_pair

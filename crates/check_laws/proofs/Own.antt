@@ -3,7 +3,7 @@
 use Rattle.std.specs.Prelude.{◌≡◌, Bool, not, ◌&&◌, ◌||◌, ◌⊎◌, take}
 use Rattle.std.proofs.Math.Path.{refl, sym, ap}
 use Rattle.std.proofs.Common.{◌∙◌, inl, inr}
-use Rattle.std.proofs.Math.Bool.{true, false, cond}
+use Rattle.std.proofs.Math.Bool.{true, false, cond, or-true}
 use mathlib.Core.List.{List, [], ◌∷◌, ◌++◌, map, head_d, head-eq_of_cons-eq, Memᴰ}
 use Rattle.std.proofs.Math.Option
 use Rattle.std.proofs.Math.Option.{Option, none, some}
@@ -155,12 +155,8 @@ module _ (ts : List (Tree ℕ)) (notes : List Note) (ps : List Planned) (w : Wor
         firsts [] h = tt
         firsts (c ∷ cs) h = (h.0, tt)
 
-        or : (b : Bool) → (b || true) ≡ true
-        or true = refl
-        or false = refl
-
         go : (y : Tree ℕ) → resolve (row O x).path (node 2147483648 (forest (take 1 ts))) ≡ some y → label y ≡ (row O x).kind → (is_node (row O x).kind || same_bytes (text_at (old_tree ts) x) (text_at (new_tree w) n)) ≡ true
-        go (token j own) a b = rw (same_token j own a) (or (is_node (row O x).kind))
+        go (token j own) a b = rw (same_token j own a) (or-true (is_node (row O x).kind))
         go (node j cs) a b = rw (← b, (worded_resolve (row O x).path (node 2147483648 (forest (take 1 ts))) (node j cs) (refl, forest_worded (take 1 ts) (firsts ts h.worded)) a).0)
 
   pub own_3 : pairs_alike (old_tree ts) (new_tree w) P ≡ true
@@ -226,10 +222,6 @@ module _ (ts : List (Tree ℕ)) (notes : List Note) (ps : List Planned) (w : Wor
     unfolding are_pair new_table
     parents_pair x n k = go (kin ts x (in_old x n k))
       where
-        or : (b : Bool) → (b || true) ≡ true
-        or true = refl
-        or false = refl
-
         go : Kin ts x → ((eqb x 0 && eqb n 0) || are_pair P (parent O x) (parent F n)) ≡ true
         go (root r) =
             let x0 : x ≡ 0 = path_tells ts x 0 (in_old x n k) (in_old 0 0 roots) (root_first x k.old r ∙ sym (zero_path roots.old)) in
@@ -237,7 +229,7 @@ module _ (ts : List (Tree ℕ)) (notes : List Note) (ps : List Planned) (w : Wor
             rw (eq-eqb x 0 x0, eq-eqb n 0 n0)
         go (below m i) =
             let u = parents_went x n m k i in
-            rw (first_parent ts x k.old, i.parent, u.new.parent, mem_pair P m u.up (pair_in m u.up u.parents)) (or (eqb x 0 && eqb n 0))
+            rw (first_parent ts x k.old, i.parent, u.new.parent, mem_pair P m u.up (pair_in m u.up u.parents)) (or-true (eqb x 0 && eqb n 0))
 
     pub own_4 : parents_paired (old_tree ts) (new_tree w) P ≡ true
     unfolding parents_paired old_tree new_table

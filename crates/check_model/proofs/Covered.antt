@@ -4,7 +4,7 @@
 use Rattle.std.specs.Prelude.{◌≡◌, Bool, cond, ◌||◌, ◌⊎◌}
 use Rattle.std.proofs.Math.Path.{refl, sym, ap}
 use Rattle.std.proofs.Common.{◌∙◌, subst, inl, inr, arith, eqb-true, eq-eqb, ne_eqb}
-use Rattle.std.proofs.Math.Bool.{true, false, not}
+use Rattle.std.proofs.Math.Bool.{true, false, not, or-true, not-not}
 use mathlib.Core.List.{List, [], ◌∷◌, Memᴰ}
 use Rattle.std.proofs.Math.Option.{Option, none, some}
 use Prim.Native.Nat.{ℕ, zero, suc, ◌≤◌, ◌<◌}
@@ -61,11 +61,7 @@ module _ (os ns : List (Tree ℕ)) (P : List (ℕ × ℕ)) (changed : List ℕ) 
   -- it has none
   without : (y : ℕ) → get_or w y 0 ≡ 0 → accounted new w c y ≡ (among changed y || loose w (entry new y 3))
   unfolding accounted
-  without y e = rw (eq-eqb (get_or w y 0) 0 e, mark y) (ap (λ (b : Bool). b || loose w (entry new y 3)) (twice (among changed y)))
-    where
-      twice : (b : Bool) → not (not b) ≡ b
-      twice true = refl
-      twice false = refl
+  without y e = rw (eq-eqb (get_or w y 0) 0 e, mark y) (ap (λ (b : Bool). b || loose w (entry new y 3)) (not-not (among changed y)))
 
   -- ── So much is asked ──
 
@@ -135,14 +131,10 @@ module _ (os ns : List (Tree ℕ)) (P : List (ℕ × ℕ)) (changed : List ℕ) 
             without y e ∙ (ap (λ (k : ℕ). among changed y || loose w k) (parent_word y m h r.parent)
             ∙ one (either_true (among changed y) (is_covered os ns P changed m) (sym (covered_below os ns P changed named y m h r.parent) ∙ told_covered os ns P changed y (fresh' y h (λ x k. omega (arith, sym e ∙ partner x y k))))))
           where
-            or : (b : Bool) → (b || true) ≡ true
-            or true = refl
-            or false = refl
-
             one : (among changed y ≡ true) ⊎ (is_covered os ns P changed m ≡ true) → (among changed y || loose w (suc m)) ≡ true
             one (inl a) = rw a
             one (inr b) = none' (zero? (get_or w m 0))
               where
                 none' : (get_or w m 0 ≡ 0) ⊎ ((x : ℕ) × (get_or w m 0 ≡ suc x)) → (among changed y || eqb (get_or w m 0) 0) ≡ true
-                none' (inl z) = rw (eq-eqb (get_or w m 0) 0 z) (or (among changed y))
+                none' (inl z) = rw (eq-eqb (get_or w m 0) 0 z) (or-true (among changed y))
                 none' (inr (x, z)) = bool_absurd b (not_covered x m (pair x m z))

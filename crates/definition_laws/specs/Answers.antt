@@ -9,6 +9,9 @@ use Rattle.definition.specs.Basics.{Answer, refused, gives, ◌>>=◌, refuse, o
 pub gives_inj : {A : Type 0} {a b : A} → ◌≡◌ {A = Answer A} (gives a) (gives b) → a ≡ b
 gives_inj e = cc
 
+pub refused_inj : {A : Type 0} {j k : ℕ} → ◌≡◌ {A = Answer A} (refused j) (refused k) → j ≡ k
+refused_inj e = cc
+
 pub refused_gives {ℓ} : {A : Type 0} {X : Type ℓ} {n : ℕ} {a : A} → ◌≡◌ {A = Answer A} (refused n) (gives a) → X
 refused_gives e = absurd (let z : ◌≡◌ {A = ℕ} 0 1 = cc in omega arith)
 

@@ -43,6 +43,12 @@ unfolding up_from
 up_long k zero = refl
 up_long k (suc n) = ap suc (up_long (suc k) n)
 
+-- one more at the end
+pub up_more : {A : Type 0} (f : ℕ → A) (j k : ℕ) → map f (up_from j (suc k)) ≡ map f (up_from j k) ++ (f (j + k) ∷ [])
+unfolding up_from
+up_more f j zero = let z : j + 0 ≡ j = omega arith in rw z
+up_more {A} f j (suc k) = let z : j + suc k ≡ suc j + k = omega arith in rw z (ap {B = List A} (λ l. f j ∷ l) (up_more f (suc j) k))
+
 -- ── A property of each element ──────────────────────────────────────────────────────────────────────────────
 
 module _ {A : Type 0} (P : A → Type 0) where

@@ -50,10 +50,6 @@ use Rattle.promises.specs.declared.Told.{Told}
 use Rattle.promises.specs.declared.Told.TheVariants.{Bytes, Place, Of}
 use Rattle.edit_answer.specs.AtEnd.{RowsAtEnd, answered_edit, old_node, none_there, no_node, node_there, old_tree, no_old_node, old_node_lem, unless, unless_refused, unless_done, unless_overlap, overlap_told, overlap_answers, account_13, account_answer, share_told, ToKeep, pairs_answer, ToAnswer}
 
--- what is behind a place, as a part is told
-pub whole_rest : (k : ℕ) (b : List ℕ) → take (length b - k) (drop k b) ≡ drop k b
-whole_rest k b = take_all (length b - k) (drop k b) (omega (arith, length-drop k b))
-
 -- the words behind the rows are cut out
 pub behind_cut : (n : ℕ) (changes : List ℕ) → take (3584 + n - 3584) (drop 3584 changes) ≡ withdrawn_in n changes
 behind_cut n changes = let e : 3584 + n - 3584 ≡ n = omega arith in rw e refl

@@ -3,7 +3,7 @@
 use mathlib.Core.Path.{◌≡◌, refl, sym, ap, ◌∙◌}
 use mathlib.Core.List.{List, [], ◌++◌, map, flat_map}
 use Rattle.std.specs.List.{sum, range_with_len}
-use Rattle.std.proofs.lemmas.List.Sums.{sum_by-cons}
+use Rattle.std.proofs.lemmas.List.Concat.{length-flat_map}
 use Prim.Native.Nat.{ℕ, zero, suc, ◌+◌, ◌-◌, ◌*◌, ◌/◌, ◌^◌, ◌≤◌, ◌<◌}
 use native.Mathlib.Omega.{arith}
 use native.Mathlib.Nat.{zero-add, add-zero, sub_self}
@@ -18,7 +18,7 @@ use Rattle.rows_model.specs.Row.{Row, nod, kind, measure, own, row_in, triples, 
 use Rattle.words.specs.Bytes.{length_written}
 use Rattle.words.specs.Parts.{paste_on, paste_swap}
 use Rattle.rows_model.proofs.RowLaws.{bytes_append}
-use Rattle.rows_model.proofs.Words.{kind_word, measure_word, node_row, length_triples, triples_at, triples_end}
+use Rattle.rows_model.proofs.Words.{rows_summed, kind_word, measure_word, node_row, length_triples, triples_at, triples_end}
 use Rattle.rows_syntax_node.specs.Promises.{Measured}
 use Rattle.finish_model.specs.Finished.{starts}
 use Rattle.finish_model.proofs.Numbers.{starts_at}
@@ -187,18 +187,8 @@ module _ (tree text : List ℕ) where
   abbrev pub part_at : ℕ → ℕ
   part_at i = length (own (row_in text tree i))
 
-  -- the library's sum from row i on is the length of the text of those rows
-  parts_summed : (i n : ℕ) → i + n ≡ length tree / 3 → sum (map part_at (range_with_len i n)) ≡ length (flat_map own (drop i (triples text tree)))
-  unfolding flat_map
-  parts_summed i zero e = sym (ap (λ rs. length (flat_map own rs)) (triples_end text i tree (omega arith)))
-  parts_summed i (suc n) e =
-      let rest = parts_summed (i + 1) n (omega arith) in
-      let more : length (flat_map own (drop i (triples text tree))) ≡ part_at i + length (flat_map own (drop (suc i) (triples text tree))) =
-      ap (λ rs. length (flat_map own rs)) (triples_at text i tree (omega arith)) ∙ length-append (own (row_in text tree i)) (flat_map own (drop (suc i) (triples text tree))) in
-      sum_by-cons (λ x. x) (part_at i) (map part_at (range_with_len (i + 1) n)) ∙ (ap (λ (m : ℕ). part_at i + m) (rest ∙ ap (λ (j : ℕ). length (flat_map own (drop j (triples text tree)))) (add-one i)) ∙ sym more)
-
   pub text_summed : sum (map part_at (range_with_len 0 (length tree / 3))) ≡ length (flat_map own (triples text tree))
-  text_summed = parts_summed 0 (length tree / 3) (omega arith)
+  text_summed = rows_summed text (λ r. length (own r)) tree 0 (length tree / 3) (omega arith) ∙ sym (length-flat_map own (triples text tree))
 
   pub text_few : bytes (triples [] tree) < 2 ^ 32 → length (flat_map own (triples text tree)) < 2 ^ 32
   text_few b = omega (arith, own_few (triples text tree), bytes_any text [] tree)

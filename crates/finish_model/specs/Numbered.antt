@@ -1,6 +1,6 @@
 -- The number of an element of tree 0 as the code answers it.
 -- Assumes nothing.
-use Rattle.std.specs.Prelude.{◌≡◌, refl, ◌⊎◌, ℕ, ◌-◌, ◌≤◌, ◌<◌, Option as Answered, Some, None, is_some as found}
+use Rattle.std.specs.Prelude.{Bool, ◌≡◌, refl, ◌⊎◌, ℕ, ◌-◌, ◌≤◌, ◌<◌, Option as Answered, Some, None, is_some as found}
 use Rattle.std.proofs.Common.{sym, ap, ◌∙◌, inl, inr}
 use Rattle.std.proofs.Math.Option.{Option, none, some}
 use Rattle.orders.specs.ListLaws.{lt_or_le, zone_before, zone_inside, zone_after}
@@ -60,3 +60,7 @@ pub told_there : (o : Option ℕ) → found (told o) ≡ is_some o
 unfolding told is_some
 told_there none = refl
 told_there (some e) = refl
+
+-- what the test of a row answers
+pub test_told : (end : ℕ) {row x : ℕ} {r : Answered ℕ} {b : Bool} → row ≡ x → r ≡ told (in_run 1 end row) → b ≡ found r → b ≡ found (told (in_run 1 end x))
+test_told end e f g = g ∙ rw (f, e)

@@ -26,7 +26,7 @@ use Rattle.finish_model.specs.Finished.{first_tree}
 use Rattle.finish_model.specs.Numbered.{told, told_some, told_none}
 use Rattle.finish_model.proofs.Numbers.{tree_end}
 use Rattle.promises.specs.Promises.{left_in}
-use Rattle.promises.specs.Keeping.{pair_bytes}
+use Rattle.promises.specs.Keeping.{pair_bytes, pairs_length}
 use Rattle.promises.specs.Serving.{outcome, written as bytes_told, Tells}
 use Rattle.promises.specs.declared.Told.{Told}
 use Rattle.promises.specs.declared.Told.TheVariants.{Bytes}
@@ -105,10 +105,6 @@ module _ (end : ℕ) (p : ℕ → Bool) (e : (m : ℕ) → p m ≡ is_some (in_r
 
   pub kept_counted : (marks : List ℕ) {r : ℕ} → r ≡ length {A = ℕ} (filter p marks) → length marks < 2 ^ 16 → (r ≡ length (pairs_from end 0 marks)) × (r < 2 ^ 16)
   kept_counted marks q h = (q ∙ marks_kept 0 marks, omega (arith, q, marks_kept 0 marks, pairs_most end 0 marks))
-
--- what the test of a mark answers
-pub test_told : (end m : ℕ) {r : Answered ℕ} {b : Bool} → r ≡ told (in_run 1 end m) → b ≡ found r → b ≡ found (told (in_run 1 end m))
-test_told end m f g = g ∙ ap found f
 
 -- ── Writing ─────────────────────────────────────────────────────────────────────────────────────────────────
 
@@ -200,21 +196,17 @@ module _ {marks d : List ℕ} {end half : ℕ} {l : List ℕ} {to i : ℕ} (v : 
 
 -- ── All pairs, or 13 ────────────────────────────────────────────────────────────────────────────────────────
 
-pairs_long : (ps : List (ℕ × ℕ)) → length (pair_bytes ps) ≡ 8 * length ps
-unfolding pair_bytes
-pairs_long ps = length_written (map (λ p. p.0) ps ++ map (λ p. p.1) ps) ∙ omega (arith, length-append (map (λ p. p.0) ps) (map (λ p. p.1) ps), length-map ps (λ p. p.0), length-map ps (λ p. p.1))
-
 module _ (ps : List (ℕ × ℕ)) (held : List ℕ) {count : ℕ} (e : count ≡ length ps) where
   pub pairs_13 : length held < 8 * count → Tells (tell_pairs (length held) ps) held (Err ShortResult) held
   unfolding in_room refuse outcome bytes_told left_in answered number ◌>>=◌
-  pairs_13 h = rw (lt-ltb (length held) (length (pair_bytes ps)) (omega (arith, pairs_long ps))) (record { answer = refl; result = refl })
+  pairs_13 h = rw (lt-ltb (length held) (length (pair_bytes ps)) (omega (arith, pairs_length ps))) (record { answer = refl; result = refl })
 
   pub pairs_given : {out : List ℕ} → 8 * count ≤ length held → out ≡ paste held 0 (pair_bytes ps) (2 * (4 * count)) → Tells (tell_pairs (length held) ps) held (Ok (Bytes (8 * count))) out
   unfolding in_room refuse outcome bytes_told left_in answered number ◌>>=◌
   pairs_given {out} h q =
-      let n : 8 * count ≡ length (pair_bytes ps) = omega (arith, pairs_long ps) in
-      let m : 2 * (4 * count) ≡ length (pair_bytes ps) = omega (arith, pairs_long ps) in
-      rw (le-ltb (length held) (length (pair_bytes ps)) (omega (arith, pairs_long ps)))
+      let n : 8 * count ≡ length (pair_bytes ps) = omega (arith, pairs_length ps) in
+      let m : 2 * (4 * count) ≡ length (pair_bytes ps) = omega (arith, pairs_length ps) in
+      rw (le-ltb (length held) (length (pair_bytes ps)) (omega (arith, pairs_length ps)))
       (record { answer = ap (λ (m : ℕ). gives (Bytes m)) n; result = q ∙ (ap (paste held 0 (pair_bytes ps)) m ∙ rw (take_all (length (pair_bytes ps)) (pair_bytes ps) (omega arith), zero-add (length (pair_bytes ps))) refl) })
 
 -- ── Tree 0, before and after ────────────────────────────────────────────────────────────────────────────────

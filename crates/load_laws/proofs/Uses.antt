@@ -3,7 +3,7 @@
 -- Assumes nothing.
 use Rattle.std.proofs.Math.Path.{◌≡◌, refl}
 use Rattle.std.specs.Prelude.{Bool, cond, ◌&&◌, ◌||◌, List, [], ◌∷◌, ℕ, suc, ◌+◌, ◌*◌, ◌/◌, ◌%◌, ◌≤◌, ◌<◌, leb, ltb, length}
-use Rattle.std.proofs.Math.Bool.{true, false}
+use Rattle.std.proofs.Math.Bool.{true, false, or-true}
 use Rattle.std.proofs.Math.Option.{some}
 use Rattle.std.proofs.Common.{arith, eq-eqb, ne_eqb}
 use Rattle.std.proofs.Math.Dec.{eqb}
@@ -43,10 +43,6 @@ pub record Uses (a : Accepted) : Type 0 where
   pub replacement : any replaces a.calls ≡ true
   -- and the replacement is the only call that removes the node
   pub inside : any (λ r. any (inside a.table r) a.calls && eqb (removals r.target a.calls) 1) a.calls ≡ true
-
-or_true : (b : Bool) → (b || true) ≡ true
-or_true true = refl
-or_true false = refl
 
 -- ── No other call removes the replaced block ────────────────────────────────────────────────────────────────
 
@@ -119,7 +115,7 @@ module _ (s : ℕ) where
 
   first_inside : any (inside T replacing) (calls s) ≡ true
   unfolding calls first_calls any inside replaces
-  first_inside = rw (second_inside.0, second_inside.1, or_true (same_parent (parent T (block (replaced (drawn s)))) (some (block (replaced (drawn s)))))) refl
+  first_inside = rw (second_inside.0, second_inside.1, or-true (same_parent (parent T (block (replaced (drawn s)))) (some (block (replaced (drawn s)))))) refl
 
   first_passes : (p : Call → Bool) → p replacing ≡ true → any p (calls s) ≡ true
   unfolding calls first_calls any

@@ -21,7 +21,8 @@ use Rattle.load_laws.specs.Load.{load}
 use Rattle.load_laws.proofs.Good.{load_length}
 use Rattle.load_batch.specs.Loads.{Loads, loads_bytes}
 use Rattle.std.specs.declared.option.Option as std
-use Rattle.load_program.specs.Start.{start_of, meant}
+use Rattle.orders.specs.Lists.{meant}
+use Rattle.load_program.specs.Start.{start_of}
 
 -- the batch of a starting number, nothing without one
 unfoldable pub told : Option ℕ → List ℕ
@@ -65,9 +66,9 @@ module _ (start : ℕ) (held a b c : List ℕ) (room : 8632 ≤ length held) (p 
 
 module _ (a : List ℕ) (o : std.Option ℕ) (e : meant o ≡ start_of a) (out : List ℕ) where
   pub respond_number : (n m : ℕ) → o ≡ Some n → Puts (laid_out (load n)) out m → Puts (told (start_of a)) out m
-  unfolding told meant
+  unfolding told
   respond_number n m k p = rw (← e, k) p
 
   pub respond_none : o ≡ None → Puts (told (start_of a)) out 0
-  unfolding told meant
+  unfolding told
   respond_none k = rw (← e, k) (record { fits = (omega arith, refl); says = refl })

@@ -9,6 +9,7 @@ use Rattle.std.proofs.Math.Seq.{drop-length}
 use borrow.Author.Tests.{lt-ltb, le-ltb}
 use Rattle.std.specs.Option.{SomeIff}
 use Rattle.std.specs.declared.option.Option as std
+use Rattle.orders.specs.Lists.{meant}
 
 -- the number that some digits tell, n being what those before them told; none where a byte is no digit, or the number outgrows 32 bits
 unfoldable pub decimal : ℕ → List ℕ → Option ℕ
@@ -23,11 +24,6 @@ unfoldable pub start_of : List ℕ → Option ℕ
 start_of [] = none
 start_of (b ∷ bs) = decimal 0 (b ∷ bs)
 
--- what the code says of it
-unfoldable pub meant : std.Option ℕ → Option ℕ
-meant (Some n) = some n
-meant None = none
-
 -- ── Byte by byte ────────────────────────────────────────────────────────────────────────────────────────────
 
 -- n is what the first i bytes tell
@@ -38,7 +34,7 @@ pub record ReadTo (argument : List ℕ) (n i : ℕ) : Type 0 where
   pub told : start_of argument ≡ decimal n (drop i argument)
 
 pub read_none : (a : List ℕ) → length a ≡ 0 → meant None ≡ start_of a
-unfolding meant start_of
+unfolding start_of
 read_none [] e = refl
 read_none (b ∷ a) e = absurd (omega arith)
 
@@ -52,11 +48,11 @@ module _ (a : List ℕ) (n i b : ℕ) (h : ReadTo a n i) (k : i < length a) (is 
   here = rw is (drop-cons a i 0 k)
 
   pub read_low : b < 48 → meant None ≡ start_of a
-  unfolding meant decimal
+  unfolding decimal
   read_low l = rw (h.told, here, lt-ltb b 48 l) refl
 
   pub read_high : 57 < b → meant None ≡ start_of a
-  unfolding meant decimal
+  unfolding decimal
   read_high l = rw (h.told, here, le-ltb b 48 (omega arith), lt-ltb 57 b l) refl
 
   -- a byte that is no digit
@@ -65,7 +61,7 @@ module _ (a : List ℕ) (n i b : ℕ) (h : ReadTo a n i) (k : i < length a) (is 
   read_other (inr l) = read_high l
 
   pub read_large : 48 ≤ b → b ≤ 57 → 4294967295 < 10 * n + (b - 48) → meant None ≡ start_of a
-  unfolding meant decimal
+  unfolding decimal
   read_large low high l = rw (h.told, here, le-ltb b 48 low, le-ltb 57 b high, lt-ltb 4294967295 (10 * n + (b - 48)) l) refl
 
   pub read_turn : 48 ≤ b → b ≤ 57 → 10 * n + (b - 48) ≤ 4294967295 → ReadTo a (10 * n + (b - 48)) (i + 1)
@@ -89,5 +85,5 @@ pub some_is : {r : std.Option ℕ} {v k x : ℕ} → SomeIff r (v < k) v → r �
 some_is {r} {v} {k} {x} s e = let t = rw e at s in (t.1, t.0)
 
 pub read_last : (a : List ℕ) (n i : ℕ) → ReadTo a n i → length a ≤ i → meant (Some n) ≡ start_of a
-unfolding meant decimal
+unfolding decimal
 read_last a n i h k = let z : i ≡ length a = omega (arith, h.within) in rw (h.told, z, drop-length a) refl

@@ -5,7 +5,8 @@ ghost use Rattle.std.specs.Prelude.{◌≡◌, ◌<◌, ◌≤◌, length, IfOk,
 ghost use Rattle.std.specs.Io.KnownBytes.{Appends};
 ghost use Rattle.definition.specs.Writing.{laid_out};
 ghost use Rattle.load_laws.specs.Load.{load};
-ghost use Rattle.load_program.specs.Start.{start_of, meant};
+ghost use Rattle.orders.specs.Lists.{meant};
+ghost use Rattle.load_program.specs.Start.{start_of};
 ghost use Rattle.load_program.specs.Responds.{told, Puts};
 
 use std::io;

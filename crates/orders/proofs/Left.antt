@@ -1,8 +1,7 @@
 -- Of two splices in one parent that do not overlap, just one is left of the other; and what the paper says of that.
 -- Assumes nothing.
-use Rattle.std.specs.Prelude.{◌≡◌, Bool, ◌||◌, ◌≢◌, ◌⊎◌, ◌↔◌, ℕ, ◌≤◌, ◌<◌, leb, ltb}
-use Rattle.std.proofs.Math.Path.{refl}
-use Rattle.std.proofs.Math.Bool.{true, false}
+use Rattle.std.specs.Prelude.{◌≡◌, ◌≢◌, ◌⊎◌, ◌↔◌, ℕ, ◌≤◌, ◌<◌, leb, ltb}
+use Rattle.std.proofs.Math.Bool.{true, false, or-true}
 use Rattle.std.proofs.Math.Logic.{inl, inr}
 use Rattle.std.proofs.Common.{arith}
 use borrow.Author.Tests.{leb-true, ltb-true, le-leb, lt-ltb, le-ltb}
@@ -29,11 +28,7 @@ module _ {A : Type 0} where
   pub left_if : (s t : Splice A) → s.to ≤ t.from → (s.from < t.to) ⊎ (t.number < s.number) → left_of s t ≡ true
   unfolding left_of
   left_if s t h (inl k) = rw (le-leb _ _ h, lt-ltb _ _ k)
-  left_if s t h (inr k) = rw (le-leb _ _ h, lt-ltb _ _ k) (go (ltb s.from t.to))
-    where
-      go : (x : Bool) → (x || true) ≡ true
-      go true = refl
-      go false = refl
+  left_if s t h (inr k) = rw (le-leb _ _ h, lt-ltb _ _ k) (or-true (ltb s.from t.to))
 
   pub left_trans : (s t u : Splice A) → Ordered s → Ordered t → Ordered u → left_of s t ≡ true → left_of t u ≡ true → left_of s u ≡ true
   left_trans s t u hs ht hu p q = left_if s u (omega (arith, left_le s t p, left_le t u q)) (go (left_why s t p) (left_why t u q))

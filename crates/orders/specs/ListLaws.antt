@@ -1,11 +1,11 @@
 -- Laws on truth values, options, numbers and lists that know nothing of trees. Others use them too.
 -- Assumes nothing.
 use Rattle.std.specs.Coded.{×_prop, Unit-prop}
-use Rattle.std.specs.List.{list_any}
+use Rattle.std.specs.List.{list_all, list_any}
 use Rattle.std.specs.Prelude.{◌≡◌, Bool, ◌&&◌, ◌||◌, ◌≢◌, ◌⊎◌, ltb, length, get_or, set, take, drop}
 use Rattle.std.proofs.Math.Path.{refl, ap}
 use Rattle.std.proofs.Common.{sym, ◌∙◌, subst, inl, inr, arith, zero-add, le_of_suc-le-suc, not-suc-le-zero, length-append, length-drop, take-append-drop, take_at, drop_at, drop-drop, length-take-le, take-take}
-use Rattle.std.proofs.Math.Bool.{true, false}
+use Rattle.std.proofs.Math.Bool.{true, false, not, or-true}
 use Rattle.std.proofs.lemmas.Bool.{false≢true}
 use mathlib.Core.List.Memᴰ
 use mathlib.Core.List.Permᴰ
@@ -403,13 +403,9 @@ module _ {X : Type 0} (p : X → Bool) where
   mem_any [] x m e = absurd (Memᴰ.not-nil m)
   mem_any (y ∷ l) x m e = go (Memᴰ.cases_cons m) (λ q. mem_any l x q e)
     where
-      or : (b : Bool) → (b || true) ≡ true
-      or true = refl
-      or false = refl
-
       go : (x ≡ y) ⊎ Memᴰ x l → (Memᴰ x l → any p l ≡ true) → (p y || any p l) ≡ true
       go (inl q) r = rw (← q, e)
-      go (inr q) r = rw (r q) (or (p y))
+      go (inr q) r = rw (r q) (or-true (p y))
 
   pub none_passes : (l : List X) → any p l ≡ false → All (λ x. p x ≡ false) l
   unfolding any
@@ -483,3 +479,13 @@ pub some_alike : {A : Type 0} (p : A → Bool) (l : List A) → list_any p l ≡
 unfolding any
 some_alike p [] = refl
 some_alike p (x ∷ l) = ap (λ (t : Bool). p x || t) (some_alike p l)
+
+-- each passes by the library's test just if none is found among what they tell
+pub none_found : {X : Type 0} {A : Type 0} (p : A → Bool) (f : X → A) (l : List X) → list_all (λ x. not (p (f x))) l ≡ not (any p (map f l))
+unfolding any
+none_found p f [] = refl
+none_found p f (x ∷ l) = rw (none_found p f l) (go (p (f x)) (any p (map f l)))
+  where
+    go : (a b : Bool) → (not a && not b) ≡ not (a || b)
+    go true b = refl
+    go false b = refl

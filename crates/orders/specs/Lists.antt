@@ -1,7 +1,12 @@
 -- Lists: what a function picks, tests and properties of the elements, a relation between any two, a sum.
 -- Assumes nothing.
-use Rattle.std.specs.Prelude.{Bool, false, cond, ◌||◌, List, [], ◌∷◌, ℕ, ◌+◌}
+use Rattle.std.specs.Prelude.{Bool, false, cond, ◌||◌, List, [], ◌∷◌, ℕ, ◌+◌, Option as Answered, Some, None}
 use Rattle.std.proofs.Math.Option.{Option, none, some}
+
+-- the option that the code's option is
+abbrev pub meant : {A : Type 0} → Answered A → Option A
+meant None = none
+meant (Some x) = some x
 
 -- the list behind what an option holds
 abbrev pub more {ℓ} : {A : Type ℓ} → Option A → List A → List A

@@ -15,7 +15,8 @@ ghost use Rattle.plan_changed_region.specs.Fates.{planned_rows};
 ghost use Rattle.plan_changed_region.specs.Stacks.{outer, contains, stack_to, enclosing, Outward, stated};
 ghost use Rattle.plan_changed_region.specs.Steps.{region_around, next_rows, next_tops};
 
-use record_changes::{Fate, Region, field, word_or_zero};
+use record_changes::{Fate, Region, field};
+use words::word_or_zero;
 
 // Whether the range of the change at place `j` contains the one from `from` to `to`, ends included.
 fn contains_range(rows: &[u32], j: usize, from: usize, to: usize) -> bool

@@ -10,11 +10,12 @@ use native.Mathlib.Omega.{arith}
 use lib.ListN.{length, get_or, set, drop, length-set, length-map}
 use lib.Seq.{drop-cons, drop-length, set_at}
 use Rattle.std.specs.Prelude.{None, Some}
+use Rattle.std.proofs.Math.Bool.{and-false}
 use Rattle.std.specs.Prelude.{Option as Maybe}
 use Rattle.plan_sort.specs.Lists.{one_past}
 use lib.Dec.{ltb, eqb}
 use borrow.Author.Tests.{ne_eqb, lt-ltb, le-ltb}
-use Rattle.definition_laws.specs.Basics.{up_from, up_long}
+use Rattle.definition_laws.specs.Basics.{up_from, up_long, up_more}
 use Rattle.record_changes.specs.ChangeRow.{ChangeRow, row_of}
 use Rattle.record_changes.specs.ChangeRowLaws.{row_at}
 use Rattle.plan_edge.specs.Rule.{target_parent, of_root, takes, region_depth, innermost, region_from, regions_of}
@@ -61,11 +62,7 @@ module _ (w v : List ℕ) (k j : ℕ) (b : Maybe ℕ) (t : Bool) (e : t ≡ take
 -- a root's replacement belongs to none
 root_untaken : (w : List ℕ) (j k : ℕ) (r c : ChangeRow) → of_root w c ≡ true → takes w j r k c ≡ false
 unfolding takes
-root_untaken w j k r c e = rw e (go (not (eqb r.region 0)))
-  where
-    go : (b : Bool) → (b && false) ≡ false
-    go true = refl
-    go false = refl
+root_untaken w j k r c e = rw e (and-false (not (eqb r.region 0)))
 
 pub root_nowhere : (w v : List ℕ) (k n : ℕ) (a : Bool) → a ≡ of_root w (row_at v k) → a ≡ true → 0 ≡ region_from w v k 0 n
 unfolding region_from innermost
@@ -100,12 +97,6 @@ module _ (w v : List ℕ) (k n p : ℕ) where
     seeking_done h = let z : j ≡ 0 = omega arith in s.same ∙ rw (z, sub-zero n)
 
 -- ── All regions ─────────────────────────────────────────────────────────────────────────────────────────────
-
-module _ {A : Type 0} (f : ℕ → A) where
-  pub up_more : (j k : ℕ) → map f (up_from j (suc k)) ≡ map f (up_from j k) ++ (f (j + k) ∷ [])
-  unfolding up_from
-  up_more j zero = let z : j + 0 ≡ j = omega arith in rw z
-  up_more j (suc k) = let z : j + suc k ≡ suc j + k = omega arith in rw z (ap {B = List A} (λ l. f j ∷ l) (up_more (suc j) k))
 
 -- the regions of k changes are found
 pub record Finding (w v R₀ : List ℕ) (n : ℕ) (R : List ℕ) (k : ℕ) : Type 0 where

@@ -17,7 +17,7 @@ use Rattle.record_changes.specs.ChangeRow.{row_of, rows_of, fate_of, owner_of}
 use Rattle.record_changes.specs.ChangeRowLaws.{row_at, rows_words, rows_to, rows_same, rows_written}
 use Rattle.plan_changed_region.specs.Stacks.{stated, stated_row, stated_before, stated_after}
 use Rattle.plan_edge.specs.Rule.{region_depth, regions_of, is_discarded, fate_within, fate_at, fated_at, fated_rows, edge_rows}
-use Rattle.plan_edge.proofs.Regions.{up_more}
+use Rattle.definition_laws.specs.Basics.{up_more}
 
 -- ── Regions one around another ──────────────────────────────────────────────────────────────────────────────
 

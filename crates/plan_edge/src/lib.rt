@@ -13,7 +13,8 @@ ghost use Rattle.plan_changed_region.specs.Stacks.{stated};
 ghost use Rattle.plan_edge.specs.Rule.{parent_or_root, target_parent, of_root, in_run, removes, only_in, is_run_of, inside, takes, region_depth, innermost, region_from, regions_of, is_discarded, fate_at, fated_rows, edge_rows};
 
 use read_element_table::PARENT;
-use record_changes::{Fate, Operation, Region, field, word_or_zero};
+use record_changes::{Fate, Operation, Region, field};
+use words::word_or_zero;
 
 // ── Where elements stand ──
 

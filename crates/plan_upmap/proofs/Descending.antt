@@ -1,6 +1,6 @@
 -- The loops of `nth_child` and `descend`, and the landing.
 -- Assumes nothing.
-use mathlib.Core.Bool.{Bool, true, false, ◌&&◌}
+use mathlib.Core.Bool.{Bool, true, false, ◌&&◌, and-false}
 use mathlib.Core.List.{List, [], ◌∷◌}
 use mathlib.Core.Option.{some, bind}
 use mathlib.Core.Path.{◌≡◌, refl, sym, ◌∙◌}
@@ -8,7 +8,7 @@ use Prim.Native.Nat.{ℕ, zero, suc, ◌+◌, ◌-◌, ◌*◌, ◌≤◌, ◌<�
 use native.Mathlib.Numerals.{add-one}
 use native.Mathlib.Omega.{arith}
 use lib.ListN.{length, get_or, get_elem?}
-use Rattle.orders.specs.Lists.{All}
+use Rattle.orders.specs.Lists.{All, meant}
 use Rattle.orders.specs.ListLaws.{get_none}
 use Rattle.orders.specs.Tree.{Path}
 use Rattle.definition.specs.Basics.{◌>>=◌, refuse, or_refuse}
@@ -22,13 +22,9 @@ use Rattle.std.specs.List.{push}
 use Rattle.std.proofs.lemmas.List.{reverse-append}
 use Rattle.std.proofs.Common.{take_all}
 use Rattle.plan_mapping.specs.Backward.{backward}
-use Rattle.plan_upmap.specs.Answers.{found, within_at, FoundChild, Descended, Landed}
+use Rattle.plan_upmap.specs.Answers.{within_at, FoundChild, Descended, Landed}
 
 -- ── Siblings ────────────────────────────────────────────────────────────────────────────────────────────────
-
-and-false : (a : Bool) → (a && false) ≡ false
-and-false true = refl
-and-false false = refl
 
 -- beyond the last there is none
 module _ (n : ℕ) (w s : List ℕ) where
@@ -64,7 +60,6 @@ module _ (n : ℕ) (w s : List ℕ) (e i m : ℕ) (W : Wellformed n w s) (h : e 
   children_are = rw g (children_told n w s e h)
 
   pub no_child_beyond : m ≤ i → FoundChild n w s e i None
-  unfolding found
   no_child_beyond l = record { child = sym (rw children_are (get_none (siblings w s m (suc e)) i (rw (length_siblings w s m (suc e)) l))); within = tt }
 
   pub siblings_start : i < m → Siblings n w s e i (e + 1) 0
@@ -97,7 +92,6 @@ module _ (n : ℕ) (w s : List ℕ) (e i c j : ℕ) (S : Siblings n w s e i c j)
       })
 
   pub siblings_done : i ≤ j → FoundChild n w s e i (Some c)
-  unfolding found
   siblings_done l =
       let r = S.room in
       let f : i - j ≡ 0 = omega arith in
@@ -116,7 +110,7 @@ descending_start n w s r a left h l = record { here = h; rest = rw (take_all (le
 
 module _ (n : ℕ) (w s : List ℕ) (r : ℕ) (a : List ℕ) (at : ℕ) (left : List ℕ) (D : Descending n w s r a at left) where
   pub descending_done : length left ≡ 0 → Descended n w s r (backward (length a) a) (Some at)
-  unfolding found descend
+  unfolding descend
   descending_done l = record { element = sym (D.rest ∙ go left l); within = D.here }
     where
       go : (left : List ℕ) → length left ≡ 0 → descend (view n w s) at (reverse left) ≡ some at
@@ -124,23 +118,23 @@ module _ (n : ℕ) (w s : List ℕ) (r : ℕ) (a : List ℕ) (at : ℕ) (left : 
       go (x ∷ left) l = absurd (omega arith)
 
   module _ (i : ℕ) (less : List ℕ) (l : left ≡ push less i) (o : Option ℕ) (F : FoundChild n w s at i o) where
-    one_down : descend (view n w s) at (reverse left) ≡ bind (found o) (λ c. descend (view n w s) c (reverse less))
+    one_down : descend (view n w s) at (reverse left) ≡ bind (meant o) (λ c. descend (view n w s) c (reverse less))
     unfolding descend
     one_down = rw (l, reverse-append less (i ∷ []), ← F.child)
 
     pub descending_none : o ≡ None → Descended n w s r (backward (length a) a) None
-    unfolding found bind
+    unfolding bind
     descending_none z = record { element = sym (D.rest ∙ (one_down ∙ rw z)); within = tt }
 
     pub descending_next : (c : ℕ) → o ≡ Some c → Descending n w s r a c less
-    unfolding found bind
+    unfolding bind
     descending_next c z = record { here = within_at n o c F.within z; rest = D.rest ∙ (one_down ∙ rw z) }
 
 -- ── The landing ─────────────────────────────────────────────────────────────────────────────────────────────
 
 module _ (n : ℕ) (w s : List ℕ) (e r : ℕ) (p : Path) (o : Option ℕ) (D : Descended n w s r p o) where
   pub landing_none : o ≡ None → Landed n w s e r p None
-  unfolding found land or_refuse ◌>>=◌
+  unfolding land or_refuse ◌>>=◌
   landing_none z = record { landing = λ mapped. rw (← D.element, z); within = tt }
 
   module _ (to : ℕ) (z : o ≡ Some to) (t : Bool) (q : t ≡ is_node (get_or s (3 * suc to) 0)) (he : e < n) where
@@ -148,14 +142,14 @@ module _ (n : ℕ) (w s : List ℕ) (e r : ℕ) (p : Path) (o : Option ℕ) (D :
     below_n = within_at n o to D.within z
 
     pub landing_on_node : t ≡ true → Landed n w s e r p (Some to)
-    unfolding found land or_refuse ◌>>=◌ refuse
+    unfolding land or_refuse ◌>>=◌ refuse
     landing_on_node y = record { landing = λ mapped. rw (← D.element, z, node_told n w s to below_n, ← q, y, and-false); within = below_n }
 
     module _ (u : Bool) (g : u ≡ is_node (get_or s (3 * suc e) 0)) (y : t ≡ false) where
       pub landing_refused : u ≡ true → Landed n w s e r p None
-      unfolding found land or_refuse ◌>>=◌ refuse
+      unfolding land or_refuse ◌>>=◌ refuse
       landing_refused x = record { landing = λ mapped. rw (← D.element, z, node_told n w s to below_n, ← q, y, node_told n w s e he, ← g, x); within = tt }
 
       pub landing_of_token : u ≡ false → Landed n w s e r p (Some to)
-      unfolding found land or_refuse ◌>>=◌ refuse
+      unfolding land or_refuse ◌>>=◌ refuse
       landing_of_token x = record { landing = λ mapped. rw (← D.element, z, node_told n w s e he, ← g, x); within = below_n }

@@ -20,7 +20,8 @@ use Rattle.plan_mapping.specs.Mapped.{mapped_by}
 use Rattle.plan_mapping.proofs.Told.{nothing}
 use Rattle.plan_mapping.specs.Backward.{backward, backward_front, length_backward}
 use Rattle.plan_mapping.specs.Answers.{below, Placed, climbed, Climbed, trail_room}
-use Rattle.plan_upmap.specs.Answers.{found, within_at, Descended, Landed, moved_by, moved_from, MovedFrom, MovedTo}
+use Rattle.plan_upmap.specs.Answers.{within_at, Descended, Landed, moved_by, moved_from, MovedFrom, MovedTo}
+use Rattle.orders.specs.Lists.{meant}
 
 -- down one path, and then down another
 descend_append : (T : Table) (r : ℕ) (q p : Path) → descend T r (q ++ p) ≡ bind (descend T r q) (λ x. descend T x p)
@@ -55,22 +56,21 @@ module _ (n : ℕ) (w s m : List ℕ) (x r e : ℕ) (p : Path) (a : List ℕ) (o
 
     module _ (f : Opt ℕ) (D : Descended n w s r numbers f) where
       pub moving_missing : {q : Result ℕ Refusal} (v : Refusal) → q ≡ ok_or f Unmapped → q ≡ Err v → MovedFrom n w s m x r e p (Err v)
-      unfolding number moved_by moved_from ◌>>=◌ found
+      unfolding number moved_by moved_from ◌>>=◌
       moving_missing v y g =
           let (h, u) = nothing f (sym y ∙ g) in
           record { move = rw (trail_is, land_missing (view n w s) (mapped_by m) e r numbers p (sym D.element ∙ rw h), u); within = tt }
 
       module _ (y : ℕ) (g : f ≡ Some y) (f' : Opt ℕ) (G : Landed n w s e y p f') where
-        landed : land (view n w s) (mapped_by m) e r (numbers ++ p) ≡ or_refuse 9 (found f')
-        unfolding found
+        landed : land (view n w s) (mapped_by m) e r (numbers ++ p) ≡ or_refuse 9 (meant f')
         landed = land_on (view n w s) (mapped_by m) e r y numbers p (sym D.element ∙ rw g) ∙ sym (G.landing (mapped_by m))
 
         pub moving_nowhere : {q : Result ℕ Refusal} (v : Refusal) → q ≡ ok_or f' Unmapped → q ≡ Err v → MovedFrom n w s m x r e p (Err v)
-        unfolding number moved_by moved_from ◌>>=◌ found or_refuse
+        unfolding number moved_by moved_from ◌>>=◌ or_refuse
         moving_nowhere v y g = let (h, u) = nothing f' (sym y ∙ g) in record { move = rw (trail_is, landed, h, u); within = tt }
 
         pub moving_to : (to : ℕ) → f' ≡ Some to → MovedFrom n w s m x r e p (Ok (record { element = to; steps = k }))
-        unfolding moved_by moved_from ◌>>=◌ found or_refuse
+        unfolding moved_by moved_from ◌>>=◌ or_refuse
         moving_to to h =
             let l = trail_room C z in
             record {

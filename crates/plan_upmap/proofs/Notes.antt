@@ -25,9 +25,10 @@ use Rattle.refusals.specs.Numbers.{number, answered}
 use Rattle.plan_mapping.specs.Mapped.{mapped_by}
 use Rattle.plan_mapping.specs.Backward.{backward, backward_front}
 use Rattle.plan_mapping.specs.Answers.{below, Placed}
-use Rattle.plan_upmap.specs.Answers.{found, Within, Landed}
+use Rattle.plan_upmap.specs.Answers.{Within, Landed}
 use Rattle.plan_mapping.proofs.Told.{nothing}
 use Rattle.plan_upmap.specs.Settling.{Nearest, SettledWithin, settled_at_lem, OneMove, SettledAt}
+use Rattle.orders.specs.Lists.{meant}
 
 -- ── The nearest mapped ancestor ─────────────────────────────────────────────────────────────────────────────
 
@@ -72,12 +73,12 @@ rising_start n w m e h = record { here = h; rest = λ s. refl }
 
 module _ (n : ℕ) (w m : List ℕ) (e at v : ℕ) (L : Lines n w) (R : Rising n w m e at) (q : v ≡ get_or m at 0) where
   pub rising_found : (v ≡ 0 → ⊥) → Nearest n w m e (Some at)
-  unfolding found nearest first
+  unfolding nearest first
   rising_found z = record { ancestor = λ s. sym (R.rest s ∙ rw ((line_starts n w s L at R.here).1, is_mapped m at v q z)); within = R.here }
 
   module _ (z : v ≡ 0) (p : ℕ) (g : p ≡ get_or w (8 * at + 1) 0) where
     pub rising_none : p ≡ 0 → Nearest n w m e None
-    unfolding found nearest first
+    unfolding nearest first
     rising_none y = record { ancestor = λ s. sym (R.rest s ∙ rw (line_root n w s L at R.here (sym g ∙ y), not_mapped m at v q z)); within = tt }
 
     pub rising_next : (p ≡ 0 → ⊥) → Rising n w m e (p - 1)
@@ -113,15 +114,15 @@ module _ (n : ℕ) (w s m : List ℕ) (a e y : ℕ) (L : Lines n w) (hy : y < n)
     move_elsewhere v g' h = let (x, u) = nothing o (sym g' ∙ h) in record { move = rw (← q, held, ne_eqb k (a + 1) z, ← (P.place s), x, u); within = tt }
 
     module _ (d : ℕ) (x : o ≡ Some d) (f : Opt ℕ) (G : Landed n w s e y (backward (length (take d b)) (take d b)) f) where
-      moves : note_from (view n w s) (mapped_by m) a e ≡ or_refuse 9 (found f)
+      moves : note_from (view n w s) (mapped_by m) a e ≡ or_refuse 9 (meant f)
       unfolding note_from mapped_or refuse or_refuse ◌>>=◌ below
       moves = rw (← q, held, ne_eqb k (a + 1) z, ← (P.place s), x, ← (backward_front d b)) (sym (G.landing (mapped_by m)))
 
       pub move_lands : OneMove n w s m a e (ok_or f Unmapped)
-      unfolding number answered found or_refuse
+      unfolding number answered or_refuse
       move_lands = record { move = landed f ∙ sym moves; within = lands f G.within }
         where
-          landed : (f : Opt ℕ) → answered (ok_or f Unmapped) ≡ or_refuse 9 (found f)
+          landed : (f : Opt ℕ) → answered (ok_or f Unmapped) ≡ or_refuse 9 (meant f)
           landed (Some to) = refl
           landed None = refl
 
@@ -155,17 +156,16 @@ settling_start n w s m e h = record { here = h; rest = refl }
 
 module _ (n : ℕ) (w s m : List ℕ) (e at left : ℕ) (S : Settling n w s m e at left) (f : Opt ℕ) (N : Nearest n w m at f) where
   pub settling_done : f ≡ None → SettledAt n w s m e (Ok at)
-  unfolding answered found
+  unfolding answered
   settling_done z = record { place = sym (S.rest ∙ settle_none (view n w s) (mapped_by m) left at (sym (N.ancestor s) ∙ rw z)); within = S.here }
 
   module _ (a : ℕ) (z : f ≡ Some a) where
     pub settling_10 : left ≡ 0 → SettledAt n w s m e (Err Endless)
-    unfolding number answered found
+    unfolding number answered
     settling_10 l = record { place = sym (S.rest ∙ rw l (settle_ten (view n w s) (mapped_by m) at a (sym (N.ancestor s) ∙ rw z))); within = tt }
 
     module _ (l : left ≡ 0 → ⊥) (o : Result ℕ Refusal) (M : OneMove n w s m a at o) where
       onward : settle (view n w s) (mapped_by m) left at ≡ (answered o >>= λ to. settle (view n w s) (mapped_by m) (left - 1) to)
-      unfolding found
       onward =
           rw M.move (settle_on (view n w s) (mapped_by m) left (left - 1) at a (go left l) (sym (N.ancestor s) ∙ rw z))
         where

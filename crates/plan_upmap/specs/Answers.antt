@@ -3,6 +3,7 @@
 use Rattle.std.specs.Prelude.{List, ◌++◌, ◌≡◌, ℕ, ◌≤◌, ◌<◌, length, Option, Some, None, Result, Ok, Err}
 use Rattle.std.proofs.Math.Option.{Option as Maybe, none, some}
 use Rattle.std.proofs.Math.ListN.{get_elem?}
+use Rattle.orders.specs.Lists.{meant}
 use Rattle.orders.specs.Tree.{Path}
 use Rattle.definition.specs.Basics.{Answer, refused, gives, ◌>>=◌, or_refuse}
 use Rattle.definition.specs.Elements.{Table, row, descend}
@@ -15,11 +16,6 @@ use Rattle.plan_mapping.specs.Mapped.{mapped_by}
 
 -- ── The way down ────────────────────────────────────────────────────────────────────────────────────────────
 
--- the element that is found
-unfoldable pub found : Option ℕ → Maybe ℕ
-found (Some e) = some e
-found None = none
-
 -- what is found is one of n elements
 abbrev pub Within : ℕ → Option ℕ → Type 0
 Within n (Some e) = e < n
@@ -31,17 +27,17 @@ within_at n o e h q = rw q at h
 
 -- child number i of element e
 pub record FoundChild (n : ℕ) (table source : List ℕ) (e i : ℕ) (answer : Option ℕ) : Type 0 where
-  pub child : found answer ≡ get_elem? (row (view n table source) e).children i
+  pub child : meant answer ≡ get_elem? (row (view n table source) e).children i
   pub within : Within n answer
 
 -- the element to which a path leads from r
 pub record Descended (n : ℕ) (table source : List ℕ) (r : ℕ) (path : Path) (answer : Option ℕ) : Type 0 where
-  pub element : found answer ≡ descend (view n table source) r path
+  pub element : meant answer ≡ descend (view n table source) r path
   pub within : Within n answer
 
 -- where e lands by a path from r; missing is refusal 9
 pub record Landed (n : ℕ) (table source : List ℕ) (e r : ℕ) (path : Path) (answer : Option ℕ) : Type 0 where
-  pub landing : (mapped : ℕ → Maybe ℕ) → or_refuse 9 (found answer) ≡ land (view n table source) mapped e r path
+  pub landing : (mapped : ℕ → Maybe ℕ) → or_refuse 9 (meant answer) ≡ land (view n table source) mapped e r path
   pub within : Within n answer
 
 -- ── A move ──────────────────────────────────────────────────────────────────────────────────────────────────

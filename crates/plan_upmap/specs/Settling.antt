@@ -6,11 +6,12 @@ use Rattle.read_element_table.specs.View.{view}
 use Rattle.refusals.specs.declared.Refusal.{Refusal}
 use Rattle.refusals.specs.Numbers.{answered}
 use Rattle.plan_mapping.specs.Mapped.{mapped_by}
-use Rattle.plan_upmap.specs.Answers.{found, Within}
+use Rattle.plan_upmap.specs.Answers.{Within}
+use Rattle.orders.specs.Lists.{meant}
 
 -- the nearest mapped ancestor of e, or e
 pub record Nearest (n : ℕ) (table map : List ℕ) (e : ℕ) (answer : Option ℕ) : Type 0 where
-  pub ancestor : (source : List ℕ) → found answer ≡ nearest (view n table source) (mapped_by map) e
+  pub ancestor : (source : List ℕ) → meant answer ≡ nearest (view n table source) (mapped_by map) e
   pub within : Within n answer
 
 -- where it settles is one of n elements

@@ -9,11 +9,11 @@ use Rattle.definition.specs.Basics.{Answer, refused, gives, ◌>>=◌, refuse}
 use Rattle.definition.specs.Choices.{Choices, chosen}
 use Rattle.definition.specs.Finishing.{encoded, fitting}
 use Rattle.definition.specs.Answers.{edit, edited, too_short, with_work, with_choices}
-use Rattle.definition_laws.specs.Answers.{gives_inj, refused_gives, given, not_wrong}
+use Rattle.definition_laws.specs.Answers.{refused_inj, gives_inj, refused_gives, given, not_wrong}
 use Rattle.definition_demand.proofs.Answered.{edited_result}
 use Rattle.promises.specs.Slices.{needed, lengths, zeros, zeroed}
 use Rattle.promises.specs.Promises.{left_in, Edits, Finds}
-use Rattle.promises_read.specs.Refused.{refused_inj, edited_numbered, found_numbered}
+use Rattle.promises_read.specs.Refused.{edited_numbered, found_numbered}
 use Rattle.promises_read.specs.Demand1.{Cleared, Demand1, Demand1Finds}
 
 -- ── The result slice ────────────────────────────────────────────────────────────────────────────────────────

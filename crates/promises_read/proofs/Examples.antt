@@ -16,10 +16,9 @@ use Rattle.definition.specs.Printed.{ascii, printed}
 use Rattle.definition.specs.Computing.{computed}
 use Rattle.definition.specs.Examples.{Told, in_lists, in_bytes, Short, short, marked, further, told, answered, printed_case, printed_lines, with_notes, with_notes_lines, examples}
 use Rattle.definition.specs.EdgeExamples.{edge, closing_call}
-use Rattle.definition_laws.specs.Answers.{gives_inj, refused_gives}
+use Rattle.definition_laws.specs.Answers.{refused_inj, gives_inj, refused_gives}
 use Rattle.result_laws.proofs.Worded.{Bytes, take_bytes, tested_bytes}
 use Rattle.result_laws.specs.Decoded.{decoded}
-use Rattle.promises_read.specs.Refused.{refused_inj}
 use Rattle.promises_read.specs.Answered.{Leaves, answer_in, edit_answered, find_answered}
 use Rattle.promises_read.specs.Printing.{printed_run}
 use Rattle.promises_read.specs.Examples.{Tells, RunsAs, Runs, beyond_bytes, Prints, FindsTold, found_in, RunsBy, closings}

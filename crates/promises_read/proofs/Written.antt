@@ -8,13 +8,13 @@ use Rattle.std.proofs.Math.Seq.{take_at}
 use Rattle.definition.specs.Basics.{Answer, refused, gives, ◌>>=◌, refuse, any, among}
 use Rattle.definition.specs.Answers.{too_short, with_work}
 use Rattle.definition.specs.Writing.{Lists, laid_out, wrong_lists, write, lists}
-use Rattle.definition_laws.specs.Answers.{gives_inj, refused_gives, given, not_wrong}
+use Rattle.definition_laws.specs.Answers.{refused_inj, gives_inj, refused_gives, given, not_wrong}
 use Rattle.words.specs.Bytes.{Bytes}
 use Rattle.promises.specs.Slices.{lengths}
 use Rattle.promises.specs.Promises.{left_in}
 use Rattle.promises.specs.Writing.{writer_needs, wrote, Writes}
 use Rattle.write_laws.specs.RoundTrip.{Worded, written_read, read_written}
-use Rattle.promises_read.specs.Refused.{By, by_then, by_refuse, refused_inj}
+use Rattle.promises_read.specs.Refused.{By, by_then, by_refuse}
 use Rattle.promises_read.specs.Demand1.{Cleared}
 use Rattle.promises_read.proofs.Demand1.{zeroed_cleared}
 use Rattle.promises_read.specs.Written.{write_numbers, Laid}

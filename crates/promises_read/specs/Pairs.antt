@@ -34,7 +34,7 @@ use Rattle.check_laws.specs.Claimed.{old_tree, flat_of, own_pairs, own_claims, o
 use Rattle.check_laws.proofs.Own as own
 use Rattle.check_laws.proofs.Output.{own_accepted}
 use Rattle.promises.specs.Slices.{needed, lengths}
-use Rattle.promises.specs.Keeping.{kept_pairs, pair_bytes, paired, kept}
+use Rattle.promises.specs.Keeping.{kept_pairs, pair_bytes, paired, kept, pairs_length}
 use Rattle.promises.specs.Promises.{left_in, Keeps}
 
 -- ── They are few ────────────────────────────────────────────────────────────────────────────────────────────
@@ -120,13 +120,6 @@ pairs_written ps f rest =
     let n : length (O ++ N) ≡ length ps + length ps = omega (arith, length-append O N, length-map ps (λ p. p.0), length-map ps (λ p. p.1)) in
     let small : All (λ x. x < 2 ^ 32) (O ++ N) = All-append (λ x. x < 2 ^ 32) O N (All-over (λ p. p.0) Fits (λ x. x < 2 ^ 32) (λ p q. omega (arith, q.old)) ps f.each) (All-over (λ p. p.1) Fits (λ x. x < 2 ^ 32) (λ p q. omega (arith, q.new)) ps f.each) in
     ap (λ (k : ℕ). words k (written (O ++ N) ++ rest)) (sym n) ∙ words_written (O ++ N) rest (all_words (O ++ N) small)
-
-pairs_length : (ps : List (ℕ × ℕ)) → length (pair_bytes ps) ≡ 8 * length ps
-unfolding pair_bytes
-pairs_length ps =
-    let O : List ℕ = map (λ p. p.0) ps in
-    let N : List ℕ = map (λ p. p.1) ps in
-    length_written (O ++ N) ∙ omega (arith, length-append O N, length-map ps (λ p. p.0), length-map ps (λ p. p.1))
 
 -- what is given is the bytes of the batch's pairs
 pub pairs_given : (h : Choices) (work : List (ℕ × ℕ)) (b bytes : List ℕ) (room : ℕ) → kept h work b room ≡ gives bytes → (ps : List (ℕ × ℕ)) × (kept_pairs h b ≡ gives ps) × (pair_bytes ps ≡ bytes)

@@ -25,7 +25,7 @@ use Rattle.definition.specs.Answers.{withdrawing, judge_changes, disjoint, rewri
 use Rattle.definition.specs.FindElement.{find_in, find_element}
 use Rattle.definition.specs.Printed.{program_room}
 use Rattle.definition.specs.Account.{said, account, in_room, accounted}
-use Rattle.definition_laws.specs.Answers.{refused_gives}
+use Rattle.definition_laws.specs.Answers.{refused_inj, refused_gives}
 use Rattle.definition_laws.specs.Limits.{most_bytes}
 use Rattle.definition_laws.proofs.Limits.{encoded_within}
 use Rattle.share_laws.specs.Share.{share_in, share, shared}
@@ -68,9 +68,6 @@ account_numbers = 17 ∷ 18 ∷ 1 ∷ 13 ∷ batch_lines ++ rewrite_lines ++ ste
 
 abbrev pub find_numbers : List ℕ
 find_numbers = 17 ∷ 18 ∷ 1 ∷ edit_lines
-
-pub refused_inj : {A : Type 0} {j k : ℕ} → ◌≡◌ {A = Answer A} (refused j) (refused k) → j ≡ k
-refused_inj e = cc
 
 -- one of the numbers has what none of them lacks
 one_of : (lacks : ℕ → Bool) (ns : List ℕ) (k : ℕ) → any lacks ns ≡ false → among ns k ≡ true → lacks k ≡ false

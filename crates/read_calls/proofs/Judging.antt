@@ -1,6 +1,6 @@
 -- Each answer of `first_listed`, `word_fits` and `call_fits`, from the tests that led there.
 -- Assumes nothing.
-use mathlib.Core.Bool.{Bool, true, false, not, ◌&&◌, ◌||◌}
+use mathlib.Core.Bool.{Bool, true, false, not, ◌&&◌, ◌||◌, or-false, and-false, not-not}
 use mathlib.Core.List.{List, [], ◌∷◌, head_d}
 use mathlib.Core.Path.{◌≡◌, refl, sym, ◌∙◌}
 use Prim.Native.Nat.{ℕ, zero, suc, ◌+◌, ◌*◌, ◌≤◌, ◌<◌}
@@ -27,18 +27,6 @@ first_told (y ∷ l) x e = e
 
 -- ── Tests ───────────────────────────────────────────────────────────────────────────────────────────────────
 
-or_false : (a : Bool) → (a || false) ≡ a
-or_false true = refl
-or_false false = refl
-
-and-false : (a : Bool) → (a && false) ≡ false
-and-false true = refl
-and-false false = refl
-
-twice : (a : Bool) → not (not a) ≡ a
-twice true = refl
-twice false = refl
-
 pub not_less : (a b : ℕ) → not (ltb a b) ≡ leb b a
 not_less a b = ⊎_elim (λ h. rw (lt-ltb a b h, lt-leb b a h)) (λ h. rw (le-ltb a b h, le-leb b a h)) (lt_or_le a b)
 
@@ -51,19 +39,19 @@ above_zero (suc k) = rw (lt-ltb 0 (suc k) (omega arith), eqb-suc-zero k)
 module _ (op k n : ℕ) where
   pub count_one : op ≡ 2 → eqb k 1 ≡ word_fits op k n
   unfolding word_fits wrong_count ruled_start among any
-  count_one h = rw h (simp (or_false, twice))
+  count_one h = rw h (simp (or-false, not-not))
 
   pub count_none : op ≡ 3 → eqb k 0 ≡ word_fits op k n
   unfolding word_fits wrong_count ruled_start among any
-  count_none h = rw h (simp (above_zero k, or_false, twice))
+  count_none h = rw h (simp (above_zero k, or-false, not-not))
 
   pub count_some : op ≡ 5 → ltb 0 k ≡ word_fits op k n
   unfolding word_fits wrong_count ruled_start among any
-  count_some h = rw h (simp (above_zero k, or_false))
+  count_some h = rw h (simp (above_zero k, or-false))
 
   pub start_alone : op ≡ 6 → k ≡ 0 → eqb n 0 ≡ word_fits op k n
   unfolding word_fits wrong_count ruled_start among any
-  start_alone h z = rw (h, z) (simp twice)
+  start_alone h z = rw (h, z) (simp not-not)
 
   pub start_lists : op ≡ 6 → (k ≡ 0 → ⊥) → eqb k 0 ≡ word_fits op k n
   unfolding word_fits wrong_count ruled_start among any
@@ -71,7 +59,7 @@ module _ (op k n : ℕ) where
 
   pub count_any : (op ≡ 2 → ⊥) → (op ≡ 3 → ⊥) → (op ≡ 5 → ⊥) → (op ≡ 6 → ⊥) → leb op 6 ≡ word_fits op k n
   unfolding word_fits wrong_count ruled_start among any
-  count_any a b c d = rw (ne_eqb op 2 a, ne_eqb op 3 b, ne_eqb op 5 c, ne_eqb op 6 d, or_false (ltb 6 op), or_false (ltb 6 op), not_less 6 op)
+  count_any a b c d = rw (ne_eqb op 2 a, ne_eqb op 3 b, ne_eqb op 5 c, ne_eqb op 6 d, or-false (ltb 6 op), or-false (ltb 6 op), not_less 6 op)
 
 -- ── The place ───────────────────────────────────────────────────────────────────────────────────────────────
 
@@ -99,17 +87,17 @@ among_others (suc (suc (suc (suc (suc (suc (suc k))))))) h a b c = absurd (omega
 
 pub fits_first_child : (n : ℕ) (w r : List ℕ) (op x y : ℕ) (u : Bool) → x < n → op ≡ 0 → u ≡ is_node (get_or r (3 * suc x) 0) → u ≡ call_fits (view n w r) op x y
 unfolding call_fits misplaced among any
-fits_first_child n w r op x y u hx h e = rw (h, node_told n w r x hx) (e ∙ simp (or_false, twice))
+fits_first_child n w r op x y u hx h e = rw (h, node_told n w r x hx) (e ∙ simp (or-false, not-not))
 
 pub fits_editor : (T : Table) (op x y : ℕ) → op ≡ 6 → eqb x 0 ≡ call_fits T op x y
 unfolding call_fits misplaced among any
-fits_editor T op x y h = rw h (rw twice)
+fits_editor T op x y h = rw h (rw not-not)
 
 module _ (n : ℕ) (w r : List ℕ) (op x y : ℕ) (t : Bool) (W : Wellformed n w r) (hx : x < n) where
   module _ (e : t ≡ eqb (get_or w (8 * x + 1) 0) 0) where
     pub fits_root_by : (hy : y < n) (u : Bool) → op ≡ 2 → t ≡ true → u ≡ is_node (get_or r (3 * suc y) 0) → u ≡ call_fits (view n w r) op x y
     unfolding call_fits misplaced among any
-    fits_root_by hy u h q k = rw (h, root_told n w r W.lines x hx, ← e, q, node_told n w r y hy) (k ∙ simp (or_false, twice))
+    fits_root_by hy u h q k = rw (h, root_told n w r W.lines x hx, ← e, q, node_told n w r y hy) (k ∙ simp (or-false, not-not))
 
     pub fits_root : op ≤ 6 → (op ≡ 0 → ⊥) → (op ≡ 6 → ⊥) → (op ≡ 2 → ⊥) → t ≡ true → eqb op 2 ≡ call_fits (view n w r) op x y
     unfolding call_fits misplaced
@@ -117,7 +105,7 @@ module _ (n : ℕ) (w r : List ℕ) (op x y : ℕ) (t : Bool) (W : Wellformed n 
 
     pub fits_run : (hy : y < n) (u : Bool) → op ≡ 5 → t ≡ false → u ≡ run_fits w x y → u ≡ call_fits (view n w r) op x y
     unfolding call_fits misplaced among any run_fits wrong_run
-    fits_run hy u h q k = rw (h, root_told n w r W.lines x hx, ← e, q, parent_told n w r W.lines x hx, parent_told n w r W.lines y hy, same_parent_lem, child_told n w r W.lines x hx, child_told n w r W.lines y hy, or_false, ← (both (eqb (get_or w (8 * x + 1) 0) (get_or w (8 * y + 1) 0))), not_less) k
+    fits_run hy u h q k = rw (h, root_told n w r W.lines x hx, ← e, q, parent_told n w r W.lines x hx, parent_told n w r W.lines y hy, same_parent_lem, child_told n w r W.lines x hx, child_told n w r W.lines y hy, or-false, ← (both (eqb (get_or w (8 * x + 1) 0) (get_or w (8 * y + 1) 0))), not_less) k
 
     pub fits_rest : (op ≡ 0 → ⊥) → (op ≡ 6 → ⊥) → (op ≡ 5 → ⊥) → t ≡ false → true ≡ call_fits (view n w r) op x y
     unfolding call_fits misplaced

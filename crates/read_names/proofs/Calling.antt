@@ -1,7 +1,7 @@
 -- Lines 6 and 16: each answer, from the tests that led there.
 -- Assumes nothing.
 use mathlib.Core.Path.{◌≡◌, refl, sym, ap, ◌∙◌}
-use mathlib.Core.Bool.{Bool, true, false, not, ◌&&◌, ◌||◌}
+use mathlib.Core.Bool.{Bool, true, false, not, ◌&&◌, ◌||◌, or-true, not-not}
 use mathlib.Core.List.{List, [], ◌∷◌, head_d, zip}
 use mathlib.Core.Logic.{inl, inr}
 use Prim.Native.Nat.{ℕ, ◌+◌, ◌-◌, ◌*◌, ◌≤◌, ◌<◌}
@@ -23,9 +23,9 @@ use Rattle.read_element_table.specs.View.{view}
 use Rattle.read_element_table.specs.Told.{length_view}
 use Rattle.read_calls.specs.Fits.{word_fits, call_fits, judged}
 use Rattle.definition_laws.specs.Right.{neither, none_passes}
-use Rattle.read_layout.specs.Truth.{or_true, twice}
 use Rattle.read_names.specs.Called.{calls_fit, word_too_many, fit_end, fit_more}
-use Rattle.read_names.proofs.Passing.{length_of, pairs_from, pairs_all, pairs_none, pairs_more}
+use Rattle.words.specs.List.{length_of}
+use Rattle.read_names.proofs.Passing.{pairs_from, pairs_all, pairs_none, pairs_more}
 
 -- ── One call ────────────────────────────────────────────────────────────────────────────────────────────────
 
@@ -57,25 +57,25 @@ module _ (n : ℕ) (w r : List ℕ) (word x : ℕ) (l : WordList) (e : l.count �
         one_wrong : (a b c d e : Bool) → (a || b || e) ≡ true → false ≡ not (a || b || c || d || e)
         one_wrong true b c d e h = refl
         one_wrong false true c d e h = refl
-        one_wrong false false c d e h = rw (h, or_true (c || d))
+        one_wrong false false c d e h = rw (h, or-true (c || d))
 
   pub wrong_target : n ≤ x → false ≡ not (wrong_call (view n w r) (call_of word x (words_of l)))
   unfolding wrong_call any
-  wrong_target h = rw (length_view n w r, le-leb n x h, or_true)
+  wrong_target h = rw (length_view n w r, le-leb n x h, or-true)
 
   module _ (u : Bool) (g : u ≡ not (any (leb n) (words_of l))) where
     pub wrong_listed : u ≡ false → false ≡ not (wrong_call (view n w r) (call_of word x (words_of l)))
     unfolding wrong_call any
     wrong_listed q =
         let h : any (leb (length (view n w r))) (words_of l) ≡ true = ap (λ z. any (leb z) (words_of l)) (length_view n w r) ∙ not-false (any (leb n) (words_of l)) (sym g ∙ q) in
-        rw (h, or_true, or_true)
+        rw (h, or-true, or-true)
 
     pub call_judged : (op : ℕ) → op ≡ operation_of word → (rule : ℕ) → rule ≡ rule_of word → (t : Bool) → t ≡ word_fits op l.count rule → t ≡ true → x < n → u ≡ true → (y : ℕ) → y ≡ head_d (words_of l) 0 → (v : Bool) → v ≡ call_fits (view n w r) op x y
         → v ≡ not (wrong_call (view n w r) (call_of word x (words_of l)))
     call_judged op f rule i t a b h q y d v z =
         let s = all_below n (words_of l) (not-true _ (sym g ∙ q)) in
         let j = judged n w r (call_of word x (words_of l)) (h, s) in
-        rw (j, ← f, ← i, ← d, length_of l, ← a, b) (z ∙ sym (twice _))
+        rw (j, ← f, ← i, ← d, length_of l, ← a, b) (z ∙ sym (not-not _))
 
 -- ── How many it lists ───────────────────────────────────────────────────────────────────────────────────────
 

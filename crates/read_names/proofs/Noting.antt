@@ -1,7 +1,7 @@
 -- Line 7: each answer, from the tests that led there.
 -- Assumes nothing.
 use mathlib.Core.Path.{◌≡◌, refl}
-use mathlib.Core.Bool.{Bool, true, false, not, ◌&&◌, ◌||◌}
+use mathlib.Core.Bool.{Bool, true, false, not, ◌&&◌, ◌||◌, or-true}
 use mathlib.Core.List.{List}
 use Prim.Native.Nat.{ℕ, suc, ◌+◌, ◌*◌, ◌≤◌, ◌<◌}
 use lib.ListN.{get_or}
@@ -13,7 +13,6 @@ use Rattle.definition.specs.Refusals.{wrong_mapping}
 use Rattle.read_element_table.specs.View.{view}
 use Rattle.read_element_table.specs.Wellformed.{Wellformed}
 use Rattle.read_element_table.specs.Told.{length_view, node_told, root_told}
-use Rattle.read_layout.specs.Truth.{or_true}
 
 -- ── A mapping ───────────────────────────────────────────────────────────────────────────────────────────────
 
@@ -24,7 +23,7 @@ module _ (n : ℕ) (w r : List ℕ) (x y : ℕ) where
 
   pub output_beyond : n ≤ y → wrong_mapping (view n w r) (x, y) ≡ true
   unfolding wrong_mapping any
-  output_beyond h = rw (length_view n w r, le-leb n y h, or_true)
+  output_beyond h = rw (length_view n w r, le-leb n y h, or-true)
 
   pub mapping_told : Wellformed n w r → x < n → y < n → wrong_mapping (view n w r) (x, y) ≡ not (is_node (get_or r (3 * suc x) 0) && (is_node (get_or r (3 * suc y) 0) && not (eqb (get_or w (8 * y + 1) 0) 0)))
   unfolding wrong_mapping any

@@ -13,26 +13,13 @@ use lib.Dec.{leb, ltb}
 use lib.ListN.{drop, get_or, length, drop_of_length-le}
 use lib.Seq.{drop-cons}
 use borrow.Author.Tests.{le-leb, lt-leb, lt-ltb, le-ltb}
-use Rattle.orders.specs.ListLaws.{lt_or_le}
+use Rattle.orders.specs.ListLaws.{lt_or_le, none_found}
 use Rattle.definition.specs.Basics.{any}
 use Rattle.words.specs.Bytes.{length_words}
-use Rattle.words.specs.List.{words_of}
+use Rattle.words.specs.List.{words_of, length_of}
 use Rattle.words.specs.declared.list.WordList.{WordList}
 
--- each number passes just if nothing is found at any
-none_found : {A : Type 0} (p : A → Bool) (f : ℕ → A) (l : List ℕ) → list_all (λ i. not (p (f i))) l ≡ not (any p (map f l))
-unfolding any
-none_found p f [] = refl
-none_found p f (i ∷ l) = rw (none_found p f l) (go (p (f i)) (any p (map f l)))
-  where
-    go : (a b : Bool) → (not a && not b) ≡ not (a || b)
-    go true b = refl
-    go false b = refl
-
 -- ── Words ───────────────────────────────────────────────────────────────────────────────────────────────────
-
-pub length_of : (l : WordList) → length (words_of l) ≡ l.count
-length_of l = length_words l.count _
 
 -- the words from number i on
 words_from : (l : WordList) (i : ℕ) → i < l.count → drop i (words_of l) ≡ get_or (words_of l) i 0 ∷ drop (i + 1) (words_of l)

@@ -3,7 +3,7 @@
 use Rattle.std.specs.Prelude.{◌≡◌, Bool, cond, not, ◌&&◌, ◌||◌, ◌⊎◌, leb, ltb, eqb, length, take, drop}
 use Rattle.std.proofs.Math.Path.{refl}
 use Rattle.std.proofs.Common.{sym, ap, ◌∙◌, inl, inr, arith, length-drop}
-use Rattle.std.proofs.Math.Bool.{true, false}
+use Rattle.std.proofs.Math.Bool.{true, false, and-false, and-true}
 use mathlib.Core.List.{List, [], ◌∷◌, map, zip}
 use Rattle.std.proofs.Math.Option
 use Rattle.std.proofs.Math.Option.{Option, none, some, bind}
@@ -16,12 +16,6 @@ use Rattle.definition.specs.Basics.{any, is_some}
 use Rattle.definition.specs.Batch.{Batch}
 use Rattle.definition.specs.Elements.{Piece, is_node, malformed, pieces, plant, grow, starts_with_token, unspelled, spelled}
 use Rattle.read_spelling.specs.Spelling.{children_of, length_of, stands, settled, none_open, opened, fills, accepts}
-
--- ── Truth values ────────────────────────────────────────────────────────────────────────────────────────────
-
-and_no : (a : Bool) → (a && false) ≡ false
-and_no true = refl
-and_no false = refl
 
 -- ── One element ─────────────────────────────────────────────────────────────────────────────────────────────
 
@@ -49,7 +43,7 @@ module _ (k d : ℕ) where
 
   pub stands_deep : 64 < d → stands k d ≡ false
   unfolding stands
-  stands_deep h = rw (lt-leb d 64 h) (and_no (not (malformed k)))
+  stands_deep h = rw (lt-leb d 64 h) (and-false (not (malformed k)))
 
   module _ (h : k % 0x8000_0000 < 0x1_0000) (l : d ≤ 64) where
     pub stands_node : 0x8000_0000 ≤ k → stands k d ≡ true
@@ -144,10 +138,6 @@ shared_pop s (some ts) = rw (leb-zero (length ts))
 
 -- ── Truth values ────────────────────────────────────────────────────────────────────────────────────────────
 
-and_yes : (a : Bool) → (a && true) ≡ a
-and_yes true = refl
-and_yes false = refl
-
 same_leb : (a b c d : ℕ) → (a ≤ b → c ≤ d) → (c ≤ d → a ≤ b) → leb a b ≡ leb c d
 same_leb a b c d f g = go (lt_or_le b a) (lt_or_le d c)
   where
@@ -176,11 +166,7 @@ both_leb a b c k f g h = go (lt_or_le k a) (lt_or_le k b)
 -- the children of a node may stand below it, and it itself, just if its tree may stand
 below : (c : ℕ) (ts : List (Tree ℕ)) → (leb (suc c) 64 && all_standing (suc (suc c)) ts) ≡ leb (suc c + suc (deepest_of (forest ts))) 65
 unfolding all_standing standing deepest_of forest
-below c [] = go (leb (suc c) 64) (same_leb (suc c) 64 (suc c + 1) 65 (λ h. omega arith) (λ h. omega arith))
-  where
-    go : (a : Bool) → a ≡ leb (suc c + 1) 65 → (a && true) ≡ leb (suc c + 1) 65
-    go true e = e
-    go false e = e
+below c [] = and-true (leb (suc c) 64) ∙ same_leb (suc c) 64 (suc c + 1) 65 (λ h. omega arith) (λ h. omega arith)
 below c (t ∷ ts) =
     let d : ℕ = suc (suc c) in
     let a : Bool = leb (suc c) 64 in
@@ -230,7 +216,7 @@ module _ (k m : ℕ) (own : List ℕ) (l : ℕ) (s : List ℕ) (ts : List (Tree 
 
       choose : (t : Bool) → (leb d 64 && (t && (all_standing (suc d) (take m ts) && shared (l ∷ s) rest))) ≡ shared_by (suc l ∷ s) (cond t (some (node k (forest (take m ts)) ∷ rest)) none)
       choose true = rw (leb-suc-suc l (length rest)) (go (leb d 64) (all_standing (suc d) (take m ts)) _ (leb l (length rest)) (all_standing d (take l rest)) (shared s (drop l rest)) (below (length s) (take m ts)))
-      choose false = and_no (leb d 64)
+      choose false = and-false (leb d 64)
 
 -- an element that may stand, and the trees after it given out with its children: the trees with its own given out
 given : (p : Piece) (l : ℕ) (s : List ℕ) (ts : List (Tree ℕ))
@@ -243,7 +229,7 @@ given p l s ts = choose (is_node p.kind)
 
     choose : (t : Bool) → ((leb d 64 && (t || ltb 1 d)) && shared (cond t p.measure 0 ∷ l ∷ s) ts)
         ≡ shared_by (suc l ∷ s) (cond t (cond (leb p.measure (length ts)) (some (node p.kind (forest (take p.measure ts)) ∷ drop p.measure ts)) none) (some (token p.kind p.own ∷ ts)))
-    choose true = rw (and_yes (leb d 64)) (given_node p.kind p.measure p.own l s ts)
+    choose true = rw (and-true (leb d 64)) (given_node p.kind p.measure p.own l s ts)
     choose false = given_token p.kind p.measure p.own l s ts
 
 -- ── All elements ────────────────────────────────────────────────────────────────────────────────────────────
@@ -251,13 +237,13 @@ given p l s ts = choose (is_node p.kind)
 -- more text than there is
 pub fills_over : (bytes : ℕ) (es : List (ℕ × ℕ)) (s : List ℕ) (sum : ℕ) → bytes < sum → fills bytes s sum es ≡ false
 unfolding fills
-fills_over bytes [] s sum h = rw (ne_eqb sum bytes (λ e. omega arith)) (and_no (none_open (settled s)))
+fills_over bytes [] s sum h = rw (ne_eqb sum bytes (λ e. omega arith)) (and-false (none_open (settled s)))
 fills_over bytes (e ∷ es) s sum h = go (settled s) (fills_over bytes es)
   where
     go : (s' : List ℕ) → ((s'' : List ℕ) (sum' : ℕ) → bytes < sum' → fills bytes s'' sum' es ≡ false) → opened s' sum e (λ s'' sum'. fills bytes s'' sum' es) ≡ false
     go [] ih = refl
     go (zero ∷ s') ih = refl
-    go (suc l ∷ s') ih = rw (ih (children_of e.0 e.1 ∷ l ∷ s') (sum + length_of e.0 e.1) (omega arith)) (and_no (stands e.0 (suc (length s'))))
+    go (suc l ∷ s') ih = rw (ih (children_of e.0 e.1 ∷ l ∷ s') (sum + length_of e.0 e.1) (omega arith)) (and-false (stands e.0 (suc (length s'))))
 
 -- the kind words of elements
 abbrev pub kinds_of : List (ℕ × ℕ) → List ℕ
@@ -272,8 +258,8 @@ closed (suc l ∷ s) = rw (leb-suc-zero l)
 
 ends : (bytes sum : ℕ) (s text : List ℕ) → sum + length text ≡ bytes → (none_open (settled s) && eqb sum bytes) ≡ shared_by s (grown [] text)
 unfolding grown pieces grow bind shared_by
-ends bytes sum s [] h = rw (eq-eqb sum bytes (omega arith)) (and_yes (none_open (settled s)) ∙ closed s)
-ends bytes sum s (x ∷ text) h = rw (ne_eqb sum bytes (λ e. omega arith)) (and_no (none_open (settled s)))
+ends bytes sum s [] h = rw (eq-eqb sum bytes (omega arith)) (and-true (none_open (settled s)) ∙ closed s)
+ends bytes sum s (x ∷ text) h = rw (ne_eqb sum bytes (λ e. omega arith)) (and-false (none_open (settled s)))
 
 -- a tree has come: a stack with nothing open has no place for it
 no_place : (p : Piece) (o : Option (List (Tree ℕ))) → shared_by [] (bind o (plant p)) ≡ false
@@ -302,7 +288,7 @@ shared_more e text l s a o = go o
     both false false x y = refl
 
     go : (o : Option (List (Tree ℕ))) → (stands e.0 d && (not a && shared_by (children_of e.0 e.1 ∷ l ∷ s) o)) ≡ (not (malformed e.0 || a) && shared_by (suc l ∷ s) (bind o (plant (piece_at e text))))
-    go none = rw (and_no (not a)) (and_no (stands e.0 d) ∙ sym (and_no (not (malformed e.0 || a))))
+    go none = rw (and-false (not a)) (and-false (stands e.0 d) ∙ sym (and-false (not (malformed e.0 || a))))
     go (some ts) = both (malformed e.0) a (leb d 64 && (is_node e.0 || ltb 1 d)) (shared (children_of e.0 e.1 ∷ l ∷ s) ts) ∙ ap (λ z. not (malformed e.0 || a) && z) (given (piece_at e text) l s ts)
 
 -- the machine accepts what is left just if its kind words have their form and its trees can be given out to the stack
@@ -331,10 +317,10 @@ fills_shared bytes (e ∷ es) s sum text h = go (fills_shared bytes es) s
     short k = grown_more e es text ∙ rw (lt-leb n (length text) k)
 
     go : IH → (s : List ℕ) → fills bytes s sum (e ∷ es) ≡ (not (malformed e.0 || a) && shared_by s (grown (e ∷ es) text))
-    go ih [] = elim (lt_or_le (length text) n) [ inl k ↦ rw (short k) (sym (and_no (not (malformed e.0 || a)))) | inr k ↦ rw (long k, no_place (piece_at e text) after) (sym (and_no (not (malformed e.0 || a)))) ]
+    go ih [] = elim (lt_or_le (length text) n) [ inl k ↦ rw (short k) (sym (and-false (not (malformed e.0 || a)))) | inr k ↦ rw (long k, no_place (piece_at e text) after) (sym (and-false (not (malformed e.0 || a)))) ]
     go ih (zero ∷ s) = go ih s ∙ ap (λ z. not (malformed e.0 || a) && z) (sym (shared_pop s (grown (e ∷ es) text)))
     go ih (suc l ∷ s) = elim (lt_or_le (length text) n) [
-      | inl k ↦ rw (short k, fills_over bytes es (children_of e.0 e.1 ∷ l ∷ s) (sum + n) (omega arith)) (and_no (stands e.0 (suc (length s))) ∙ sym (and_no (not (malformed e.0 || a))))
+      | inl k ↦ rw (short k, fills_over bytes es (children_of e.0 e.1 ∷ l ∷ s) (sum + n) (omega arith)) (and-false (stands e.0 (suc (length s))) ∙ sym (and-false (not (malformed e.0 || a))))
       | inr k ↦ rw (long k, ih (children_of e.0 e.1 ∷ l ∷ s) (sum + n) (drop n text) (omega (arith, length-drop n text))) (shared_more e text l s a after)
     ]
 
@@ -383,7 +369,7 @@ all_shared (suc n) (t ∷ ts) = rw (leb-suc-suc n (length ts), eqb-suc-suc (leng
   where
     go : (l t a s e b : Bool) → (l && (a && s)) ≡ (e && b) → (l && ((t && a) && s)) ≡ (e && (t && b))
     go l true a s e b h = h
-    go l false a s e b h = and_no l ∙ sym (and_no e)
+    go l false a s e b h = and-false l ∙ sym (and-false e)
 
 -- THE LAW: line 5 accepts a batch just if it spells trees
 pub accepts_spelled : (b : Batch) → length b.kinds ≡ length b.measures → accepts b.trees (length b.text) (zip b.kinds b.measures) ≡ is_some (spelled b)
@@ -402,5 +388,5 @@ accepts_spelled b h =
     judged false false x y a = refl
 
     go : (o : Option (List (Tree ℕ))) → (not (any malformed b.kinds) && shared_by (b.trees ∷ []) o) ≡ is_some (bind o (λ ts. cond (unspelled b ts) none (some ts)))
-    go none = and_no (not (any malformed b.kinds))
+    go none = and-false (not (any malformed b.kinds))
     go (some ts) = rw (all_shared b.trees ts, roots ts) (judged (any malformed b.kinds) (eqb (length ts) b.trees) (any starts_with_token ts) (any (λ t. ltb 64 (deepest t)) ts) ts)

@@ -69,8 +69,7 @@ pub fn spells(columns: &Columns, trees: usize, bytes: usize) -> bool
             if columns.count <= i {
                 return false;
             }
-            let k = words::read_word(columns.bytes, columns.kinds + 4 * i);
-            let m = words::read_word(columns.bytes, columns.measures + 4 * i);
+            let (k, m) = columns.get(i);
             if !stands(k, d) {
                 return false;
             }

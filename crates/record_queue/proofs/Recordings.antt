@@ -27,7 +27,7 @@ use Rattle.record_changes.specs.Numbers.{numbers_of, as_change, run_asked, chang
 use Rattle.record_changes.specs.Spots.{spot_of, Named}
 use Rattle.record_queue.specs.Recorded.{news_at, asked_at, all_asked}
 use Rattle.read_element_table.specs.Wellformed.{Wellformed}
-use Rattle.words.specs.List.{words_of}
+use Rattle.words.specs.List.{words_of, length_of}
 use Rattle.words.specs.declared.list.WordList.{WordList}
 use Rattle.record_queue.specs.CallList.{call_as, calls_of, Fit, calls_from, calls_more, calls_none, CallFits, CallPut}
 use Rattle.record_queue.specs.Placed.{fit_stand}
@@ -223,9 +223,6 @@ module _ (L : List ℕ) (m : Numbers) (s : Spot) (n start count : ℕ) (w : List
     pub record_over : (w' : List ℕ) → t ≡ false → w' ≡ paste w (14 * k) (row_words (row_with m s n)) 14 → Put L (row_with m s n) start count w count w'
     unfolding row_with
     record_over w' q p = put_over L (row_with m s n) start count w h k e b l t f w' q p
-
-pub length_of : (l : WordList) → length (words_of l) ≡ l.count
-length_of l = length_words l.count _
 
 -- ── One call ────────────────────────────────────────────────────────────────────────────────────────────────
 

@@ -3,7 +3,10 @@
 use Rattle.std.specs.Prelude.{◌≡◌, refl, Bool, true, false, ◌⊎◌, leb, length, take, drop, get_or, set}
 use Rattle.std.proofs.Common.{sym, ◌∙◌, inl, inr, arith, length-drop, drop_of_length-le, length-take-le, get_or-take, take-take, lt-ltb, le-ltb, le-leb, leb-true}
 use Rattle.std.proofs.Math.Path.{ap}
-use mathlib.Core.List.{List, [], ◌∷◌, ◌++◌}
+use mathlib.Core.List.{List, [], ◌∷◌, ◌++◌, map}
+use Rattle.std.specs.List.{sum, sum_by, range_with_len}
+use Rattle.std.proofs.lemmas.List.Sums.{sum_by-cons}
+use Rattle.std.proofs.Math.Numerals.{add-one}
 use Rattle.std.proofs.Math.Option.{Option, some}
 use Prim.Native.Nat.{ℕ, zero, suc, ◌+◌, ◌-◌, ◌*◌, ◌/◌, ◌≤◌, ◌<◌}
 use Rattle.std.proofs.Math.Nat.{suc-sub-suc}
@@ -136,6 +139,14 @@ module _ (t : List ℕ) where
 
   pub triples_end : (i : ℕ) (l : List ℕ) → length l ≤ 3 * i + 2 → drop i (triples t l) ≡ []
   triples_end i l h = drop_of_length-le (triples t l) {i = i} (omega (arith, length_triples l))
+
+  -- the library's sum over the rows from i on
+  pub rows_summed : (f : Row → ℕ) (l : List ℕ) (i n : ℕ) → i + n ≡ length l / 3 → sum (map (λ k. f (row_in t l k)) (range_with_len i n)) ≡ sum_by f (drop i (triples t l))
+  rows_summed f l i zero e = sym (ap (sum_by f) (triples_end i l (omega arith)))
+  rows_summed f l i (suc n) e =
+      let rest = rows_summed f l (i + 1) n (omega arith) ∙ ap (λ (j : ℕ). sum_by f (drop j (triples t l))) (add-one i) in
+      let more = ap (sum_by f) (triples_at i l (omega arith)) ∙ sum_by-cons f (row_in t l i) (drop (suc i) (triples t l)) in
+      sum_by-cons (λ x. x) (f (row_in t l i)) (map (λ k. f (row_in t l k)) (range_with_len (i + 1) n)) ∙ (ap (λ (m : ℕ). f (row_in t l i) + m) rest ∙ sym more)
 
   pub triples_get : (i : ℕ) (l : List ℕ) → 3 * i + 2 < length l → get_elem? (triples t l) i ≡ some (row_in t l i)
   triples_get i [] h = absurd (omega arith)

@@ -1,6 +1,6 @@
 -- The loops: for each its invariant, that it holds at the start, after a turn, and what it says at the end.
 -- Assumes nothing.
-use Rattle.std.specs.List.{sum, range_with_len}
+use Rattle.std.specs.List.{sum, sum_by, range_with_len}
 use Rattle.std.proofs.lemmas.List.Sums.{sum_by-cons}
 use mathlib.Core.Path.{◌≡◌, refl, sym, ap, ◌∙◌}
 use mathlib.Core.List.{List, [], ◌∷◌, ◌++◌, map, append-nil}
@@ -21,7 +21,7 @@ use Rattle.rows_model.specs.Row.{Row, owes, text_length, row_in, first_rows, tri
 use Rattle.rows_model.specs.Place.{rows_after, child_row, between, subtree, remeasure, splice_rows, moved_mark}
 use Rattle.rows_model.proofs.RowLaws.{skip_none, height_closed}
 use Rattle.rows_model.proofs.Marks.{marks_below}
-use Rattle.rows_model.proofs.Words.{node_row, token_owes, token_length, first_at, first_end, length_triples, triples_at, triples_end, triples_append, triples_take, triples_drop, triples_set, length_first, words_between}
+use Rattle.rows_model.proofs.Words.{rows_summed, node_row, token_owes, token_length, first_at, first_end, length_triples, triples_at, triples_end, triples_append, triples_take, triples_drop, triples_set, length_first, words_between}
 use Rattle.rows_syntax_node.specs.Promises.{Counted, Measured, After, ChildAt, TreesIn, TreesBetween, height_by, Height, Part, Appended, Spliced, Moved, Shifted}
 
 -- ── One row ─────────────────────────────────────────────────────────────────────────────────────────────────
@@ -145,20 +145,18 @@ module _ {marks : List ℕ} {p q m : ℕ} {l : List ℕ} {i : ℕ} (v : Shifting
 
 -- ── A run ───────────────────────────────────────────────────────────────────────────────────────────────────
 
+-- the length of some rows' text as the library's sum
+bytes_summed : (rs : List Row) → sum_by text_length rs ≡ bytes rs
+bytes_summed [] = refl
+bytes_summed (r ∷ rs) = sum_by-cons text_length r rs ∙ ap (λ (n : ℕ). text_length r + n) (bytes_summed rs)
+
 module _ (text run : List ℕ) where
   -- how long the own text of row i is
   abbrev pub own_at : ℕ → ℕ
   own_at i = text_length (row_in text run i)
 
-  -- the library's sum from row i on is the length of the text of those rows
-  own_from : (i n : ℕ) → i + n ≡ length run / 3 → sum (map own_at (range_with_len i n)) ≡ bytes (drop i (triples text run))
-  own_from i zero e = sym (ap bytes (triples_end text i run (omega arith)))
-  own_from i (suc n) e =
-      let rest = own_from (i + 1) n (omega arith) in
-      sum_by-cons (λ x. x) (own_at i) (map own_at (range_with_len (i + 1) n)) ∙ (ap (λ (m : ℕ). own_at i + m) (rest ∙ ap (λ (j : ℕ). bytes (drop j (triples text run))) (add-one i)) ∙ sym (ap bytes (triples_at text i run (omega arith))))
-
   pub own_summed : sum (map own_at (range_with_len 0 (length run / 3))) ≡ bytes (triples text run)
-  own_summed = own_from 0 (length run / 3) (omega arith)
+  own_summed = rows_summed text text_length run 0 (length run / 3) (omega arith) ∙ bytes_summed (triples text run)
 
 -- trees begun, and elements owed of the last
 pub record Grouping (run : List ℕ) (trees o i : ℕ) : Type 0 where

@@ -24,11 +24,6 @@ changed_in k l = map changed_of (take k l)
 
 -- ── What a step records ─────────────────────────────────────────────────────────────────────────────────────
 
--- the rule number by which a step records what it puts in, if it records
-abbrev pub rule_by : prelude.Option ℕ → Option ℕ
-rule_by None = none
-rule_by (Some rule) = some rule
-
 -- it has twelve bits
 abbrev pub Ruled : prelude.Option ℕ → Type 0
 Ruled None = Unit {0}

@@ -11,7 +11,7 @@ use native.Mathlib.Omega.{arith}
 use lib.ListN.{length, get_or, take, drop}
 use lib.Dec.{eqb}
 use borrow.Author.Tests.{ne_eqb}
-use Rattle.orders.specs.Lists.{All}
+use Rattle.orders.specs.Lists.{All, meant}
 use Rattle.definition.specs.Refusals.{most_listed}
 use Rattle.definition.specs.Basics.{refused, or_refuse, ◌>>=◌}
 use Rattle.definition.specs.Elements.{Table, depth}
@@ -35,7 +35,7 @@ use Rattle.record_rewritten.specs.Stated.{change_by, new_of, change_of, plan_of}
 use Rattle.record_rewritten.specs.Exact.{exact_tells}
 use Rattle.plan_rewrite.specs.Kept.{Kept}
 use Rattle.run_annotations.specs.Notes.{notes_of}
-use Rattle.run_annotations.specs.Changed.{changed_in, rule_by, Ruled, count_by}
+use Rattle.run_annotations.specs.Changed.{changed_in, Ruled, count_by}
 use Rattle.run_tree_store.specs.Stored.{stored_first}
 use Rattle.run_tree_store.specs.Gaps.{gap_by, gap_by_lem, held, site_of}
 use Rattle.run_tree_store.specs.Promises.{SiteAt}
@@ -77,11 +77,11 @@ module _ {n : ℕ} {T : Table} {listed : List ℕ} {r : ChangeRow} (k : Kept n T
       go true = refl
       go false = rw (inner (eqb r.fate 1))
 
-  rule_row : rule_by (records_by r) ≡ recorded_by T (plan_of listed r)
+  rule_row : meant (records_by r) ≡ recorded_by T (plan_of listed r)
   unfolding records_by recorded_by plan_of
   rule_row = go (eqb r.fate 0 && eqb r.tree 0) ∙ ap (λ (b : Bool). cond b (some r.rule) none) flag_row
     where
-      go : (b : Bool) → rule_by (cond b (Some r.rule) None) ≡ cond b (some r.rule) none
+      go : (b : Bool) → meant (cond b (Some r.rule) None) ≡ cond b (some r.rule) none
       go true = refl
       go false = refl
 
@@ -148,8 +148,8 @@ step_gone : (T : Table) (first s : Store) (p : Planned) → gap T s p.change ≡
 unfolding store_step or_refuse ◌>>=◌
 step_gone T first s p e = rw e
 
-step_found : (T : Table) (first s : Store) (p : Planned) (g : model.Gap) (above : ℕ) (recorded : prelude.Option ℕ) (l : List ℕ) → gap T s p.change ≡ some g → above ≡ depth_above T s p.change → rule_by recorded ≡ recorded_by T p → news p.change ≡ l
-    → store_step T first s p ≡ judged_store above (map (part_of first s) l) (spliced_store g (map (part_of first s) l) (rule_by recorded) s)
+step_found : (T : Table) (first s : Store) (p : Planned) (g : model.Gap) (above : ℕ) (recorded : prelude.Option ℕ) (l : List ℕ) → gap T s p.change ≡ some g → above ≡ depth_above T s p.change → meant recorded ≡ recorded_by T p → news p.change ≡ l
+    → store_step T first s p ≡ judged_store above (map (part_of first s) l) (spliced_store g (map (part_of first s) l) (meant recorded) s)
 unfolding store_step or_refuse judged_store ◌>>=◌
 step_found T first s p g above recorded l e a r n = rw (e, a, r, n)
 
@@ -203,8 +203,8 @@ module _ {lines source first : List ℕ} {s : TreeState} {rows marks notes chang
       many : R.count ≡ length (news (change_of L R))
       many = u.kept.stated.counted
 
-      recorded_is : rule_by recorded ≡ recorded_by T (plan_of L R)
-      recorded_is = ap rule_by er ∙ rule_row u.kept
+      recorded_is : meant recorded ≡ recorded_by T (plan_of L R)
+      recorded_is = ap meant er ∙ rule_row u.kept
 
       counted_is : (n : ℕ) → count_by recorded n ≡ cond (records T (plan_of L R)) n 0
       counted_is n = ap (λ (i : prelude.Option ℕ). count_by i n) er ∙ count_row u.kept n

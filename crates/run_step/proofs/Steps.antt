@@ -8,7 +8,7 @@ use Prim.Native.Nat.{ℕ, ◌+◌, ◌*◌, ◌^◌, ◌≤◌, ◌<◌}
 use native.Mathlib.Omega.{arith}
 use lib.ListN.{length, take}
 use lib.Seq.{length-take-le}
-use Rattle.orders.specs.Lists.{All}
+use Rattle.orders.specs.Lists.{All, meant}
 use Rattle.definition.specs.Refusals.{most_listed}
 use Rattle.definition.specs.Basics.{◌>>=◌, refuse}
 use Rattle.definition.specs.Words.{words}
@@ -19,7 +19,7 @@ use Rattle.refusals.specs.declared.Refusal.TheVariants.{Large}
 use Rattle.rows_model.specs.Row.{first_rows}
 use Rattle.rows_model.proofs.Words.{length_first}
 use Rattle.run_model.specs.Sums.{Within}
-use Rattle.run_annotations.specs.Changed.{changed_in, rule_by, count_by}
+use Rattle.run_annotations.specs.Changed.{changed_in, count_by}
 use Rattle.run_annotations.specs.Places.{part_rows}
 use Rattle.run_tree_store.specs.Stored.{stored}
 use Rattle.run_tree_store.specs.declared.Gap.{Gap}
@@ -93,7 +93,7 @@ module _ {s : TreeState} {rows marks notes changed : List ℕ} {g : Gap} {record
           let q = subst (ElementsPrepared rows s.rows source marks first (notes_of s.notes notes) (words count rest) g.from prepared sizes incoming) e u in
           let z = length_first text s.rows rows v.long in
           let inside : Within (length (first_rows text s.rows rows)) (gap_told g) = record { below = v.below; order = v.order; high = omega (arith, v.high) } in
-          rw (prepared_refused q text [] (changed_in s.changed changed) above (gap_told g) (rule_by recorded) refl inside);
+          rw (prepared_refused q text [] (changed_in s.changed changed) above (gap_told g) (meant recorded) refl inside);
       grown = λ t q. let z : ◌≡◌ {A = ℕ} 0 1 = cc in absurd (omega arith);
     }
 

@@ -12,7 +12,7 @@ use Rattle.run_model.specs.Store.{Part, part_of, spliced_store, store_step}
 use Rattle.read_element_table.specs.View.{view}
 use Rattle.record_rewritten.specs.Stated.{change_of, plan_of}
 use Rattle.plan_rewrite.specs.Kept.{Kept}
-use Rattle.run_annotations.specs.Changed.{rule_by, count_by}
+use Rattle.run_annotations.specs.Changed.{count_by}
 use Rattle.run_tree_store.specs.Stored.{stored_first}
 use Rattle.record_changes.specs.ChangeRow.{ChangeRow}
 use Rattle.run_tree_store.specs.declared.Gap.{Gap}
@@ -23,6 +23,7 @@ use Rattle.run_tree_state.specs.declared.TreeState.{TreeState}
 use Rattle.run_tree_store.specs.Promises.{SiteAt}
 use Rattle.run_change.specs.Told.{AboveBy, records_by}
 use Rattle.run_prepare.specs.Parts.{notes_in}
+use Rattle.orders.specs.Lists.{meant}
 
 -- where the change of a row goes, how deep, and by which rule it records; or none
 pub record SiteFound (rows : List ℕ) (n : ℕ) (lines marks : List ℕ) (c : ChangeRow) (r : prelude.Option Site) : Type 0 where
@@ -46,7 +47,7 @@ yields_in s rows marks notes changed source first text l = map (part_of (stored_
 pub record SteppedAt (s : TreeState) (rows marks notes changed source first : List ℕ) (g : Gap) (above : ℕ) (recorded : prelude.Option ℕ) (l rows' marks' notes' changed' : List ℕ) (r : Result TreeState Refusal) : Type 0 where
   pub answer : (text : List ℕ)
       → executed_in text rows' marks' notes' changed' r
-      ≡ judged_store above (yields_in s rows marks notes changed source first text l) (spliced_store (gap_told g) (yields_in s rows marks notes changed source first text l) (rule_by recorded) (held_in text s rows marks notes changed))
+      ≡ judged_store above (yields_in s rows marks notes changed source first text l) (spliced_store (gap_told g) (yields_in s rows marks notes changed source first text l) (meant recorded) (held_in text s rows marks notes changed))
   pub grown : (t : TreeState) → r ≡ Ok t → Grown s (count_by recorded (length l)) rows' t
 
 -- ── One performed change ────────────────────────────────────────────────────────────────────────────────────

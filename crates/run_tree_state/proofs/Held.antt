@@ -8,13 +8,13 @@ use mathlib.Core.Option.{none, some}
 use Prim.Native.Nat.{ℕ, ◌+◌, ◌-◌, ◌*◌, ◌%◌, ◌/◌, ◌^◌, ◌≤◌, ◌<◌}
 use native.Mathlib.Omega.{arith}
 use lib.ListN.{length, get_or, length-map}
-use Rattle.orders.specs.Lists.{All, pick}
+use Rattle.orders.specs.Lists.{All, pick, meant}
 use Rattle.rows_model.proofs.Words.{length_triples}
 use Rattle.run_model.specs.Store.{HeldChanged, put_in, Part, new_rows, placed_parts, spliced_store}
 use Rattle.run_model.proofs.Spliced.{store_same}
 use Rattle.run_annotations.specs.Notes.{notes_of}
 use Rattle.run_annotations.specs.Places.{part_rows, part_rows_lem}
-use Rattle.run_annotations.specs.Changed.{rule_by, put_by}
+use Rattle.run_annotations.specs.Changed.{put_by}
 use Rattle.run_annotations.specs.Promises.{moved_note}
 use Rattle.run_tree_store.specs.Stored.{stored}
 use Rattle.run_tree_store.specs.declared.Gap.{Gap}
@@ -43,7 +43,7 @@ module _ {s : TreeState} {rows marks notes changed : List ℕ} {g : Gap} {record
   asks_rows h = ((v.long, omega (arith, v.few), v.below, v.order, v.high, v.marked), (w.whole, omega (arith, w.short), h.0), (v.node, v.lost, v.gained))
 
 -- what is recorded, by the parts
-put_parts : (recorded : prelude.Option ℕ) (at : ℕ) (new : List Part) → put_by recorded (part_rows at (map (λ y. length y.rows) new)) ≡ elim (rule_by recorded) as (λ _. List HeldChanged) [ none ↦ [] | some rule ↦ map (λ y. put_in rule y.0) (placed_parts at new) ]
+put_parts : (recorded : prelude.Option ℕ) (at : ℕ) (new : List Part) → put_by recorded (part_rows at (map (λ y. length y.rows) new)) ≡ elim (meant recorded) as (λ _. List HeldChanged) [ none ↦ [] | some rule ↦ map (λ y. put_in rule y.0) (placed_parts at new) ]
 put_parts None at new = refl
 put_parts (Some rule) at new = ap (map (put_in rule)) (sym (part_rows_lem at new)) ∙ map-map (placed_parts at new)
   where

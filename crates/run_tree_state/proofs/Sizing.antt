@@ -10,7 +10,7 @@ use native.Mathlib.Omega.{arith}
 use lib.ListN.{length, take, drop, length-append}
 use lib.Dec.{ltb}
 use borrow.Author.Tests.{lt-ltb, ltb-true, ltb-false}
-use Rattle.orders.specs.Lists.{pick}
+use Rattle.orders.specs.Lists.{pick, meant}
 use Rattle.orders.specs.ListLaws.{either_false}
 use Rattle.definition.specs.Basics.{gives, ◌>>=◌, refuse}
 use Rattle.refusals.specs.Numbers.{number}
@@ -23,7 +23,6 @@ use Rattle.run_model.specs.Sums.{too_large_by}
 use Rattle.run_model.proofs.Sums.{splice_bytes, too_large_sums}
 use Rattle.rows_syntax_node.specs.Promises.{Bytes, height_by, Height}
 use Rattle.run_annotations.specs.Notes.{notes_of, length_notes_of, notes_part}
-use Rattle.run_annotations.specs.Changed.{rule_by}
 use Rattle.run_annotations.specs.Promises.{moved_note}
 use Rattle.run_tree_store.specs.Stored.{stored}
 use Rattle.run_tree_store.specs.declared.Gap.{Gap}
@@ -142,7 +141,7 @@ small_by n b k d h =
 module _ {s : TreeState} {rows marks notes changed : List ℕ} {g : Gap} {recorded : prelude.Option ℕ} {run sizes incoming : List ℕ} (m : Open s rows marks notes changed g recorded (length sizes)) (w : Coming run sizes incoming) where
   -- what is told before the step is told of what it makes
   large_same : (above : ℕ) (text : List ℕ) (new : List Part) → Comes text new g.from run sizes incoming
-      → store_too_large above new (spliced_store (gap_told g) new (rule_by recorded) (held_in text s rows marks notes changed)) ≡ large_then rows notes s g run incoming above text
+      → store_too_large above new (spliced_store (gap_told g) new (meant recorded) (held_in text s rows marks notes changed)) ≡ large_then rows notes s g run incoming above text
   unfolding large_then rows_then bytes_then notes_then spliced_store gap_told stored
   large_same above text new i =
       let z = length_first text s.rows rows m.long in
@@ -150,7 +149,7 @@ module _ {s : TreeState} {rows marks notes changed : List ℕ} {g : Gap} {record
       let kept : List HeldNote = pick (moved_note g.from g.to (length (new_rows new))) (notes_of s.notes notes) in
       let come : List HeldNote = flat_map (λ y. map (λ n. with_row n (y.0 + n.row)) y.1.notes) (placed_parts g.from new) in
       let n : length (kept ++ come) ≡ length kept + length incoming / 3 = length-append kept come ∙ ap (λ (x : ℕ). length kept + x) (ap length (sym i.noted) ∙ length_notes_of (length incoming / 3) incoming) in
-      too_large_sums above (gap_told g) new (rule_by recorded) (held_in text s rows marks notes changed) m.order (omega (arith, m.high))
+      too_large_sums above (gap_told g) new (meant recorded) (held_in text s rows marks notes changed) m.order (omega (arith, m.high))
       ∙ by_same
       (ap (λ (x : ℕ). x - (g.to - g.from) + length (new_rows new)) z ∙ ap (λ (x : ℕ). s.rows - (g.to - g.from) + x) (sym k))
       (ap (λ (l : List Row). bytes (first_rows text s.rows rows) + bytes l - bytes (between g.from g.to (first_rows text s.rows rows))) (sym i.told))

@@ -3,13 +3,13 @@
 use Rattle.std.specs.Prelude as prelude
 use Rattle.std.specs.Prelude.{◌≡◌, ℕ, ◌+◌, ◌-◌, ◌*◌, ◌/◌, ◌^◌, ◌≤◌, ◌<◌, length, get_or}
 use mathlib.Core.List.{List, map, flat_map}
-use Rattle.orders.specs.Lists.{All}
+use Rattle.orders.specs.Lists.{All, meant}
 use Rattle.rows_model.specs.Row.{triples, first_rows, bytes}
 use Rattle.rows_model.specs.Place.{splice_rows}
 use Rattle.run_model.specs.Store as model
 use Rattle.run_model.specs.Store.{Store, with_row, Part, new_rows, placed_parts, spliced_store}
 use Rattle.run_annotations.specs.Notes.{notes_of, notes_in}
-use Rattle.run_annotations.specs.Changed.{changed_in, rule_by, Ruled, count_by}
+use Rattle.run_annotations.specs.Changed.{changed_in, Ruled, count_by}
 use Rattle.run_tree_store.specs.Stored.{stored}
 use Rattle.run_tree_store.specs.declared.Gap.{Gap}
 use Rattle.run_tree_state.specs.declared.TreeState.{TreeState}
@@ -50,7 +50,7 @@ pub record Open (s : TreeState) (rows marks notes changed : List ℕ) (g : Gap) 
 
 -- the rows of the gap have given way to what comes in
 pub record StoreSpliced (s : TreeState) (rows marks notes changed : List ℕ) (g : Gap) (recorded : prelude.Option ℕ) (run sizes incoming : List ℕ) (bytes : ℕ) (rows' marks' notes' changed' : List ℕ) (r : TreeState) : Type 0 where
-  pub store : (text : List ℕ) (new : List Part) → Comes text new g.from run sizes incoming → held_in text r rows' marks' notes' changed' ≡ spliced_store (gap_told g) new (rule_by recorded) (held_in text s rows marks notes changed)
+  pub store : (text : List ℕ) (new : List Part) → Comes text new g.from run sizes incoming → held_in text r rows' marks' notes' changed' ≡ spliced_store (gap_told g) new (meant recorded) (held_in text s rows marks notes changed)
   pub told : (text : List ℕ) → first_rows text r.rows rows' ≡ splice_rows (first_rows text s.rows rows) g.parent g.from g.to g.lost (triples text run) (length sizes)
   pub measured : r.bytes ≡ bytes
   pub place : r.root ≡ s.root

@@ -38,10 +38,6 @@ use Rattle.series_leave.specs.Leaving.{lent_of, Leaving}
 use Rattle.series_follow.specs.Performing.{ended_run, Ran, reached_on, afterwards, EndsOn}
 use Rattle.series_answer.specs.Telling.{TellsOn, tells_refused, tells_gives}
 
--- what is behind a place, as a part is told
-pub rest_told : (k : ℕ) (b : List ℕ) → take (length b - k) (drop k b) ≡ drop k b
-rest_told k b = take_all (length b - k) (drop k b) (omega (arith, length-drop k b))
-
 -- an answer's bytes over the front of a buffer, and beyond them what it held
 left_over : (held : List ℕ) (a : Answer (List ℕ)) → over_front held a ≡ promises.left_in held a
 unfolding over_front promises.left_in

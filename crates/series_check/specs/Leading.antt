@@ -4,7 +4,7 @@ use Rattle.std.proofs.Math.Path.{◌≡◌, refl, sym, ap}
 use Rattle.std.proofs.Common.{◌∙◌}
 use Rattle.std.specs.List.{list_all, range_with_len}
 use Rattle.std.specs.Prelude.{Bool, ◌||◌, ◌&&◌, zero, suc, Option as Answer, None, is_some as found, List, ℕ, ◌+◌, ◌-◌, ◌*◌, ◌^◌, ◌≤◌, ◌<◌, get_or, drop}
-use Rattle.std.proofs.Math.Bool.{true, false, not}
+use Rattle.std.proofs.Math.Bool.{true, false, not, not-not}
 use Rattle.std.proofs.Math.Option.{Option, none, some}
 use native.Mathlib.Omega.{arith}
 use Rattle.std.proofs.Math.ListN.{take}
@@ -49,13 +49,9 @@ module _ (rows b : List ℕ) (i : ℕ) {at n : ℕ} (ea : at ≡ 1 + 65 * i) (en
         let z : take (get_or (slot_at b i) 1 0) (drop 2 (slot_at b i)) ≡ path = ap (λ (k : ℕ). take k (drop 2 (slot_at b i))) long ∙ (slot_path b i n (at + 2) h (omega arith) ∙ sym (p ∙ ap (λ (k : ℕ). take k (drop (at + 2) b)) same)) in
         rw (z, long, le-ltb longest_path n h)
 
-    twice : (b : Bool) → not (not b) ≡ b
-    twice true = refl
-    twice false = refl
-
     -- the answer is what resolving tells
     pub leads_resolved : {r : Answer Resolved} (c : Bool) → Resolves rows path r → ((o : Option (Tree ℕ)) (t : Tree ℕ) → r ≡ standing path t o → c ≡ is_some o) → Leads rows (slot_at b i) c
-    leads_resolved {r} c v f text t q = f (resolve path t) t (v.element text t q) ∙ sym (ap not (within t) ∙ twice (is_some (resolve path t)))
+    leads_resolved {r} c v f text t q = f (resolve path t) t (v.element text t q) ∙ sym (ap not (within t) ∙ not-not (is_some (resolve path t)))
 
     pub leads_found : {r : Answer Resolved} {c : Bool} → Resolves rows path r → c ≡ found r → Leads rows (slot_at b i) c
     unfolding standing is_some

@@ -39,12 +39,6 @@ module _ (b : List ℕ) (k : ℕ) where
 
 -- ── One slot ────────────────────────────────────────────────────────────────────────────────────────────────
 
-get_d_take : (n : ℕ) (l : List ℕ) (i : ℕ) → i < n → get_or (take n l) i 0 ≡ get_or l i 0
-get_d_take zero l i h = absurd (omega arith)
-get_d_take (suc n) [] i h = refl
-get_d_take (suc n) (x ∷ l) zero h = refl
-get_d_take (suc n) (x ∷ l) (suc i) h = get_d_take n l i (omega arith)
-
 take-take : (m n : ℕ) (l : List ℕ) → m ≤ n → take m (take n l) ≡ take m l
 take-take zero n l h = refl
 take-take (suc m) zero l h = absurd (omega arith)
@@ -64,7 +58,7 @@ module _ (b : List ℕ) (i : ℕ) where
   -- its number and the length of its path
   pub slot_word : (j at : ℕ) → j < slot_words → at ≡ 1 + slot_words * i + j → get_or (slot_at b i) j 0 ≡ get_or b at 0
   unfolding slot_at
-  slot_word j at h e = get_d_take slot_words (drop (1 + slot_words * i) b) j h ∙ (get_or-drop (1 + slot_words * i) b j 0 ∙ ap (λ (a : ℕ). get_or b a 0) (sym e))
+  slot_word j at h e = get_or-take slot_words (drop (1 + slot_words * i) b) j 0 h ∙ (get_or-drop (1 + slot_words * i) b j 0 ∙ ap (λ (a : ℕ). get_or b a 0) (sym e))
 
   -- its path
   pub slot_path : (n at : ℕ) → n ≤ longest_path → at ≡ 1 + slot_words * i + 2 → take n (drop 2 (slot_at b i)) ≡ take n (drop at b)

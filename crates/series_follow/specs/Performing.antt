@@ -10,7 +10,7 @@ use Rattle.definition.specs.Choices.{Choices, chosen}
 use Rattle.definition.specs.Refusals.{Accepted, accepted}
 use Rattle.definition.specs.Running.{World}
 use Rattle.definition.specs.Answers.{too_short, with_choices, Plan, plan, ran}
-use Rattle.definition_laws.specs.Answers.{gives_inj, refused_gives, given}
+use Rattle.definition_laws.specs.Answers.{gives_inj, refused_inj, refused_gives, given}
 use Rattle.refusals.specs.Numbers.{number}
 use Rattle.refusals.specs.declared.Refusal.{Refusal}
 use Rattle.promises.specs.Slices.{needed, lengths}
@@ -31,9 +31,6 @@ use Rattle.edit_perform.specs.AtEnd.{AtEnd, Told, Marked, Performs}
 use Rattle.edit_perform.specs.declared.Ended.{Ended}
 use Rattle.edit_perform.specs.Stops.{Unplanned, Refused, Overlap}
 use Rattle.series_follow.specs.Accepting.{same_as, accepted_on, held_in}
-
-refused_inj : {A : Type 0} {j k : ℕ} → ◌≡◌ {A = Answer A} (refused j) (refused k) → j ≡ k
-refused_inj e = cc
 
 -- ── The definition's way ────────────────────────────────────────────────────────────────────────────────────
 

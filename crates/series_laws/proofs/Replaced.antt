@@ -3,7 +3,7 @@
 use Rattle.std.specs.Prelude.{◌≡◌, Bool, cond, not, ◌&&◌, ◌||◌, ◌⊎◌, ℕ, suc, eqb}
 use Rattle.std.proofs.Math.Path.{refl, ap}
 use Rattle.std.proofs.Common.{sym, ◌∙◌, subst, arith, eqb-true}
-use Rattle.std.proofs.Math.Bool.{true, false}
+use Rattle.std.proofs.Math.Bool.{true, false, or-true}
 use mathlib.Core.List.{List, [], ◌∷◌, tail}
 use Rattle.std.proofs.Math.Logic.{inl, inr}
 use Rattle.std.proofs.Math.Option.{Option, none, some, map, bind}
@@ -83,13 +83,9 @@ module _ (ts : List (Tree ℕ)) (first : World) where
   unfolding any
   any_more m ms r = go (move_at T m) refl
     where
-      either : (b : Bool) → (b || true) ≡ true
-      either true = refl
-      either false = refl
-
       go : (o : Option (Run × ℕ)) → move_at T m ≡ o → any at_root (pick (move_at T) (m ∷ ms)) ≡ true
       go none e = ap (any at_root) (pick_none (move_at T) m ms e) ∙ r
-      go (some x) e = ap (any at_root) (pick_some (move_at T) m ms x e) ∙ (ap (λ (b : Bool). at_root x || b) r ∙ either (at_root x))
+      go (some x) e = ap (any at_root) (pick_some (move_at T) m ms x e) ∙ (ap (λ (b : Bool). at_root x || b) r ∙ or-true (at_root x))
 
   steps_root : (ps : List Planned) (w last : World) → All (λ p. Right T p.change) ps → steps T first w ps ≡ gives last → any (λ p. replaces_root T p.change) ps ≡ true → any at_root (pick (move_at T) (met T first w ps)) ≡ true
   unfolding steps any move_at bind in0 at_root

@@ -3,7 +3,7 @@
 use Rattle.std.specs.Prelude.{◌≡◌, Bool, not, ◌&&◌, List, [], ◌∷◌, ◌++◌, ℕ, suc, ◌+◌, ◌-◌, ◌*◌, ◌/◌, ◌^◌, ◌≤◌, ◌<◌, eqb, take, drop}
 use Rattle.std.proofs.Math.Path.{refl, sym}
 use Rattle.std.proofs.Common.{ap, ◌∙◌, drop-drop, append-nil, eqb-true}
-use Rattle.std.proofs.Math.Bool.{true, false}
+use Rattle.std.proofs.Math.Bool.{true, false, and-false}
 use native.Mathlib.Omega.{arith}
 use Rattle.std.proofs.Math.ListN.{length, length-drop}
 use Rattle.std.proofs.Math.Seq.{length-take-le}
@@ -30,11 +30,7 @@ unfolding same_bytes
 differ_length [] [] h = absurd (h refl)
 differ_length [] (y ∷ m) h = refl
 differ_length (x ∷ l) [] h = refl
-differ_length (x ∷ l) (y ∷ m) h = rw (differ_length l m (λ e. h (ap suc e))) (none (eqb x y))
-  where
-    none : (b : Bool) → (b && false) ≡ false
-    none true = refl
-    none false = refl
+differ_length (x ∷ l) (y ∷ m) h = rw (differ_length l m (λ e. h (ap suc e))) (and-false (eqb x y))
 
 same_equal : (l m : List ℕ) → same_bytes l m ≡ true → l ≡ m
 unfolding same_bytes

@@ -1,6 +1,7 @@
 -- The words that are judged are read by functions: the tree, the list and the answer of `splice_list`.
 -- Assumes nothing.
 use Rattle.std.specs.Prelude.{◌≡◌, Bool, true, false, not, ◌&&◌, ◌↔◌, ◌⊎◌, length, take, drop, leb, ltb, eqb}
+use Rattle.std.proofs.Math.Bool.{and-false}
 use Rattle.std.proofs.Math.Path.{refl}
 use Rattle.std.proofs.Common.{sym, ap, ◌∙◌, inl, inr, arith, zero-add, length-drop, take-append-drop, length-take-le, eqb-true, ltb-true, leb-true, lt-ltb, le-ltb}
 use mathlib.Core.List.{List, [], ◌∷◌, ◌++◌, append_assoc, append-nil}
@@ -22,7 +23,7 @@ use Rattle.rows_model.proofs.Words.{rows_many, token_row, node_row}
 use Rattle.splices_model.specs.Cuts.{Cut, cut_of, cut_at, cuts_to, part_at, paths, Stands, Told}
 use Rattle.splices_model.specs.Places.{paths_many, paths_stood, up_from_part}
 use Rattle.splices_model.specs.Bounds.{rows_to}
-use Rattle.splices_model.specs.Verdict.{owed, closed, tree_rows, tree_closed, bounded_at, has_run_at, fit_at, fits_to, apart_cut, limited, roomy, first_wrong, judged_by, none_wrong, fit_told, pairs_cut, and-false}
+use Rattle.splices_model.specs.Verdict.{owed, closed, tree_rows, tree_closed, bounded_at, has_run_at, fit_at, fits_to, apart_cut, limited, roomy, first_wrong, judged_by, none_wrong, fit_told, pairs_cut}
 use Rattle.splices_model.specs.SpliceList.{row_told, rows_told, grow, trees_of, old_tree, splice_at, splices_to, tells_at, suits_at, suits_to, rewritten, splice_list}
 
 -- ── Closed rows are those of the trees that are read ────────────────────────────────────────────────────────

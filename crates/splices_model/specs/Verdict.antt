@@ -1,6 +1,7 @@
 -- Whether a list of splices in words fits the old tree and is apart, told in rows; and the law that this is so just where `orders` says so.
 -- Assumes nothing.
 use Rattle.std.specs.List.{list_all, range_with_len}
+use Rattle.std.proofs.Math.Bool.{and-true, and-false}
 use Rattle.std.specs.Prelude.{◌≡◌, refl, Bool, true, false, cond, not, ◌&&◌, List, [], ◌∷◌, ◌++◌, map, ◌⊎◌, length, get_or, leb, ltb, eqb}
 use Rattle.std.proofs.Common.{sym, ◌∙◌, append_assoc, append-nil, inl, inr, arith, add-zero, add_comm, zero-add, suc-add, leb-true, ltb-true, eqb-true, lt-ltb, le-ltb, le-leb, eq-eqb}
 use Rattle.std.proofs.Math.Path.{ap}
@@ -213,14 +214,6 @@ and-swap : (x y z : Bool) → (x && (y && z)) ≡ (y && (x && z))
 and-swap true y z = refl
 and-swap false true z = refl
 and-swap false false z = refl
-
-and-true : (x : Bool) → (x && true) ≡ x
-and-true true = refl
-and-true false = refl
-
-pub and-false : (x : Bool) → (x && false) ≡ false
-and-false true = refl
-and-false false = refl
 
 all_from : (p : ℕ → Bool) (a n : ℕ) → list_all p (range_with_len a (suc n)) ≡ (p (a + n) && list_all p (range_with_len a n))
 all_from p a zero = rw (add-zero a)

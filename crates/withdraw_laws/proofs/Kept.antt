@@ -4,7 +4,7 @@ use Rattle.std.specs.Prelude.{◌≡◌, ◌↔◌, ◌⊎◌, ◌&&◌, ◌||�
 use Rattle.std.proofs.Math.Path.{refl, ap}
 use Rattle.std.proofs.Common.{sym, ◌∙◌}
 use Rattle.std.proofs.Math.Logic.{inl, inr}
-use Rattle.std.proofs.Math.Bool.{Bool, true, false, cond}
+use Rattle.std.proofs.Math.Bool.{Bool, true, false, cond, or-true}
 use mathlib.Core.List.Memᴰ
 use mathlib.Core.List.Permᴰ
 use mathlib.Core.List.{List, [], ◌∷◌, ◌++◌, Memᴰ}
@@ -268,10 +268,6 @@ module _ (T : Table) where
           let (r, a) = lt_get T e h in
           mem_any (λ e. removes T c e.0 && removes T d e.0) (numbered 0 T) (e, r) (get_mem (numbered 0 T) e (e, r) (get_numbered 0 e T e r (omega arith) a)) (rw (p, q))
 
-  or_true : (b : Bool) → (b || true) ≡ true
-  or_true true = refl
-  or_true false = refl
-
   overlapping_is : (c d : Change) → (overlapping T c d ≡ true) ↔ Overlapping T c d
   unfolding overlapping crosses
   overlapping_is c d = (λ q. there (either_true (ltb (from T c) (to T d) && ltb (from T d) (to T c)) (shares T c d) q), back)
@@ -282,7 +278,7 @@ module _ (T : Table) where
 
       back : Overlapping T c d → ((ltb (from T c) (to T d) && ltb (from T d) (to T c)) || shares T c d) ≡ true
       back (inl (a, b)) = rw (lt-ltb (from T c) (to T d) a, lt-ltb (from T d) (to T c) b)
-      back (inr s) = rw ((shares_element c d).1 s) (or_true (ltb (from T c) (to T d) && ltb (from T d) (to T c)))
+      back (inr s) = rw ((shares_element c d).1 s) (or-true (ltb (from T c) (to T d) && ltb (from T d) (to T c)))
 
   pub gives_way_lem : (c d : Recorded) → (gives_way T c d ≡ true) ↔ GivesWay T c d
   unfolding gives_way peers

@@ -1,6 +1,6 @@
 -- Words that stand in some bytes, as one value.
 -- Assumes nothing.
-use Rattle.std.specs.Prelude.{◌≡◌, ℕ, ◌+◌, ◌*◌, ◌≤◌, ◌<◌, get_or, drop}
+use Rattle.std.specs.Prelude.{◌≡◌, ℕ, ◌+◌, ◌*◌, ◌≤◌, ◌<◌, length, get_or, drop}
 use mathlib.Core.List.{List}
 use Rattle.std.proofs.Common.{sym, ap, ◌∙◌, arith, drop-drop}
 use Rattle.std.proofs.Math.ListN.{get_or-eq_default}
@@ -11,6 +11,10 @@ use Rattle.words.specs.declared.list.WordList.{WordList}
 -- the words themselves
 abbrev pub words_of : WordList → List ℕ
 words_of l = words l.count (drop l.at l.bytes.now)
+
+-- there are as many as it counts
+pub length_of : (l : WordList) → length (words_of l) ≡ l.count
+length_of l = length_words l.count _
 
 module _ (b : List ℕ) (at n i : ℕ) where
   -- a word of them stands at its place in the bytes

@@ -14,20 +14,19 @@ pub use list::WordList;
 // The least kind of a node; those below are tokens'.
 pub const NODE_KIND: usize = 0x8000_0000;
 
-// The byte at `i`.
-pub fn byte(b: &[u8], i: usize) -> usize
-    requires { i < length b.now }
-    ensures { (result ≡ get_or b.now i 0) × (result < 2 ^ 8) }
-{
-    usize::from(b[i])
-}
-
-// The word at `i`. Beside `byte`, since a trait of both widths would be longer than the two.
+// The word at `i`.
 pub fn word(s: &[u32], i: usize) -> usize
     requires { i < length s.now }
     ensures { (result ≡ get_or s.now i 0) × (result < 2 ^ 32) }
 {
     s[i] as usize
+}
+
+// Word `i` of a slice, 0 past the end: a number, as it is what a list of the definition has there.
+pub fn word_or_zero(s: &[u32], i: usize) -> usize
+    ensures { (result ≡ get_or s.now i 0) × (result < 2 ^ 32) }
+{
+    s.get(i).map_or(0, |w| *w as usize)
 }
 
 // The word that stands at `at` in some bytes.
@@ -46,7 +45,7 @@ pub fn write_word(b: &mut [u8], at: usize, w: usize)
     copy_in(b, at, &w.to_le_bytes()[..4]);
 }
 
-// The `n` words that stand in `b` from `at` on are written at `to`.
+// The `n` words that stand in `b` from `at` on are written at `to`. By the place: `chunks_exact` and `zip` would need the law of both, and say no more.
 pub fn read_words(b: &[u8], at: usize, n: usize, s: &mut [u32], to: usize)
     requires { (at + 4 * n ≤ length b.now) × (to + n ≤ length s.old) }
     ensures { s.new ≡ paste s.old to (words n (drop at b.now)) n }

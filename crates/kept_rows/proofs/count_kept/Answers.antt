@@ -5,8 +5,8 @@ use Rattle.std.proofs.Common.{rules, tests}
 use Rattle.std.proofs.lemmas.Iterator.{YieldsList-from_slice}
 use Rattle.std.proofs.lemmas.Iterator.Consumers.{YieldsList-from_filter, count_from_yields_List}
 use Rattle.rows_model.specs.Place.{in_run}
-use Rattle.finish_model.specs.Numbered.{told, told_there}
-use Rattle.kept_rows.proofs.Ways.{kept_counted, test_told}
+use Rattle.finish_model.specs.Numbered.{told, told_there, test_told}
+use Rattle.kept_rows.proofs.Ways.{kept_counted}
 use Rattle.kept_rows.proofs.count_kept.Goals as goal
 
 pub returns : goal.returns

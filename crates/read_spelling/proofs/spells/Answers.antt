@@ -26,10 +26,9 @@ bounds-left-d c =
 pub loop-d-preserved : goal.loop-d-preserved
 loop-d-preserved c =
     let l = c.loop-d in
-    let k = c.read_word-k in
-    let m = c.read_word-m in
+    let e = c.get-k in
     let s = c.stands in
-    reading_open l.invariant (omega arith) c.if-x-eq0.false (omega arith) k.ensures.0 m.ensures.0 s.ensures c.if-not-stands.false c.children_of.ensures c.length_of-sum.ensures.0 c.length_of-sum.ensures.1 m.ensures.1
+    reading_open l.invariant (omega arith) c.if-x-eq0.false (omega arith) e.ensures.kind.0 e.ensures.measure.0 s.ensures c.if-not-stands.false c.children_of.ensures c.length_of-sum.ensures.0 c.length_of-sum.ensures.1 e.ensures.measure.1
 
 pub returns-then-i-columns : goal.returns-then-i-columns
 returns-then-i-columns c = search (reading_long, rules)
