@@ -156,7 +156,7 @@ module _ (text run : List ℕ) where
   own_at i = text_length (row_in text run i)
 
   pub own_summed : sum (map own_at (range_with_len 0 (length run / 3))) ≡ bytes (triples text run)
-  own_summed = rows_summed text text_length run 0 (length run / 3) (omega arith) ∙ bytes_summed (triples text run)
+  own_summed = rows_summed text text_length run 0 (length run / 3) (zero-add (length run / 3)) ∙ bytes_summed (triples text run)
 
 -- trees begun, and elements owed of the last
 pub record Grouping (run : List ℕ) (trees o i : ℕ) : Type 0 where
