@@ -1,5 +1,5 @@
 // Rows of three words in preorder: the kind word, the measure, and where a token's text starts in the text of all.
-// Bounds of one number, the order of two numbers and room in a lent slice stand as clauses: a value around each would be no plainer than its bound.
+// Bounds of one number, the order of two numbers, an index of what is read and room in a lent slice stand as clauses: a value around each would be no plainer than its bound.
 // A run of rows is a part of the rows, as document 01 has it: that it is of whole rows stands in clauses.
 #![tactic(auto)]
 
@@ -78,10 +78,7 @@ pub fn subtree<'a>(rows: &Rows<'a>, at: usize) -> &'a [u32]
     requires { at ≤ rows.now.count }
     ensures { Part rows.now.words.now rows.now.count at result.now }
 {
-    let end = rows_after(rows, at, 1);
-    let from = ROW_WORDS * at;
-    let to = ROW_WORDS * end;
-    &rows.words[from..to]
+    rows.between(at, rows_after(rows, at, 1))
 }
 
 // ── A run of rows, as a slice of its own ──
@@ -107,9 +104,7 @@ pub fn children_between(rows: &Rows, p: usize, q: usize) -> usize
     requires { (p ≤ q) × (q ≤ rows.now.count) }
     ensures { TreesBetween rows.now.words.now rows.now.count p q result }
 {
-    let from = ROW_WORDS * p;
-    let to = ROW_WORDS * q;
-    trees_in(&rows.words[from..to])
+    trees_in(rows.between(p, q))
 }
 
 // The length of the text of a run.
@@ -152,7 +147,7 @@ pub fn height(run: &[u32]) -> Option<usize>
     Some(most)
 }
 
-// ── Rows written ──
+// ── Rows written: with their count, since the lent slice has room for more (fixed memory) ──
 
 // A run written behind the first `n` rows. The new number of rows.
 pub fn append_rows(rows: &mut [u32], n: usize, run: &[u32]) -> usize
@@ -197,7 +192,7 @@ pub fn number_from(marks: &mut [u32], first: usize)
     }
 }
 
-// What becomes of a mark where the rows `p` up to `q` give way to `m` others.
+// What becomes of a mark where the rows `p` up to `q` give way to `m` others. A mark is a word, 0 for an element that is gone: it is stored so.
 fn moved_word(x: u32, p: u32, q: u32, m: u32) -> u32
     requires { (p ≤ q) × (q < 2 ^ 16) × (m < 2 ^ 16) × (x < 2 ^ 16) }
     ensures { Moved p q m x result }

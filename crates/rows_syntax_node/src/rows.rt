@@ -1,12 +1,24 @@
 // Rows to be read, as one value.
 
-ghost use Rattle.std.specs.Prelude.{◌*◌, ◌^◌, ◌≤◌, ◌<◌, length};
+ghost use Rattle.std.specs.Prelude.{◌≡◌, ◌-◌, ◌*◌, ◌^◌, ◌≤◌, ◌<◌, length, take, drop};
 
-// The first `count` rows of `words`.
+use crate::ROW_WORDS;
+
+// The first `count` rows of `words`, which may be longer: rows are read where they are written, in a lent slice that has room for more (fixed memory).
 #[derive(Clone, Copy)]
 pub struct Rows<'a> {
     pub count: usize,
     pub words: &'a [u32],
     pub ghost long: { 3 * count ≤ length words.now },
     pub ghost few: { count < 2 ^ 16 },
+}
+
+impl<'a> Rows<'a> {
+    // The rows `p` up to `q`.
+    pub fn between(&self, p: usize, q: usize) -> &'a [u32]
+        requires { (p ≤ q) × (q ≤ self.now.count) }
+        ensures { result.now ≡ take (3 * q - 3 * p) (drop (3 * p) self.now.words.now) }
+    {
+        &self.words[ROW_WORDS * p..ROW_WORDS * q]
+    }
 }
