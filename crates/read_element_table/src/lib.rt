@@ -1,5 +1,5 @@
 // The element table: see specs/View.antt for what its words tell.
-// An index of what is read stands as a clause: a value around each would be no plainer than its bound.
+// Bounds of one number, an index of what is read and room in a lent slice stand as clauses: a value around each would be no plainer than its bound.
 #![tactic(auto)]
 
 ghost use Rattle.std.specs.Prelude.{◌≡◌, cond, suc, ◌+◌, ◌*◌, ◌^◌, ◌≤◌, ◌<◌, eqb, length, get_or};
@@ -13,7 +13,7 @@ mod elements;
 
 pub use elements::Elements;
 use read_spelling::Columns;
-use rows_syntax_node::{KIND, MEASURE, ROW_WORDS};
+use rows_syntax_node::{KIND, ROW_WORDS};
 use words::NODE_KIND;
 
 // How many words an element has, and which they are (specs/View.antt).
@@ -86,12 +86,10 @@ fn close(table: &mut [u32], owner: usize, end: usize, after: usize)
     requires { (8 * owner ≤ length table.old) × (end < 2 ^ 32) × (after < 2 ^ 32) }
     ensures { table.new ≡ ended owner end after table.old }
 {
-    if owner == 0 {
-        return;
+    if let Some(e) = owner.checked_sub(1) {
+        table[WORDS * e + TEXT_END] = end as u32;
+        table[WORDS * e + AFTER] = after as u32;
     }
-    let at = WORDS * (owner - 1);
-    table[at + TEXT_END] = end as u32;
-    table[at + AFTER] = after as u32;
 }
 
 // The words of all elements in the table, and their rows behind the first row of the source. Each turn closes the innermost open element, if all its
@@ -116,8 +114,7 @@ fn fill_elements(columns: &Columns, trees: usize, table: &mut [u32], source: &mu
             close(table, x.owner, at, i);
             d = top;
         } else {
-            let k = words::read_word(columns.bytes, columns.kinds + 4 * i);
-            let m = words::read_word(columns.bytes, columns.measures + 4 * i);
+            let (k, m) = columns.get(i);
             let s = if_root(d, 0, at);
             let t = if_root(d, x.next, tree);
             words::store(table, WORDS * i, &[o, x.owner, x.next, d, s, s, i, t]);
@@ -181,14 +178,10 @@ pub fn is_root(table: &[u32], e: usize) -> bool
     entry(table, e, PARENT) == 0
 }
 
-// How many children element `e` has.
-#[tactic(auto, using(crate::proofs::Reading::count_of_node, crate::proofs::Reading::count_of_token))]
+// How many children element `e` has: its row stands behind the one of the node above all trees.
 pub fn child_count(source: &[u32], e: usize) -> usize
     requires { 3 * e + 6 ≤ length source.now }
     ensures { result ≡ child_count source.now e }
 {
-    if is_node(source, e) {
-        return row_word(source, e, MEASURE);
-    }
-    0
+    rows_syntax_node::child_count(source, e + 1)
 }

@@ -4,11 +4,11 @@ use lib.ListN.{length-set}
 use Rattle.read_element_table.specs.FillingLaws.{ended_none, ended_some}
 use Rattle.read_element_table.proofs.close.Goals as goal
 
-pub returns-then-owner-eq0 : goal.returns-then-owner-eq0
-returns-then-owner-eq0 c = ended_none _ _ _ _ c.if-owner-eq0.true
+pub bounds-table-e-in-Some : goal.bounds-table-e-in-Some
+bounds-table-e-in-Some c = simp length-set (omega arith)
 
-pub bounds-table-at-2 : goal.bounds-table-at-2
-bounds-table-at-2 c = simp length-set (omega arith)
+pub returns-in-Some : goal.returns-in-Some
+returns-in-Some c = let h = c.in-Some.ensures in rw h.1 (ended_some _ _ _ _ (λ z. omega arith))
 
-pub returns : goal.returns
-returns c = ended_some _ _ _ _ c.if-owner-eq0.false
+pub returns-in_default : goal.returns-in_default
+returns-in_default c = ended_none _ _ _ _ (omega (arith, c.in_default.ensures))

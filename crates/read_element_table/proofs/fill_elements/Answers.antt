@@ -13,20 +13,17 @@ loop-d-preserved-then-x-eq0 c =
     let s = c.close in
     writing_close l.invariant c.loop-d-test.true c.if-x-eq0.true s.auto.table s.ensures
 
-pub read_word-k-requires : goal.read_word-k-requires
-read_word-k-requires c = let more : c.loop-d.i < c.args.columns.now.count = writing_more c.loop-d.invariant c.loop-d-test.true c.if-x-eq0.false in omega (arith, more)
-
-pub read_word-m-requires : goal.read_word-m-requires
-read_word-m-requires c = let more : c.loop-d.i < c.args.columns.now.count = writing_more c.loop-d.invariant c.loop-d-test.true c.if-x-eq0.false in omega (arith, more)
+pub get-k-requires : goal.get-k-requires
+get-k-requires c = let more : c.loop-d.i < c.args.columns.now.count = writing_more c.loop-d.invariant c.loop-d-test.true c.if-x-eq0.false in omega (arith, more)
 
 pub store-requires : goal.store-requires
-store-requires c = let more : c.loop-d.i < c.args.columns.now.count = writing_more c.loop-d.invariant c.loop-d-test.true c.if-x-eq0.false in let low : c.loop-d.d ≤ 64 = writing_shallow c.loop-d.invariant c.loop-d-test.true c.if-x-eq0.false c.read_word-k.ensures.0 c.read_word-m.ensures.0 in let l = c.loop-d in
+store-requires c = let more : c.loop-d.i < c.args.columns.now.count = writing_more c.loop-d.invariant c.loop-d-test.true c.if-x-eq0.false in let low : c.loop-d.d ≤ 64 = writing_shallow c.loop-d.invariant c.loop-d-test.true c.if-x-eq0.false c.get-k.ensures.kind.0 c.get-k.ensures.measure.0 in let l = c.loop-d in
     let v = l.invariant in
     omega (arith, more, low, v.owners (l.d - 1), v.nexts (l.d - 1), writing_start_of v c.if_root-s.ensures, writing_tree_of v c.if_root-t.ensures)
 
 pub store-requires-else-x-eq0 : goal.store-requires-else-x-eq0
 store-requires-else-x-eq0 c = let more : c.loop-d.i < c.args.columns.now.count = writing_more c.loop-d.invariant c.loop-d-test.true c.if-x-eq0.false in let l = c.loop-d in
-    omega (arith, more, l.invariant.few, l.invariant.source_long, c.read_word-k.ensures.1, c.read_word-m.ensures.1)
+    omega (arith, more, l.invariant.few, l.invariant.source_long, c.get-k.ensures.kind.1, c.get-k.ensures.measure.1)
 
 pub passed-requires : goal.passed-requires
 passed-requires c = let more : c.loop-d.i < c.args.columns.now.count = writing_more c.loop-d.invariant c.loop-d-test.true c.if-x-eq0.false in let l = c.loop-d in
@@ -34,7 +31,7 @@ passed-requires c = let more : c.loop-d.i < c.args.columns.now.count = writing_m
     (omega arith, omega (arith, more, v.nexts (l.d - 1)))
 
 pub bounds-stack-d : goal.bounds-stack-d
-bounds-stack-d c = let low : c.loop-d.d ≤ 64 = writing_shallow c.loop-d.invariant c.loop-d-test.true c.if-x-eq0.false c.read_word-k.ensures.0 c.read_word-m.ensures.0 in omega (arith, low)
+bounds-stack-d c = let low : c.loop-d.d ≤ 64 = writing_shallow c.loop-d.invariant c.loop-d-test.true c.if-x-eq0.false c.get-k.ensures.kind.0 c.get-k.ensures.measure.0 in omega (arith, low)
 
 pub loop-d-smaller : goal.loop-d-smaller
 loop-d-smaller c = let more : c.loop-d.i < c.args.columns.now.count = writing_more c.loop-d.invariant c.loop-d-test.true c.if-x-eq0.false in omega (arith, more)
@@ -42,12 +39,11 @@ loop-d-smaller c = let more : c.loop-d.i < c.args.columns.now.count = writing_mo
 pub loop-d-preserved : goal.loop-d-preserved
 loop-d-preserved c =
     let l = c.loop-d in
-    let k = c.read_word-k in
-    let m = c.read_word-m in
+    let g = c.get-k in
     let s = c.store in
     let r = c.store-else-x-eq0 in
     let p = c.requires.in_bounds in
-    writing_open l.invariant c.loop-d-test.true c.if-x-eq0.false k.ensures.0 m.ensures.0 c.if_root-s.ensures c.if_root-t.ensures c.children_of.ensures c.length_of-len.ensures.0 s.auto.s s.ensures r.auto.s r.ensures c.passed.ensures c.new.ensures p.1 p.2
+    writing_open l.invariant c.loop-d-test.true c.if-x-eq0.false g.ensures.kind.0 g.ensures.measure.0 c.if_root-s.ensures c.if_root-t.ensures c.children_of.ensures c.length_of-len.ensures.0 s.auto.s s.ensures r.auto.s r.ensures c.passed.ensures c.new.ensures p.1 p.2
 
 pub returns : goal.returns
 returns c = let l = c.loop-d in record { table_after = writing_table l.invariant (omega arith); source_after = writing_rows l.invariant (omega arith) }
