@@ -1,17 +1,13 @@
 // Lines 2 to 7, with 16 right after 6.
-// Room in a lent slice stands as a clause: a value around each would be no plainer than its bound.
+// Room in a lent slice and the equality of two numbers stand as clauses: a value around each would be no plainer than its bound.
 #![tactic(auto)]
 
-ghost use Rattle.std.specs.Prelude.{◌≡◌, not, ◌≤◌, length};
-ghost use mathlib.Core.List.{zip};
-ghost use Rattle.definition.specs.Basics.{gives, any};
-ghost use Rattle.definition.specs.Refusals.{wrong_mapping};
+ghost use Rattle.std.specs.Prelude.{◌≡◌, ◌≤◌, length};
+ghost use Rattle.definition.specs.Basics.{gives};
 ghost use Rattle.read_element_table.specs.Held.{view_of};
 ghost use Rattle.refusals.specs.Numbers.{answered};
 ghost use Rattle.read_layout.specs.Held.{arrays_of};
 ghost use Rattle.read_layout.specs.Layout.{laid};
-ghost use Rattle.read_names.specs.Called.{calls_fit, word_too_many};
-ghost use Rattle.read_names.specs.Noted.{note_wrong};
 ghost use Rattle.read_batch.specs.Accepting.{named};
 ghost use Rattle.read_batch.specs.Leaving.{Judged};
 
@@ -20,54 +16,23 @@ use read_layout::{Batch, Layout};
 use read_spelling::Columns;
 use refusals::Refusal;
 
-// Line 6, of a batch with this layout.
-fn calls_stand(batch: &Batch, elements: &Elements) -> bool
-    ensures { result ≡ calls_fit (view_of elements.now) (zip (arrays_of batch.now).calls (arrays_of batch.now).targets) (arrays_of batch.now).listed }
-{
-    read_names::calls_fit(&batch.calls(), &batch.targets(), &batch.listed(), elements)
-}
-
-// 16, of its calls.
-fn lists_stand(batch: &Batch) -> bool
-    ensures { result ≡ not (any word_too_many (arrays_of batch.now).calls) }
-{
-    read_names::lists_fit(&batch.calls())
-}
-
-// Line 7, of its mappings.
-fn mappings_stand(batch: &Batch, elements: &Elements) -> bool
-    ensures { result ≡ not (any (wrong_mapping (view_of elements.now)) (zip (arrays_of batch.now).inputs (arrays_of batch.now).outputs)) }
-{
-    read_names::mappings_fit(&batch.inputs(), &batch.outputs(), elements)
-}
-
-// Line 7, of its notes.
-fn notes_stand(batch: &Batch) -> bool
-    ensures { result ≡ not (any (note_wrong batch.now.layout.sizes.elements) (zip (arrays_of batch.now).noted (arrays_of batch.now).numbers)) }
-{
-    read_names::notes_fit(
-        &batch.noted(),
-        &batch.numbers(),
-        batch.layout.sizes.elements,
-    )
-}
-
 // Lines 6, 16 and 7.
 #[tactic(auto, using(crate::proofs::Judging::wrong_calls, crate::proofs::Judging::long_lists, crate::proofs::Judging::wrong_mappings, crate::proofs::Judging::wrong_notes, crate::proofs::Judging::none_wrong))]
 fn judge_names(batch: &Batch, elements: &Elements) -> Result<Layout, Refusal>
     requires { elements.now.count ≡ batch.now.layout.sizes.elements }
     ensures { answered result ≡ named (arrays_of batch.now) (view_of elements.now) batch.now.layout }
 {
-    if !calls_stand(batch, elements) {
+    let calls = batch.calls();
+    if !read_names::calls_fit(&calls, &batch.targets(), &batch.listed(), elements) {
         return Err(Refusal::Call);
     }
-    if !lists_stand(batch) {
+    if !read_names::lists_fit(&calls) {
         return Err(Refusal::Listed);
     }
-    if !mappings_stand(batch, elements) {
+    if !read_names::mappings_fit(&batch.inputs(), &batch.outputs(), elements) {
         return Err(Refusal::Name);
     }
-    if !notes_stand(batch) {
+    if !read_names::notes_fit(&batch.noted(), &batch.numbers(), elements.count) {
         return Err(Refusal::Name);
     }
     Ok(batch.layout)

@@ -1,4 +1,5 @@
 // One call: what its word says, and its judgement by what the element table tells, for a batch's calls and for rewritten ones.
+// Bounds of one number and an index of what is read stand as clauses: a value around each would be no plainer than its bound.
 #![tactic(auto)]
 
 ghost use Rattle.std.specs.Prelude.{◌≡◌, ◌+◌, ◌*◌, ◌≤◌, ◌<◌, length};
@@ -50,7 +51,7 @@ pub fn rule_of(word: usize) -> usize
     word / read_layout::RULE % read_layout::RULES
 }
 
-// The first of the elements that a call lists, 0 if there is none.
+// The first of the elements that a call lists, 0 if there is none: an element that `call_fits` may be asked of too, where an option would be opened to the same.
 #[tactic(auto, using(crate::proofs::Judging::first_told))]
 pub fn first_listed(listed: &WordList) -> usize
     ensures { result ≡ head_d (words_of listed.now) 0 }

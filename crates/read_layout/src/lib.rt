@@ -1,4 +1,5 @@
 // Lines 2 to 4: a batch is refused, or it is known where each of its arrays stands.
+// An index of what is read stands as a clause: a value around each would be no plainer than its bound.
 #![tactic(auto)]
 
 ghost use Rattle.std.specs.Prelude.{◌≡◌, not, ◌+◌, ◌*◌, ◌≤◌, ◌<◌, length};

@@ -13,18 +13,16 @@ use borrow.Author.Tests.{ltb-false, leb-false, le-leb, lt-leb, lt-ltb, le-ltb, e
 use Rattle.orders.specs.Lists.{All}
 use Rattle.orders.specs.ListLaws.{lt_or_le, All-map}
 use Rattle.definition.specs.Basics.{any}
-use Rattle.definition.specs.Words.{words}
 use Rattle.definition.specs.Refusals.{operation_of, count_of, rule_of, call_of, wrong_count, ruled_start, most_listed, too_many, wrong_call}
-use Rattle.words.specs.Bytes.{take_words, drop_words}
-use Rattle.words.specs.List.{words_of}
+use Rattle.words.specs.List.{words_of, length_of}
 use Rattle.words.specs.declared.list.WordList.{WordList}
 use Rattle.definition.specs.Elements.{Table}
 use Rattle.read_element_table.specs.View.{view}
 use Rattle.read_element_table.specs.Told.{length_view}
 use Rattle.read_calls.specs.Fits.{word_fits, call_fits, judged}
+use Rattle.read_calls.proofs.Own.{own_taken}
 use Rattle.definition_laws.specs.Right.{neither, none_passes}
 use Rattle.read_names.specs.Called.{calls_fit, word_too_many, fit_end, fit_more}
-use Rattle.words.specs.List.{length_of}
 use Rattle.read_names.proofs.Passing.{pairs_from, pairs_all, pairs_none, pairs_more}
 
 -- ── One call ────────────────────────────────────────────────────────────────────────────────────────────────
@@ -127,16 +125,10 @@ module _ {T : Table} {calls targets listed : WordList} {taken i : ℕ} (v : Call
     pub calling_short : listed.count - taken < k → false ≡ judged_all T calls targets listed
     calling_short s = sym (turn ∙ rw (lt-leb k (listed.count - taken) s))
 
-    module _ {t : Bool} (s : k ≤ listed.count - taken) (et : t ≡ not (wrong_call T (call_of w x (words k (drop (listed.at + 4 * taken) listed.bytes.now))))) where
-      -- its own elements
-      own : take k rest ≡ words k (drop (listed.at + 4 * taken) listed.bytes.now)
-      own =
-          let n : ℕ = listed.count - (taken + k) in
-          rw (drop_words taken (listed.count - taken) listed.count (drop listed.at listed.bytes.now) (omega (arith, v.few)), drop-drop (4 * taken) listed.at listed.bytes.now)
-          (take_words k n (listed.count - taken) _ (omega (arith, v.few)))
-
+    -- its own elements
+    module _ (o : WordList) (eo : (o.bytes.now ≡ listed.bytes.now) × (o.at ≡ listed.at + 4 * taken) × (o.count ≡ k)) {t : Bool} (s : k ≤ listed.count - taken) (et : t ≡ not (wrong_call T (call_of w x (words_of o)))) where
       next : judged_all T calls targets listed ≡ (t && calls_fit T (pairs_from calls targets (i + 1)) (drop (taken + k) (words_of listed)))
-      next = turn ∙ rw (le-leb k (listed.count - taken) s, own, ← et, drop-drop k taken (words_of listed))
+      next = turn ∙ rw (le-leb k (listed.count - taken) s, own_taken listed o taken k eo (omega (arith, v.few)), ← et, drop-drop k taken (words_of listed))
 
       -- it does not stand as it should
       pub calling_wrong : t ≡ false → false ≡ judged_all T calls targets listed

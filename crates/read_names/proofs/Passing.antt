@@ -1,7 +1,7 @@
 -- A search through a list by its numbers: all pass just if what is looked for is at none.
 -- Assumes nothing.
 use mathlib.Core.Path.{◌≡◌, refl, sym, ap, ◌∙◌}
-use mathlib.Core.Bool.{Bool, true, false, not, ◌&&◌, ◌||◌}
+use mathlib.Core.Bool.{Bool, not}
 use mathlib.Core.List.{List, [], ◌∷◌, map, zip}
 use mathlib.Core.Logic.{inl, inr}
 use Rattle.std.specs.List.{list_all, range_with_len}
@@ -10,12 +10,11 @@ use Prim.Native.Nat.{ℕ, zero, suc, ◌+◌, ◌≤◌, ◌<◌}
 use native.Mathlib.Numerals.{add-one}
 use native.Mathlib.Omega.{arith}
 use lib.Dec.{leb, ltb}
-use lib.ListN.{drop, get_or, length, drop_of_length-le}
+use lib.ListN.{drop, get_or, drop_of_length-le}
 use lib.Seq.{drop-cons}
 use borrow.Author.Tests.{le-leb, lt-leb, lt-ltb, le-ltb}
 use Rattle.orders.specs.ListLaws.{lt_or_le, none_found}
 use Rattle.definition.specs.Basics.{any}
-use Rattle.words.specs.Bytes.{length_words}
 use Rattle.words.specs.List.{words_of, length_of}
 use Rattle.words.specs.declared.list.WordList.{WordList}
 

@@ -1,4 +1,5 @@
-// Lines 6, 16 and 7: the calls, the mappings and the notes of a batch, judged by what the element table tells.
+// Lines 6, 16 and 7: the calls, the mappings and the notes of a batch, judged by what the element table tells. Their words are read by number, and so two lists
+// in step: words in bytes have no iterator, and one of our own would need its laws proved for zip, all and map.
 #![tactic(auto)]
 
 ghost use Rattle.std.specs.Prelude.{◌≡◌, not, leb};
@@ -46,7 +47,7 @@ fn call_stands(listed: &WordList, word: usize, target: usize, elements: &Element
 }
 
 // Line 6: every call takes its count of the listed elements, stands as it should, and none is left.
-#[tactic(auto, using(crate::proofs::Calling::calling_start, crate::proofs::Calling::calling_short, crate::proofs::Calling::calling_wrong, crate::proofs::Calling::calling_next, crate::proofs::Calling::calling_end))]
+#[tactic(auto, using(crate::proofs::Calling::calling_start, crate::proofs::Calling::calling_short, crate::proofs::Calling::calling_next, crate::proofs::Calling::calling_end))]
 pub fn calls_fit(
     calls: &WordList,
     targets: &WordList,
@@ -64,9 +65,7 @@ pub fn calls_fit(
         if listed.count - taken < count {
             return false;
         }
-        let bytes = listed.bytes;
-        let at = listed.at + 4 * taken;
-        let own = WordList { bytes, at, count };
+        let own = listed.part(taken, count);
         if !call_stands(&own, word, target, elements) {
             return false;
         }
