@@ -1,4 +1,5 @@
 // Mappings: the mapped node of an element, its place below another, and the climb from a replaced node to its replacement.
+// Bounds of one number stand as clauses: a value around each would be no plainer than its bound.
 #![tactic(auto)]
 
 ghost use Rattle.std.specs.Prelude.{◌≡◌, ◌+◌, ◌*◌, ◌<◌, length};
@@ -12,7 +13,8 @@ ghost use Rattle.plan_mapping.specs.Answers.{Placed, Climbed};
 use refusals::Refusal;
 use words::WordList;
 
-// Rust: SyntaxMapping::add_mapping, SyntaxMapping::merge. The array of the mappings with these inputs and outputs: the later mapping of one input wins.
+// Rust: SyntaxMapping::add_mapping, SyntaxMapping::merge. The array of the mappings with these inputs and outputs: the later mapping of one input wins. By number:
+// words in bytes have no iterator, and one of our own would need its laws proved.
 pub fn fill_mapping(inputs: &WordList, outputs: &WordList, map: &mut [u32])
     requires bounded { Bounded (length map.old) 2048 (zip (words_of inputs.now) (words_of outputs.now)) }
     ensures { map.new ≡ mapping_words (length map.old) (zip (words_of inputs.now) (words_of outputs.now)) }

@@ -1,4 +1,5 @@
 // Where the notes of a batch settle, as words of rows.
+// Bounds of one number, the equality of two numbers and room in a lent slice stand as clauses: a value around each would be no plainer than its bound.
 #![tactic(auto)]
 
 ghost use mathlib.Core.List.{zip};
@@ -12,7 +13,7 @@ use refusals::Refusal;
 use words::WordList;
 
 // Rust: TreeStore::with_annotations. Each of the notes, an element with its number, settles, in order, and three words are written: the row of its element in
-// the batch's rows, its number, its queue place. The first that is refused ends it.
+// the batch's rows, its number, its queue place. The first that is refused ends it. By number: words in bytes have no iterator, and one of our own would need its laws proved.
 pub fn settle_notes(
     noted: &WordList,
     numbers: &WordList,

@@ -1,6 +1,6 @@
 -- The loops of `nth_child` and `descend`, and the landing.
 -- Assumes nothing.
-use mathlib.Core.Bool.{Bool, true, false, ◌&&◌, and-false}
+use mathlib.Core.Bool.{Bool, true, false, and-false}
 use mathlib.Core.List.{List, [], ◌∷◌}
 use mathlib.Core.Option.{some, bind}
 use mathlib.Core.Path.{◌≡◌, refl, sym, ◌∙◌}

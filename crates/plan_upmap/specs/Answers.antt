@@ -1,7 +1,7 @@
 -- What each answer means: document 01's number for a refusal, and the values for the rest.
 -- Assumes nothing.
 use Rattle.std.specs.Prelude.{List, ◌++◌, ◌≡◌, ℕ, ◌≤◌, ◌<◌, length, Option, Some, None, Result, Ok, Err}
-use Rattle.std.proofs.Math.Option.{Option as Maybe, none, some}
+use Rattle.std.proofs.Math.Option.{Option as Maybe}
 use Rattle.std.proofs.Math.ListN.{get_elem?}
 use Rattle.orders.specs.Lists.{meant}
 use Rattle.orders.specs.Tree.{Path}

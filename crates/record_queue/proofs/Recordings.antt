@@ -17,12 +17,11 @@ use Rattle.record_changes.specs.ChangeRow.{ChangeRow, row_words, row_of, rows_of
 use Rattle.record_changes.specs.ChangeRowLaws.{row_at, length_row, length_rows_of, rows_written, row_among, row_set, row_added}
 use Rattle.record_queue.specs.Queueing.{place, place_none, place_passed, place_found, put, put_found, put_new, through, through_editor, through_put, through_end}
 use Rattle.definition.specs.Elements.{Table}
-use Rattle.definition.specs.Words.{words}
 use Rattle.definition.specs.Refusals.{Call, call_of, operation_of, count_of, rule_of}
 use Rattle.orders.specs.Lists.{All}
-use Rattle.words.specs.Bytes.{length_words, take_words, drop_words}
 use Rattle.definition.specs.Recording.{change}
 use Rattle.read_calls.specs.Operations.{operation_number}
+use Rattle.read_calls.proofs.Own.{own_taken}
 use Rattle.record_changes.specs.Numbers.{numbers_of, as_change, run_asked, change_asked, row_with, NumbersFit}
 use Rattle.record_changes.specs.Spots.{spot_of, Named}
 use Rattle.record_queue.specs.Recorded.{news_at, asked_at, all_asked}
@@ -364,54 +363,56 @@ module _ {T : Table} {n : ℕ} {calls targets listed : WordList} {w₀ : List �
     pub recording_front : k ≤ listed.count - taken
     recording_front = let f = rw more at v.fit in omega (arith, ek, f.0, length-drop taken (words_of listed), length_of listed)
 
-    -- its own elements
-    abbrev own : List ℕ
-    own = words k (drop (listed.at + 4 * taken) listed.bytes.now)
-
-    taking : take (count_of word₁) rest ≡ own
-    taking =
-        let j : ℕ = listed.count - (taken + k) in
-        rw (← ek, drop_words taken (listed.count - taken) listed.count (drop listed.at listed.bytes.now) (omega (arith, v.few)), drop-drop (4 * taken) listed.at listed.bytes.now)
-        (take_words k j (listed.count - taken) _ (omega (arith, recording_front, v.few)))
+    -- no more than there are
+    pub recording_taken : taken + k ≤ listed.count
+    recording_taken = omega (arith, recording_front, v.few)
 
     left : drop (count_of word₁) rest ≡ drop (taken + k) (words_of listed)
     left = rw (← ek, drop-drop k taken (words_of listed))
 
-    fits : (x < n) × All (λ e. e < n) own × Fit n (calls_from (words_of calls) (words_of targets) (i + 1)) (drop (taken + k) (words_of listed))
-    fits = let f = rw more at v.fit in (f.1, rw taking at f.2, rw left at f.4)
+    -- its own elements
+    module _ (o : WordList) (eo : (o.bytes.now ≡ listed.bytes.now) × (o.at ≡ listed.at + 4 * taken) × (o.count ≡ k)) where
+      taking : take (count_of word₁) rest ≡ words_of o
+      taking = rw (← ek) (own_taken listed o taken k eo recording_taken)
 
-    head_below : (l : List ℕ) → All (λ e. e < n) l → 0 < n → head_d l 0 < n
-    unfolding head_d
-    head_below [] a p = p
-    head_below (e ∷ l) a p = a.0
+      long : length (words_of o) ≡ k
+      long = length_of o ∙ eo.2
 
-    pub recording_fits : listed.count ≤ 1024 → CallFits n own taken x
-    recording_fits few =
-        let f = fits in
-        record {
-          target = f.0;
-          first = head_below own f.1 (omega (arith, f.0));
-          low = omega (arith, v.few);
-          few = omega (arith, recording_front, length_words k (drop (listed.at + 4 * taken) listed.bytes.now));
-        }
+      fits : (x < n) × All (λ e. e < n) (words_of o) × Fit n (calls_from (words_of calls) (words_of targets) (i + 1)) (drop (taken + k) (words_of listed))
+      fits = let f = rw more at v.fit in (f.1, rw taking at f.2, rw left at f.4)
 
-    turn : rows_asked T taken (calls_of (calls_from (words_of calls) (words_of targets) i) rest)
-        ≡ map (row_for T) (asked_at taken (call_of word₁ x own)) ∷ rows_asked T (taken + k) (calls_of (calls_from (words_of calls) (words_of targets) (i + 1)) (drop (taken + k) (words_of listed)))
-    unfolding calls_of all_asked
-    turn = rw (more, taking, left, length_words k (drop (listed.at + 4 * taken) listed.bytes.now))
+      head_below : (l : List ℕ) → All (λ e. e < n) l → 0 < n → head_d l 0 < n
+      unfolding head_d
+      head_below [] a p = p
+      head_below (e ∷ l) a p = a.0
 
-    pub recording_next : {start' count' : ℕ} {w' : List ℕ} → CallPut T (words_of listed) taken (call_of word₁ x own) start count w start' count' w' → length w' ≡ length w → Recording T n calls targets listed w₀ start' count' (taken + k) (i + 1) w'
-    recording_next {start'} {count'} {w'} p l =
-        let rows : List (Option ChangeRow) = rows_asked T (taken + k) (calls_of (calls_from (words_of calls) (words_of targets) (i + 1)) (drop (taken + k) (words_of listed))) in
-        let j : ℕ = 14 * count' - 14 * count in
-        let e : 14 * count' ≡ 14 * count + j = omega (arith, p.low) in
-        record {
-          inside = omega arith;
-          few = omega (arith, recording_front, v.few);
-          sound = p.sound;
-          high = omega (arith, p.high, v.high);
-          long = l ∙ v.long;
-          fit = fits.2;
-          beyond = p.beyond ∙ rw (e, ← drop-drop j (14 * count) w, v.beyond, drop-drop j (14 * count) w₀);
-          verdict = v.verdict ∙ (ap (λ (cs : List (Option ChangeRow)). through meets_row (merged_row (words_of listed)) (take start (rows_of count w)) (drop start (rows_of count w)) cs) turn ∙ p.step rows);
-        }
+      pub recording_fits : listed.count ≤ 1024 → CallFits n (words_of o) taken x
+      recording_fits few =
+          let f = fits in
+          record {
+            target = f.0;
+            first = head_below (words_of o) f.1 (omega (arith, f.0));
+            low = omega (arith, v.few);
+            few = omega (arith, recording_front, long);
+          }
+
+      turn : rows_asked T taken (calls_of (calls_from (words_of calls) (words_of targets) i) rest)
+          ≡ map (row_for T) (asked_at taken (call_of word₁ x (words_of o))) ∷ rows_asked T (taken + k) (calls_of (calls_from (words_of calls) (words_of targets) (i + 1)) (drop (taken + k) (words_of listed)))
+      unfolding calls_of all_asked
+      turn = rw (more, taking, left, long)
+
+      pub recording_next : {start' count' : ℕ} {w' : List ℕ} → CallPut T (words_of listed) taken (call_of word₁ x (words_of o)) start count w start' count' w' → length w' ≡ length w → Recording T n calls targets listed w₀ start' count' (taken + k) (i + 1) w'
+      recording_next {start'} {count'} {w'} p l =
+          let rows : List (Option ChangeRow) = rows_asked T (taken + k) (calls_of (calls_from (words_of calls) (words_of targets) (i + 1)) (drop (taken + k) (words_of listed))) in
+          let j : ℕ = 14 * count' - 14 * count in
+          let e : 14 * count' ≡ 14 * count + j = omega (arith, p.low) in
+          record {
+            inside = omega arith;
+            few = omega (arith, recording_front, v.few);
+            sound = p.sound;
+            high = omega (arith, p.high, v.high);
+            long = l ∙ v.long;
+            fit = fits.2;
+            beyond = p.beyond ∙ rw (e, ← drop-drop j (14 * count) w, v.beyond, drop-drop j (14 * count) w₀);
+            verdict = v.verdict ∙ (ap (λ (cs : List (Option ChangeRow)). through meets_row (merged_row (words_of listed)) (take start (rows_of count w)) (drop start (rows_of count w)) cs) turn ∙ p.step rows);
+          }

@@ -1,5 +1,5 @@
 // Recording: from the calls of an accepted batch to change rows, editor after editor. Rows come with a place or a count: record_changes says why.
-// Bounds of one number and the order of two numbers stand as clauses: a value around each would be no plainer than its bound.
+// Bounds of one number, an index of what is read, room in a lent slice and the order of two numbers stand as clauses: a value around each would be no plainer than its bound.
 #![tactic(auto)]
 
 ghost use Rattle.std.specs.Prelude.{◌≡◌, ◌+◌, ◌*◌, ◌^◌, ◌≤◌, ◌<◌, length, drop, unwrap_or, IfSome};
@@ -93,7 +93,7 @@ fn is_idle(listed: &WordList, rows: &[u32], k: usize, operation: Operation, at: 
 }
 
 // Rust: SyntaxEditor::replace, SyntaxEditor::delete, which look for a replacement of the same element. A change is recorded among the rows of the present
-// editor, over the one it meets unless it has no effect on that; how many rows there are then.
+// editor, over the one it meets unless it has no effect on that; how many rows there are then. `m`, `s` and `rule` are one row: `write_row` says why apart.
 fn record_change(
     listed: &WordList,
     rows: &mut [u32],
@@ -148,7 +148,7 @@ fn record_call(
 }
 
 // Rust: SyntaxEditor::merge, which appends the queue of a further editor without merging. The calls of an accepted batch are recorded, by their call words,
-// their targets and the elements that they list. How many rows there are.
+// their targets and the elements that they list. How many rows there are. By number: words in bytes have no iterator, and one of our own would need its laws proved.
 pub fn record_calls(
     calls: &WordList,
     targets: &WordList,
@@ -166,9 +166,7 @@ pub fn record_calls(
         let word = calls.get(i);
         let target = targets.get(i);
         let count = read_calls::count_of(word);
-        let bytes = listed.bytes;
-        let at = listed.at + 4 * taken;
-        let own = WordList { bytes, at, count };
+        let own = listed.part(taken, count);
         q = record_call(&own, listed, taken, word, target, elements, q, rows);
         taken += count;
     }
