@@ -25,7 +25,8 @@ pub fn fill_mapping(inputs: &WordList, outputs: &WordList, map: &mut [u32])
     }
 }
 
-// Rust: SyntaxMapping::upmap_node_single. The mapped node of element `e`, or `e`: one step along the mappings.
+// Rust: SyntaxMapping::upmap_node_single. The mapped node of element `e`, or `e`: one step along the mappings. Here and in `place_below` only the contract reads `n`: a ghost
+// value would be picked from a call's arguments, of which no other tells it; a promise for any `n` leaves its callers each bound to prove by hand (tried: six answers).
 pub fn upmap_node_single(map: &[u32], n: usize, e: usize) -> usize
     requires mapped { Mapped n map.now }
     requires e_lt_n { e < n }

@@ -24,7 +24,8 @@ pub struct Work<'a> {
     pub source: &'a mut [u32],
 }
 
-// Whether a work slice is shorter than its length in docs/WORK.md.
+// Whether a work slice is shorter than its length in docs/WORK.md. Here and in `clear_work`, beside the calls' nine slices and the checker's four: each says no more than
+// which slices there are, and how long.
 fn too_short(work: &Work) -> bool
     ensures { result ≡ too_short (lengths writer_needs (held work.now)) }
 {

@@ -1,4 +1,5 @@
 // Lists laid out as a batch: which can be, and each array behind the one before it.
+// Bounds of one number, an index of what is read and room in a lent slice stand as clauses: a value around each would be no plainer than its bound.
 // That lists are in step stands in clauses and in no field of `Lists`: a caller makes the value of any lists, and `can_be_laid` tells whether they are.
 #![tactic(auto)]
 
@@ -98,6 +99,8 @@ pub fn can_be_laid(lists: &Lists) -> bool
 {
     lists.in_step() && read_layout::within_limits(lists.sizes()) && lists.parts_fit()
 }
+
+// ── The arrays, one behind the other: by their place, since the draft is one lent slice, longer than what is in use (fixed memory) ──
 
 // The bytes of the words `s` go behind the first `at` bytes; how many there are then.
 fn append_words(draft: &mut [u8], at: usize, s: &[u32]) -> usize
