@@ -24,19 +24,7 @@ fn write_calls(
     ensures same { Same work.old work.new }
     ensures writes { Writes (with_calls start kinds.now measures.now text.now) destination.old (held work.old) (answered result) destination.new (held work.new) }
 {
-    let mut operations = [0u32; 96];
-    let mut counts = [0u32; 96];
-    let mut rules = [0u32; 96];
-    let mut targets = [0u32; 96];
-    let mut listed = [0u32; 192];
-    let n = load_lists::fill_calls(
-        start,
-        &mut operations,
-        &mut counts,
-        &mut rules,
-        &mut targets,
-        &mut listed,
-    );
+    let calls = load_lists::draw_calls(start);
     let mut noted = [0u32; 8];
     let mut numbers = [0u32; 8];
     load_lists::fill_notes(start, &mut noted, &mut numbers);
@@ -45,11 +33,11 @@ fn write_calls(
         kinds,
         measures,
         text,
-        operations: &operations,
-        counts: &counts,
-        rules: &rules,
-        targets: &targets,
-        listed: &listed[..n],
+        operations: &calls.operations,
+        counts: &calls.counts,
+        rules: &calls.rules,
+        targets: &calls.targets,
+        listed: &calls.listed[..calls.many],
         inputs: &[load_draws::replaced_block(load_draws::drawn(start))],
         outputs: &[load_draws::COPY],
         noted: &noted,

@@ -1,4 +1,5 @@
 // The lists of a load (document 02, Note 12): its trees, its calls and its notes.
+// Bounds of one number and the length of a lent slice stand as clauses: a value around each would be no plainer than its bound.
 #![tactic(auto)]
 
 ghost use Rattle.std.specs.Prelude.{◌≡◌, ℕ, ◌<◌, ◌≤◌, length};
@@ -15,6 +16,17 @@ const OF_TREE_0: usize = 769;
 const REPLACEMENT: usize = load_draws::REPLACEMENT as usize;
 
 const COPY: usize = load_draws::COPY as usize;
+
+// The calls of a load as lists; the first `many` of `listed` are the elements that they list.
+#[derive(Clone, Copy)]
+pub struct Calls {
+    pub operations: [u32; 96],
+    pub counts: [u32; 96],
+    pub rules: [u32; 96],
+    pub targets: [u32; 96],
+    pub listed: [u32; 192],
+    pub many: usize,
+}
 
 // Element e's kind word.
 #[tactic(auto, unfolding(load_laws::specs::Load::kind_at))]
@@ -94,7 +106,7 @@ pub fn fill_trees(kinds: &mut [u32], measures: &mut [u32], text: &mut [u8])
     fill_text(text);
 }
 
-// Call i, from what the generator holds before it: `first_call` or `call_at`, by the draws that it takes.
+// Call i, from what the generator holds before it: `first_call` or `call_at`, by the draws that it takes. Two functions, since only `call_at` has a second draw.
 fn numbered(i: u32, present: u32) -> DrawnCall
     requires { i < 96 }
     ensures { Called result (numbered_of i present) }
@@ -117,18 +129,16 @@ fn passed(i: u32, present: u32) -> u32
     }
 }
 
-// The lists of calls; answers how many elements they list. Of each call both places are written, and those that it does not list are written again.
-pub fn fill_calls(
-    start: u32,
-    operations: &mut [u32],
-    counts: &mut [u32],
-    rules: &mut [u32],
-    targets: &mut [u32],
-    listed: &mut [u32],
-) -> usize
-    requires { (96 ≡ length operations.old) × (96 ≡ length counts.old) × (96 ≡ length rules.old) × (96 ≡ length targets.old) × (192 ≡ length listed.old) }
-    ensures { Filled start operations.new counts.new rules.new targets.new listed.new result }
+// The lists of calls. Of each call both places are written, and those that it does not list are written again. By number: it chooses the call, of which each list takes
+// a word.
+pub fn draw_calls(start: u32) -> Calls
+    ensures { Filled start result.operations result.counts result.rules result.targets result.listed result.many }
 {
+    let mut operations = [0u32; 96];
+    let mut counts = [0u32; 96];
+    let mut rules = [0u32; 96];
+    let mut targets = [0u32; 96];
+    let mut listed = [0u32; 192];
     let mut present = start;
     let mut at = 0;
     for i in 0..96 {
@@ -142,7 +152,14 @@ pub fn fill_calls(
         at += call.count as usize;
         present = passed(i as u32, present);
     }
-    at
+    Calls {
+        operations,
+        counts,
+        rules,
+        targets,
+        listed,
+        many: at,
+    }
 }
 
 // What the generator holds after n draws.
@@ -156,7 +173,7 @@ fn after_draws(n: usize, start: u32) -> u32
     present
 }
 
-// The notes: their elements and their numbers.
+// The notes: their elements and their numbers. By number, which is written too: over two zipped and enumerated lists it would be no shorter.
 pub fn fill_notes(start: u32, noted: &mut [u32], numbers: &mut [u32])
     requires { (8 ≡ length noted.old) × (8 ≡ length numbers.old) }
     ensures { NotesFilled start noted.new numbers.new }

@@ -1,5 +1,6 @@
 // Lines 6, 16 and 7: the calls, the mappings and the notes of a batch, judged by what the element table tells. Their words are read by number, and so two lists
 // in step: words in bytes have no iterator, and one of our own would need its laws proved for zip, all and map.
+// The equality of two numbers stands as a clause: a value around each would be no plainer than its bound.
 #![tactic(auto)]
 
 ghost use Rattle.std.specs.Prelude.{◌≡◌, not, leb};

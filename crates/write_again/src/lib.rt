@@ -1,4 +1,5 @@
 // A batch taken apart into its lists, and written again (document 02, Note 2). Its sizes may be beyond their limits: that is the writer's to judge.
+// Bounds of one number, the equality of two numbers and room in a lent slice stand as clauses: a value around each would be no plainer than its bound.
 #![tactic(auto)]
 
 ghost use Rattle.std.specs.Prelude.{◌≡◌, ◌+◌, ◌*◌, ◌≤◌, length};
