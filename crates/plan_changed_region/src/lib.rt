@@ -2,6 +2,7 @@
 // names, so the rows' own words hold the stacks: a stack is the place of its last region, and each region's owner is the one below.
 // Rows have their count beside them: record_changes says why.
 // Bounds of one number and room in a lent slice stand as clauses: a value around each would be no plainer than its bound.
+// That last regions stand before the change (`All`), and the region around one before it (`Outward`), are clauses too: both slices are written at each turn.
 #![tactic(auto)]
 
 ghost use Rattle.std.specs.Prelude.{◌≡◌, cond, ◌++◌, suc, ◌+◌, ◌-◌, ◌*◌, ◌^◌, ◌≤◌, ◌<◌, length, get_or, set, drop, eqb};
