@@ -5,7 +5,11 @@ use mathlib.Core.Bool.{Bool, true, false, cond, not, ◌&&◌, ◌||◌}
 use mathlib.Core.List.{List}
 use mathlib.Core.Logic.{⊎_elim}
 use Prim.Native.Nat.{ℕ, ◌+◌, ◌-◌, ◌*◌, ◌≤◌, ◌<◌}
+use native.Mathlib.Omega.{arith}
 use lib.ListN.{get_or, drop}
+use Rattle.std.specs.Prelude.{None, Some, SomeIff}
+use Rattle.std.specs.Prelude.{Option as Maybe}
+use Rattle.std.specs.Option.{unwrap_or}
 use lib.Dec.{leb, ltb, eqb}
 use borrow.Author.Tests.{eq-eqb, ne_eqb, le-leb, lt-leb, lt-ltb, le-ltb}
 use Rattle.orders.specs.ListLaws.{lt_or_le}
@@ -18,14 +22,10 @@ not_leb k j = ⊎_elim (λ h. rw (lt-leb k j h, lt-ltb j k h)) (λ h. rw (le-leb
 
 -- ── Where elements stand ────────────────────────────────────────────────────────────────────────────────────
 
-module _ (w : List ℕ) (x p : ℕ) (e : p ≡ get_or w (8 * x + 1) 0) where
-  pub root_itself : p ≡ 0 → x ≡ parent_or_root w x
-  unfolding parent_or_root
-  root_itself z = rw (← e, z)
-
-  pub parent_below : (p ≡ 0 → ⊥) → p - 1 ≡ parent_or_root w x
-  unfolding parent_or_root
-  parent_below z = rw (← e, ne_eqb p 0 z)
+pub parent_or_itself : (w : List ℕ) (x p : ℕ) → p ≡ get_or w (8 * x + 1) 0 → (o : Maybe ℕ) → SomeIff o (1 ≤ p) (p - 1) → (r : ℕ) → r ≡ unwrap_or o x → r ≡ parent_or_root w x
+unfolding parent_or_root
+parent_or_itself w x p e None n r f = let z : p ≡ 0 = omega (arith, n) in rw (f, ← e, z)
+parent_or_itself w x p e (Some y) n r f = rw (f, n.1, ← e, ne_eqb p 0 (λ z. omega (arith, n.0)))
 
 module _ (w : List ℕ) (x y e p q : ℕ) (a : p ≡ get_or w (8 * e + 1) 0) (b : q ≡ get_or w (8 * x + 1) 0) where
   pub other_parent : (p ≡ q → ⊥) → false ≡ in_run w x y e

@@ -2,6 +2,7 @@
 // Rows have their count beside them: record_changes says why. The table comes alone and not in `Elements`, since nothing is asked of it: past its end words are 0.
 // Rows and table are no one value: no fact binds them, the rows are written between, and each clause would name both through the value.
 // Bounds of one number and room in a lent slice stand as clauses: a value around each would be no plainer than its bound.
+// That a change is no root's replacement and has the target parent `p` is a clause of two functions: both are found once for all regions that are asked.
 #![tactic(auto)]
 
 ghost use Rattle.std.specs.Prelude.{◌≡◌, false, ◌++◌, suc, ◌+◌, ◌-◌, ◌*◌, ◌^◌, ◌≤◌, ◌<◌, length, get_or, drop};
@@ -18,7 +19,7 @@ use words::word_or_zero;
 
 // ── Where elements stand ──
 
-// Word `k` of element `e`, 0 past the end.
+// Word `k` of element `e`, 0 past the end: `read_element_table::entry` asks that the table has the element, which no row tells here.
 fn entry(table: &[u32], e: usize, k: usize) -> usize
     requires { (e < 2 ^ 32) × (k < 8) }
     ensures { (result ≡ get_or table.now (8 * e + k) 0) × (result < 2 ^ 32) }
@@ -27,16 +28,12 @@ fn entry(table: &[u32], e: usize, k: usize) -> usize
 }
 
 // The parent of `x`; of a root, the root.
-#[tactic(auto, using(crate::proofs::Tests::root_itself, crate::proofs::Tests::parent_below))]
+#[tactic(auto, using(crate::proofs::Tests::parent_or_itself))]
 fn parent_or_root(table: &[u32], x: usize) -> usize
     requires { x < 2 ^ 32 }
     ensures { result ≡ parent_or_root table.now x }
 {
-    let p = entry(table, x, PARENT);
-    if p == 0 {
-        return x;
-    }
-    p - 1
+    entry(table, x, PARENT).checked_sub(1).unwrap_or(x)
 }
 
 // Whether `e` is one of the siblings from `x` to `y`.
@@ -97,6 +94,7 @@ fn removes_element(rows: &[u32], table: &[u32], j: usize, e: usize) -> bool
 }
 
 // Whether the change at place `k` replaces only elements of the run from `x` to `y`, or inserts between two of them.
+#[tactic(auto, using(crate::proofs::Tests::first_child_none, crate::proofs::Tests::target_outside, crate::proofs::Tests::insert_before_last, crate::proofs::Tests::replaces_to))]
 fn only_in(rows: &[u32], table: &[u32], x: usize, y: usize, k: usize) -> bool
     requires { (k < 2 ^ 32) × (x < 2 ^ 32) × (y < 2 ^ 32) }
     ensures { result ≡ only_in table.now x y (row_at rows.now k) }
@@ -131,6 +129,7 @@ fn is_run_of(rows: &[u32], x: usize, y: usize, k: usize) -> bool
 }
 
 // Whether the change at place `j` is a run that has the one at place `k` inside.
+#[tactic(auto, using(crate::proofs::Tests::no_run_around, crate::proofs::Tests::not_only_in, crate::proofs::Tests::other_run, crate::proofs::Tests::equal_run))]
 fn is_inside(rows: &[u32], table: &[u32], j: usize, k: usize) -> bool
     requires { (j < 2 ^ 32) × (k < 2 ^ 32) }
     ensures { result ≡ inside table.now j (row_at rows.now j) k (row_at rows.now k) }
@@ -206,7 +205,7 @@ fn innermost_of(
     behind
 }
 
-// The region of the change at place `k` among `n`. From the last to the first: so among equals the last stays.
+// The region of the change at place `k` among `n`. From the last to the first: so among equals the last stays. A `for`: `fold` has no law over a range read backward.
 fn region_of(rows: &[u32], n: usize, table: &[u32], k: usize) -> Option<usize>
     requires { (n ≤ 256) × (k < 2 ^ 32) }
     ensures { (one_past result ≡ region_from table.now rows.now k 0 n) × (one_past result ≤ 256) }
@@ -236,6 +235,7 @@ fn find_regions(rows: &[u32], table: &[u32], regions: &mut [u32])
 // ── Fates ──
 
 // Whether the change at place `k` is discarded, if at most `most` regions decide it: one around another, up to the first that is no call 2 of a node by a node.
+// Each turn goes on from the region around, so that no range or slice lists what is asked.
 fn is_discarded(rows: &[u32], regions: &[u32], most: usize, k: usize) -> bool
     requires { k < 2 ^ 32 }
     ensures { result ≡ is_discarded rows.now regions.now most k }
