@@ -2,11 +2,12 @@
 -- Assumes nothing.
 use mathlib.Core.Path.{◌≡◌, refl, sym, ◌∙◌}
 use mathlib.Core.Bool.{Bool, true, false, cond}
-use mathlib.Core.List.{List, [], ◌∷◌}
-use Prim.Native.Nat.{ℕ, zero, suc, ◌+◌, ◌-◌, ◌*◌, ◌^◌, ◌≤◌, ◌<◌}
+use mathlib.Core.List.{List, [], ◌∷◌, ◌++◌, append_assoc, append-nil}
+use Prim.Native.Nat.{ℕ, zero, suc, ◌+◌, ◌*◌, ◌^◌, ◌≤◌, ◌<◌}
 use native.Mathlib.Omega.{arith}
 use lib.ListN.{length, get_or, set, take, drop, replicate, length-set, length-replicate, get_or-replicate, take-append-drop}
-use lib.Seq.{drop-cons, drop-length, get_or-set_same, get_or-set_other}
+use lib.Seq.{drop_at, get_or-set_same, get_or-set_other}
+use Rattle.std.specs.List.{push}
 use Rattle.std.specs.Prelude.{None, Some}
 use lib.Dec.{eqb}
 use borrow.Author.Tests.{eqb-true, eqb-false, eq-eqb, ne_eqb}
@@ -130,49 +131,53 @@ unfolding sort_from
 places_below comes m i zero h = tt
 places_below comes m i (suc n) h = All-perm (λ q. q < m) (insert_perm comes i (sort_from comes (suc i) n)) (omega arith, places_below comes m (suc i) n (omega arith))
 
--- the ranked places from i on are linked
-pub record Linking (w ranked first next : List ℕ) (i : ℕ) : Type 0 where
-  pub inside : i ≤ length ranked
-  pub links : Links (owned_by w (drop i ranked)) first next
+-- of the ranked places those on the left are still to be linked, the others are
+pub record Linking (w ranked left first next : List ℕ) : Type 0 where
+  pub behind : List ℕ
+  pub parts : ranked ≡ left ++ behind
+  pub links : Links (owned_by w behind) first next
 
-pub linking_start : (w ranked first next : List ℕ) → first ≡ replicate 257 0 → length next ≡ 256 → Linking w ranked first next (length ranked)
+pub linking_start : (w ranked left first next : List ℕ) → left ≡ ranked → first ≡ replicate 257 0 → length next ≡ 256 → Linking w ranked left first next
 unfolding keep pick
-linking_start w ranked first next e h = record {
-  inside = omega arith;
+linking_start w ranked left first next l e h = record {
+  behind = [];
+  parts = sym l ∙ sym (append-nil left);
   links = record {
     firsts = rw e (length-replicate {A = ℕ} 257 0);
     nexts = h;
-    told = λ o b. rw (drop-length ranked, e) (get_or-replicate 257 o 0 0 (omega arith));
+    told = λ o b. rw e (get_or-replicate 257 o 0 0 (omega arith));
   };
 }
 
-pub linking_done : (w ranked first next : List ℕ) (i : ℕ) → Linking w ranked first next i → i ≤ 0 → Links (owned_by w ranked) first next
-linking_done w ranked first next i v h = let z : i ≡ 0 = omega arith in rw z at v.links
+pub linking_done : (w ranked left first next : List ℕ) → Linking w ranked left first next → length left ≡ 0 → Links (owned_by w ranked) first next
+linking_done w ranked [] first next v h = rw v.parts v.links
+linking_done w ranked (x ∷ left) first next v h = absurd (omega arith)
 
-module _ {w ranked first next : List ℕ} {i : ℕ} (v : Linking w ranked first next i) (few : length ranked ≤ 256) (e : ranked ≡ ranked_places w (length ranked)) (h : 0 < i) (k : ℕ) (q : k ≡ get_or ranked (i - 1) 0) where
-  here : drop (i - 1) ranked ≡ k ∷ drop i ranked
-  here =
-      let c : suc (i - 1) ≡ i = omega arith in
-      drop-cons ranked (i - 1) 0 (omega (arith, v.inside)) ∙ rw (c, ← q)
+module _ {w ranked left first next : List ℕ} (v : Linking w ranked left first next) (few : length ranked ≤ 256) (e : ranked ≡ ranked_places w (length ranked)) (less : List ℕ) (k : ℕ) (l : left ≡ push less k) where
+  parts : ranked ≡ less ++ (k ∷ v.behind)
+  parts = v.parts ∙ rw l (append_assoc less (k ∷ []) v.behind)
+
+  here : drop (length less) ranked ≡ k ∷ v.behind
+  here = rw parts (drop_at less (k ∷ v.behind) (length less) refl)
 
   pub place_below : k < 256
   unfolding ranked_places
   place_below =
       let low : All (λ q. q < 256) ranked = rw e (places_below (comes_at true w) 256 0 (length ranked) (omega arith)) in
-      (rw here at (All-drop (λ q. q < 256) (i - 1) ranked low)).0
+      (rw here at (All-drop (λ q. q < 256) (length less) ranked low)).0
 
   pub told_below : k + 1 < 2 ^ 32
   told_below = omega (arith, place_below)
 
-  behind : All (λ q. q ≡ k → ⊥) (drop i ranked)
+  alone : All (λ q. q ≡ k → ⊥) v.behind
   unfolding ranked_places
-  behind =
+  alone =
       let once : times k ranked ≤ 1 = rw e (times_sorted (comes_at true w) 0 (length ranked) k) in
-      once_behind k (i - 1) ranked (drop i ranked) here once
+      once_behind k (length less) ranked v.behind here once
 
-  pub linking_next : {o : ℕ} → OwnerOf w k (Some o) → Linking w ranked (set first o (k + 1)) (set next k (get_or first o 0)) (i - 1)
-  linking_next {o} t = record { inside = omega (arith, v.inside); links = rw here (links_cons w (drop i ranked) first next k o v.links place_below behind t) }
+  pub linking_next : {o : ℕ} → OwnerOf w k (Some o) → Linking w ranked less (set first o (k + 1)) (set next k (get_or first o 0))
+  linking_next {o} t = record { behind = k ∷ v.behind; parts = parts; links = links_cons w v.behind first next k o v.links place_below alone t }
 
   -- one that never runs
-  pub linking_skip : OwnerOf w k None → Linking w ranked first next (i - 1)
-  linking_skip t = record { inside = omega (arith, v.inside); links = rw here (links_skip w (drop i ranked) first next k v.links t) }
+  pub linking_skip : OwnerOf w k None → Linking w ranked less first next
+  linking_skip t = record { behind = k ∷ v.behind; parts = parts; links = links_skip w v.behind first next k v.links t }

@@ -1,5 +1,6 @@
 // The order in which changes run: dependents before their owner, siblings from the highest key to the lowest.
-// Bounds of one number stand as clauses: a value around each would be no plainer than its bound.
+// Bounds of one number and room in a lent slice stand as clauses: a value around each would be no plainer than its bound.
+// What is ranked and what is linked stands in clauses too: each array is written by one call and read by the next, as its type says nothing of it.
 #![tactic(auto)]
 
 ghost use Rattle.std.specs.Prelude.{◌≡◌, ◌++◌, ◌+◌, ◌^◌, ◌≤◌, ◌<◌, length, take, drop, replicate};
@@ -38,8 +39,8 @@ fn link_dependents(rows: &[u32], ranked: &[u32], first: &mut [u32; 257], next: &
     requires unlinked { (first.old ≡ replicate 257 0) × (length next.old ≡ 256) }
     ensures { Links (owned_by rows.now ranked.now) first.new next.new }
 {
-    for i in (0..ranked.len()).rev() {
-        let k = word(ranked, i);
+    for place in ranked.iter().rev() {
+        let k = *place as usize;
         let Some(owner) = owner_of(rows, k) else {
             continue;
         };
