@@ -1,6 +1,7 @@
 // Rewriting dependents: the targets of a change inside a replaced node move into the replacement, and its row is made anew. Rows come with a place or a count:
 // record_changes says why.
 // Bounds of one number, an index of what is read and room in a lent slice stand as clauses: a value around each would be no plainer than its bound.
+// What rows state (`Dependent`, `NewEnds`, `Fated`, `Rewritable`) stands in clauses: each speaks of another one, two or `c` rows of a slice, and of the listed elements.
 #![tactic(auto)]
 
 ghost use Rattle.std.specs.Prelude.{◌≡◌, cond, ◌+◌, ◌*◌, ◌≤◌, ◌<◌, length, get_or, eqb};
@@ -159,7 +160,8 @@ fn rewrite_row(
 
 // Rust: EditPlan::build, the loop over dependents. The `c` sorted rows with their fates are written to `out`, dependents with their targets in the replacement:
 // from the last to the first, so from the innermost outward, each by its owner's own target and replacement: in a chain A, B, C the change C goes into B's
-// replacement before B itself is mapped into A's. `rows` keeps the owners as they were, so that this holds in any order.
+// replacement before B itself is mapped into A's. `rows` keeps the owners as they were, so that this holds in any order. A loop that adds: each turn writes a row too,
+// and may be refused.
 pub fn rewrite_dependents(
     mapping: &Mapping,
     listed: &WordList,
