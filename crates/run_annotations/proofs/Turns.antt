@@ -22,7 +22,7 @@ use Rattle.rows_model.specs.Place.{in_run}
 use Rattle.run_model.specs.Store.{HeldNote, HeldChanged, with_row, at_row, put_in}
 use Rattle.run_annotations.specs.Notes.{note_words, notes_of, notes_in, note_at, length_notes_of, note_row, note_words_lem, notes_to, note_among, notes_added, drop_note, length_note}
 use Rattle.run_annotations.specs.Changed.{changed_word, changed_of, changed_in, changed_read, length_changed_in, changed_to, changed_added, changed_put}
-use Rattle.run_annotations.specs.Promises.{row_told, Moved, moved_changed, RowMoved, RowsMoved, moved_note, NoteMoved, NotesMoved, note_in, placed_note, NoteTaken, taken, NotesTaken, RowsAdded}
+use Rattle.run_annotations.specs.Promises.{Moved, moved_changed, RowMoved, RowsMoved, moved_note, NoteMoved, NotesMoved, note_in, placed_note, NoteTaken, taken, NotesTaken, RowsAdded}
 use Rattle.run_annotations.specs.Places.{part_rows, length_part_rows}
 
 -- ── Lists ───────────────────────────────────────────────────────────────────────────────────────────────────
@@ -41,27 +41,13 @@ pick_more {X} {Y} f (y ∷ l) x = go (f y) (pick_more f l x)
 
 module _ {p q m x : ℕ} where
   pub moved_before : x < p → Moved p q m x (Some x)
-  unfolding row_told
-  moved_before h = record { row = rw (shift_before p q m x h); low = λ y e. let z : x ≡ y = cc in omega arith }
+  moved_before h = record { row = sym (shift_before p q m x h); low = λ y e. let z : x ≡ y = cc in omega arith }
 
   pub moved_inside : p ≤ x → x < q → Moved p q m x None
-  unfolding row_told
-  moved_inside h k = record { row = rw (shift_inside p q m x h k); low = λ y e. let z : ◌≡◌ {A = ℕ} 0 1 = cc in absurd (omega arith) }
+  moved_inside h k = record { row = sym (shift_inside p q m x h k); low = λ y e. let z : ◌≡◌ {A = ℕ} 0 1 = cc in absurd (omega arith) }
 
   pub moved_after : p ≤ x → q ≤ x → Moved p q m x (Some (x + m - (q - p)))
-  unfolding row_told
-  moved_after h k = record { row = rw (shift_after p q m x h k); low = λ y e. let z : x + m - (q - p) ≡ y = cc in omega arith }
-
--- what an answer tells of the row
-gone_told : (o : Option ℕ) → None ≡ row_told o → o ≡ none
-unfolding row_told
-gone_told none e = refl
-gone_told (some x) e = let z : ◌≡◌ {A = ℕ} 0 1 = cc in absurd (omega arith)
-
-kept_told : (o : Option ℕ) (y : ℕ) → Some y ≡ row_told o → o ≡ some y
-unfolding row_told
-kept_told none y e = let z : ◌≡◌ {A = ℕ} 0 1 = cc in absurd (omega arith)
-kept_told (some x) y e = let z : y ≡ x = cc in rw z
+  moved_after h k = record { row = sym (shift_after p q m x h k); low = λ y e. let z : x + m - (q - p) ≡ y = cc in omega arith }
 
 -- ── Changed elements ────────────────────────────────────────────────────────────────────────────────────────
 
@@ -94,7 +80,7 @@ module _ (l : List ℕ) (i : ℕ) {p q m w x : ℕ} {o : prelude.Option ℕ} (e 
   -- it gives way
   pub row_gone : {r : ℕ} → o ≡ None → r ≤ i → RowMoved l i r p q m l r
   row_gone {r} z h = record {
-    kept = rw (moved_by l i p q m none e.0 f (gone_told (shift p q m x) (sym z ∙ v.row))) (sym (append-nil (changed_in r l)));
+    kept = rw (moved_by l i p q m none e.0 f (sym (rw z at v.row))) (sym (append-nil (changed_in r l)));
     rest = refl;
     long = refl;
     most = omega arith;
@@ -104,7 +90,7 @@ module _ (l : List ℕ) (i : ℕ) {p q m w x : ℕ} {o : prelude.Option ℕ} (e 
   pub row_kept : {r y rule n : ℕ} → o ≡ Some y → r ≤ i → i < length l → rule ≡ (changed_of w).rule → (n ≡ changed_word (put_in rule y)) × (n < 2 ^ 32) → y < 131072 → RowMoved l i r p q m (set l r n) (r + 1)
   unfolding at_row
   row_kept {r} {y} {rule} {n} z h k g u b =
-      let s : moved_changed p q m (changed_of (get_or l i 0)) ≡ some (changed_of n) = moved_by l i p q m (some y) e.0 f (kept_told (shift p q m x) y (sym z ∙ v.row)) ∙ rw (u.0, changed_read (put_in rule y) b, g) in
+      let s : moved_changed p q m (changed_of (get_or l i 0)) ≡ some (changed_of n) = moved_by l i p q m (some y) e.0 f (sym (rw z at v.row)) ∙ rw (u.0, changed_read (put_in rule y) b, g) in
       record {
         kept = rw (add-one r, changed_added l r n (omega arith), s);
         rest = drop-set-lt (suc i) l r n (omega arith);
@@ -174,7 +160,7 @@ module _ (l : List ℕ) (i : ℕ) {p q m x : ℕ} {o : prelude.Option ℕ} (e : 
   -- it gives way
   pub note_gone : {r : ℕ} → o ≡ None → r ≤ i → NoteMoved l i r p q m l r
   note_gone {r} z h =
-      let g : moved_note p q m (note_at l i) ≡ none = note_by (gone_told (shift p q m x) (sym z ∙ v.row)) in
+      let g : moved_note p q m (note_at l i) ≡ none = note_by (sym (rw z at v.row)) in
       record { kept = rw g (sym (append-nil (notes_of r l))); rest = refl; long = refl; most = omega arith }
 
   -- or is written behind the first r, at the row y
@@ -182,7 +168,7 @@ module _ (l : List ℕ) (i : ℕ) {p q m x : ℕ} {o : prelude.Option ℕ} (e : 
   note_kept {r} {y} z h k w =
       let n : HeldNote = with_row (note_at l i) y in
       let b : 3 * r + 3 ≤ length l = omega arith in
-      let g : moved_note p q m (note_at l i) ≡ some n = note_by (kept_told (shift p q m x) y (sym z ∙ v.row)) in
+      let g : moved_note p q m (note_at l i) ≡ some n = note_by (sym (rw z at v.row)) in
       record {
         kept = rw (w, g) (notes_added l r n b);
         rest = rw w (drop_note l r n b i h);

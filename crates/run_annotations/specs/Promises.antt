@@ -3,8 +3,8 @@
 use Rattle.std.specs.Prelude as prelude
 use Rattle.std.specs.Prelude.{◌≡◌, None, Some, cond, List, [], ◌++◌, map, ℕ, suc, ◌+◌, ◌*◌, ◌≤◌, ltb, length, get_or, drop}
 use Rattle.std.proofs.Math.Option
-use Rattle.std.proofs.Math.Option.{Option, none, some}
-use Rattle.orders.specs.Lists.{more, pick}
+use Rattle.std.proofs.Math.Option.{Option}
+use Rattle.orders.specs.Lists.{meant, more, pick}
 use Rattle.orders.specs.Tree.{shift}
 use Rattle.rows_model.specs.Place.{in_run}
 use Rattle.run_model.specs.Store.{HeldNote, HeldChanged, with_row, at_row, put_in}
@@ -12,14 +12,9 @@ use Rattle.run_annotations.specs.Notes.{notes_of, notes_in, note_at}
 use Rattle.run_annotations.specs.Changed.{changed_of, changed_in}
 use Rattle.run_annotations.specs.Places.{part_rows}
 
--- a row, or none, as the code answers it
-unfoldable pub row_told : Option ℕ → prelude.Option ℕ
-row_told none = None
-row_told (some x) = Some x
-
 -- where the row x comes to stand where the rows p up to q give way to m others
 pub record Moved (p q m x : ℕ) (r : prelude.Option ℕ) : Type 0 where
-  pub row : r ≡ row_told (shift p q m x)
+  pub row : meant r ≡ shift p q m x
   pub low : (y : ℕ) → r ≡ Some y → y ≤ x + m
 
 -- what becomes of a changed element where the rows p up to q give way to m others

@@ -1,5 +1,8 @@
 // The changed elements and the notes that are held, moved through one splice.
-// Bounds of one number and an index of what is read stand as clauses: a value around each would be no plainer than its bound.
+// Bounds of one number, the order of two numbers, an index of what is read and room in a lent slice stand as clauses: a value around each would be no plainer than its bound.
+// So do bounds of rows that are written, and those of parts' sizes: run_tree_state's `Parts` holds these together with what is not known here, and the row of the first part
+// comes with a step alone.
+// Where a slice is written, the count of what is in use stands beside it: it is lent, and longer than what is in use.
 #![tactic(auto)]
 
 ghost use Rattle.std.specs.Prelude.{◌≡◌, ◌+◌, ◌-◌, ◌*◌, ◌/◌, ◌%◌, ◌^◌, ◌≤◌, ◌<◌, length, get_or};
@@ -93,6 +96,7 @@ pub fn move_changed(changed: &mut [u32], k: usize, shift: &Shift) -> usize
 }
 
 // Parts of some sizes, put in by this rule, go behind the first `k` changed elements; the first stands at the row `at`.
+// A `for`, since a turn writes, and the row that it writes is told by the sizes before it.
 pub fn add_changed(changed: &mut [u32], k: usize, at: usize, rule: usize, sizes: &[u32]) -> usize
     requires { (k + length sizes.now ≤ length changed.old) × (rule < 4096) × (at < 2 ^ 16) × (length sizes.now < 2 ^ 12) × All (λ x. x < 2 ^ 16) sizes.now × All (λ x. x < 131072) (part_rows at sizes.now) }
     ensures { RowsAdded changed.old k at rule sizes.now changed.new result }
@@ -131,7 +135,6 @@ fn move_note(notes: &mut [u32], i: usize, r: usize, shift: &Shift) -> usize
 
 // Rust: `annotations.retain_mut` in TreeState::splice. As `move_changed`, but three words a note: a trait for what is moved would be longer than the two loops.
 // The first `k` notes moved; what is left comes to the front.
-// The count stands beside the notes here and in `move_changed`, `keep_note` and `move_note`: they are written in place, in lent room that is longer than they are.
 pub fn move_notes(notes: &mut [u32], k: usize, shift: &Shift) -> usize
     requires { (3 * k ≤ length notes.old) × All (λ n. n.row < 2 ^ 16) (notes_of k notes.old) }
     ensures { NotesMoved notes.old k shift.now.from shift.now.to shift.now.count notes.new result }

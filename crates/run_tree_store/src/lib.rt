@@ -2,11 +2,12 @@
 // The order of two numbers and an index of what is read stand as clauses: a value around each would be no plainer than its bound.
 #![tactic(auto)]
 
-ghost use Rattle.std.specs.Prelude.{◌≡◌, ◌+◌, ◌*◌, ◌≤◌, ◌<◌, length};
-ghost use Rattle.rows_syntax_node.specs.Promises.{TreesBetween};
+ghost use Rattle.std.specs.Prelude.{◌≡◌, ◌+◌, ◌*◌, ◌≤◌, ◌<◌, length, get_or};
+ghost use Rattle.orders.specs.Lists.{meant};
+ghost use Rattle.run_model.specs.Store.{there};
 ghost use Rattle.run_model.specs.Sums.{too_large_by};
 ghost use Rattle.run_tree_store.specs.Promises.{Prepared, GapOf, GapAfter, GapRun, RunSite, SiteAt};
-ghost use Rattle.run_tree_store.specs.Gaps.{mark_or_top, parent_mark};
+ghost use Rattle.run_tree_store.specs.Gaps.{parent_mark};
 
 mod tree_store;
 mod trees;
@@ -18,6 +19,20 @@ pub use tree_store::TreeStore;
 pub use trees::Trees;
 use words::word;
 
+// ── Where an element stands ──
+
+// The row of element `x`: none if it is gone, of which its mark is 0.
+pub fn row_of(marks: &[u32], x: usize) -> Option<usize>
+    requires { x < length marks.now }
+    ensures { meant result ≡ there (get_or marks.now x 0) }
+{
+    let m = word(marks, x);
+    if m == 0 {
+        return None;
+    }
+    Some(m)
+}
+
 // ── What a listed element yields ──
 
 // Rust: TreeStore::prepare_element. The rows of element `e` with all that is below it: a run of the current rows while its mark is there, else of the
@@ -26,14 +41,13 @@ pub fn prepared_rows<'a>(trees: &Trees<'a, '_>, source: &'a [u32], e: usize) -> 
     requires { (e < length trees.now.marks.now) × (length trees.now.marks.now ≤ 2048) × (3 * length trees.now.marks.now + 3 ≤ length source.now) }
     ensures { Prepared trees.now.rows.words.now trees.now.rows.count source.now trees.now.marks.now e result.now }
 {
-    let m = word(trees.marks, e);
-    if m == 0 {
+    let Some(m) = row_of(trees.marks, e) else {
         let own = Rows {
             count: trees.marks.len() + 1,
             words: source,
         };
         return subtree(&own, e + 1);
-    }
+    };
     subtree(&trees.rows, m)
 }
 
@@ -48,35 +62,15 @@ pub struct Gap {
     pub lost: usize,
 }
 
-// The row of element `p` - 1; the root of all where `p` is 0.
-fn row_or_top(marks: &[u32], p: usize) -> usize
-    requires { p ≤ length marks.now }
-    ensures { result ≡ mark_or_top marks.now p }
-{
-    if p == 0 {
-        return 0;
-    }
-    word(marks, p - 1)
-}
-
 // The row of the parent of element `x`: 0, the root of all, for a root.
 fn parent_row(store: &TreeStore, x: usize) -> usize
     requires { x < length store.now.marks.now }
     ensures { result ≡ parent_mark store.now.table.now store.now.marks.now x }
 {
-    let p = entry(store.table, x, PARENT);
-    row_or_top(store.marks, p)
-}
-
-// The number of trees of the rows `p` up to `q`: none if `q` comes first.
-fn trees_between(rows: &Rows, p: usize, q: usize) -> usize
-    requires { q ≤ rows.now.count }
-    ensures { TreesBetween rows.now.words.now rows.now.count p q result }
-{
-    if q < p {
-        return 0;
+    match entry(store.table, x, PARENT).checked_sub(1) {
+        Some(p) => word(store.marks, p),
+        None => 0,
     }
-    children_between(rows, p, q)
 }
 
 // The element `x` at row `m` gives way.
@@ -109,14 +103,14 @@ fn gap_after(store: &TreeStore, x: usize, m: usize) -> Gap
     }
 }
 
-// The run from the element `x` at row `m` to the element at row `k`.
+// The run from the element `x` at row `m` to the element at row `k`, of no tree if its end comes first.
 fn gap_run(store: &TreeStore, x: usize, m: usize, k: usize) -> Gap
     requires { (k ≤ store.now.rows.count) × (x < length store.now.marks.now) }
     ensures { GapRun store.now.rows.words.now store.now.rows.count store.now.table.now store.now.marks.now x m k result }
 {
     let parent = parent_row(store, x);
     let to = rows_after(&store.rows, k, 1);
-    let lost = trees_between(&store.rows, m, to);
+    let lost = children_between(&store.rows, m.min(to), to);
     Gap {
         parent,
         from: m,
@@ -130,10 +124,7 @@ fn run_site(store: &TreeStore, x: usize, m: usize, y: usize) -> Option<Gap>
     requires { (x < length store.now.marks.now) × (y < length store.now.marks.now) }
     ensures { RunSite store.now.rows.words.now store.now.rows.count store.now.table.now store.now.marks.now x m y result }
 {
-    let k = word(store.marks, y);
-    if k == 0 {
-        return None;
-    }
+    let k = row_of(store.marks, y)?;
     Some(gap_run(store, x, m, k))
 }
 
@@ -147,10 +138,7 @@ fn replaced_site(store: &TreeStore, x: usize) -> Option<Gap>
         let top = child_row(&store.rows, 0, t);
         return Some(gap_of(store, x, top));
     }
-    let m = word(store.marks, x);
-    if m == 0 {
-        return None;
-    }
+    let m = row_of(store.marks, x)?;
     Some(gap_of(store, x, m))
 }
 
@@ -164,10 +152,7 @@ pub fn find_gap(store: &TreeStore, operation: usize, x: usize, y: usize) -> Opti
     if operation == Operation::Replace as usize {
         return replaced_site(store, x);
     }
-    let m = word(store.marks, x);
-    if m == 0 {
-        return None;
-    }
+    let m = row_of(store.marks, x)?;
     if operation == Operation::FirstChild as usize {
         return Some(Gap {
             parent: m,
