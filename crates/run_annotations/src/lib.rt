@@ -1,7 +1,7 @@
 // The changed elements and the notes that are held, moved through one splice.
-// Bounds of one number, the order of two numbers, an index of what is read and room in a lent slice stand as clauses: a value around each would be no plainer than its bound.
-// So do bounds of rows that are written, and those of parts' sizes: run_tree_state's `Parts` holds these together with what is not known here, and the row of the first part
-// comes with a step alone.
+// Bounds of one number, the order of two numbers, an index of what is read and room in a lent slice stand as clauses: a value around each would be no plainer
+// than its bound. So do bounds of rows that are written, and those of parts' sizes: run_tree_state's `Parts` holds these with what is not known here, and the row
+// of the first part comes with a step alone.
 // Where a slice is written, the count of what is in use stands beside it: it is lent, and longer than what is in use.
 #![tactic(auto)]
 

@@ -1,7 +1,8 @@
 // One splice of what is held, slice by slice: rows and marks, notes, changed elements.
-// The slices that are written stay apart, as run_tree_state says.
-// Bounds of one number, the order of two numbers and room in a lent slice stand as clauses: a value around each would be no plainer than its bound.
-// That a run is of whole rows and that marks are rows stands in clauses: the one is a part of the rows, the others are written.
+// The slices that are written stay apart, as run_tree_state says, each with the count of what is in use beside it, as in run_annotations.
+// Bounds of one number, the order of two numbers, an index of what is read and room in a lent slice stand as clauses: a value around each would be no plainer
+// than its bound. That a run is of whole rows, notes of whole notes, and that marks are rows and held rows are small stands in clauses: the first two are of a part
+// of the words, the others of what is written. So do bounds of parts' sizes, as run_annotations says.
 #![tactic(auto)]
 
 ghost use Rattle.std.specs.Prelude.{◌≡◌, ◌+◌, ◌-◌, ◌*◌, ◌/◌, ◌%◌, ◌^◌, ◌≤◌, ◌<◌, ◌||◌, leb, ltb, length, get_or};

@@ -21,7 +21,7 @@ use words::word;
 
 // ── Where an element stands ──
 
-// The row of element `x`: none if it is gone, of which its mark is 0.
+// The row of element `x`, which is its mark: none for 0, that of an element that is gone.
 pub fn row_of(marks: &[u32], x: usize) -> Option<usize>
     requires { x < length marks.now }
     ensures { meant result ≡ there (get_or marks.now x 0) }
@@ -63,6 +63,7 @@ pub struct Gap {
 }
 
 // The row of the parent of element `x`: 0, the root of all, for a root.
+#[tactic(auto, using(crate::proofs::Turns::parent_reach, crate::proofs::Turns::parent_found, crate::proofs::Turns::parent_top))]
 fn parent_row(store: &TreeStore, x: usize) -> usize
     requires { x < length store.now.marks.now }
     ensures { result ≡ parent_mark store.now.table.now store.now.marks.now x }
@@ -74,6 +75,7 @@ fn parent_row(store: &TreeStore, x: usize) -> usize
 }
 
 // The element `x` at row `m` gives way.
+#[tactic(auto, using(crate::proofs::Turns::gap_of_lem))]
 fn gap_of(store: &TreeStore, x: usize, m: usize) -> Gap
     requires { (m ≤ store.now.rows.count) × (x < length store.now.marks.now) }
     ensures { GapOf store.now.rows.words.now store.now.rows.count store.now.table.now store.now.marks.now x m result }
@@ -89,6 +91,7 @@ fn gap_of(store: &TreeStore, x: usize, m: usize) -> Gap
 }
 
 // The place behind the element `x` at row `m`.
+#[tactic(auto, using(crate::proofs::Turns::gap_after_lem))]
 fn gap_after(store: &TreeStore, x: usize, m: usize) -> Gap
     requires { (m ≤ store.now.rows.count) × (x < length store.now.marks.now) }
     ensures { GapAfter store.now.rows.words.now store.now.rows.count store.now.table.now store.now.marks.now x m result }
@@ -104,6 +107,7 @@ fn gap_after(store: &TreeStore, x: usize, m: usize) -> Gap
 }
 
 // The run from the element `x` at row `m` to the element at row `k`, of no tree if its end comes first.
+#[tactic(auto, using(crate::proofs::Turns::gap_run_lem))]
 fn gap_run(store: &TreeStore, x: usize, m: usize, k: usize) -> Gap
     requires { (k ≤ store.now.rows.count) × (x < length store.now.marks.now) }
     ensures { GapRun store.now.rows.words.now store.now.rows.count store.now.table.now store.now.marks.now x m k result }
