@@ -8,19 +8,17 @@ use mathlib.Core.Option.{none, some}
 use Prim.Native.Nat.{ℕ, ◌+◌, ◌-◌, ◌*◌, ◌%◌, ◌/◌, ◌^◌, ◌≤◌, ◌<◌}
 use native.Mathlib.Omega.{arith}
 use lib.ListN.{length, get_or, length-map}
-use Rattle.orders.specs.Lists.{All, pick, meant}
+use Rattle.orders.specs.Lists.{All, meant}
 use Rattle.rows_model.proofs.Words.{length_triples}
 use Rattle.run_model.specs.Store.{HeldChanged, put_in, Part, new_rows, placed_parts, spliced_store}
 use Rattle.run_model.proofs.Spliced.{store_same}
-use Rattle.run_annotations.specs.Notes.{notes_of}
 use Rattle.run_annotations.specs.Places.{part_rows, part_rows_lem}
 use Rattle.run_annotations.specs.Changed.{put_by}
-use Rattle.run_annotations.specs.Promises.{moved_note}
 use Rattle.run_tree_store.specs.Stored.{stored}
 use Rattle.run_tree_store.specs.declared.Gap.{Gap}
 use Rattle.run_tree_state.specs.Coming.{Coming}
 use Rattle.run_splice.specs.Promises.{SplicedMarks, NotesSpliced, ChangedSpliced}
-use Rattle.run_tree_state.specs.Store.{gap_told, Open, StoreSpliced}
+use Rattle.run_tree_state.specs.Store.{gap_told, Open, RoomFor, StoreSpliced}
 use Rattle.run_tree_state.specs.declared.TreeState.{TreeState}
 
 -- parts that stand in bounds from the row a on do so from the row b on
@@ -36,11 +34,11 @@ module _ {s : TreeState} {rows marks notes changed : List ℕ} {g : Gap} {record
   pub asks_sizes : (length sizes < 2 ^ 12) × All (λ x. x < 2 ^ 16) sizes × All (λ x. x < 131072) (part_rows g.from sizes)
   asks_sizes = (omega (arith, w.few_parts), w.sized, places_small g.from 0 g.from sizes (omega arith) (omega (arith, v.order, shift_low)) w.placed)
 
-  pub asks_rows : (3 * (s.rows - (g.to - g.from)) + length run ≤ length rows) × (3 * (length (pick (moved_note g.from g.to (length run / 3)) (notes_of s.notes notes)) + length incoming / 3) ≤ length notes)
+  pub asks_rows : RoomFor s rows notes g run incoming
       → ((3 * s.rows ≤ length rows) × (s.rows < 2 ^ 16) × (g.parent < g.from) × (g.from ≤ g.to) × (g.to ≤ s.rows) × All (λ m. m < s.rows) marks)
       × ((length run % 3 ≡ 0) × (length run < 3 * 2 ^ 16) × (3 * (s.rows - (g.to - g.from)) + length run ≤ length rows))
       × ((2147483648 ≤ get_or rows (3 * g.parent) 0) × (g.lost ≤ get_or rows (3 * g.parent + 1) 0) × (get_or rows (3 * g.parent + 1) 0 + length sizes < 2 ^ 32))
-  asks_rows h = ((v.long, omega (arith, v.few), v.below, v.order, v.high, v.marked), (w.whole, omega (arith, w.short), h.0), (v.node, v.lost, v.gained))
+  asks_rows h = ((v.long, omega (arith, v.few), v.below, v.order, v.high, v.marked), (w.whole, omega (arith, w.short), h.long), (v.node, v.lost, v.gained))
 
 -- what is recorded, by the parts
 put_parts : (recorded : prelude.Option ℕ) (at : ℕ) (new : List Part) → put_by recorded (part_rows at (map (λ y. length y.rows) new)) ≡ elim (meant recorded) as (λ _. List HeldChanged) [ none ↦ [] | some rule ↦ map (λ y. put_in rule y.0) (placed_parts at new) ]

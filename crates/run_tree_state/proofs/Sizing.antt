@@ -28,7 +28,7 @@ use Rattle.run_tree_store.specs.Stored.{stored}
 use Rattle.run_tree_store.specs.declared.Gap.{Gap}
 use Rattle.run_tree_state.specs.Coming.{Coming}
 use Rattle.run_splice.specs.Promises.{NotesLeft}
-use Rattle.run_tree_state.specs.Store.{held_in, gap_told, Comes, Open, StoreSpliced}
+use Rattle.run_tree_state.specs.Store.{held_in, gap_told, Comes, Open, RoomFor, StoreSpliced}
 use Rattle.run_tree_state.specs.Sizes.{BytesBetween, size_by, rows_then, bytes_then, notes_then, large_then, StepSize}
 use Rattle.run_tree_state.specs.Applied.{executed_in, judged_store, Applied}
 use Rattle.run_tree_state.specs.declared.TreeState.{TreeState}
@@ -166,12 +166,11 @@ module _ {s : TreeState} {rows marks notes changed : List ℕ} {g : Gap} {record
         (x, y)
 
     -- so there is room for all
-    pub apply_asks : {b : ℕ} → r ≡ Some b → (12291 ≤ length rows) × (3072 ≤ length notes)
-        → (3 * (s.rows - (g.to - g.from)) + length run ≤ length rows) × (3 * (length (pick (moved_note g.from g.to (length run / 3)) (notes_of s.notes notes)) + length incoming / 3) ≤ length notes)
+    pub apply_asks : {b : ℕ} → r ≡ Some b → (12291 ≤ length rows) × (3072 ≤ length notes) → RoomFor s rows notes g run incoming
     unfolding rows_then notes_then
     apply_asks {b} e h =
         let (x, y) = small_then e in
-        (omega (arith, w.whole, h.0), omega (arith, h.1))
+        record { long = omega (arith, w.whole, h.0); long_notes = omega (arith, h.1) }
 
     pub apply_refused : r ≡ None → Applied s rows marks notes changed g above recorded run sizes incoming rows marks notes changed (Err Large)
     unfolding executed_in judged_store refuse ◌>>=◌ number

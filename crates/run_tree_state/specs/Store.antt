@@ -3,13 +3,14 @@
 use Rattle.std.specs.Prelude as prelude
 use Rattle.std.specs.Prelude.{◌≡◌, ℕ, ◌+◌, ◌-◌, ◌*◌, ◌/◌, ◌^◌, ◌≤◌, ◌<◌, length, get_or}
 use mathlib.Core.List.{List, map, flat_map}
-use Rattle.orders.specs.Lists.{All, meant}
+use Rattle.orders.specs.Lists.{All, pick, meant}
 use Rattle.rows_model.specs.Row.{triples, first_rows, bytes}
 use Rattle.rows_model.specs.Place.{splice_rows}
 use Rattle.run_model.specs.Store as model
 use Rattle.run_model.specs.Store.{Store, with_row, Part, new_rows, placed_parts, spliced_store}
 use Rattle.run_annotations.specs.Notes.{notes_of, notes_in}
 use Rattle.run_annotations.specs.Changed.{changed_in, Ruled, count_by}
+use Rattle.run_annotations.specs.Promises.{moved_note}
 use Rattle.run_tree_store.specs.Stored.{stored}
 use Rattle.run_tree_store.specs.declared.Gap.{Gap}
 use Rattle.run_tree_state.specs.declared.TreeState.{TreeState}
@@ -47,6 +48,11 @@ pub record Open (s : TreeState) (rows marks notes changed : List ℕ) (g : Gap) 
   pub ruled : Ruled recorded
   pub few_bytes : s.bytes ≤ 16384
   pub measured : (text : List ℕ) → s.bytes ≡ bytes (first_rows text s.rows rows)
+
+-- there is room for what comes in, once the gap has given way
+pub record RoomFor (s : TreeState) (rows notes : List ℕ) (g : Gap) (run incoming : List ℕ) : Type 0 where
+  pub long : 3 * (s.rows - (g.to - g.from)) + length run ≤ length rows
+  pub long_notes : 3 * (length (pick (moved_note g.from g.to (length run / 3)) (notes_of s.notes notes)) + length incoming / 3) ≤ length notes
 
 -- the rows of the gap have given way to what comes in
 pub record StoreSpliced (s : TreeState) (rows marks notes changed : List ℕ) (g : Gap) (recorded : prelude.Option ℕ) (run sizes incoming : List ℕ) (bytes : ℕ) (rows' marks' notes' changed' : List ℕ) (r : TreeState) : Type 0 where

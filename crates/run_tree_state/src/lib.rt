@@ -2,16 +2,13 @@
 // go through together. 12 is decided before anything is written.
 // These four stay slices here and in the crates above, and what is prepared for a step does there: a step reads some of them while it writes others, so that each
 // function would begin by lending the fields of one value by themselves again; no plainer.
-// The order of two numbers and room in a lent slice stand as clauses: a value around each would be no plainer than its bound.
-// `Open` stands in clauses, since it is of slices that are written.
+// Bounds of one number, the order of two numbers and room in a lent slice stand as clauses: a value around each would be no plainer than its bound.
+// `Open`, `RoomFor` and what is told of text bytes stand in clauses, since they are of slices that are written.
 #![tactic(auto)]
 
 ghost use Rattle.std.specs.Prelude.{◌≡◌, List, ℕ, ◌+◌, ◌-◌, ◌*◌, ◌/◌, ◌^◌, ◌≤◌, ◌<◌, length};
-ghost use Rattle.orders.specs.Lists.{pick};
-ghost use Rattle.run_annotations.specs.Notes.{notes_of};
-ghost use Rattle.run_annotations.specs.Promises.{moved_note};
 ghost use Rattle.rows_model.specs.Row.{first_rows, bytes as bytes_of};
-ghost use Rattle.run_tree_state.specs.Store.{Open, StoreSpliced};
+ghost use Rattle.run_tree_state.specs.Store.{Open, RoomFor, StoreSpliced};
 ghost use Rattle.run_tree_state.specs.Sizes.{BytesBetween, StepSize};
 ghost use Rattle.run_tree_state.specs.Applied.{Applied};
 
@@ -51,7 +48,7 @@ fn splice_store(
     bytes: usize,
 ) -> TreeState
     requires fact { Open s rows.old marks.old notes.old changed.old site.now.gap site.now.recorded (length parts.now.sizes.now) }
-    requires run_in_bounds { (3 * (s.rows - (site.now.gap.to - site.now.gap.from)) + length parts.now.run.now ≤ length rows.old) × (3 * (length (pick (moved_note site.now.gap.from site.now.gap.to (length parts.now.run.now / 3)) (notes_of s.notes notes.old)) + length parts.now.notes.now / 3) ≤ length notes.old) }
+    requires room { RoomFor s rows.old notes.old site.now.gap parts.now.run.now parts.now.notes.now }
     ensures { StoreSpliced s rows.old marks.old notes.old changed.old site.now.gap site.now.recorded parts.now.run.now parts.now.sizes.now parts.now.notes.now bytes rows.new marks.new notes.new changed.new result }
 {
     let gap = site.gap;
@@ -90,7 +87,7 @@ fn splice(
     bytes: usize,
 )
     requires fact { Open t.old rows.old marks.old notes.old changed.old site.now.gap site.now.recorded (length parts.now.sizes.now) }
-    requires run_in_bounds { (3 * (t.old.rows - (site.now.gap.to - site.now.gap.from)) + length parts.now.run.now ≤ length rows.old) × (3 * (length (pick (moved_note site.now.gap.from site.now.gap.to (length parts.now.run.now / 3)) (notes_of t.old.notes notes.old)) + length parts.now.notes.now / 3) ≤ length notes.old) }
+    requires room { RoomFor t.old rows.old notes.old site.now.gap parts.now.run.now parts.now.notes.now }
     ensures { StoreSpliced t.old rows.old marks.old notes.old changed.old site.now.gap site.now.recorded parts.now.run.now parts.now.sizes.now parts.now.notes.now bytes rows.new marks.new notes.new changed.new t.new }
 {
     *t = splice_store(*t, rows, marks, notes, changed, site, parts, bytes);
@@ -108,7 +105,7 @@ fn replace_root(
     bytes: usize,
 )
     requires fact { Open t.old rows.old marks.old notes.old changed.old site.now.gap site.now.recorded (length parts.now.sizes.now) }
-    requires run_in_bounds { (3 * (t.old.rows - (site.now.gap.to - site.now.gap.from)) + length parts.now.run.now ≤ length rows.old) × (3 * (length (pick (moved_note site.now.gap.from site.now.gap.to (length parts.now.run.now / 3)) (notes_of t.old.notes notes.old)) + length parts.now.notes.now / 3) ≤ length notes.old) }
+    requires room { RoomFor t.old rows.old notes.old site.now.gap parts.now.run.now parts.now.notes.now }
     requires from_value { site.now.gap.from ≡ t.old.root }
     ensures { StoreSpliced t.old rows.old marks.old notes.old changed.old site.now.gap site.now.recorded parts.now.run.now parts.now.sizes.now parts.now.notes.now bytes rows.new marks.new notes.new changed.new t.new }
 {
@@ -128,7 +125,7 @@ fn splice_held(
     bytes: usize,
 ) -> TreeState
     requires fact { Open s rows.old marks.old notes.old changed.old site.now.gap site.now.recorded (length parts.now.sizes.now) }
-    requires run_in_bounds { (3 * (s.rows - (site.now.gap.to - site.now.gap.from)) + length parts.now.run.now ≤ length rows.old) × (3 * (length (pick (moved_note site.now.gap.from site.now.gap.to (length parts.now.run.now / 3)) (notes_of s.notes notes.old)) + length parts.now.notes.now / 3) ≤ length notes.old) }
+    requires room { RoomFor s rows.old notes.old site.now.gap parts.now.run.now parts.now.notes.now }
     ensures { StoreSpliced s rows.old marks.old notes.old changed.old site.now.gap site.now.recorded parts.now.run.now parts.now.sizes.now parts.now.notes.now bytes rows.new marks.new notes.new changed.new result }
 {
     let mut t = s;

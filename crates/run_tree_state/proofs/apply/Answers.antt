@@ -7,7 +7,7 @@ pub step_size-requires : goal.step_size-requires
 step_size-requires c = let v = c.requires.fact in record { rows_in_bounds = (v.long, v.few, v.order, v.high); notes_in_bounds = (v.long_notes, v.few_notes); bytes_bound = (v.few_bytes, v.measured) }
 
 pub splice_held-requires : goal.splice_held-requires
-splice_held-requires c = let p = c.requires in record { fact = p.fact; run_in_bounds = apply_asks p.fact c.args.parts.now.bounded c.step_size.ensures c.in-Some.is p.room }
+splice_held-requires c = let p = c.requires in record { fact = p.fact; room = apply_asks p.fact c.args.parts.now.bounded c.step_size.ensures c.in-Some.is p.room }
 
 pub returns-in_default : goal.returns-in_default
 returns-in_default c = search (apply_refused, rules)

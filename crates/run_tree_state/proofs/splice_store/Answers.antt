@@ -8,10 +8,10 @@ pub invariant_of-shift : goal.invariant_of-shift
 invariant_of-shift c = let v = c.requires.fact in let w = c.args.parts.now.bounded in record { order = v.order; low = shift_low v w; few = omega (arith, w.short) }
 
 pub splice-r-requires : goal.splice-r-requires
-splice-r-requires c = let p = c.requires in let a = asks_rows p.fact c.args.parts.now.bounded p.run_in_bounds in search rules
+splice-r-requires c = let p = c.requires in let a = asks_rows p.fact c.args.parts.now.bounded p.room in search rules
 
 pub splice_notes-k-requires : goal.splice_notes-k-requires
-splice_notes-k-requires c = let p = c.requires in record { k_in_bounds = (p.fact.long_notes, p.fact.noted); whole = c.args.parts.now.bounded.whole_notes; room = p.run_in_bounds.1 }
+splice_notes-k-requires c = let p = c.requires in record { k_in_bounds = (p.fact.long_notes, p.fact.noted); whole = c.args.parts.now.bounded.whole_notes; room = p.room.long_notes }
 
 pub splice_changed-l-requires : goal.splice_changed-l-requires
 splice_changed-l-requires c = let v = c.requires.fact in record { k_in_bounds = v.held; room = (v.room, v.ruled); bounded = asks_sizes v c.args.parts.now.bounded }
