@@ -13,8 +13,8 @@ use borrow.Author.Tests.{ltb-true, ltb-false}
 use lib.ListN.{length, get_or, set, drop, length-set, length-append, length-map}
 use lib.Seq.{take-suc-set}
 use lib.Dec.{ltb}
-use Rattle.orders.specs.Lists.{All, pick}
-use Rattle.orders.specs.ListLaws.{map_append, All-at}
+use Rattle.orders.specs.Lists.{meant, All, pick}
+use Rattle.orders.specs.ListLaws.{none_some, some_inj, map_append, All-at}
 use Rattle.definition.specs.Words.{word, words}
 use Rattle.words.specs.Bytes.{words_append, length_words, get_d_words}
 use Rattle.rows_model.specs.Row.{Row, first_rows, triples}
@@ -40,23 +40,22 @@ module _ {marks first : List ℕ} {e size at : ℕ} {old : List ℕ} {c : ℕ} {
       → NotesAlong marks first notes e size at old c out r
   along l g p q = record { answer = rw g p; notes = rw g q }
 
-  pub notes_first : {notes : List HeldNote} {m : ℕ} → (m ≡ get_or marks e 0) × (m < 2 ^ 32) → m ≡ 0 → annotations.NotesTaken first (e + 1) (e + 1 + size) at 1024 old c out r → NotesAlong marks first notes e size at old c out r
-  unfolding notes_with
-  notes_first {notes} v z t = along _ (ap (notes_from first notes e size) (sym v.0 ∙ z)) t.answer t.notes
+  module _ {o : prelude.Option ℕ} (v : meant o ≡ there (get_or marks e 0)) where
+    pub notes_first : {notes : List HeldNote} → o ≡ None → annotations.NotesTaken first (e + 1) (e + 1 + size) at 1024 old c out r → NotesAlong marks first notes e size at old c out r
+    unfolding notes_with
+    notes_first {notes} z t = along _ (go (get_or marks e 0) (rw z at v)) t.answer t.notes
+      where
+        go : (k : ℕ) → none ≡ there k → notes_from first notes e size k ≡ notes_from first notes e size 0
+        go zero w = refl
+        go (suc k) w = none_some w
 
-  pub notes_now : {held : List ℕ} {m : ℕ} → (m ≡ get_or marks e 0) × (m < 2 ^ 32) → (m ≡ 0 → ⊥) → annotations.NotesTaken held m (m + size) at 1024 old c out r → NotesAlong marks first (notes_in held) e size at old c out r
-  unfolding notes_with
-  notes_now {held} {m} v z t = along _ (ap (notes_from first (notes_in held) e size) (sym v.0) ∙ go m z) t.answer t.notes
-    where
-      go : (m : ℕ) → (m ≡ 0 → ⊥) → notes_from first (notes_in held) e size m ≡ pick (note_in m (m + size)) (notes_in held)
-      go zero z = absurd (z refl)
-      go (suc m) z = refl
-
--- ── Elements ────────────────────────────────────────────────────────────────────────────────────────────────
-
--- a mark is a row
-pub mark_few : {n m : ℕ} (l : List ℕ) (i : ℕ) → All (λ m. m < n) l → n ≤ 4097 → i < length l → (m ≡ get_or l i 0) × (m < 2 ^ 32) → m ≤ 4097
-mark_few {n} l i h k b e = omega (arith, e.0, All-at (λ x. x < n) 0 l i b h)
+    pub notes_now : {held : List ℕ} {m : ℕ} → o ≡ Some m → annotations.NotesTaken held m (m + size) at 1024 old c out r → NotesAlong marks first (notes_in held) e size at old c out r
+    unfolding notes_with
+    notes_now {held} {m} z t = along _ (go (get_or marks e 0) (rw z at v)) t.answer t.notes
+      where
+        go : (k : ℕ) → some m ≡ there k → notes_from first (notes_in held) e size k ≡ pick (note_in m (m + size)) (notes_in held)
+        go zero w = none_some (sym w)
+        go (suc k) w = rw (some_inj w)
 
 -- ── What one element yields ─────────────────────────────────────────────────────────────────────────────────
 

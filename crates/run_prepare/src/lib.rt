@@ -1,6 +1,7 @@
 // What the listed elements of a step yield: their rows one behind another, the number of rows of each, and the notes that come along.
 // The slices that are lent to be written stay apart, as run_tree_state says.
-// Room in a lent slice stands as a clause: a value around each would be no plainer than its bound.
+// Bounds of one number, an index of what is read and room in a lent slice stand as clauses: a value around each would be no plainer than its bound.
+// That the list names elements stands in a clause, since it is of the list's bytes and of the marks together.
 #![tactic(auto)]
 
 ghost use Rattle.std.specs.Prelude.{◌/◌, ◌≤◌, ◌<◌, length};
@@ -11,9 +12,9 @@ ghost use Rattle.run_prepare.specs.Promises.{NotesAlong, ElementPrepared, Elemen
 mod stores;
 
 use rows_syntax_node::{ROW_WORDS, append_rows};
-use run_tree_store::prepared_rows;
+use run_tree_store::{prepared_rows, row_of};
 pub use stores::Stores;
-use words::{read_word, word};
+use words::read_word;
 
 // How many rows and notes come in.
 #[derive(Clone, Copy)]
@@ -35,10 +36,9 @@ fn element_notes(
     requires { (e < length stores.now.trees.marks.now) × (size ≤ 4096) × (at ≤ 8193) × (c ≤ 1024) × (3072 ≤ length incoming.old) }
     ensures { NotesAlong stores.now.trees.marks.now stores.now.first.now (notes_in stores.now.notes.now) e size at incoming.old c incoming.new result }
 {
-    let m = word(stores.trees.marks, e);
-    if m == 0 {
+    let Some(m) = row_of(stores.trees.marks, e) else {
         return run_annotations::notes_in(stores.first, e + 1, e + 1 + size, at, incoming, c, 1024);
-    }
+    };
     run_annotations::notes_in(stores.notes, m, m + size, at, incoming, c, 1024)
 }
 
