@@ -2,7 +2,7 @@
 // Bounds of one number stand as clauses: a value around each would be no plainer than its bound.
 #![tactic(auto)]
 
-ghost use Rattle.std.specs.Prelude.{◌≡◌, ◌^◌, ◌<◌, length};
+ghost use Rattle.std.specs.Prelude.{◌≡◌, ℕ, ◌^◌, ◌<◌, length};
 ghost use Rattle.read_element_table.specs.Wellformed.{Lines};
 ghost use Rattle.record_changes.specs.ChangeRowLaws.{row_at};
 ghost use Rattle.run_tree_store.specs.Promises.{SiteAt};
@@ -24,9 +24,9 @@ pub fn change_gap(store: &TreeStore, changes: &[u32], k: usize) -> Option<Gap>
 }
 
 // The depth of the node below which the change at place `k` goes: 0 for the root of all. A first child goes below its target.
-// The table stays a slice: no row and no mark is asked for, as a `TreeStore` holds them.
-pub fn depth_above(table: &[u32], n: usize, changes: &[u32], k: usize) -> usize
-    requires { Lines n table.now × (k < 2 ^ 32) × ((row_at changes.now k).target < n) }
+// The table, of some `n` elements, stays a slice: no row and no mark is asked for, as a `TreeStore` holds them.
+pub fn depth_above(table: &[u32], changes: &[u32], k: usize) -> usize
+    requires { (n : ℕ) × Lines n table.now × (k < 2 ^ 32) × ((row_at changes.now k).target < n) }
     ensures { AboveBy table.now (row_at changes.now k).operation (row_at changes.now k).target result }
 {
     let x = field(changes, k, record_changes::TARGET);

@@ -8,7 +8,7 @@ ghost use Rattle.orders.specs.Lists.{All};
 ghost use Rattle.definition.specs.Refusals.{most_listed};
 ghost use Rattle.read_element_table.specs.View.{view};
 ghost use Rattle.record_changes.specs.ChangeRowLaws.{row_at};
-ghost use Rattle.run_step.specs.Standing.{Begun, Standing};
+ghost use Rattle.run_step.specs.Standing.{Begun, Lent, Standing};
 ghost use Rattle.run_step.specs.Stepping.{Performs};
 ghost use Rattle.run_prepare.specs.Parts.{words_in};
 ghost use Rattle.run_execute.specs.Running.{lists_all, RanSteps, Began, Ran};
@@ -66,7 +66,7 @@ fn run_steps(
     start: TreeState,
 ) -> Result<TreeState, Refusal>
     requires standing { Standing (length marks.old) task.now.table.now task.now.source.now task.now.first.now start rows.old marks.old notes.old changed.old }
-    requires in_bounds { (12291 ≤ length rows.old) × (3072 ≤ length notes.old) × (12288 ≤ length prepared.old) × (most_listed ≤ length sizes.old) × (3072 ≤ length incoming.old) }
+    requires in_bounds { Lent rows.old notes.old prepared.old sizes.old incoming.old }
     requires listed_len_bound { (length task.now.listed.now ≤ 4096) × All (λ e. e < length marks.old) (words_in task.now.listed.now) }
     requires all { All (λ k. Performs (length marks.old) (view (length marks.old) task.now.table.now task.now.source.now) (words_in task.now.listed.now) (row_at task.now.changes.now k)) running.now }
     requires running_in_bounds { start.changed + lists_all (view (length marks.old) task.now.table.now task.now.source.now) (words_in task.now.listed.now) task.now.changes.now running.now ≤ length changed.old }
@@ -104,7 +104,7 @@ pub fn execute(
     running: &[u32],
 ) -> Result<TreeState, Refusal>
     requires begun { Begun (length marks.old) task.now.table.now task.now.source.now task.now.first.now }
-    requires in_bounds { (12291 ≤ length rows.old) × (3072 ≤ length notes.old) × (12288 ≤ length prepared.old) × (most_listed ≤ length sizes.old) × (3072 ≤ length incoming.old) }
+    requires in_bounds { Lent rows.old notes.old prepared.old sizes.old incoming.old }
     requires listed_len_bound { (length task.now.listed.now ≤ 4096) × All (λ e. e < length marks.old) (words_in task.now.listed.now) }
     requires all { All (λ k. Performs (length marks.old) (view (length marks.old) task.now.table.now task.now.source.now) (words_in task.now.listed.now) (row_at task.now.changes.now k)) running.now }
     requires running_in_bounds { lists_all (view (length marks.old) task.now.table.now task.now.source.now) (words_in task.now.listed.now) task.now.changes.now running.now ≤ length changed.old }

@@ -14,6 +14,7 @@ use Rattle.orders.proofs.TreeLaws.{list_forest}
 use Rattle.definition.specs.Basics.{Answer, gives, ◌>>=◌}
 use Rattle.definition.specs.Elements.{Table, table, row, no_row}
 use Rattle.definition.specs.Planning.{Planned}
+use Rattle.definition.specs.Refusals.{most_listed}
 use Rattle.definition.specs.Rewriting.{Note}
 use Rattle.definition.specs.Running.{World, begin, present, step, steps}
 use Rattle.definition_laws.specs.Answers.{gives_inj, both_given}
@@ -40,6 +41,10 @@ use Rattle.run_tree_store.specs.Stored.{stored, stored_first}
 use Rattle.run_tree_state.specs.Store.{held_in}
 use Rattle.run_tree_state.specs.declared.TreeState.{TreeState}
 use Rattle.run_prepare.specs.Parts.{notes_in}
+
+-- room in the slices that are lent to the steps of a run: for rows and notes, and for what comes in with a step, its rows, the number of rows of each part, its notes
+abbrev pub Lent : List ℕ → List ℕ → List ℕ → List ℕ → List ℕ → Type 0
+Lent rows notes prepared sizes incoming = (12291 ≤ length rows) × (3072 ≤ length notes) × (12288 ≤ length prepared) × (most_listed ≤ length sizes) × (3072 ≤ length incoming)
 
 -- ── The batch ───────────────────────────────────────────────────────────────────────────────────────────────
 

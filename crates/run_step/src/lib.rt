@@ -1,6 +1,7 @@
 // One step of the run over all that is held.
 // The slices that are lent to be written stay apart, as run_tree_state says.
-// Bounds of one number and room in a lent slice stand as clauses: a value around each would be no plainer than its bound.
+// Bounds of one number, an index of what is read and room in a lent slice stand as clauses: a value around each would be no plainer than its bound.
+// What is held and what a `Task` is asked of stand in clauses, as the task says.
 #![tactic(auto)]
 
 ghost use Rattle.std.specs.Prelude.{◌≡◌, ◌+◌, ◌*◌, ◌/◌, ◌^◌, ◌≤◌, ◌<◌, length};
@@ -11,7 +12,7 @@ ghost use Rattle.record_changes.specs.ChangeRowLaws.{row_at};
 ghost use Rattle.run_tree_state.specs.Store.{Open};
 ghost use Rattle.run_prepare.specs.Parts.{words_in};
 ghost use Rattle.run_prepare.specs.Listed.{part_from};
-ghost use Rattle.run_step.specs.Standing.{Standing};
+ghost use Rattle.run_step.specs.Standing.{Lent, Standing};
 ghost use Rattle.run_step.specs.Stepping.{SiteFound, SteppedAt, Performs, lists_in, Stepped};
 
 mod task;
@@ -32,7 +33,7 @@ fn change_site(store: &TreeStore, changes: &[u32], k: usize) -> Option<Site>
     ensures { SiteFound store.now.rows.words.now store.now.rows.count store.now.table.now store.now.marks.now (row_at changes.now k) result }
 {
     let gap = change_gap(store, changes, k)?;
-    let above = depth_above(store.table, store.marks.len(), changes, k);
+    let above = depth_above(store.table, changes, k);
     let recorded = recorded_by(changes, k);
     Some(Site {
         gap,
@@ -66,7 +67,7 @@ fn step_at(
     site: &Site,
 ) -> Result<TreeState, Refusal>
     requires fact { Open s rows.old marks.old notes.old changed.old site.now.gap site.now.recorded (length list.now / 4) }
-    requires room { (12291 ≤ length rows.old) × (3072 ≤ length notes.old) × (12288 ≤ length prepared.old) × (most_listed ≤ length sizes.old) × (3072 ≤ length incoming.old) }
+    requires room { Lent rows.old notes.old prepared.old sizes.old incoming.old }
     requires task_in_bounds { (length marks.old ≤ 2048) × (3 * length marks.old + 3 ≤ length task.now.source.now) × (length task.now.first.now ≤ 768) × (length list.now ≤ 4 * most_listed) × All (λ e. e < length marks.old) (words_in list.now) }
     ensures { SteppedAt s rows.old marks.old notes.old changed.old task.now.source.now task.now.first.now site.now.gap site.now.above site.now.recorded (words_in list.now) rows.new marks.new notes.new changed.new result }
 {
@@ -106,7 +107,7 @@ pub fn step(
     s: TreeState,
 ) -> Result<TreeState, Refusal>
     requires standing { Standing (length marks.old) task.now.table.now task.now.source.now task.now.first.now s rows.old marks.old notes.old changed.old }
-    requires in_bounds { (12291 ≤ length rows.old) × (3072 ≤ length notes.old) × (12288 ≤ length prepared.old) × (most_listed ≤ length sizes.old) × (3072 ≤ length incoming.old) }
+    requires in_bounds { Lent rows.old notes.old prepared.old sizes.old incoming.old }
     requires listed_len_bound { (length task.now.listed.now ≤ 4096) × All (λ e. e < length marks.old) (words_in task.now.listed.now) × (k < 2 ^ 32) }
     requires performs { Performs (length marks.old) (view (length marks.old) task.now.table.now task.now.source.now) (words_in task.now.listed.now) (row_at task.now.changes.now k) }
     requires k_in_bounds { s.changed + lists_in (view (length marks.old) task.now.table.now task.now.source.now) (words_in task.now.listed.now) (row_at task.now.changes.now k) ≤ length changed.old }
