@@ -17,7 +17,7 @@ use Rattle.rows_syntax_node.specs.Promises.{Counted}
 use Rattle.rows_model.specs.Row.{Row, owes, row_in, triples}
 use Rattle.rows_model.proofs.Words.{triples_at, triples_end}
 use Rattle.splices_model.specs.Bounds.{rows_to}
-use Rattle.splices_model.specs.Verdict.{owed, closed, bounded_at, fit_at, fits_to, limited, roomy, judged_by, all_more, fits_each}
+use Rattle.splices_model.specs.Verdict.{owed, closed, bounded_at, fit_at, fits_to, limited, roomy, judged_by, all_alike, fits_each}
 use Rattle.splices_apart.specs.Promises.{RowsTo, ApartAll}
 use Rattle.splices_check.specs.Promises.{Closes, FitsAll, OneTree, Fitted, Judged}
 
@@ -52,13 +52,9 @@ module _ {run : List ℕ} {o i : ℕ} (v : Owing run o i) where
 -- ── Every splice ────────────────────────────────────────────────────────────────────────────────────────────
 
 -- the library's test of each is the definition's
-fits_listed : (text rows : List ℕ) (e : ℕ) (s p : List ℕ) (c : ℕ) → list_all (fit_at text rows e s p) (range_with_len 0 c) ≡ fits_to text rows e s p c
-unfolding fits_to
-fits_listed text rows e s p zero = refl
-fits_listed text rows e s p (suc c) = all_more (fit_at text rows e s p) c ∙ ap (λ b. fit_at text rows e s p c && b) (fits_listed text rows e s p c)
-
 pub all_listed : {rows : List ℕ} {e : ℕ} {s p : List ℕ} {c : ℕ} {r : Bool} → ((text : List ℕ) → r ≡ list_all (fit_at text rows e s p) (range_with_len 0 c)) → FitsAll rows e s p c r
-all_listed {rows} {e} {s} {p} {c} h = record { says = λ text. h text ∙ fits_listed text rows e s p c }
+unfolding fits_to
+all_listed {rows} {e} {s} {p} {c} h = record { says = λ text. h text ∙ all_alike _ (fits_to text rows e s p) refl (λ k. refl) c }
 
 -- ── One tree ────────────────────────────────────────────────────────────────────────────────────────────────
 

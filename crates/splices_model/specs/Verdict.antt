@@ -221,9 +221,10 @@ all_from p a (suc n) =
     let e : a + 1 + n ≡ a + suc n = omega arith in
     rw (all_from p (a + 1) n, e) (and-swap (p a) (p (a + suc n)) (list_all p (range_with_len (a + 1) n)))
 
--- the library's test of each number below n, the last first
-pub all_more : (p : ℕ → Bool) (n : ℕ) → list_all p (range_with_len 0 (suc n)) ≡ (p n && list_all p (range_with_len 0 n))
-all_more p n = all_from p 0 n ∙ ap (λ k. p k && list_all p (range_with_len 0 n)) (zero-add n)
+-- the library's test of each number below n is one that asks the last first
+pub all_alike : (p q : ℕ → Bool) → q 0 ≡ true → ((c : ℕ) → q (suc c) ≡ (p c && q c)) → (n : ℕ) → list_all p (range_with_len 0 n) ≡ q n
+all_alike p q z s zero = sym z
+all_alike p q z s (suc n) = all_from p 0 n ∙ rw (zero-add n, all_alike p q z s n) (sym (s n))
 
 -- ── A splice fits the old tree just where its words say so ──────────────────────────────────────────────────
 
