@@ -11,7 +11,7 @@ use lib.Dec.{leb, ltb}
 use lib.ListN.{length, get_or}
 use borrow.Author.Tests.{leb-true, ltb-true, lt-ltb, le-leb}
 use Rattle.orders.specs.Lists.{All, total}
-use Rattle.orders.specs.ListLaws.{both_true, bool_absurd, All-at}
+use Rattle.orders.specs.ListLaws.{both_true, bool_absurd}
 use Rattle.orders.specs.Tree.{Tree, node, list, Run}
 use Rattle.orders.specs.Splices.{Splice, State}
 use Rattle.rows_syntax_node.specs.Promises.{TreesIn, After, ChildAt}
@@ -24,7 +24,7 @@ use Rattle.splices_model.specs.Cuts.{part_at, left_cut, start_cut, cut_at, cuts_
 use Rattle.splices_model.specs.Bounds.{Bounded, BoundedTo, part_long}
 use Rattle.splices_model.specs.Step.{Due, parent_row, lost_trees, step_holds}
 use Rattle.splices_step.specs.declared.Gap.{Gap}
-use Rattle.splices_step.specs.Promises.{left_run, left_at, TreesOf, Deletes, Shifted, Started, ParentAt, GapAt, takes_by, Stepped}
+use Rattle.splices_step.specs.Promises.{left_run, left_at, TreesOf, Deletes, Shifted, Started, GapAt, takes_by, Stepped}
 
 -- what `word` tells
 abbrev Read : ℕ → ℕ → Type 0
@@ -103,20 +103,17 @@ module _ {s p : List ℕ} {i gained lost from : ℕ} (v : Shifted s p i i gained
   pub started : {e x : ℕ} → Bounded e s p i → e < 2 ^ 16 → i < 2 ^ 15 → x ≡ from + gained - lost → Started s p i x
   started h k l z = rw z (record { start = start_told; small = omega (arith, v.few, f.0, h.ordered, h.within) })
 
-pub parent_told : (marks s : List ℕ) (i : ℕ) {n pw r : ℕ} → pw ≡ get_or s (6 * i + 1) 0 → Read r (get_or marks pw 0) → get_or s (6 * i + 1) 0 < length marks → All (λ m. m < n) marks → ParentAt n marks s i r
-parent_told marks s i {n} f k h a = record { under = k.0 ∙ ap (λ x. get_or marks x 0) f; below = rw (k.0, f) (All-at (λ x. x < n) 0 marks (get_or s (6 * i + 1) 0) h a) }
-
-pub gap_told : {rows : List ℕ} {n : ℕ} {marks s p : List ℕ} {i parent start lost from to gained : ℕ} → ParentAt n marks s i parent → Started s p i start → Deletes s i lost
+pub gap_told : {rows : List ℕ} {n : ℕ} {marks s p : List ℕ} {i parent start lost from to gained : ℕ} → parent ≡ get_or marks (get_or s (6 * i + 1) 0) 0 → parent < n → Started s p i start → Deletes s i lost
     → ChildAt rows n parent start from → After rows n from lost to → TreesOf s p i gained → GapAt rows n marks s p i (record { parent = parent; from = from; to = to; lost = lost; gain = gained })
-gap_told u st d c a t = record {
+gap_told u b st d c a t = record {
   sited = record {
-    under = u.under;
+    under = u;
     first = λ text. c.row text ∙ rw (st.start text);
     goes = d.count;
     behind = λ text. a.row text;
     comes = λ text. t.count text;
   };
-  below = u.below;
+  below = b;
   low = c.low;
   order = a.low;
   high = a.high;

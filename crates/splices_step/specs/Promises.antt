@@ -41,11 +41,6 @@ pub record Started (splices prepared : List ℕ) (i r : ℕ) : Type 0 where
   pub start : (text : List ℕ) → r ≡ start_cut (cuts_to text splices prepared i) (cut_at text splices prepared i)
   pub small : r < 2 ^ 32
 
--- the present row of the parent of splice i
-pub record ParentAt (n : ℕ) (marks splices : List ℕ) (i r : ℕ) : Type 0 where
-  pub under : r ≡ get_or marks (get_or splices (6 * i + 1) 0) 0
-  pub below : r < n
-
 -- where splice i goes in the present rows
 pub record GapAt (rows : List ℕ) (n : ℕ) (marks splices prepared : List ℕ) (i : ℕ) (g : Gap) : Type 0 where
   pub sited : Sited rows n marks splices prepared i g.parent g.from g.to g.lost g.gain

@@ -1,12 +1,13 @@
 // One splice of a list on the rows and marks of one old tree. Six words a splice: number, row of its parent in the old tree, from, to, where its prepared rows
 // start, how many they are. The mark of an old element is the row where it stands now.
-// Bounds of one number and an index of what is read stand as clauses: a value around each would be no plainer than its bound.
-// That marks are rows stands in clauses, since they are written.
+// Bounds of one number, the order of two numbers, an index of what is read and room in a lent slice stand as clauses: a value around each would be no plainer
+// than its bound. That marks are rows stands in clauses, since they are written; that the words of splices are in bounds does, since it is of a list and an old tree
+// together, and the check of a list, which finds it out, reads the same `SpliceList`.
 #![tactic(auto)]
 
-ghost use Rattle.std.specs.Prelude.{◌≡◌, true, ◌+◌, ◌*◌, ◌^◌, ◌≤◌, ◌<◌, length, get_or};
+ghost use Rattle.std.specs.Prelude.{◌≡◌, true, ℕ, ◌+◌, ◌*◌, ◌^◌, ◌≤◌, ◌<◌, length, get_or};
 ghost use Rattle.orders.specs.Lists.{All};
-ghost use Rattle.splices_step.specs.Promises.{left_run, left_at, TreesOf, Deletes, Shifted, Started, ParentAt, GapAt, takes_by, Stepped};
+ghost use Rattle.splices_step.specs.Promises.{left_run, left_at, TreesOf, Deletes, Shifted, Started, GapAt, takes_by, Stepped};
 ghost use Rattle.splices_model.specs.Bounds.{BoundedTo};
 ghost use Rattle.splices_model.specs.Reading.{Stocked};
 
@@ -62,8 +63,8 @@ pub struct Moves {
 }
 
 // What the first `i` splices insert and delete to the left of splice `i`, in its parent. One loop for both: as two sums it would ask of each splice twice where it is.
-fn moves_left(list: &SpliceList, e: usize, i: usize) -> Moves
-    requires { (i < list.now.splices.count) × BoundedTo e list.now.splices.words.now list.now.prepared.now i }
+fn moves_left(list: &SpliceList, i: usize) -> Moves
+    requires { (e : ℕ) × (i < list.now.splices.count) × BoundedTo e list.now.splices.words.now list.now.prepared.now i }
     ensures { Shifted list.now.splices.words.now list.now.prepared.now i i result.gained result.lost }
 {
     let mut gained = 0;
@@ -79,11 +80,11 @@ fn moves_left(list: &SpliceList, e: usize, i: usize) -> Moves
 
 // The present start of the run of splice `i`.
 #[tactic(auto, using(crate::proofs::Turns::started))]
-fn start_now(list: &SpliceList, e: usize, i: usize) -> usize
-    requires { (e < 2 ^ 16) × (i < list.now.splices.count) × BoundedTo e list.now.splices.words.now list.now.prepared.now i }
+fn start_now(list: &SpliceList, i: usize) -> usize
+    requires { (e : ℕ) × (e < 2 ^ 16) × (i < list.now.splices.count) × BoundedTo e list.now.splices.words.now list.now.prepared.now i }
     ensures { Started list.now.splices.words.now list.now.prepared.now i result }
 {
-    let moves = moves_left(list, e, i);
+    let moves = moves_left(list, i);
     let splice = list.splices.get(i);
     (splice.from + moves.gained).saturating_sub(moves.lost)
 }
@@ -101,14 +102,6 @@ pub struct Gap {
     pub gain: usize,
 }
 
-// The present row of the parent of splice `i`, of `n` rows.
-fn parent_now(n: usize, marks: &[u32], splices: &Splices, i: usize) -> usize
-    requires { (i < splices.now.count) × (get_or splices.now.words.now (6 * i + 1) 0 < length marks.now) × All (λ m. m < n) marks.now }
-    ensures { ParentAt n marks.now splices.now.words.now i result }
-{
-    word(marks, splices.get(i).parent)
-}
-
 // Where splice `i` goes, those before it being done. Not the run's `find_gap`, which goes by an operation and the element table.
 #[tactic(auto, using(crate::proofs::Turns::gap_told))]
 fn gap_now(rows: &Rows, marks: &[u32], list: &SpliceList, i: usize) -> Gap
@@ -116,8 +109,8 @@ fn gap_now(rows: &Rows, marks: &[u32], list: &SpliceList, i: usize) -> Gap
     requires i_in_bounds { (i < list.now.splices.count) × BoundedTo (length marks.now) list.now.splices.words.now list.now.prepared.now i }
     ensures { GapAt rows.now.words.now rows.now.count marks.now list.now.splices.words.now list.now.prepared.now i result }
 {
-    let parent = parent_now(rows.count, marks, &list.splices, i);
-    let start = start_now(list, marks.len(), i);
+    let parent = word(marks, list.splices.get(i).parent);
+    let start = start_now(list, i);
     let lost = deleted(&list.splices, i);
     let from = child_row(rows, parent, start);
     let to = rows_after(rows, from, lost);
