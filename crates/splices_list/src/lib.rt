@@ -1,7 +1,7 @@
 // A list of splices, done in the order given on the rows and marks of one old tree. Six words a splice: number, row of its parent in the old tree, from, to,
 // where its prepared rows start, how many they are. The mark of an old element is the row where it stands now.
 // Bounds of one number and room in a lent slice stand as clauses: a value around each would be no plainer than its bound.
-// That marks are rows stands in clauses, since they are written.
+// That marks are rows stands in clauses, since they are written; `BoundedAll` and `Good` do, as splices_step says of the words of splices.
 #![tactic(auto)]
 
 ghost use Rattle.std.specs.Prelude.{◌≡◌, ◌+◌, ◌*◌, ◌^◌, ◌≤◌, ◌<◌, length, take};
@@ -52,16 +52,15 @@ fn plain_word(k: u32, m: u32, o: u32) -> u32
     o
 }
 
-// Such third words in each of the first `n` rows. By the number of each row: tried with `chunks_exact_mut`, but once such a loan is over a proof knows how long the slice is, and none of its words.
+// Such third words in each of the first `n` rows. By the number of each row: tried with `chunks_exact_mut`, but once that loan is over the goal names a slice of which
+// a proof knows how long it is, and none of its words.
 fn make_plain(rows: &mut [u32], n: usize)
     requires { (3 * n ≤ length rows.old) × (n < 2 ^ 16) }
     ensures { rows.new ≡ plain n rows.old }
 {
     for i in 0..n {
-        let k = rows[ROW_WORDS * i];
-        let m = rows[ROW_WORDS * i + MEASURE];
-        let o = rows[ROW_WORDS * i + TEXT];
-        rows[ROW_WORDS * i + TEXT] = plain_word(k, m, o);
+        let at = ROW_WORDS * i;
+        rows[at + TEXT] = plain_word(rows[at], rows[at + MEASURE], rows[at + TEXT]);
     }
 }
 
