@@ -1,6 +1,6 @@
 -- The surviving old elements of an edit, as pairs (document 02, Note 11): what a call hands out of them.
 -- Assumes nothing.
-use Rattle.std.specs.Prelude.{List, ◌++◌, ◌≡◌, map, length, ℕ, ◌+◌, ◌*◌}
+use Rattle.std.specs.Prelude.{List, ◌++◌, ◌≡◌, map, length, ℕ, ◌*◌}
 use Rattle.std.proofs.Common.{◌∙◌, arith, length-append}
 use Rattle.std.proofs.lemmas.List.{length-map}
 use Rattle.definition.specs.Basics.{Answer, gives, ◌>>=◌}

@@ -39,7 +39,8 @@ pub struct Work<'a> {
     pub prepared: &'a mut [u32],
 }
 
-// Whether a work slice is shorter than its length in docs/WORK.md.
+// Whether a work slice is shorter than its length in docs/WORK.md. The writer and the checker (`write_batch`, `check_claim`) have one each for their own slices, by their own numbers: what could be
+// shared is the test of a list of lengths, which is this `any`.
 pub fn too_short(work: &Work) -> bool
     ensures { result ≡ too_short (lengths needed (held work.now)) }
 {
@@ -58,7 +59,7 @@ pub fn too_short(work: &Work) -> bool
     .any(|lent| lent.0 < lent.1)
 }
 
-// Every work slice becomes zeros.
+// Every work slice becomes zeros. Beside the writer's and the checker's, as above: each fills the fields of its own struct, which one function could take only as a slice of lent slices.
 #[tactic(auto, unfolding(crate::specs::Slices::zeroed, crate::specs::Slices::zeros))]
 pub fn clear_all(work: &mut Work)
     ensures same { Same work.old work.new }

@@ -1,13 +1,13 @@
 -- Moves in a row: a bookmark's path stays a path of tree 0; two rows one after the other; a replaced root drops all.
 -- Assumes nothing.
-use Rattle.std.specs.Prelude.{◌≡◌, Bool, not, cond, ◌⊎◌, eqb}
+use Rattle.std.specs.Prelude.{◌≡◌, Bool, ◌⊎◌, eqb}
 use Rattle.std.proofs.Math.Path.{refl, subst}
 use Rattle.std.proofs.Common.{sym, ap, ◌∙◌, inl, inr, arith, eqb-true}
 use Rattle.std.proofs.Math.Bool.{true, false}
-use mathlib.Core.List.{List, [], ◌∷◌, ◌++◌, map, tail}
+use mathlib.Core.List.{List, [], ◌∷◌, ◌++◌, tail}
 use Rattle.std.proofs.Math.Option
 use Rattle.std.proofs.Math.Option.{Option, none, some, bind}
-use Prim.Native.Nat.{ℕ, suc, ◌+◌}
+use Prim.Native.Nat.{ℕ, suc}
 use Rattle.std.proofs.Math.ListN.{length}
 use Rattle.orders.specs.Lists.{All, pick}
 use Rattle.orders.specs.ListLaws.{some_inj, none_some, map_some, bind_some, pick_none, pick_some}
@@ -19,10 +19,10 @@ use Rattle.definition.specs.Planning.{Planned}
 use Rattle.definition.specs.Rewriting.{Note}
 use Rattle.definition.specs.Running.{World, begin, news, place, step, steps}
 use Rattle.definition.specs.Performed.{met}
-use Rattle.definition_laws.specs.Answers.{gives_inj, given}
+use Rattle.definition_laws.specs.Answers.{given}
 use Rattle.definition_laws.specs.Spelling.{Worded}
 use Rattle.definition_laws.specs.Right.{Right, right_sits}
-use Rattle.definition_laws.specs.Running.{Follows, follows_begin, Fits, place_fits, step_follows}
+use Rattle.definition_laws.specs.Running.{Follows, follows_begin, place_fits, step_follows}
 use Rattle.definition_account.proofs.Run.{performs}
 use Rattle.definition_account.proofs.Account.{Performed}
 use Rattle.definition_account.specs.Moved.{in0, move_at, moves_of, in_a_row}

@@ -1,6 +1,6 @@
 -- One accepted batch: each bookmark goes where its element goes, and the memory that is left passes its own checks again.
 -- Assumes nothing.
-use Rattle.std.specs.Prelude.{◌≡◌, Bool, true, ◌&&◌, ◌||◌, ◌⊎◌, ℕ, suc, ◌≤◌, ◌<◌, ltb, eqb}
+use Rattle.std.specs.Prelude.{◌≡◌, Bool, true, ◌&&◌, ◌⊎◌, ℕ, ◌≤◌, ◌<◌, ltb, eqb}
 use Rattle.std.proofs.Math.Path.{refl, sym, ap}
 use Rattle.std.proofs.Common.{◌∙◌, subst, inl, inr, arith}
 use Rattle.std.proofs.Math.Bool.{false, not}
@@ -8,20 +8,17 @@ use mathlib.Core.List.{List, [], ◌∷◌, map, flat_map, tail, Memᴰ}
 use Rattle.std.proofs.Math.Option
 use Rattle.std.proofs.Math.Option.{Option, none, some}
 use Rattle.std.proofs.Math.ListN.{length}
-use Rattle.std.proofs.lemmas.List.{length-map}
 use borrow.Author.Tests.{le-ltb, ltb-false, eq-eqb}
 use Rattle.orders.specs.Lists.{any, All, pick}
-use Rattle.orders.specs.ListLaws.{bool_absurd, either_false, both_true, some_inj, none_some, map_some, All-mem, pick_none, pick_some, pick_mem, none_passes}
-use Rattle.orders.specs.Tree.{Tree, node, forest, list, children, label, measure, text, preorder, Path, Run, resolve}
-use Rattle.definition.specs.Basics.{Answer, gives, ◌>>=◌, refuse, or_refuse, is_some, among}
+use Rattle.orders.specs.ListLaws.{bool_absurd, either_false, both_true, some_inj, map_some, All-mem, pick_none, pick_some, pick_mem, none_passes}
+use Rattle.orders.specs.Tree.{Tree, label, preorder, Path, Run, resolve}
+use Rattle.definition.specs.Basics.{gives, ◌>>=◌, refuse, or_refuse, is_some, among}
 use Rattle.definition.specs.Choices.{Choices}
 use Rattle.definition.specs.Elements.{Table, table, row, malformed, spelled}
 use Rattle.definition.specs.Refusals.{Accepted, accepted}
 use Rattle.definition.specs.Writing.{differ}
-use Rattle.definition.specs.Planning.{Planned}
-use Rattle.definition.specs.Rewriting.{Note}
 use Rattle.definition.specs.Running.{World, begin, present}
-use Rattle.definition.specs.Finishing.{Result, new_tree, result}
+use Rattle.definition.specs.Finishing.{new_tree, result}
 use Rattle.definition.specs.Answers.{Plan, plan, performed, at_first, ran, edit}
 use Rattle.definition_laws.specs.Answers.{gives_inj, given, not_wrong, is_there}
 use Rattle.definition_laws.specs.Rows.{Element, row_of, element}
@@ -33,7 +30,7 @@ use Rattle.definition_account.specs.Moved.{moves_of, in_a_row}
 use Rattle.definition_account.proofs.Moved.{performed_moved}
 use Rattle.check_laws.specs.Check.{Flat, alone, no_repeat, same_bytes}
 use Rattle.check_laws.specs.Claimed.{old_tree, flat_of}
-use Rattle.check_laws.specs.ListLaws.{none_any, same_bytes_lem}
+use Rattle.check_laws.specs.ListLaws.{none_any}
 use Rattle.check_laws.proofs.Meaning.{bytes_same}
 use Rattle.check_laws.proofs.Alone.{first_resolve, tops_resolve}
 use Rattle.check_laws.proofs.Output.{old_spelled}

@@ -1,20 +1,15 @@
 -- What a call leaves in the lent slices is read as the memory that it left.
 -- Assumes nothing.
 use Rattle.std.proofs.Math.Path.{◌≡◌, refl, ap}
-use Rattle.std.proofs.Common.{sym, ◌∙◌, subst, inl, inr, arith, drop-drop}
-use Rattle.std.specs.Prelude.{Bool, true, false, ◌||◌, ◌⊎◌, ℕ, zero, suc, ◌+◌, ◌*◌, ◌^◌, ◌≤◌, ◌<◌, ltb, get_or, take}
-use mathlib.Core.List.{List, [], ◌∷◌, ◌++◌, append_assoc, map, tail, Memᴰ}
-use Rattle.std.proofs.Math.Option.{Option, some, bind}
+use Rattle.std.proofs.Common.{sym, ◌∙◌, arith, drop-drop}
+use Rattle.std.specs.Prelude.{false, ℕ, suc, ◌*◌, ◌^◌, ◌≤◌, ◌<◌, take}
+use mathlib.Core.List.{List, [], ◌∷◌, ◌++◌, append_assoc, map}
 use Rattle.std.proofs.Math.ListN.{length, drop, length-append, length-drop}
 use Rattle.std.proofs.Math.Seq.{length-take-le, take_at, drop_at}
-use borrow.Author.Tests.{le-ltb, ltb-false}
+use borrow.Author.Tests.{le-ltb}
 use Rattle.orders.specs.Lists.{any, All}
-use Rattle.orders.specs.ListLaws.{either_false, bind_some}
-use Rattle.orders.specs.Tree.{Path, Run, adjust}
 use Rattle.definition.specs.Words.{word, words, bytes, written}
-use Rattle.definition_laws.specs.Moves.{adjust_keeps}
 use Rattle.words.specs.Bytes.{Words, length_bytes, written_cons, written_append, length_written, word_bytes, words_written}
-use Rattle.definition_account.specs.Moved.{in_a_row}
 use Rattle.check_laws.specs.Check.{Flat}
 use Rattle.series_laws.specs.Memory.{Bookmark}
 use Rattle.series_laws.specs.Lent.{slot_words, longest_path, tree_in, slots, bookmark_in, beyond_slot, tree_bytes, tree_out, bookmark_out, over, slots_out}

@@ -1,8 +1,8 @@
 -- "A replaced root drops all", also where the root is replaced by itself.
 -- Assumes nothing.
-use Rattle.std.specs.Prelude.{◌≡◌, Bool, cond, not, ◌&&◌, ◌||◌, ◌⊎◌, ℕ, suc, eqb}
+use Rattle.std.specs.Prelude.{◌≡◌, Bool, not, ◌||◌, ℕ, eqb}
 use Rattle.std.proofs.Math.Path.{refl, ap}
-use Rattle.std.proofs.Common.{sym, ◌∙◌, subst, arith, eqb-true}
+use Rattle.std.proofs.Common.{◌∙◌, subst, eqb-true}
 use Rattle.std.proofs.Math.Bool.{true, false, or-true}
 use mathlib.Core.List.{List, [], ◌∷◌, tail}
 use Rattle.std.proofs.Math.Logic.{inl, inr}
@@ -24,7 +24,6 @@ use Rattle.definition_laws.specs.Right.{Right, right_sits}
 use Rattle.definition_laws.proofs.Limits.{ran_known}
 use Rattle.definition_demand.specs.Aims.{replaces_root}
 use Rattle.definition_account.specs.Words.{keeps_root}
-use Rattle.definition_account.proofs.Run.{performs}
 use Rattle.definition_account.proofs.Account.{ran_performed}
 use Rattle.definition_account.specs.Moved.{in0, move_at, moves_of, in_a_row}
 use Rattle.definition.specs.Choices.{Choices}

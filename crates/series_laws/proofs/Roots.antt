@@ -16,7 +16,7 @@ use Rattle.definition.specs.Elements.{Table, table, row, node?, root?, is_node, 
 use Rattle.definition.specs.Recording.{first_child, after, Change, insert, replace, delete, replace_with_many, replace_all, call}
 use Rattle.definition.specs.Planning.{Planned}
 use Rattle.definition.specs.Rewriting.{Note}
-use Rattle.definition.specs.Running.{World, begin, present, Yield, yield_at, yield, news, place, from_to, empty_at, spliced, records, step, steps}
+use Rattle.definition.specs.Running.{World, begin, present, Yield, yield_at, yield, news, place, from_to, empty_at, spliced, step, steps}
 use Rattle.definition.specs.Finishing.{new_tree}
 use Rattle.definition_laws.specs.Spelling.{Worded}
 use Rattle.definition_laws.specs.Answers.{gives_inj, given, bound}
@@ -30,7 +30,7 @@ use Rattle.check_laws.specs.Check.{alone}
 use Rattle.check_laws.specs.Claimed.{flat_of}
 use Rattle.check_laws.proofs.Alone.{tops_resolve}
 use Rattle.check_laws.proofs.Formed.{performed_formed, first_formed}
-use Rattle.check_laws.proofs.Output.{flat_spelled, NewTree, new_tree_lem}
+use Rattle.check_laws.proofs.Output.{flat_spelled, new_tree_lem}
 
 -- each tree is a node
 abbrev pub Nodes : Tree ℕ → Type 0

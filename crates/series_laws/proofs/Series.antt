@@ -1,22 +1,21 @@
 -- NOTE 14: calls one after another, refused ones among them. The memory passes its own checks after each; each bookmark moves as all splices and root replacements of the whole
 -- series in a row do; survivors keep their order; a dropped number never comes back.
 -- Assumes nothing.
-use Rattle.std.specs.Prelude.{◌≡◌, refl, Bool, true, false, not, ◌||◌, ℕ, zero, suc, ◌+◌, ◌*◌, ◌^◌, ◌≤◌, ◌<◌, ltb, eqb, length, get_or, take, drop}
-use Rattle.std.proofs.Common.{sym, ap, ◌∙◌, subst, arith, length-append, length-drop, length-take-le, le-ltb, ltb-false, eqb-true}
-use mathlib.Core.List.{List, [], ◌∷◌, ◌++◌, append_assoc, map, tail}
-use Rattle.std.proofs.Math.Option.{Option, none, some, bind}
+use Rattle.std.specs.Prelude.{◌≡◌, refl, Bool, true, false, not, ◌||◌, ℕ, zero, suc, ◌+◌, ◌*◌, ◌≤◌, ltb, eqb, length, get_or, take, drop}
+use Rattle.std.proofs.Common.{sym, ap, ◌∙◌, subst, arith, length-append, length-drop, le-ltb, ltb-false, eqb-true}
+use mathlib.Core.List.{List, [], ◌∷◌, ◌++◌, map, tail}
+use Rattle.std.proofs.Math.Option.{some}
 use Rattle.std.proofs.lemmas.List.{length-map}
 use Rattle.orders.specs.Lists.{any, All, pick}
-use Rattle.orders.specs.ListLaws.{bool_absurd, either_false, some_inj, map_some, bind_some, none_passes, pick_some, All-pick}
+use Rattle.orders.specs.ListLaws.{bool_absurd, either_false, some_inj, map_some, bind_some, none_passes, All-pick}
 use Rattle.orders.specs.Tree.{Tree, Path, Run, adjust}
 use Rattle.definition.specs.Basics.{Answer, refused, gives, ◌>>=◌, refuse, among}
-use Rattle.definition.specs.Choices.{Choices, chosen}
+use Rattle.definition.specs.Choices.{chosen}
 use Rattle.definition.specs.Words.{word}
-use Rattle.definition.specs.Finishing.{Result, result, fitting}
+use Rattle.definition.specs.Finishing.{Result, fitting}
 use Rattle.definition.specs.Answers.{too_short, with_work, with_choices, edit}
 use Rattle.definition.specs.Writing.{differ}
 use Rattle.definition_laws.specs.Answers.{gives_inj, given, not_wrong}
-use Rattle.definition_laws.proofs.Limits.{edit_within}
 use Rattle.definition_laws.specs.Moves.{adjust_keeps}
 use Rattle.definition_account.specs.Moved.{in_a_row}
 use Rattle.result_laws.proofs.Worded.{edit_worded}
@@ -25,8 +24,8 @@ use Rattle.check_laws.specs.Check.{Flat}
 use Rattle.series_laws.specs.Memory.{Bookmark, Memory, most_at_start, most_later, too_big, held}
 use Rattle.series_laws.specs.Follow.{moved, kept, survivors, tree_of, Step, step}
 use Rattle.series_laws.specs.Lent.{Lent, slot_words, longest_path, tree_in, slots, bookmark_in, beyond_slot, slots_in, memory_in, tree_bytes, cut_off, lent, tree_out, over, slots_out, left_in, fits, followed, Call, answers, leaves, series, did, all_moves}
-use Rattle.series_laws.proofs.Moves.{In0, row_head, survivors_append}
-use Rattle.series_laws.proofs.Passing.{Held, held_passed, passed_held, Done, step_done, moves_in0, left_held, survivors_among, survivors_length}
+use Rattle.series_laws.proofs.Moves.{survivors_append}
+use Rattle.series_laws.proofs.Passing.{Held, held_passed, passed_held, step_done, moves_in0, left_held, survivors_among, survivors_length}
 use Rattle.series_laws.proofs.ReadBack.{tree_length, elements_read, text_read, tree_read, slots_read, slots_length}
 
 -- ── What the slices pass ────────────────────────────────────────────────────────────────────────────────────

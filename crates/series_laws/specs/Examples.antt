@@ -1,15 +1,14 @@
 -- Series that are written out, by computation: what moves a bookmark, what drops it, each refusal and their order, and calls one after another.
 -- Assumes nothing.
 use Rattle.std.specs.Prelude.{◌≡◌, refl, List, [], ◌∷◌, ◌++◌, map, ℕ, length, replicate, take, drop}
-use Rattle.orders.specs.Lists
-use Rattle.orders.specs.Tree.{Tree, Path, Run}
+use Rattle.orders.specs.Tree.{Tree, Path}
 use Rattle.definition.specs.Basics.{Answer, refused, gives, ◌>>=◌}
 use Rattle.definition.specs.Choices.{by_default, given}
 use Rattle.definition.specs.Refusals.{Call}
 use Rattle.definition.specs.Computing.{computed}
-use Rattle.definition.specs.Examples.{Told, in_lists, in_bytes, node_of, token_of, call}
+use Rattle.definition.specs.Examples.{in_lists, in_bytes, node_of, token_of, call}
 use Rattle.definition_account.specs.Moved.{in0, move_at, moves_of, in_a_row}
-use Rattle.check_laws.specs.Check.{Flat, alone, no_repeat, same_bytes}
+use Rattle.check_laws.specs.Check.{alone, no_repeat, same_bytes}
 use Rattle.check_laws.specs.Claimed.{old_tree, flat_of}
 use Rattle.series_laws.specs.Memory
 use Rattle.series_laws.specs.Memory.{Bookmark, Memory}
