@@ -2,7 +2,9 @@
 -- Assumes nothing.
 use Rattle.std.specs.Prelude.{◌≡◌, Bool, true, false, cond, ltb, length, get_or, take, drop}
 use Rattle.std.proofs.Math.Path.{refl, ap}
-use Rattle.std.proofs.Common.{◌∙◌, arith, length-append, length-drop, take_all}
+use Rattle.std.proofs.Common.{sym, ◌∙◌, arith, length-append, length-drop, take_all}
+use Rattle.std.proofs.lemmas.List.{length-map}
+use Rattle.definition_laws.specs.Basics.{first_zip}
 use mathlib.Core.List.{List, [], ◌∷◌, ◌++◌, flat_map, zip}
 use Prim.Native.Nat.{ℕ, zero, suc, ◌+◌, ◌*◌, ◌/◌, ◌%◌, ◌≤◌, ◌<◌}
 use Rattle.std.proofs.Math.Seq.{paste, drop-drop, length_paste_head}
@@ -16,7 +18,7 @@ use Rattle.words.specs.Parts.{paste_paste}
 
 -- ── What is written at a place ──────────────────────────────────────────────────────────────────────────────
 
--- l is d with s written at `at`, up to `to`
+-- l is d with s written at `at`, up to `to`. Beside `Appended` of write_layout: that tells of the front up to `to` alone, this of all of the output; neither crate lies below the other
 pub record Put (d : List ℕ) (at : ℕ) (s l : List ℕ) (to : ℕ) : Type 0 where
   pub end : to ≡ at + length s
   pub is : l ≡ paste d at s (length s)
@@ -137,12 +139,10 @@ text_length (b ∷ text) =
     let k = length-append ((116 ∷ 101 ∷ 120 ∷ 116 ∷ 32 ∷ []) ++ flat_map hex (b ∷ text)) (10 ∷ []) in
     omega arith
 
+-- of the definition's zip: the library's laws are of its own
 module _ {A B : Type 0} where
   zip_length : (l : List A) (m : List B) → length l ≡ length m → length (zip l m) ≡ length l
-  unfolding zip
-  zip_length [] m e = refl
-  zip_length (x ∷ l) [] e = absurd (omega arith)
-  zip_length (x ∷ l) (y ∷ m) e = ap suc (zip_length l m (omega arith))
+  zip_length l m e = sym (length-map (zip l m) (λ e. e.0)) ∙ ap length (first_zip l m e)
 
   get_d_zip : (l : List A) (m : List B) (x : A) (y : B) (i : ℕ) → i < length l → length l ≡ length m → get_or (zip l m) i (x, y) ≡ (get_or l i x, get_or m i y)
   unfolding zip

@@ -1,4 +1,7 @@
 // What the edit program prints of an answer, written into a lent slice.
+// Room in a lent slice and bounds of one number stand as clauses: a value around each would be no plainer than its bound.
+// Each `put_*` is told a place in the output and answers the next one, rather than take what is left of it: so each promise is of the whole output (`Put`), and one lemma joins two.
+// Of a part, each caller would say besides that what stands before it is as it was.
 #![tactic(auto)]
 
 ghost use Rattle.std.specs.Prelude.{◌≡◌, ◌+◌, ◌*◌, ◌≤◌, ◌<◌, ◌^◌, length};
@@ -130,11 +133,9 @@ fn put_elements(out: &mut [u8], at: usize, elements: &Pairs) -> usize
     requires { at + 24 * elements.now.count ≤ length out.old }
     ensures { Put out.old at (flat_map element_line (pairs_of elements.now)) out.new result }
 {
-    let measures = elements.at + 4 * elements.count;
     let mut to = at;
     for i in 0..elements.count {
-        let kind = words::read_word(elements.bytes, elements.at + 4 * i);
-        let measure = words::read_word(elements.bytes, measures + 4 * i);
+        let (kind, measure) = elements.get(i);
         to = put_element(out, to, kind, measure);
     }
     to
@@ -145,11 +146,9 @@ fn put_pairs(out: &mut [u8], at: usize, name: &[u8], pairs: &Pairs) -> usize
     requires { at + (length name.now + 23) * pairs.now.count ≤ length out.old }
     ensures { Put out.old at (flat_map (pair_line name.now) (pairs_of pairs.now)) out.new result }
 {
-    let seconds = pairs.at + 4 * pairs.count;
     let mut to = at;
     for i in 0..pairs.count {
-        let first = words::read_word(pairs.bytes, pairs.at + 4 * i);
-        let second = words::read_word(pairs.bytes, seconds + 4 * i);
+        let (first, second) = pairs.get(i);
         to = put_line(out, to, name, &[first, second]);
     }
     to
@@ -173,7 +172,7 @@ fn put_found(out: &mut [u8], at: usize, changed: &Pairs, notes: &Pairs) -> usize
     put_pairs(out, to, b"note", notes)
 }
 
-// The lines of the arrays and of the text, behind the sizes in `b`, are written at `at`.
+// The lines of the arrays and of the text, behind the sizes in `b`, are written at `at`. The four counts are sizes that the result states, and none is the length of `b`.
 fn put_arrays(
     out: &mut [u8],
     at: usize,
