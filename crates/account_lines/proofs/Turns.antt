@@ -8,8 +8,8 @@ use native.Mathlib.Numerals.{add-one}
 use native.Mathlib.Omega.{arith}
 use borrow.Author.Tests.{lt-ltb, le-ltb, ne_eqb}
 use lib.ListN.{length, get_or, take, drop, length-append, drop_of_length-le}
-use lib.Seq.{paste-zero, length-take-le, drop-cons}
-use Rattle.definition.specs.Basics.{refused, gives, refuse, numbered, ◌>>=◌}
+use lib.Seq.{paste-zero, drop-cons}
+use Rattle.definition.specs.Basics.{refused, refuse, numbered, ◌>>=◌}
 use Rattle.definition.specs.Printed.{ascii, digits, decimal, line}
 use Rattle.definition.specs.Account.{Said, planned, withdrawn, after, fate_line, said_line, said_lines, overlap_line, in_room, tell}
 use Rattle.plan_withdraw.specs.Rule.{number_at}
@@ -103,16 +103,14 @@ module _ {w ps d l : List ℕ} {to m i : ℕ} (v : Putting w ps d l to m i) wher
         ∙ (ap (λ r. v.done ++ r) (sym (ap (lines_from i) e ∙ lines_cons i s (said_from w ps m' (drop (suc i) ps)))) ∙ v.left));
   }
 
-  pub account_stays : {under fate owner number : ℕ} {l' : List ℕ} {to' : ℕ} → i < length ps → under ≡ get_or ps i 0 → under ≡ 0 → fate ≡ get_or (drop (14 * m) w) 11 0 → owner ≡ get_or (drop (14 * m) w) 12 0 → number ≡ number_at 0 ps owner → length l' ≡ length l
+  pub account_stays : {fate owner number : ℕ} {l' : List ℕ} {to' : ℕ} → i < length ps → get_or ps i 0 ≡ 0 → fate ≡ get_or (drop (14 * m) w) 11 0 → owner ≡ get_or (drop (14 * m) w) 12 0 → number ≡ number_at 0 ps owner → length l' ≡ length l
       → Put l to (fate_line (i, fate_in fate number)) l' to' → Putting w ps d l' to' (m + 1) (i + 1)
   unfolding said_from said_line
-  account_stays {under} {fate} {owner} {number} h u z e g n f q =
-      let y : get_or ps i 0 ≡ 0 = omega arith in
-      more (planned (fate_in fate number)) h (omega (arith, v.few)) (rw (drop-cons ps i 0 h, y, e, n, g, add-one m) refl) f q
+  account_stays {fate} {owner} {number} h y e g n f q = more (planned (fate_in fate number)) h (omega (arith, v.few)) (rw (drop-cons ps i 0 h, y, e, n, g, add-one m) refl) f q
 
-  pub account_leaves : {under : ℕ} {l' : List ℕ} {to' : ℕ} → i < length ps → under ≡ get_or ps i 0 → (under ≡ 0 → ⊥) → length l' ≡ length l → Put l to (said_line (i, withdrawn (under - 1))) l' to' → Putting w ps d l' to' m (i + 1)
+  pub account_leaves : {k : ℕ} {l' : List ℕ} {to' : ℕ} → i < length ps → (1 ≤ get_or ps i 0) × (k ≡ get_or ps i 0 - 1) → length l' ≡ length l → Put l to (said_line (i, withdrawn k)) l' to' → Putting w ps d l' to' m (i + 1)
   unfolding said_from
-  account_leaves {under} h u z f q = more (withdrawn (under - 1)) h (omega (arith, v.few)) (rw (drop-cons ps i 0 h, ← u, ne_eqb under 0 z) refl) f q
+  account_leaves {k} h u f q = more (withdrawn k) h (omega (arith, v.few)) (rw (drop-cons ps i 0 h, u.1, ne_eqb (get_or ps i 0) 0 (λ z. omega (arith, u.0, z))) refl) f q
 
   pub account_done : length ps ≤ i → Put d 0 (said_lines (said_rows w ps)) l to
   unfolding said_from numbered flat_map

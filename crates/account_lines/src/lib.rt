@@ -1,8 +1,8 @@
 // The account's text (document 02, Notes 5 and 9), written into a lent slice. It is drafted first, so that 13 is told before anything is written.
-// Bounds of one number stand as clauses: a value around each would be no plainer than its bound.
+// Bounds of one number and room in a lent slice stand as clauses: a value around each would be no plainer than its bound.
 #![tactic(auto)]
 
-ghost use Rattle.std.specs.Prelude.{◌+◌, ◌*◌, ◌≤◌, length, take};
+ghost use Rattle.std.specs.Prelude.{◌+◌, ◌*◌, ◌≤◌, length};
 ghost use Rattle.definition.specs.Basics.{refused};
 ghost use Rattle.definition.specs.Account.{withdrawn, fate_line, said_line, said_lines, overlap_line, tell};
 ghost use Rattle.edit_print.specs.Lines.{Put};
@@ -15,6 +15,7 @@ use record_changes::{Fate, field};
 use refusals::Refusal;
 
 // The line of change `n` is written at `at`, by its fate and the number of its owner.
+#[tactic(auto, using(crate::proofs::Turns::named_room))]
 fn put_fate(out: &mut [u8], at: usize, n: usize, fate: usize, owner: usize) -> usize
     requires { at + 32 ≤ length out.old }
     ensures { Put out.old at (fate_line (n, fate_in fate owner)) out.new result }
@@ -30,6 +31,7 @@ fn put_fate(out: &mut [u8], at: usize, n: usize, fate: usize, owner: usize) -> u
 }
 
 // The line of change `n`, which is withdrawn under change `k`, is written at `at`.
+#[tactic(auto, using(crate::proofs::Turns::named_room))]
 fn put_withdrawn(out: &mut [u8], at: usize, n: usize, k: usize) -> usize
     requires { at + 32 ≤ length out.old }
     ensures { Put out.old at (said_line (n, withdrawn k)) out.new result }
@@ -47,9 +49,8 @@ fn put_account(out: &mut [u8], rows: &[u32], withdrawn: &[u32]) -> usize
     let mut to = 0;
     let mut place = 0;
     for (i, stated) in withdrawn.iter().enumerate() {
-        let under = *stated as usize;
-        if under != 0 {
-            to = put_withdrawn(out, to, i, under - 1);
+        if let Some(k) = (*stated as usize).checked_sub(1) {
+            to = put_withdrawn(out, to, i, k);
             continue;
         }
         let fate = field(rows, place, record_changes::FATE);

@@ -4,7 +4,7 @@
 // Of a part, each caller would say besides that what stands before it is as it was.
 #![tactic(auto)]
 
-ghost use Rattle.std.specs.Prelude.{◌≡◌, ◌+◌, ◌*◌, ◌≤◌, ◌<◌, ◌^◌, length};
+ghost use Rattle.std.specs.Prelude.{◌≡◌, ◌+◌, ◌*◌, ◌≤◌, ◌<◌, length};
 ghost use mathlib.Core.List.{◌∷◌, [], ◌++◌, flat_map};
 ghost use Rattle.definition.specs.Printed.{digits, hex_digit, hex, element_line, text_line, print};
 ghost use Rattle.definition.specs.Basics.{refused, gives};

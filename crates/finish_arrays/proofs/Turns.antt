@@ -2,9 +2,12 @@
 -- Assumes nothing.
 use mathlib.Core.Path.{◌≡◌, refl, sym, ap, ◌∙◌}
 use mathlib.Core.List.{List, [], ◌++◌, map, flat_map}
+use Rattle.std.specs.Prelude.{Option as Found, None, Some, unwrap_or}
+use Rattle.std.specs.Slice.{IsGetRangeResult}
+use Rattle.std.proofs.Common.{Bor, ◌⊎◌, inl, inr}
 use Rattle.std.specs.List.{sum, range_with_len}
 use Rattle.std.proofs.lemmas.List.Concat.{length-flat_map}
-use Prim.Native.Nat.{ℕ, zero, suc, ◌+◌, ◌-◌, ◌*◌, ◌/◌, ◌^◌, ◌≤◌, ◌<◌}
+use Prim.Native.Nat.{ℕ, suc, ◌+◌, ◌-◌, ◌*◌, ◌/◌, ◌^◌, ◌≤◌, ◌<◌}
 use native.Mathlib.Omega.{arith}
 use native.Mathlib.Nat.{zero-add, add-zero, sub_self}
 use native.Mathlib.Numerals.{add-one}
@@ -182,12 +185,22 @@ module _ (tree text : List ℕ) (i : ℕ) {k : ℕ} (e : k ≡ get_or tree (3 * 
     pub own_outside : length text < o + m → [] ≡ own (row_in text tree i)
     own_outside l = rw (← e, ← a, ← b, lt-ltb k 2147483648 h, lt-leb (o + m) (length text) l)
 
+    -- the library's part of the text, and nothing where it has none there
+    pub own_part : (r : Found (Bor (List ℕ))) (z : Bor (List ℕ)) {q : Bor (List ℕ)} → z.now ≡ [] → IsGetRangeResult text o (o + m) r → q ≡ unwrap_or r z → q.now ≡ own (row_in text tree i)
+    own_part None z y p u = ap (λ (x : Bor (List ℕ)). x.now) u ∙ (y ∙ own_outside (outside p.0))
+      where
+        outside : (o + m < o) ⊎ (length text < o + m) → length text < o + m
+        outside (inl w) = absurd (omega arith)
+        outside (inr w) = w
+    own_part (Some x) z y p u = ap (λ (x : Bor (List ℕ)). x.now) u ∙ (p.0.2 ∙ own_token p.0.1)
+
 module _ (tree text : List ℕ) where
   -- how long the own text of row i is
   abbrev pub part_at : ℕ → ℕ
   part_at i = length (own (row_in text tree i))
 
   pub text_summed : sum (map part_at (range_with_len 0 (length tree / 3))) ≡ length (flat_map own (triples text tree))
+  unfolding flat_map
   text_summed = rows_summed text (λ r. length (own r)) tree 0 (length tree / 3) (omega arith) ∙ sym (length-flat_map own (triples text tree))
 
   pub text_few : bytes (triples [] tree) < 2 ^ 32 → length (flat_map own (triples text tree)) < 2 ^ 32

@@ -80,9 +80,8 @@ module _ {n : ℕ} {w : List ℕ} {k : ℕ} {a : List ℕ} {at from p : ℕ} (v 
     pub rising_above : 8 * (p - 1) + 8 ≤ length w
     rising_above = omega (arith, rising_here, L.long)
 
-    pub rising_next : {p' : ℕ} → (p' ≡ get_or w (8 * (p - 1) + 1) 0) × (p' < 2 ^ 32) → Rising n w k (set a (from - 1) (get_or w (8 * at + 2) 0)) (p - 1) (from - 1) p'
-    rising_next e =
-        let c : ℕ = get_or w (8 * at + 2) 0 in
+    pub rising_next : {c p' : ℕ} → (c ≡ get_or w (8 * at + 2) 0) × (c < 2 ^ 32) → (p' ≡ get_or w (8 * (p - 1) + 1) 0) × (p' < 2 ^ 32) → Rising n w k (set a (from - 1) c) (p - 1) (from - 1) p'
+    rising_next {c} f e =
         let i : suc (from - 1) ≡ from = omega (arith, rising_room) in
         let h : from - 1 < length a = omega (arith, v.long, v.high, rising_room) in
         record {
@@ -93,7 +92,7 @@ module _ {n : ℕ} {w : List ℕ} {k : ℕ} {a : List ℕ} {at from p : ℕ} (v 
           long = length-set a (from - 1) c ∙ v.long;
           rest = λ s.
               let P : Path = path_to w s (get_or w (8 * (p - 1) + 3) 0) (p - 1) in
-              v.rest s ∙ (ap (λ q. q ++ drop from a) (path_up n w s L at (p - 1) v.here above) ∙ (append_assoc P (c ∷ []) (drop from a) ∙ ap (λ r. P ++ r) (sym (drop_set a (from - 1) c h ∙ ap (λ j. c ∷ drop j a) i))));
+              v.rest s ∙ (ap (λ q. q ++ drop from a) (path_up n w s L at (p - 1) v.here above ∙ ap (λ x. P ++ (x ∷ [])) (sym f.0)) ∙ (append_assoc P (c ∷ []) (drop from a) ∙ ap (λ r. P ++ r) (sym (drop_set a (from - 1) c h ∙ ap (λ j. c ∷ drop j a) i))));
         }
 
   pub rising_done : p ≡ 0 → PathFrom n w k a from

@@ -1,4 +1,4 @@
--- Looking for the first node alike: the test, a turn of the loop, and each way out.
+-- Looking for the first node alike: a turn of the loop, and each way out.
 -- Assumes nothing.
 use mathlib.Core.Path.{◌≡◌, refl, sym, ap, ◌∙◌}
 use mathlib.Core.Bool.{Bool, true, false}
@@ -6,11 +6,8 @@ use mathlib.Core.List.{List, ◌∷◌}
 use Prim.Native.Nat.{ℕ, zero, suc, ◌+◌, ◌-◌, ◌*◌, ◌^◌, ◌≤◌, ◌<◌}
 use native.Mathlib.Omega.{arith}
 use native.Mathlib.Numerals.{add-one}
-use lib.Dec.{eqb}
 use lib.ListN.{length, get_or, take, drop}
-use borrow.Author.Tests.{le-leb, lt-leb, eq-eqb, ne_eqb}
 use Rattle.std.specs.Prelude.{Some, None}
-use Rattle.definition.specs.Elements.{is_node}
 use Rattle.rows_model.specs.Row.{Row, kind, owes, skip, row_in, first_rows}
 use Rattle.rows_model.specs.Place.{subtree}
 use Rattle.rows_model.proofs.RowLaws.{skip_none}
@@ -19,21 +16,6 @@ use Rattle.rows_syntax_node.specs.Promises.{Counted, Measured}
 use Rattle.finish_model.specs.Finished.{first_tree}
 use Rattle.finish_model.specs.Alike.{alike_words, alike_from, find_row}
 use Rattle.finish_find.specs.Found.{found}
-
--- ── The test ────────────────────────────────────────────────────────────────────────────────────────────────
-
-module _ (k start w s : ℕ) where
-  pub no_node : w < 2147483648 → false ≡ alike_words k start w s
-  unfolding alike_words is_node
-  no_node h = rw (lt-leb 2147483648 w h)
-
-  pub other_kind : 2147483648 ≤ w → (w ≡ k → ⊥) → false ≡ alike_words k start w s
-  unfolding alike_words is_node
-  other_kind h d = rw (le-leb 2147483648 w h, ne_eqb w k d)
-
-  pub by_start : 2147483648 ≤ w → w ≡ k → eqb s start ≡ alike_words k start w s
-  unfolding alike_words is_node
-  by_start h e = rw (le-leb 2147483648 w h, eq-eqb w k e)
 
 -- ── The loop ────────────────────────────────────────────────────────────────────────────────────────────────
 

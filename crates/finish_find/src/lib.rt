@@ -1,5 +1,6 @@
 // `find_element`: where the old node's text starts, and in the new tree the first node in preorder with its kind word and that start.
-// Bounds of one number and an index of what is read stand as clauses: a value around each would be no plainer than its bound.
+// Bounds of one number and an index of what is read stand as clauses: a value around each would be no plainer than its bound. That the elements are those of some trees (`TreesTold`)
+// is a clause since it names the trees, which are data.
 #![tactic(auto)]
 
 ghost use Rattle.std.specs.Prelude.{◌≡◌, List, ℕ, ◌≤◌, ◌<◌, length};
@@ -12,7 +13,7 @@ ghost use Rattle.finish_find.specs.Found.{found};
 ghost use Rattle.finish_find.specs.OldStart.{TreesTold, PathFrom};
 
 use finish_model::ROOT;
-use read_element_table::{AFTER, CHILD, Elements, PARENT, WORDS, entry};
+use read_element_table::{AFTER, CHILD, Elements, PARENT, entry};
 use rows_path::resolve;
 use rows_syntax_node::{ROW_WORDS, Rows, child_count, text_length};
 use words::{NODE_KIND, word};
@@ -21,6 +22,7 @@ use words::{NODE_KIND, word};
 
 // The path of element `k` in its tree: the child numbers from the root down to it. They are written upward from the end of `path`, and so stand there
 // in order. Where they begin.
+#[tactic(auto, using(crate::proofs::OldPath::rising_entry))]
 fn path_in_tree(elements: &Elements, k: usize, path: &mut [u32; 64]) -> usize
     requires { (k < elements.now.count) × (length path.old ≡ 64) }
     ensures { PathFrom elements.now.count elements.now.table.now k path.new result }
@@ -32,7 +34,7 @@ fn path_in_tree(elements: &Elements, k: usize, path: &mut [u32; 64]) -> usize
     // A climb has no bound to count to but its elements: as a range of 64 steps it would owe a case behind it that never comes.
     while parent != 0 {
         from -= 1;
-        path[from] = table[WORDS * at + CHILD];
+        path[from] = entry(table, at, CHILD) as u32;
         at = parent - 1;
         parent = entry(table, at, PARENT);
     }
@@ -57,16 +59,11 @@ pub fn old_start(elements: &Elements, k: usize) -> usize
 // ── In the new tree ──
 
 // Whether a kind word is a node's, and it and a text start are those looked for.
+#[tactic(auto, unfolding(finish_model::specs::Alike::alike_words, definition::specs::Elements::is_node))]
 fn is_alike(kind: usize, start: usize, other: usize, sum: usize) -> bool
     ensures { result ≡ alike_words kind start other sum }
 {
-    if other < NODE_KIND {
-        return false;
-    }
-    if other != kind {
-        return false;
-    }
-    sum == start
+    NODE_KIND <= other && other == kind && sum == start
 }
 
 // The number of the first node of tree 0 with this kind word and text start, from the rows of all trees. The tree ends where no element is owed: each row is one owed less, and a

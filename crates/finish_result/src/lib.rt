@@ -1,5 +1,6 @@
 // The result from what the run leaves: changed elements and notes in order, refusal 13, and the bytes.
-// Bounds of one number stand as clauses: a value around each would be no plainer than its bound.
+// Bounds of one number and room in a lent slice stand as clauses: a value around each would be no plainer than its bound.
+// Each `write_*` is told the place in the whole result where its arrays begin, and not their part of it: the promise is of all the bytes, one `paste` over another.
 #![tactic(auto)]
 
 ghost use Rattle.std.specs.Prelude.{◌≡◌, ℕ, ◌+◌, ◌*◌, ◌/◌, ◌^◌, ◌≤◌, ◌<◌, length, get_or};

@@ -1,5 +1,5 @@
 // The surviving elements of tree 0 as pairs (document 02, Note 11), from the marks and the rows that a run leaves.
-// Bounds of one number stand as clauses: a value around each would be no plainer than its bound.
+// Bounds of one number and room in a lent slice stand as clauses: a value around each would be no plainer than its bound.
 #![tactic(auto)]
 
 ghost use Rattle.std.specs.Prelude.{◌≡◌, List, ℕ, ◌+◌, ◌*◌, ◌^◌, ◌≤◌, ◌<◌, length};
@@ -42,7 +42,7 @@ fn write_pair(b: &mut [u8], olds: usize, news: usize, old: usize, mark: usize, e
     }
 }
 
-// All pairs are written in one pass: the old numbers at the front, the new ones from `half` on.
+// All pairs are written in one pass: the old numbers at the front, the new ones from `half` on. `to` goes on by what each pair wrote, so that a sum of the library's would have a closure that writes.
 fn write_kept(b: &mut [u8], marks: &[u32], end: usize, half: usize)
     requires { (half ≡ 4 * length (pairs_from end 0 marks.now)) × (2 * half ≤ length b.old) × (length marks.now < 2 ^ 16) }
     ensures { b.new ≡ paste b.old 0 (pair_bytes (pairs_from end 0 marks.now)) (2 * half) }

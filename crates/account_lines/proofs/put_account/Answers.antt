@@ -9,8 +9,8 @@ loop-i-init c = search (account_start, rules)
 pub put_withdrawn-to-requires : goal.put_withdrawn-to-requires
 put_withdrawn-to-requires c = search (line_room, rules)
 
-pub loop-i-preserved-then-under-ne0 : goal.loop-i-preserved-then-under-ne0
-loop-i-preserved-then-under-ne0 c = search (account_leaves, rules)
+pub loop-i-preserved-in-Some : goal.loop-i-preserved-in-Some
+loop-i-preserved-in-Some c = search (account_leaves, rules)
 
 pub put_fate-to-requires : goal.put_fate-to-requires
 put_fate-to-requires c = search (line_room, rules)

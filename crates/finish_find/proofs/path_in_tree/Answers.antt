@@ -1,6 +1,6 @@
 -- `path_in_tree` meets its contract. At the loop's head the path is that of the element where it stands, and the numbers passed.
 use borrow.Author.Rules.{rules}
-use Rattle.finish_find.proofs.OldPath.{rising_start, rising_entry, rising_room, rising_less, rising_above, rising_next, rising_done}
+use Rattle.finish_find.proofs.OldPath.{rising_start, rising_room, rising_less, rising_above, rising_next, rising_done}
 use Rattle.finish_find.proofs.path_in_tree.Goals as goal
 
 pub loop-parent-init : goal.loop-parent-init
@@ -8,21 +8,6 @@ loop-parent-init c = search (rising_start, rules)
 
 pub overflow_sub-from : goal.overflow_sub-from
 overflow_sub-from c = search (rising_room, rules)
-
-pub overflow_mul-path : goal.overflow_mul-path
-overflow_mul-path c = search (rising_entry, rules)
-
-pub overflow_add-path : goal.overflow_add-path
-overflow_add-path c = search (rising_entry, rules)
-
-pub offset_bounds-table-at : goal.offset_bounds-table-at
-offset_bounds-table-at c = search (rising_entry, rules)
-
-pub bounds-table-at : goal.bounds-table-at
-bounds-table-at c = search (rising_entry, rules)
-
-pub bounds-path-from : goal.bounds-path-from
-bounds-path-from c = search (rising_room, rules)
 
 pub entry-parent-requires-in-loop-parent : goal.entry-parent-requires-in-loop-parent
 entry-parent-requires-in-loop-parent c = search (rising_above, rules)
