@@ -6,16 +6,16 @@ use mathlib.Core.List.{List, [], ◌∷◌, zip, zip_with}
 use mathlib.Core.Logic.{◌⊎◌, inl, inr}
 use Prim.Native.Nat.{ℕ, ◌≤◌}
 use native.Mathlib.Omega.{arith}
-use lib.Dec.{leb, ltb, eqb}
+use lib.Dec.{ltb, eqb}
 use lib.ListN.{length, replicate, length-replicate}
-use borrow.Author.Tests.{ltb-true, ltb-false, eq-eqb, ne_eqb, eqb-true, not-false}
+use borrow.Author.Tests.{ltb-true, ltb-false, eqb-true, not-false}
 use Rattle.orders.specs.ListLaws.{either_false, All-map}
-use Rattle.definition.specs.Basics.{Answer, gives, refused, ◌>>=◌, refuse, any}
+use Rattle.definition.specs.Basics.{Answer, refused, ◌>>=◌, refuse, any}
 use Rattle.definition.specs.Answers.{too_short, with_work}
 use Rattle.definition.specs.Writing.{differ}
 use Rattle.promises.specs.Slices.{lengths, zeros, zeroed}
 use Rattle.check_laws.specs.Check.{Claims, too_big, unequal, checked}
-use Rattle.check_model.specs.Clauses.{fresh, partnered, marked, judged_by, judged}
+use Rattle.check_model.specs.Clauses.{fresh, partnered, marked}
 use Rattle.check_model.specs.Pairing.{Below}
 use Rattle.check_model.proofs.Pairing.{length_partnered, length_marked}
 use Rattle.check_table.specs.Walk.{Reads}
@@ -24,10 +24,9 @@ use Rattle.check_clauses.specs.Asked.{Ready, PairsUp}
 use Rattle.std.specs.Prelude.{Result, Ok, Err}
 use Rattle.refusals.specs.Numbers.{number, answered}
 use Rattle.refusals.specs.declared.Refusal.{Refusal}
-use Rattle.refusals.specs.declared.Refusal.TheVariants.{Size as TooLong, Length}
 use Rattle.check_claim.specs.Promise.{checker_needs, told, Checks}
-use Rattle.check_claim.specs.Judging.{big_sizes, sizes_refusal, ReadsBoth, Telling, naming, WritesClaims, judging}
-use Rattle.check_claim.specs.Checked.{any_append, named_below, sizes_refuse, sizes_pass, old_unspelled, new_unspelled, tells_checked}
+use Rattle.check_claim.specs.Judging.{sizes_refusal, ReadsBoth, Telling, naming, WritesClaims, judging}
+use Rattle.check_claim.specs.Checked.{named_below, sizes_refuse, sizes_pass, old_unspelled, new_unspelled, tells_checked}
 
 -- ── The work slices ─────────────────────────────────────────────────────────────────────────────────────────
 
@@ -44,56 +43,6 @@ module _ (o n p m : List ℕ) where
       let (d, q) = either_false (ltb (length m) 4096) false q in
       (ltb-false (length o) 16384 a, ltb-false (length n) 16384 b, ltb-false (length p) 4096 c, ltb-false (length m) 4096 d)
 
--- ── Sizes ───────────────────────────────────────────────────────────────────────────────────────────────────
-
-module _ (k m t k' m' t' o n : ℕ) {x : Bool} (ex : x ≡ big_sizes k m t) where
-  abbrev Size : Result (Unit {0}) Refusal → Type 0
-  Size r = let s = sizes_refusal k m t k' m' t' o n in answered r ≡ refuse s (ltb 0 s)
-
-  pub big_old : x ≡ true → Size (Err TooLong)
-  unfolding sizes_refusal answered number refuse
-  big_old q = rw (← ex, q)
-
-  module _ (qx : x ≡ false) {y : Bool} (ey : y ≡ big_sizes k' m' t') where
-    pub big_new : y ≡ true → Size (Err TooLong)
-    unfolding sizes_refusal answered number refuse
-    big_new q = rw (← ex, qx, ← ey, q)
-
-    module _ (qy : y ≡ false) where
-      pub differ_old : (k ≡ m → ⊥) → Size (Err Length)
-      unfolding sizes_refusal answered number refuse
-      differ_old h = rw (← ex, qx, ← ey, qy, ne_eqb k m h)
-
-      module _ (h : k ≡ m) where
-        pub differ_new : (k' ≡ m' → ⊥) → Size (Err Length)
-        unfolding sizes_refusal answered number refuse
-        differ_new j = rw (← ex, qx, ← ey, qy, eq-eqb k m h, ne_eqb k' m' j)
-
-        module _ (j : k' ≡ m') where
-          pub differ_pairs : (o ≡ n → ⊥) → Size (Err Length)
-          unfolding sizes_refusal answered number refuse
-          differ_pairs i = rw (← ex, qx, ← ey, qy, eq-eqb k m h, eq-eqb k' m' j, ne_eqb o n i)
-
-          pub none_wrong : o ≡ n → Size (Ok tt)
-          unfolding sizes_refusal answered refuse
-          none_wrong i = rw (← ex, qx, ← ey, qy, eq-eqb k m h, eq-eqb k' m' j, eq-eqb o n i)
-
--- ── 19 ──────────────────────────────────────────────────────────────────────────────────────────────────────
-
-module _ (o n : ℕ) (olds news changed : List ℕ) {x : Bool} (ex : x ≡ any (leb o) olds) where
-  pub names_old : x ≡ true → true ≡ naming o n olds news changed
-  unfolding naming
-  names_old q = rw (← ex, q)
-
-  module _ (qx : x ≡ false) {y : Bool} (ey : y ≡ any (leb n) news) where
-    pub names_new : y ≡ true → true ≡ naming o n olds news changed
-    unfolding naming
-    names_new q = rw (← ex, qx, any_append (leb n) news changed, ← ey, q)
-
-    pub names_changed : y ≡ false → {z : Bool} → z ≡ any (leb n) changed → z ≡ naming o n olds news changed
-    unfolding naming
-    names_changed q ez = ez ∙ rw (← ex, qx, any_append (leb n) news changed, ← ey, q)
-
 -- ── The claims ──────────────────────────────────────────────────────────────────────────────────────────────
 
 pub below_cleared : (m : ℕ) {w : List ℕ} (l : List ℕ) → w ≡ replicate m 0 → Below m l → Below (length w) l
@@ -107,56 +56,28 @@ claims_fit o n m m' olds news changed ex qx a b c d =
     let (p, q, r) = named_below o n olds news changed (sym ex ∙ qx) in
     (All-map (λ y h. omega arith) olds p, All-map (λ y h. omega arith) news q, All-map (λ y h. omega arith) changed r)
 
-module _ (old new text text' : List ℕ) (o n m m' : ℕ) (olds news changed : List ℕ) {x : Bool} (ex : x ≡ naming o n olds news changed) where
-  abbrev Judges : Answer Bool → Type 0
-  Judges r = r ≡ judging old new text text' o n m m' olds news changed
-
-  pub refused_19 : x ≡ true → Judges (refused 19)
-  unfolding judging refuse ◌>>=◌
-  refused_19 q = rw (← ex, q)
-
-  module _ (qx : x ≡ false) where
-    module _ {r : Bool} {w c : List ℕ} (k : WritesClaims (zip olds news) changed m m' r w c) where
-      pub paired_twice : r ≡ false → Judges (gives false)
-      unfolding judging judged refuse ◌>>=◌
-      paired_twice q = rw (← ex, qx, ← k.verdict, q)
-
-      module _ (q : r ≡ true) where
-        pub ready : length news ≡ length olds → Telling old (length text) o → Telling new (length text') n → 4096 ≤ m → 4096 ≤ m' → Ready olds news old new (length text) (length text') (length w) (length c) n
-        ready e s t a b =
-            let (p, q', r') = named_below o n olds news changed (sym ex ∙ qx) in
-            let lw : length w ≡ m = ap length (k.partners q) ∙ (length_partnered (zip olds news) (replicate m 0) ∙ length-replicate m 0) in
-            let lc : length c ≡ m' = ap length k.marks ∙ (length_marked changed (replicate m' 0) ∙ length-replicate m' 0) in
-            record {
-              alike = e;
-              old_reached = record { n = o; long = s.long; sound = s.sound; below = p };
-              new_reached = record { n = n; long = t.long; sound = t.sound; below = q' };
-              linked = record { long = t.long; before = t.sound.before };
-              below = All-map (λ y h. omega (arith, t.few)) news q';
-              some = omega arith;
-              room = omega (arith, t.few);
-              room' = omega (arith, t.few);
-            }
-
-        pub judged_told : {v : Bool} → v ≡ judged_by old new text text' n (zip olds news) w c → Judges (gives v)
-        unfolding judging judged refuse ◌>>=◌
-        judged_told {v} e = rw (← ex, qx, ← k.verdict, q) (ap {B = Answer Bool} gives (e ∙ rw (k.partners q, k.marks)))
-
-pub judged_yes : {v : Bool} {a : Answer Bool} → gives v ≡ a → v ≡ true → gives true ≡ a
-judged_yes e q = rw q at e
-
-pub judged_no : {v : Bool} {a : Answer Bool} → gives v ≡ a → v ≡ false → gives false ≡ a
-judged_no e q = rw q at e
+module _ (old new text text' : List ℕ) (o n m m' : ℕ) (olds news changed : List ℕ) {x : Bool} (ex : x ≡ naming o n olds news changed) (qx : x ≡ false) {r : Bool} {w c : List ℕ} (k : WritesClaims (zip olds news) changed m m' r w c) (q : r ≡ true) where
+  pub ready : length news ≡ length olds → Telling old (length text) o → Telling new (length text') n → 4096 ≤ m → 4096 ≤ m' → Ready olds news old new (length text) (length text') (length w) (length c) n
+  ready e s t a b =
+      let (p, q', r') = named_below o n olds news changed (sym ex ∙ qx) in
+      let lw : length w ≡ m = ap length (k.partners q) ∙ (length_partnered (zip olds news) (replicate m 0) ∙ length-replicate m 0) in
+      let lc : length c ≡ m' = ap length k.marks ∙ (length_marked changed (replicate m' 0) ∙ length-replicate m' 0) in
+      record {
+        alike = e;
+        old_reached = record { n = o; long = s.long; sound = s.sound; below = p };
+        new_reached = record { n = n; long = t.long; sound = t.sound; below = q' };
+        linked = record { long = t.long; before = t.sound.before };
+        below = All-map (λ y h. omega (arith, t.few)) news q';
+        some = omega arith;
+        room = omega (arith, t.few);
+        room' = omega (arith, t.few);
+      }
 
 -- ── All lists ───────────────────────────────────────────────────────────────────────────────────────────────
 
 module _ (c : Claims) (o n p m : List ℕ) {x : Bool} (ex : x ≡ too_short (lengths checker_needs (o ∷ n ∷ p ∷ m ∷ []))) where
   abbrev Tell : Answer Bool → Type 0
   Tell r = r ≡ told (o ∷ n ∷ p ∷ m ∷ []) c
-
-  pub refused_1 : x ≡ true → Tell (refused 1)
-  unfolding told with_work refuse ◌>>=◌
-  refused_1 q = rw (← ex, q)
 
   module _ (qx : x ≡ false) where
     then : {r : Answer Bool} → r ≡ checked c → Tell r

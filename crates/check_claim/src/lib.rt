@@ -1,4 +1,5 @@
 // THE CHECKER of another editor's output (document 02, Note 11).
+// What `read_both`, `judge_claims` and `hold` ask stands as clauses: the tests before each have found it, and it is no fact of `Claims` or `Work`, which a caller makes of any slices.
 #![tactic(auto)]
 
 ghost use Rattle.std.specs.Prelude.{◌≡◌, ◌≤◌, length, ltb};
@@ -30,7 +31,7 @@ pub enum Verdict {
     Rejected,
 }
 
-// Whether a work slice is shorter than its length in docs/WORK.md.
+// Whether a work slice is shorter than its length in docs/WORK.md. It and `clear_work` stand beside those of `promises` and `write_batch`: each is of its own slices by their names.
 fn too_short(work: &Work) -> bool
     ensures { result ≡ too_short (lengths checker_needs (held work.now)) }
 {
@@ -57,6 +58,7 @@ fn clear_work(work: &mut Work)
 }
 
 // 3, of a tree.
+#[tactic(auto, unfolding(crate::specs::Judging::big_sizes))]
 fn too_big(tree: &Tree) -> bool
     ensures { result ≡ big_sizes (length tree.now.kinds.now) (length tree.now.measures.now) (length tree.now.text.now) }
 {
@@ -64,22 +66,17 @@ fn too_big(tree: &Tree) -> bool
 }
 
 // 3 and 4.
+#[tactic(auto, unfolding(crate::specs::Judging::sizes_refusal, definition::specs::Basics::refuse, refusals::specs::Numbers::answered, refusals::specs::Numbers::number))]
 fn size_refusal(claims: &Claims) -> Result<(), Refusal>
     ensures { let number = sizes_refusal (length claims.now.old.kinds.now) (length claims.now.old.measures.now) (length claims.now.old.text.now) (length claims.now.new.kinds.now) (length claims.now.new.measures.now) (length claims.now.new.text.now) (length claims.now.olds.now) (length claims.now.news.now) in answered result ≡ refuse number (ltb 0 number) }
 {
-    if too_big(&claims.old) {
+    if too_big(&claims.old) || too_big(&claims.new) {
         return Err(Refusal::Size);
     }
-    if too_big(&claims.new) {
-        return Err(Refusal::Size);
-    }
-    if claims.old.kinds.len() != claims.old.measures.len() {
-        return Err(Refusal::Length);
-    }
-    if claims.new.kinds.len() != claims.new.measures.len() {
-        return Err(Refusal::Length);
-    }
-    if claims.olds.len() != claims.news.len() {
+    if claims.old.kinds.len() != claims.old.measures.len()
+        || claims.new.kinds.len() != claims.new.measures.len()
+        || claims.olds.len() != claims.news.len()
+    {
         return Err(Refusal::Length);
     }
     Ok(())
@@ -104,6 +101,7 @@ fn read_both(claims: &Claims, work: &mut Work) -> bool
 }
 
 // 19: whether a claim names no element.
+#[tactic(auto, using(crate::specs::Checked::any_append), unfolding(crate::specs::Judging::naming))]
 fn names_none(claims: &Claims) -> bool
     ensures { result ≡ naming (length claims.now.old.kinds.now) (length claims.now.new.kinds.now) claims.now.olds.now claims.now.news.now claims.now.changed.now }
 {
@@ -154,13 +152,13 @@ fn judge_claims(claims: &Claims, work: &mut Work) -> Result<Verdict, Refusal>
         olds: claims.olds,
         news: claims.news,
     };
-    if !write_claims(&pairs, claims.changed, work.partners, work.marks) {
-        return Ok(Verdict::Rejected);
+    if write_claims(&pairs, claims.changed, work.partners, work.marks)
+        && hold(claims, &pairs, work)
+    {
+        Ok(Verdict::Accepted)
+    } else {
+        Ok(Verdict::Rejected)
     }
-    if hold(claims, &pairs, work) {
-        return Ok(Verdict::Accepted);
-    }
-    Ok(Verdict::Rejected)
 }
 
 // 1, 3, 4, 5 and 19, then accepted or rejected.

@@ -1,4 +1,5 @@
 // The clauses of the checker, each in one pass over the pairs or the new elements.
+// What they ask of words stands as clauses: it is of a table and the pairs or the partners together (`Reached`, `Climbed`, `Ready`), so a fact of no one value.
 #![tactic(auto)]
 
 ghost use Rattle.std.specs.Prelude.{◌≡◌, ◌+◌, ◌*◌, ◌≤◌, ◌<◌, leb, length};
@@ -54,6 +55,7 @@ pub fn same_bytes(a: &[u8], b: &[u8]) -> bool
 }
 
 // 3, of one pair: equal kind words and, for tokens, equal text.
+#[tactic(auto, unfolding(check_model::specs::Clauses::alike, check_model::specs::Clauses::part, definition::specs::Elements::is_node))]
 fn alike(old: &Side, new: &Side, x: usize, y: usize) -> bool
     requires { Reaches old.now.table.now (length old.now.text.now) x × Reaches new.now.table.now (length new.now.text.now) y }
     ensures { result ≡ alike_in old.now.table.now new.now.table.now old.now.text.now new.now.text.now (x, y) }
@@ -85,7 +87,7 @@ fn all_alike(pairs: &Pairs, old: &Side, new: &Side) -> bool
 }
 
 // 4, of one pair: both have no parent, or their parents are a pair. A word holds a parent's number + 1, 0 for none.
-#[tactic(auto, using(crate::proofs::Ways::meet_root, crate::proofs::Ways::meet_none, crate::proofs::Ways::meet_some))]
+#[tactic(auto, unfolding(check_model::specs::Clauses::parents_meet, check_model::specs::Clauses::meet))]
 fn parents_meet(old: &[u32], new: &[u32], partners: &[u32], x: usize, y: usize) -> bool
     requires { (4 * x + 4 ≤ length old.now) × Climbs new.now (length partners.now) y }
     ensures { result ≡ parents_meet old.now new.now partners.now (x, y) }
@@ -128,7 +130,7 @@ fn rising(partners: &[u32]) -> bool
 }
 
 // 6, of one new element: with a partner it is not marked; without one it is, or its parent has none either.
-#[tactic(auto, using(crate::proofs::Ways::with_partner, crate::proofs::Ways::marked_one, crate::proofs::Ways::unmarked_root, crate::proofs::Ways::unmarked_below))]
+#[tactic(auto, unfolding(check_model::specs::Clauses::accounted, check_model::specs::Clauses::loose))]
 fn accounted(new: &[u32], partners: &[u32], marks: &[u32], y: usize) -> bool
     requires { (y < length partners.now) × (y < length marks.now) × Climbs new.now (length partners.now) y }
     ensures { result ≡ accounted_in new.now partners.now marks.now y }
@@ -146,7 +148,7 @@ fn accounted(new: &[u32], partners: &[u32], marks: &[u32], y: usize) -> bool
     }
 }
 
-// 6, of all `n` new elements.
+// 6, of all `n` new elements: a count, since the three slices are lent, and longer than what is in use.
 fn all_accounted(new: &[u32], partners: &[u32], marks: &[u32], n: usize) -> bool
     requires { (n ≤ length partners.now) × (n ≤ length marks.now) × Linked new.now n }
     ensures { result ≡ each (accounted_in new.now partners.now marks.now) 0 n }
@@ -155,6 +157,7 @@ fn all_accounted(new: &[u32], partners: &[u32], marks: &[u32], n: usize) -> bool
 }
 
 // All clauses, where `pair_up` found no new element twice and wrote the partners, and `mark_all` the marks, of `n` new elements.
+#[tactic(auto, unfolding(check_model::specs::Clauses::judged_by))]
 pub fn judge(
     pairs: &Pairs,
     old: &Side,
@@ -166,17 +169,9 @@ pub fn judge(
     requires { Ready pairs.now.olds.now pairs.now.news.now old.now.table.now new.now.table.now (length old.now.text.now) (length new.now.text.now) (length partners.now) (length marks.now) n }
     ensures { result ≡ judged_by old.now.table.now new.now.table.now old.now.text.now new.now.text.now n (zip pairs.now.olds.now pairs.now.news.now) partners.now marks.now }
 {
-    if words::word(partners, 0) != 1 {
-        return false;
-    }
-    if !all_alike(pairs, old, new) {
-        return false;
-    }
-    if !all_parents_meet(pairs, old.table, new.table, partners) {
-        return false;
-    }
-    if !rising(&partners[..n]) {
-        return false;
-    }
-    all_accounted(new.table, partners, marks, n)
+    words::word(partners, 0) == 1
+        && all_alike(pairs, old, new)
+        && all_parents_meet(pairs, old.table, new.table, partners)
+        && rising(&partners[..n])
+        && all_accounted(new.table, partners, marks, n)
 }

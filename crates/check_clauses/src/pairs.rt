@@ -2,7 +2,8 @@
 
 ghost use Rattle.std.specs.Prelude.{◌≡◌, length};
 
-// The kept elements that are claimed: their old numbers, and beside each its new one.
+// The kept elements that are claimed: their old numbers, and beside each its new one. Two lists, as C lends them, that are walked by `zip`: a method for that would have
+// the library's `Zip` for its type, and the law of `zip` for its contract.
 #[derive(Clone, Copy)]
 pub struct Pairs<'a> {
     pub olds: &'a [u32],

@@ -1,24 +1,24 @@
 -- Clause 6, asked of each element and its parent alone. Where the parents of pairs are pairs, an element without a partner stands below no pair's new element but through the
 -- topmost of its kind; so it is at or below a changed element exactly if that one is changed.
 -- Assumes nothing.
-use Rattle.std.specs.Prelude.{◌≡◌, Bool, cond, ◌||◌, ◌⊎◌}
+use Rattle.std.specs.Prelude.{◌≡◌, Bool, ◌||◌, ◌⊎◌}
 use Rattle.std.proofs.Math.Path.{refl, sym, ap}
-use Rattle.std.proofs.Common.{◌∙◌, subst, inl, inr, arith, eqb-true, eq-eqb, ne_eqb}
+use Rattle.std.proofs.Common.{◌∙◌, subst, inl, inr, arith, eq-eqb, ne_eqb}
 use Rattle.std.proofs.Math.Bool.{true, false, not, or-true, not-not}
-use mathlib.Core.List.{List, [], ◌∷◌, Memᴰ}
-use Rattle.std.proofs.Math.Option.{Option, none, some}
-use Prim.Native.Nat.{ℕ, zero, suc, ◌≤◌, ◌<◌}
-use Rattle.std.proofs.Math.Dec.{eqb, eqb-suc-zero, eqb-suc-suc}
+use mathlib.Core.List.{List, Memᴰ}
+use Rattle.std.proofs.Math.Option.{none, some}
+use Prim.Native.Nat.{ℕ, zero, suc, ◌<◌}
+use Rattle.std.proofs.Math.Dec.{eqb}
 use Rattle.std.proofs.Math.ListN.{length, get_or}
 use Rattle.orders.specs.Lists.{All}
 use Rattle.orders.specs.ListLaws.{bool_absurd, either_true, some_inj, none_some}
 use Rattle.orders.specs.Tree.{Tree}
 use Rattle.definition.specs.Basics.{among}
 use Rattle.definition.specs.Elements.{Table, table, parent}
-use Rattle.definition_laws.specs.Kin.{IsParent, Kin, root, below, kin}
+use Rattle.definition_laws.specs.Kin.{Kin, root, below, kin}
 use Rattle.read_element_table.specs.Told.{element_of}
 use Rattle.check_laws.specs.Check.{is_covered}
-use Rattle.check_laws.proofs.Meaning.{ParentsPair, Covered, Says, covered_told, told_covered}
+use Rattle.check_laws.proofs.Meaning.{ParentsPair, Covered, covered_told, told_covered}
 use Rattle.check_laws.proofs.Sweep.{covered_root, covered_below}
 use Rattle.check_model.specs.Clauses.{entry, loose, accounted}
 

@@ -1,6 +1,6 @@
 -- THE LAW for code: the definition accepts exactly if `judged` says so, of the words of two trees.
 -- Assumes nothing.
-use Rattle.std.specs.Prelude.{◌≡◌, Bool, ◌&&◌, ◌||◌, ◌⊎◌, eqb, length, take, replicate}
+use Rattle.std.specs.Prelude.{◌≡◌, Bool, ◌||◌, ◌⊎◌, eqb, length, take, replicate}
 use Rattle.std.proofs.Math.Path.{refl, sym}
 use Rattle.std.proofs.Common.{ap, ◌∙◌, subst, inr, ⊎_elim, arith, get_or-take}
 use Rattle.std.proofs.Math.Bool.{true, false, not}
@@ -10,9 +10,9 @@ use Rattle.std.proofs.Math.Option.{Option, none, some}
 use Prim.Native.Nat.{ℕ, zero, suc, ◌+◌, ◌≤◌, ◌<◌}
 use Rattle.std.proofs.Math.ListN.{get_or}
 use Rattle.std.proofs.lemmas.List.{length-replicate}
-use borrow.Author.Tests.{eqb-true, eq-eqb, ne_eqb, not-true}
+use borrow.Author.Tests.{eqb-true, eq-eqb, ne_eqb}
 use Rattle.orders.specs.Lists.{All, Pairs}
-use Rattle.orders.specs.ListLaws.{bool_absurd, both_true, either_true, some_inj, none_some, lt_or_le, All-map, All-mem}
+use Rattle.orders.specs.ListLaws.{bool_absurd, both_true, some_inj, none_some, lt_or_le, All-map, All-mem}
 use Rattle.orders.specs.Tree.{Tree}
 use Rattle.definition.specs.Basics.{among}
 use Rattle.definition.specs.Elements.{Table, table, row, node?, parent, child, is_node}
@@ -20,11 +20,11 @@ use Rattle.definition_laws.specs.Kin.{parent_is}
 use Rattle.read_element_table.specs.Told.{element_of}
 use Rattle.check_laws.specs.Check.{every, same_bytes, text_at, accepts}
 use Rattle.check_laws.specs.ListLaws.{every_all, same_bytes_lem}
-use Rattle.check_laws.proofs.Meaning.{Before, ParentsPair, Covered, Says, accepts_says, says_accepts, every_mem, bytes_same}
+use Rattle.check_laws.proofs.Meaning.{Before, ParentsPair, Says, accepts_says, says_accepts, every_mem, bytes_same}
 use Rattle.check_laws.proofs.Sweep.{sibling_order}
 use Rattle.check_model.specs.Clauses.{entry, part, partnered, fresh, marked, alike, meet, parents_meet, rises, accounted, each, judged_by, judged}
 use Rattle.check_model.specs.Pairing.{Within, Apart}
-use Rattle.check_model.proofs.Pairing.{same?, zeros_at, length_partnered, mem_partner, partner_mem, fresh_apart, apart_fresh, length_marked, marks_told, rises_told, told_rises}
+use Rattle.check_model.proofs.Pairing.{same?, zeros_at, mem_partner, partner_mem, fresh_apart, apart_fresh, marks_told, rises_told, told_rises}
 use Rattle.check_model.proofs.Rising.{pairs_rise}
 use Rattle.check_model.proofs.Covered.{asked_new, asked_kept, says_accounted}
 use Rattle.check_model.specs.Table.{Known}

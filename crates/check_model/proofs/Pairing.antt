@@ -39,10 +39,6 @@ module _ (l m : List ℕ) where
   unfoldable pub pairs_from : ℕ → List (ℕ × ℕ)
   pairs_from i = zip (drop i l) (drop i m)
 
-  pub pairs_all : pairs_from 0 ≡ zip l m
-  unfolding pairs_from
-  pairs_all = refl
-
   pub pairs_more : (i : ℕ) → length m ≡ length l → i < length l → pairs_from i ≡ (get_or l i 0, get_or m i 0) ∷ pairs_from (i + 1)
   unfolding pairs_from zip zip_with
   pairs_more i e h = rw (drop-cons l i 0 h, drop-cons m i 0 (omega arith), add-one i)

@@ -3,15 +3,15 @@
 use Rattle.std.specs.Prelude.{◌≡◌, refl, ◌⊎◌, ℕ, zero, suc, ◌+◌, ◌≤◌, ◌<◌, length}
 use Rattle.std.proofs.Common.{sym, ap, ◌∙◌, subst, inl, inr, ⊎_elim, arith}
 use mathlib.Core.List.{List, [], ◌∷◌, Memᴰ}
-use Rattle.std.proofs.Math.Option.{Option, none, some}
+use Rattle.std.proofs.Math.Option.{Option, some}
 use Rattle.orders.specs.Lists.{Pairs}
-use Rattle.orders.specs.ListLaws.{some_inj, none_some, lt_or_le, All-mem}
+use Rattle.orders.specs.ListLaws.{some_inj, lt_or_le, All-mem}
 use Rattle.orders.specs.Tree.{Tree}
 use Rattle.definition.specs.Elements.{Table, table, row, parent, child}
 use Rattle.definition_laws.specs.Rows.{row_of}
 use Rattle.definition_laws.specs.Kin.{IsParent, Kin, root, below, kin, parent_is, stands}
-use Rattle.definition_laws.specs.Intervals.{after, line_interval, interval_line}
-use Rattle.check_laws.proofs.Meaning.{Before, ParentsPair, Says}
+use Rattle.definition_laws.specs.Intervals.{line_interval, interval_line}
+use Rattle.check_laws.proofs.Meaning.{ParentsPair, Says}
 use Rattle.check_laws.proofs.Sweep.{sibling_order}
 use Rattle.check_model.proofs.Pairing.{same?}
 

@@ -1,15 +1,15 @@
 -- Four words for each element of a tree, and what they tell of the definition's table.
 -- Assumes nothing.
-use Rattle.std.specs.Prelude.{◌≡◌, Bool, true, cond, ◌⊎◌, take, drop}
+use Rattle.std.specs.Prelude.{◌≡◌, Bool, true, cond, take, drop}
 use Rattle.std.proofs.Math.Path.{refl, sym, ap}
-use Rattle.std.proofs.Common.{◌∙◌, inl, inr, get_or-take, get_or-drop, take_at, drop_at}
+use Rattle.std.proofs.Common.{◌∙◌, get_or-take, get_or-drop, take_at, drop_at}
 use Rattle.std.proofs.Math.Bool.{false}
 use mathlib.Core.List.{List, [], ◌∷◌, ◌++◌, tail, append_assoc, append-nil}
 use Rattle.std.proofs.Math.Option.{Option, none, some, map, bind}
 use Prim.Native.Nat.{ℕ, zero, suc, ◌+◌, ◌-◌, ◌*◌, ◌≤◌, ◌<◌}
 use native.Mathlib.Omega.{arith}
 use Rattle.std.proofs.Math.ListN.{length, get_or, get_elem?, length-append}
-use Rattle.orders.specs.ListLaws.{bool_absurd, some_inj, none_some, bind_some, map_some}
+use Rattle.orders.specs.ListLaws.{bool_absurd, some_inj, none_some, bind_some}
 use Rattle.orders.specs.Tree.{Tree, Trees, node, token, nil, cons, list, forest, label, children, text, text_of, resolve, Path, elements_of}
 use Rattle.definition.specs.Elements.{Row, Table, is_node, table, no_row, row, node?, parent}
 use Rattle.definition_laws.specs.Rows.{Element, row_of, before, child_of, element_at, root_of, element}

@@ -1,4 +1,6 @@
 // A tree given as lists of kind words and measures: whether line 5 accepts it, and four words for each of its elements.
+// An index of what is read and room in the lent table stand as clauses: a value around each would be no plainer than its bound. So does that the two lists have one
+// length: C lends them apart, and the checker refuses others before.
 #![tactic(auto)]
 
 ghost use Rattle.std.specs.Prelude.{◌≡◌, ◌+◌, ◌*◌, ◌^◌, ◌≤◌, ◌<◌, length};
@@ -47,10 +49,7 @@ fn element_at(
     requires { (length measures.now ≡ length kinds.now) × (sum ≤ bytes) × (bytes ≤ 16384) }
     ensures { Opens kinds.now measures.now i d sum bytes result }
 {
-    if kinds.len() <= i {
-        return None;
-    }
-    let kind = words::word(kinds, i);
+    let kind = *kinds.get(i)? as usize;
     if !read_spelling::stands(kind, d) {
         return None;
     }

@@ -1,15 +1,19 @@
 -- `check_lists` meets its contract.
 use Rattle.check_claim.specs.Held.{claimed}
-use Rattle.check_claim.proofs.Ways.{long_enough, refused_1, refused_size, fits, refused_5, old_telling, new_telling, all_judged}
+use Rattle.check_claim.proofs.Ways.{long_enough, refused_size, fits, refused_5, old_telling, new_telling, all_judged}
 use Rattle.check_claim.specs.Judging.{answer_of}
+use Rattle.check_claim.specs.Promise.{told}
+use Rattle.definition.specs.Basics.{refuse, ◌>>=◌}
+use Rattle.definition.specs.Answers.{with_work}
+use Rattle.std.proofs.lemmas.Bool.Decides.{nat_tests}
 use Rattle.refusals.specs.Numbers.{number}
 use Rattle.std.proofs.lemmas.Result.{err_from_is_err_and}
 use native.Mathlib.Omega.{arith}
 use Rattle.check_claim.proofs.check_lists.Goals as goal
 
 pub returns-then-too_short-clause-tells : goal.returns-then-too_short-clause-tells
-unfolding answer_of number
-returns-then-too_short-clause-tells c = refused_1 _ _ _ _ _ c.too_short.ensures c.if-too_short.true
+unfolding answer_of number told with_work refuse ◌>>=◌
+returns-then-too_short-clause-tells c = grind (arith, nat_tests)
 
 pub returns-in_err-size_refusal-clause-tells : goal.returns-in_err-size_refusal-clause-tells
 unfolding answer_of
