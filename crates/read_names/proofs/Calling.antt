@@ -23,6 +23,7 @@ use Rattle.read_calls.specs.Fits.{word_fits, call_fits, judged}
 use Rattle.read_calls.proofs.Own.{own_taken}
 use Rattle.definition_laws.specs.Right.{neither, none_passes}
 use Rattle.read_names.specs.Called.{calls_fit, word_too_many, fit_end, fit_more}
+use Rattle.words.specs.List.{length_of}
 use Rattle.read_names.proofs.Passing.{pairs_from, pairs_all, pairs_none, pairs_more}
 
 -- ── One call ────────────────────────────────────────────────────────────────────────────────────────────────

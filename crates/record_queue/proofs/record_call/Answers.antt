@@ -1,4 +1,5 @@
 -- `record_call` meets its contract: a further editor starts, or a change is recorded.
+use Rattle.words.specs.List.{length_of}
 use Rattle.record_queue.proofs.Recordings.{first_below, call_named, call_numbers, rule_fits, call_editor, call_put}
 use Rattle.std.proofs.Common.{sym}
 use Rattle.words.specs.List.{length_of}
