@@ -2,6 +2,7 @@
 // what becomes of each other change (`judge_changes`), then where dependents and notes go. Nothing is edited meanwhile: the run need not think of overlaps, owners or order again.
 // Rows have their count beside them, and the table comes alone: record_changes and plan_edge say why.
 // Bounds of one number and room in a lent slice stand as clauses: a value around each would be no plainer than its bound.
+// What a stage leaves for the next (`ChangesFated`, `Rewrote`) and `withdrawn`, filled with 0, stand in clauses: they speak of slices that are written between.
 // `Ready` stands in clauses, since it names the definition's trees, which are data: as a field it would be truncated, and each proof that reads it would have to show that its own goal has one proof at most.
 #![tactic(auto)]
 
@@ -9,8 +10,7 @@ ghost use Rattle.std.specs.Prelude.{◌≡◌, ◌++◌, ◌+◌, ◌*◌, ◌�
 ghost use Rattle.choices.specs.Meant.{meant};
 ghost use Rattle.record_changes.specs.ChangeRow.{rows_of};
 ghost use Rattle.record_changes.specs.ChangeRowLaws.{rows_words};
-ghost use Rattle.plan_notes.specs.Answers.{NotesSettled};
-ghost use Rattle.plan_model.specs.Ready.{notes_in, Ready};
+ghost use Rattle.plan_model.specs.Ready.{Ready};
 ghost use Rattle.plan_edit.specs.Counted.{discarded_of};
 ghost use Rattle.plan_edit.specs.Stages.{Sorted, LeftBy, rule_rows, RowsJudged, ChangesJudged, ChangesFated, Rewrote};
 ghost use Rattle.plan_edit.specs.Answers.{PlanMade, Planning};
@@ -110,7 +110,7 @@ fn state_fates(choices: Choices, sorted: &mut [u32], c: usize, table: &[u32])
     requires { (14 * c ≤ length sorted.old) × (c ≤ 256) }
     ensures { sorted.new ≡ rows_words (rule_rows (meant choices) table.now c sorted.old) ++ drop (14 * c) sorted.old }
 {
-    // A number, as in `Choices`: any may be asked for.
+    // `Choices` keeps numbers, since C gives any: so one is compared.
     if choices.edge == 0 {
         plan_changed_region::plan_fates(sorted, c);
         return;
@@ -129,7 +129,7 @@ fn leave_weaker(
     requires { (n ≤ 256) × (14 * n ≤ length sorted.old) × (withdrawn.old ≡ replicate 256 0) }
     ensures { LeftBy (meant choices) table.now n sorted.old sorted.new withdrawn.new result }
 {
-    // A number, as in `Choices`: any may be asked for.
+    // Compared as in `state_fates`.
     if choices.stronger == 0 {
         return n;
     }
@@ -181,17 +181,8 @@ pub fn judge_changes(
     judge_rest(choices, sorted, n, c, table, withdrawn)
 }
 
-// The notes of a batch settle, and are written to `first`.
-fn settle(batch: &Batch, mapping: &Mapping, first: &mut [u32]) -> Result<(), Refusal>
-    requires ready { Ready batch.now.bytes.now batch.now.layout mapping.now.elements.table.now mapping.now.elements.source.now }
-    requires counted { mapping.now.elements.count ≡ batch.now.layout.sizes.elements }
-    requires in_bounds { 768 ≤ length first.old }
-    ensures { NotesSettled batch.now.layout.sizes.elements mapping.now.elements.table.now mapping.now.elements.source.now mapping.now.map.now (notes_in batch.now.layout batch.now.bytes.now) batch.now.layout.sizes.notes first.old first.new result }
-{
-    plan_notes::settle_notes(&batch.noted(), &batch.numbers(), mapping, first)
-}
-
-// The notes settle, and the rewritten changes are put in running order: the plan, or 9 or 10 of a note.
+// The notes settle, and the rewritten changes are put in running order: the plan, or 9 or 10 of a note. `choices` names the definition's in the clauses, here and in
+// the next: a ghost value in its place could be picked from a call's other arguments alone, which do not tell it.
 fn settle_and_order(
     choices: Choices,
     batch: &Batch,
@@ -209,7 +200,7 @@ fn settle_and_order(
     requires in_bounds { (256 ≤ length order.old) × (256 ≤ length running.old) × (768 ≤ length first.old) }
     ensures { PlanMade (meant choices) batch.now.bytes.now batch.now.layout mapping.now.elements.table.now mapping.now.elements.source.now changes.now running.new first.new result }
 {
-    settle(batch, mapping, first)?;
+    plan_notes::settle_notes(&batch.noted(), &batch.numbers(), mapping, first)?;
     let runs = plan_postorder::running_order(changes, &mut order[..c], running);
     let discarded = count_discarded(changes, c);
     // Those withdrawn are counted last (`plan`).
