@@ -3,6 +3,7 @@
 // Rows have their count beside them, and the table comes alone: record_changes and plan_edge say why.
 // Bounds of one number and room in a lent slice stand as clauses: a value around each would be no plainer than its bound.
 // What a stage leaves for the next (`ChangesFated`, `Rewrote`) and `withdrawn`, filled with 0, stand in clauses: they speak of slices that are written between.
+// That a mapping has as many elements as the batch (`counted`) is a clause too, since a `Mapping` knows no batch.
 // `Ready` stands in clauses, since it names the definition's trees, which are data: as a field it would be truncated, and each proof that reads it would have to show that its own goal has one proof at most.
 #![tactic(auto)]
 

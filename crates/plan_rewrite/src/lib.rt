@@ -85,28 +85,26 @@ fn upmap_dependent(
     upmap_ends(mapping, input, output, operation, target, end)
 }
 
-// The row at place `i` is written with the target `x` and the end `y`, after so many climb steps, if line 6 takes the rewritten call. The Rust does not ask: it
-// panics where it needs such a target's parent or range, or goes on (docs/DIFFERENCES.md, 2).
+// The row at place `i` is written with these ends, if line 6 takes the rewritten call: after how many climb steps. The Rust does not ask: it panics where it needs such
+// a target's parent or range, or goes on (docs/DIFFERENCES.md, 2).
 fn write_judged(
     elements: &Elements,
     listed: &WordList,
     rows: &[u32],
     i: usize,
-    x: usize,
-    y: usize,
-    steps: usize,
+    ends: Ends,
     out: &mut [u32],
 ) -> Result<usize, Refusal>
-    requires places { (i < 256) × (14 * i + 14 ≤ length out.old) × (steps ≤ 2 * elements.now.count) }
-    requires new_ends { NewEnds elements.now.count (words_of listed.now) (row_at rows.now i) x y }
-    ensures { RowRewritten (judged_row (view_of elements.now) (words_of listed.now) (row_at rows.now i) (x, y, steps)) i out.old out.new result }
+    requires places { (i < 256) × (14 * i + 14 ≤ length out.old) × (ends.steps ≤ 2 * elements.now.count) }
+    requires new_ends { NewEnds elements.now.count (words_of listed.now) (row_at rows.now i) ends.target ends.end }
+    ensures { RowRewritten (judged_row (view_of elements.now) (words_of listed.now) (row_at rows.now i) (ends.target, ends.end, ends.steps)) i out.old out.new result }
 {
     let operation = field(rows, i, record_changes::OPERATION);
     let list = field(rows, i, record_changes::LIST);
-    let z = judged_by(listed, operation, list, y);
-    if read_calls::call_fits(elements, operation, x, z) {
-        record_rewritten::write_row(elements, rows, i, x, y, z, out);
-        return Ok(steps);
+    let z = judged_by(listed, operation, list, ends.end);
+    if read_calls::call_fits(elements, operation, ends.target, z) {
+        record_rewritten::write_row(elements, rows, i, ends.target, ends.end, z, out);
+        return Ok(ends.steps);
     }
     Err(Refusal::Unmapped)
 }
@@ -125,17 +123,8 @@ fn rewrite_dependent_target(
     requires dependent { Dependent mapping.now.elements.count (words_of listed.now) (row_at rows.now k) (row_at rows.now i) }
     ensures { RowRewritten (rewrite_under (view_of mapping.now.elements) (mapped_by mapping.now.map.now) (words_of listed.now) (change_of (words_of listed.now) (row_at rows.now k)) (row_at rows.now i)) i out.old out.new result }
 {
-    let e = upmap_dependent(mapping, listed, rows, i, k)?;
-    write_judged(
-        &mapping.elements,
-        listed,
-        rows,
-        i,
-        e.target,
-        e.end,
-        e.steps,
-        out,
-    )
+    let ends = upmap_dependent(mapping, listed, rows, i, k)?;
+    write_judged(&mapping.elements, listed, rows, i, ends, out)
 }
 
 // The row at place `i` is written anew if it is a dependent, and as it is if not: after how many climb steps.
