@@ -150,9 +150,10 @@ fn judge_rest(
     ensures { RowsJudged (meant choices) table.now n c sorted.old sorted.new withdrawn.now result }
 {
     if let Err(places) = plan_overlap::replacements_are_disjoint(sorted, c) {
+        let told = &withdrawn[..n];
         return Err(Overlap {
-            earlier: number_of(&withdrawn[..n], places.earlier),
-            later: number_of(&withdrawn[..n], places.later),
+            earlier: number_of(told, places.earlier),
+            later: number_of(told, places.later),
         });
     }
     state_fates(choices, sorted, c, table);

@@ -4,11 +4,8 @@ use lib.Seq.{length-take-le}
 use Rattle.plan_edit.proofs.Judging.{rows_overlap_lem, rows_fated}
 use Rattle.plan_edit.proofs.judge_rest.Goals as goal
 
-pub slice_bounds-number_of-end : goal.slice_bounds-number_of-end
-slice_bounds-number_of-end c = sym (length-take-le _ _ c.requires.2)
-
-pub slice_bounds-number_of-end-in-Err : goal.slice_bounds-number_of-end-in-Err
-slice_bounds-number_of-end-in-Err c = sym (length-take-le _ _ c.requires.2)
+pub slice_bounds-told-end : goal.slice_bounds-told-end
+slice_bounds-told-end c = sym (length-take-le _ _ c.requires.2)
 
 pub returns-in-Err : goal.returns-in-Err
 returns-in-Err c = rows_overlap_lem c.replacements_are_disjoint.ensures _ _ _ c.in-Err.is c.number_of.ensures c.number_of-in-Err.ensures
