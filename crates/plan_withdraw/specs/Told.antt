@@ -3,7 +3,7 @@
 use Rattle.std.specs.Prelude.{◌≡◌, ◌⊎◌, Bool, ◌&&◌, ◌||◌, length, drop, leb}
 use Rattle.std.proofs.Math.Path.{refl, ap}
 use Rattle.std.proofs.Common.{sym, ◌∙◌, inl, inr, arith}
-use Rattle.std.proofs.Math.Bool.{true, false, cond, not}
+use Rattle.std.proofs.Math.Bool.{true, false, cond, not, not-not, and_assoc}
 use mathlib.Core.List.{List, [], ◌∷◌, ◌++◌, map, Memᴰ}
 use Rattle.std.proofs.Math.Option
 use Rattle.std.proofs.Math.Option.{Option, none, some}
@@ -32,7 +32,7 @@ use Rattle.read_element_table.specs.Wellformed.{Wellformed}
 use Rattle.read_element_table.specs.Told.{length_view, row_view, deep}
 use Rattle.record_changes.specs.ChangeRow.{ChangeRow, rows_of, end_of, change_row}
 use Rattle.record_changes.specs.ChangeRowLaws.{row_at, rows_from}
-use Rattle.plan_sort.specs.Lists.{keep_cons, map_numbered, map_keep, map_first}
+use Rattle.plan_sort.specs.Lists.{keep_cons, map_numbered, map_keep, map_first, lower_one}
 use Rattle.plan_sort.specs.Rows.{Tells, row_tells}
 use Rattle.plan_withdraw.specs.Rule.{crosses, shares, gives_way, stronger, keeping, withdrawn_at, comes, taken_from, kept, withdrawals, told, number_at}
 
@@ -131,16 +131,12 @@ module _ (n : ℕ) (w s : List ℕ) (W : Wellformed n w s) where
       go false q (inl f) (inr g) = rw (q, lt-ltb r.target b f, le-ltb u.target a g)
       go false q (inl f) (inl g) = bool_absurd (meet f g) q
 
-  and_both : (x y z : Bool) → (x && (y && z)) ≡ ((x && y) && z)
-  and_both true y z = refl
-  and_both false y z = refl
-
   -- ONE GIVES WAY TO ANOTHER as the definition says
   gives_told : (r u : ChangeRow) (c d : Recorded) → Ruled T r c → Ruled T u d → Spread r c.change → Spread u d.change → gives_way w r u ≡ rule.gives_way T c d
   unfolding gives_way rule.gives_way crosses rule.overlapping rule.crosses peers
   gives_told r u c d R U P Q =
       rw (shares_told r u c.change d.change P Q, R.rule_told, U.rule_told, R.tells.tree_told, U.tells.tree_told, R.tells.depth_told, U.tells.depth_told, R.tells.from_told, U.tells.from_told, R.tells.to_told, U.tells.to_told)
-      (ap (λ (x : Bool). ltb c.rule d.rule && x) (and_both (eqb (tree T (target c.change)) (tree T (target d.change))) (eqb (parent_depth T c.change) (parent_depth T d.change)) ((ltb (from T c.change) (to T d.change) && ltb (from T d.change) (to T c.change)) || rule.shares T c.change d.change)))
+      (ap (λ (x : Bool). ltb c.rule d.rule && x) (sym (and_assoc (eqb (tree T (target c.change)) (tree T (target d.change))) (eqb (parent_depth T c.change) (parent_depth T d.change)) ((ltb (from T c.change) (to T d.change) && ltb (from T d.change) (to T c.change)) || rule.shares T c.change d.change))))
 
 -- ── Places and rows: on rows with their places ──────────────────────────────────────────────────────────────
 
@@ -325,16 +321,6 @@ module _ (n : ℕ) (w s : List ℕ) (W : Wellformed n w s) {X : Type 0} (row : X
   before_x : ℕ × X → ℕ × X → Bool
   before_x p q = ltb (rec q.1).rule (rec p.1).rule
 
-  -- keys of one number
-  lower_one : (a b : ℕ) → ltb a b ≡ lower (a ∷ []) (b ∷ [])
-  unfolding lower
-  lower_one a b = go (ltb a b) (eqb a b)
-    where
-      go : (x y : Bool) → x ≡ (x || (y && false))
-      go true y = refl
-      go false true = refl
-      go false false = refl
-
   module _ (v : List ℕ) (m : ℕ) (xs : List X) (rows : rows_of m v ≡ map row xs) (sits : All (λ x. Sits S (rec x).change) xs) where
     -- the replacements and runs among them with their places, and as they are taken
     removing : List (ℕ × X)
@@ -380,11 +366,7 @@ module _ (n : ℕ) (w s : List ℕ) (W : Wellformed n w s) {X : Type 0} (row : X
 
     rank_told_lem : (x : X) → eqb (row x).rank 0 ≡ not (replaces (rec x).change)
     unfolding replaces
-    rank_told_lem x = ap (λ (k : ℕ). eqb k 0) (ruled x).tells.rank_told ∙ not_not (eqb (rank (rec x).change) 0)
-      where
-        not_not : (b : Bool) → b ≡ not (not b)
-        not_not true = refl
-        not_not false = refl
+    rank_told_lem x = ap (λ (k : ℕ). eqb k 0) (ruled x).tells.rank_told ∙ sym (not-not (eqb (rank (rec x).change) 0))
 
     -- of each
     each_told : (x : X) → Sits S (rec x).change → told (cond (eqb (row x).rank 0) 0 (placed (Option.map (λ p. p.0) (first_way w (row x) (map rowed kept_x))))) ≡ rule.withdrawn_by S (map numb kept_x) (rec x)
