@@ -1,5 +1,7 @@
 // From a batch to what its run leaves: refusals 17 and 18, lines 1 to 7, planning, and the steps.
 // Room in a lent slice stands as a clause: a value around each would be no plainer than its bound.
+// `LaidOut` and `Planning` stand in clauses, since they name the definition's trees and what is planned, which are data: as a field each would be truncated, and each proof
+// that reads it would have to show that its own goal has one proof at most.
 #![tactic(auto)]
 
 ghost use Rattle.std.specs.Prelude.{◌≡◌, ◌≤◌, length, map};
@@ -47,6 +49,7 @@ struct Plan<'a> {
 }
 
 // The steps of the plan, over marks for just the batch's elements. Over 40 lines by its clauses, as the next one is: nine lines name what is lent, the body has fewer.
+// `choices` names the definition's in the clauses: a ghost value in its place could be picked from the call's other arguments alone, which do not tell it.
 fn run_plan(
     choices: Choices,
     accepted: &Accepted,
