@@ -1,6 +1,7 @@
 // The run: from the batch's own trees, the performed changes step by step.
 // The slices that are lent to be written stay apart, as run_tree_state says.
 // Bounds of one number and room in a lent slice stand as clauses: a value around each would be no plainer than its bound.
+// What is held and what a `Task` is asked of stand in clauses, as the task says.
 #![tactic(auto)]
 
 ghost use Rattle.std.specs.Prelude.{◌≡◌, ◌+◌, ◌*◌, ◌≤◌, ◌<◌, length};

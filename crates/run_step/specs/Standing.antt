@@ -33,6 +33,7 @@ use Rattle.rows_model.proofs.Words.{rows_many}
 use Rattle.rows_model.proofs.Numbers.{element_row}
 use Rattle.run_model.specs.Store.{held_note, Store, store, store_step}
 use Rattle.run_model.proofs.Step.{Kept, step_store, step_kept}
+use Rattle.run_model.proofs.Spliced.{store_same}
 use Rattle.read_element_table.specs.View.{view}
 use Rattle.read_element_table.specs.Told.{length_view}
 use Rattle.read_element_table.specs.Wellformed.{Lines}
@@ -64,9 +65,6 @@ pub record Begun (n : ℕ) (lines source first : List ℕ) : Type 0 where
   pub formed : Lines n lines
   pub long : 3 * n + 3 ≤ length source
   pub few_notes : length first ≤ 768
-
-store_same : {s t : Store} → s.rows ≡ t.rows → s.marks ≡ t.marks → s.notes ≡ t.notes → s.changed ≡ t.changed → s ≡ t
-store_same {s} {t} a b c d = λ i. record { rows = a i; marks = b i; notes = c i; changed = d i }
 
 module _ {n : ℕ} {lines source first : List ℕ} (b : Begun n lines source first) where
   abbrev T : Table

@@ -1,5 +1,5 @@
 // The current trees as rows and marks: what a listed element yields, and where a change goes.
-// The order of two numbers and an index of what is read stand as clauses: a value around each would be no plainer than its bound.
+// Bounds of one number, the order of two numbers and an index of what is read stand as clauses: a value around each would be no plainer than its bound.
 #![tactic(auto)]
 
 ghost use Rattle.std.specs.Prelude.{◌≡◌, ◌+◌, ◌*◌, ◌≤◌, ◌<◌, length, get_or};

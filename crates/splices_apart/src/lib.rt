@@ -1,5 +1,6 @@
 // Whether any two splices of a list are apart: they have two numbers, neither's parent is below what the other deletes, and their runs do not overlap.
-// An index of what is read stands as a clause: a value around each would be no plainer than its bound.
+// An index of what is read stands as a clause, and so does that each parent is a row, which is an index for each splice: a value around each would be no plainer
+// than its bound.
 #![tactic(auto)]
 
 ghost use Rattle.std.specs.Prelude.{◌+◌, ◌*◌, ◌<◌, get_or};

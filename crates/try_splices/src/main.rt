@@ -98,23 +98,12 @@ const ORDERS4: [[u32; 4]; 24] = [
 
 // ── One order ──
 
-// Splice `o` of the list becomes splice `k`.
-fn place(list: &[u32], o: usize, out: &mut [u32], k: usize) {
-    if 1000 <= o || 1000 <= k {
-        return;
-    }
-    let from = SPLICE_WORDS * o;
-    let to = from + SPLICE_WORDS;
-    if list.len() < to || out.len() < SPLICE_WORDS * k + SPLICE_WORDS {
-        return;
-    }
-    copy_in(out, SPLICE_WORDS * k, &list[from..to]);
-}
-
 // The list in this order.
 fn arrange(list: &[u32], order: &[u32], out: &mut [u32]) {
-    for (k, o) in order.iter().enumerate() {
-        place(list, *o as usize, out, k);
+    for (o, place) in order.iter().zip(out.chunks_exact_mut(SPLICE_WORDS)) {
+        if let Some(splice) = list.chunks_exact(SPLICE_WORDS).nth(*o as usize) {
+            copy_in(place, 0, splice);
+        }
     }
 }
 
