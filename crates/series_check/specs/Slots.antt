@@ -1,7 +1,7 @@
 -- The slots of lent bookmarks from a number on, and what is read of each.
 -- Assumes nothing.
 use Rattle.std.specs.Prelude.{◌≡◌, refl, List, [], ◌∷◌, map, take}
-use Rattle.std.proofs.Common.{sym, ◌∙◌, get_or-drop}
+use Rattle.std.proofs.Common.{get_or-take, sym, ◌∙◌, get_or-drop}
 use Rattle.std.proofs.Math.Path.{ap}
 use Prim.Native.Nat.{ℕ, zero, suc, ◌+◌, ◌-◌, ◌*◌, ◌^◌, ◌≤◌, ◌<◌}
 use native.Mathlib.Omega.{arith}

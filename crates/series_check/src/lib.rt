@@ -1,5 +1,5 @@
 // What a lent memory is held to: lines 3, 4, 5, 20 and 21 (document 02, Note 14). How the memory lies in its two slices: series_laws/specs/Lent.antt.
-// Bounds of one number stand as clauses: a value around each would be no plainer than its bound.
+// Bounds of one number, an index of what is read and room in a lent slice stand as clauses: a value around each would be no plainer than its bound.
 #![tactic(auto)]
 
 ghost use Rattle.std.specs.Prelude.{◌≡◌, not, ◌+◌, ◌*◌, ◌^◌, ◌≤◌, ◌<◌, length, get_or};
@@ -48,6 +48,7 @@ pub fn slot_at(i: usize) -> usize
 // ── 20: numbers ──
 
 // The number of bookmark `i`. It takes a slice, since of the count it asks only what `i` needs.
+#[tactic(auto, using(crate::specs::Slots::number_told))]
 pub fn number_at(bookmarks: &[u32], i: usize) -> usize
     requires { (1 + 65 * (i + 1) ≤ length bookmarks.now) × (i < 2 ^ 32) }
     ensures { (result ≡ get_or (slot_at bookmarks.now i) 0 0) × (result < 2 ^ 32) }
@@ -97,15 +98,14 @@ fn all_lead(rows: &[u32], bookmarks: &Bookmarks) -> bool
 
 // ── The memory ──
 
-// The rows of the tree's elements.
+// The rows of the tree's elements. By the element's number, which is its place in both columns and that of its row, with the text before it carried along.
 fn fill_rows(columns: &Columns, rows: &mut [u32])
     requires { (3 * columns.now.count ≤ length rows.old) × (text_sum (elements_at columns.now.bytes.now columns.now.kinds columns.now.measures columns.now.count) ≤ 16384) }
     ensures { rows.new ≡ paste rows.old 0 (rows_from 0 (elements_at columns.now.bytes.now columns.now.kinds columns.now.measures columns.now.count)) (3 * columns.now.count) }
 {
     let mut offset: usize = 0;
     for i in 0..columns.count {
-        let kind = read_word(columns.bytes, columns.kinds + 4 * i);
-        let measure = read_word(columns.bytes, columns.measures + 4 * i);
+        let (kind, measure) = columns.get(i);
         words::store(rows, ROW_WORDS * i, &[kind, measure, offset]);
         offset += read_spelling::length_of(kind, measure);
     }
@@ -131,10 +131,7 @@ fn judge_memory(
     if !read_spelling::spells(&columns, 1, b) {
         return Err(Refusal::Spelling);
     }
-    if MOST_BOOKMARKS < bookmarks.count {
-        return Err(Refusal::Bookmarks);
-    }
-    if repeats(bookmarks) {
+    if MOST_BOOKMARKS < bookmarks.count || repeats(bookmarks) {
         return Err(Refusal::Bookmarks);
     }
     fill_rows(&columns, rows);
@@ -155,16 +152,10 @@ pub fn judge(most: usize, tree: &[u8], bookmarks: &[u32], rows: &mut [u32]) -> R
     }
     let n = read_word(tree, 0);
     let b = read_word(tree, 4);
-    if most < n {
+    if most < n || 16384 < b {
         return Err(Refusal::Size);
     }
-    if 16384 < b {
-        return Err(Refusal::Size);
-    }
-    if tree.len() < SIZES + 8 * n + b {
-        return Err(Refusal::Length);
-    }
-    if bookmarks.is_empty() {
+    if tree.len() < SIZES + 8 * n + b || bookmarks.is_empty() {
         return Err(Refusal::Length);
     }
     let k = word(bookmarks, 0);

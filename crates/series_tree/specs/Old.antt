@@ -42,6 +42,10 @@ pub record Read (b : List ℕ) (l : Layout) (source : List ℕ) : Type 0 where
 unfoldable pub flat_at : List ℕ → ℕ → ℕ → ℕ → ℕ → ℕ → Flat
 flat_at b kinds measures text size bytes = record { kinds = words size (drop kinds b); measures = words size (drop measures b); text = take bytes (drop text b) }
 
+-- the same of a tree whose text is given
+unfoldable pub flat_beside : List ℕ → ℕ → ℕ → ℕ → List ℕ → Flat
+flat_beside b kinds measures size text = record { kinds = words size (drop kinds b); measures = words size (drop measures b); text = text }
+
 -- the front of a list that is told in whole
 front_told : {A : Type 0} (x y z : List A) (n : ℕ) → n ≡ length x → x ++ y ≡ z → x ≡ take n z
 front_told x y z n e q = sym (ap (take n) (sym q) ∙ take_at x y n (sym e))

@@ -20,7 +20,7 @@ use Rattle.check_laws.specs.Check.{Flat, same_bytes}
 use Rattle.check_laws.specs.Claimed.{old_tree, flat_of}
 use Rattle.series_laws.specs.Memory.{same_tree}
 use Rattle.series_laws.specs.Lent.{tree_in}
-use Rattle.series_tree.specs.Old.{Read, flat_at, size_few, bytes_within, old_told}
+use Rattle.series_tree.specs.Old.{Read, flat_at, flat_beside, size_few, bytes_within, old_told}
 
 -- ── Words ───────────────────────────────────────────────────────────────────────────────────────────────────
 
@@ -86,45 +86,42 @@ tree_at t n m =
     let e : 8 + 4 * n + 4 * n ≡ 8 + 8 * n = omega arith in
     rw (drop-drop (4 * n) 8 t, drop-drop (4 * n) (8 + 4 * n) t, e)
 
-module _ (b t : List ℕ) (kinds measures text size bytes : ℕ) {n m : ℕ} (en : (n ≡ word t) × (n < 2 ^ 32)) (em : (m ≡ word (drop 4 t)) × (m < 2 ^ 32)) where
+module _ (b t : List ℕ) (kinds measures size : ℕ) (text : List ℕ) {n m : ℕ} (en : (n ≡ word t) × (n < 2 ^ 32)) (em : (m ≡ word (drop 4 t)) × (m < 2 ^ 32)) where
   -- what is told, by what is read
-  told : {r : Bool} → r ≡ same_tree (flat_at b kinds measures text size bytes) (flat_at t 8 (8 + 4 * n) (8 + 8 * n) n m) → r ≡ same_tree (flat_at b kinds measures text size bytes) (tree_in (word t) (word (drop 4 t)) t)
-  told q = q ∙ ap (same_tree (flat_at b kinds measures text size bytes)) (sym (tree_at t n m) ∙ (ap (λ (k : ℕ). tree_in k m t) en.0 ∙ ap (λ (k : ℕ). tree_in (word t) k t) em.0))
+  told : {r : Bool} → r ≡ same_tree (flat_beside b kinds measures size text) (flat_at t 8 (8 + 4 * n) (8 + 8 * n) n m) → r ≡ same_tree (flat_beside b kinds measures size text) (tree_in (word t) (word (drop 4 t)) t)
+  told q = q ∙ ap (same_tree (flat_beside b kinds measures size text)) (sym (tree_at t n m) ∙ (ap (λ (k : ℕ). tree_in k m t) en.0 ∙ ap (λ (k : ℕ). tree_in (word t) k t) em.0))
 
-  pub other_size : (size ≡ n → ⊥) → false ≡ same_tree (flat_at b kinds measures text size bytes) (tree_in (word t) (word (drop 4 t)) t)
-  unfolding same_tree flat_at
+  pub other_size : (size ≡ n → ⊥) → false ≡ same_tree (flat_beside b kinds measures size text) (tree_in (word t) (word (drop 4 t)) t)
+  unfolding same_tree flat_at flat_beside
   other_size h = told (rw (differ_length (words size (drop kinds b)) (words n (drop 8 t)) (λ e. h (omega (arith, length_words size (drop kinds b), length_words n (drop 8 t))))))
 
-  module _ (room : text + bytes ≤ length b) (space : 8 + 8 * n + m ≤ length t) where
-    pub other_length : (bytes ≡ m → ⊥) → false ≡ same_tree (flat_at b kinds measures text size bytes) (tree_in (word t) (word (drop 4 t)) t)
-    unfolding same_tree flat_at
-    other_length h =
-        let x : length (take bytes (drop text b)) ≡ bytes = length-take-le bytes (drop text b) (omega (arith, length-drop text b)) in
-        let y : length (take m (drop (8 + 8 * n) t)) ≡ m = length-take-le m (drop (8 + 8 * n) t) (omega (arith, length-drop (8 + 8 * n) t)) in
-        told (rw (differ_length (take bytes (drop text b)) (take m (drop (8 + 8 * n) t)) (λ e. h (omega arith))) (twice (same_bytes (words size (drop kinds b)) (words n (drop 8 t))) (same_bytes (words size (drop measures b)) (words n (drop (8 + 4 * n) t)))))
-      where
-        twice : (a b : Bool) → false ≡ (a && (b && false))
-        twice true true = refl
-        twice true false = refl
-        twice false b = refl
+  pub other_length : 8 + 8 * n + m ≤ length t → (length text ≡ m → ⊥) → false ≡ same_tree (flat_beside b kinds measures size text) (tree_in (word t) (word (drop 4 t)) t)
+  unfolding same_tree flat_at flat_beside
+  other_length space h =
+      let y : length (take m (drop (8 + 8 * n) t)) ≡ m = length-take-le m (drop (8 + 8 * n) t) (omega (arith, length-drop (8 + 8 * n) t)) in
+      told (rw (differ_length text (take m (drop (8 + 8 * n) t)) (λ e. h (omega arith))) (twice (same_bytes (words size (drop kinds b)) (words n (drop 8 t))) (same_bytes (words size (drop measures b)) (words n (drop (8 + 4 * n) t)))))
+    where
+      twice : (a b : Bool) → false ≡ (a && (b && false))
+      twice true true = refl
+      twice true false = refl
+      twice false b = refl
 
   module _ (same : size ≡ n) {r : Bool} (k : r ≡ same_bytes (words n (drop kinds b)) (words n (drop 8 t))) where
-    pub other_kinds : not r ≡ true → false ≡ same_tree (flat_at b kinds measures text size bytes) (tree_in (word t) (word (drop 4 t)) t)
-    unfolding same_tree flat_at
+    pub other_kinds : not r ≡ true → false ≡ same_tree (flat_beside b kinds measures size text) (tree_in (word t) (word (drop 4 t)) t)
+    unfolding same_tree flat_at flat_beside
     other_kinds h = told (rw (same, ← k, not-true r h))
 
     module _ (is : not r ≡ false) {q : Bool} (l : q ≡ same_bytes (words n (drop measures b)) (words n (drop (8 + 4 * n) t))) where
-      pub other_measures : not q ≡ true → false ≡ same_tree (flat_at b kinds measures text size bytes) (tree_in (word t) (word (drop 4 t)) t)
-      unfolding same_tree flat_at
+      pub other_measures : not q ≡ true → false ≡ same_tree (flat_beside b kinds measures size text) (tree_in (word t) (word (drop 4 t)) t)
+      unfolding same_tree flat_at flat_beside
       other_measures h = told (rw (same, ← k, ← l, not-false r is, not-true q h))
 
       -- all is the same but, perhaps, the text
-      pub same_text : not q ≡ false → {c : Bool} → c ≡ same_bytes (take (text + bytes - text) (drop text b)) (take (8 + 8 * n + m - (8 + 8 * n)) (drop (8 + 8 * n) t)) → c ≡ same_tree (flat_at b kinds measures text size bytes) (tree_in (word t) (word (drop 4 t)) t)
-      unfolding same_tree flat_at
+      pub same_text : not q ≡ false → {c : Bool} → c ≡ same_bytes text (take (8 + 8 * n + m - (8 + 8 * n)) (drop (8 + 8 * n) t)) → c ≡ same_tree (flat_beside b kinds measures size text) (tree_in (word t) (word (drop 4 t)) t)
+      unfolding same_tree flat_at flat_beside
       same_text h {c} e =
-          let x : text + bytes - text ≡ bytes = omega arith in
           let y : 8 + 8 * n + m - (8 + 8 * n) ≡ m = omega arith in
-          told (rw (same, ← k, ← l, not-false r is, not-false q h) (e ∙ rw (x, y)))
+          told (rw (same, ← k, ← l, not-false r is, not-false q h) (e ∙ rw y))
 
 -- ── Tree 0 ──────────────────────────────────────────────────────────────────────────────────────────────────
 
@@ -135,6 +132,8 @@ module _ {b : List ℕ} {l : Layout} {source : List ℕ} (r : Read b l source) {
       let few = size_few r p {size = length part / 3} refl in
       (omega (arith, few, r.kinds), omega (arith, few, r.measures), bytes_within r p {size = length part / 3} refl h)
 
-  pub same_told : {c : Bool} (m : Flat) → c ≡ same_tree (flat_at b l.kinds l.measures l.text (length part / 3) n) m → (a : Accepted) → accepted b ≡ gives a → c ≡ same_tree (flat_of (old_tree a.trees)) m
+  pub same_told : {c : Bool} (m : Flat) → c ≡ same_tree (flat_beside b l.kinds l.measures (length part / 3) (take (l.text + n - l.text) (drop l.text b))) m → (a : Accepted) → accepted b ≡ gives a → c ≡ same_tree (flat_of (old_tree a.trees)) m
+  unfolding flat_at flat_beside
   same_told {c} m q a x =
-      q ∙ (ap (λ (f : Flat). same_tree f m) (sym (old_told r p refl h)) ∙ ap (λ (a : Accepted). same_tree (flat_of (old_tree a.trees)) m) (gives_inj (sym r.accepts ∙ x)))
+      let e : l.text + n - l.text ≡ n = omega arith in
+      rw e at q ∙ (ap (λ (f : Flat). same_tree f m) (sym (old_told r p refl h)) ∙ ap (λ (a : Accepted). same_tree (flat_of (old_tree a.trees)) m) (gives_inj (sym r.accepts ∙ x)))

@@ -1,5 +1,6 @@
 // The tree of a memory: whether a batch's tree 0 is that tree (22), whether the new tree fits (13), and that tree written.
-// Bounds of one number stand as clauses: a value around each would be no plainer than its bound.
+// Bounds of one number and room in a lent slice stand as clauses: a value around each would be no plainer than its bound. That a batch is accepted and read (`Read`) names what is accepted,
+// which is data, and so is a clause too.
 #![tactic(auto)]
 
 ghost use Rattle.std.specs.Prelude.{◌≡◌, ◌+◌, ◌*◌, ◌/◌, ◌^◌, ◌≤◌, ◌<◌, ltb, length, drop};
@@ -12,7 +13,7 @@ ghost use Rattle.check_laws.specs.Check.{same_bytes};
 ghost use Rattle.check_laws.specs.Claimed.{old_tree, flat_of};
 ghost use Rattle.series_laws.specs.Memory.{same_tree};
 ghost use Rattle.series_laws.specs.Lent.{tree_in, tree_bytes, tree_out, over};
-ghost use Rattle.series_tree.specs.Old.{Read, flat_at};
+ghost use Rattle.series_tree.specs.Old.{Read, flat_beside};
 ghost use Rattle.series_tree.specs.New.{flat_in, new_in};
 
 mod lent_tree;
@@ -22,6 +23,7 @@ use finish_arrays::{text_size, write_elements, write_text};
 use finish_model::first_tree;
 pub use lent_tree::LentTree;
 use read_layout::Layout;
+use read_spelling::Columns;
 use rows_syntax_node::{ROW_WORDS, Rows, text_bytes};
 use series_check::SIZES;
 use words::{read_word, write_word};
@@ -37,38 +39,28 @@ fn same_words(a: &[u8], i: usize, b: &[u8], j: usize, n: usize) -> bool
     same_bytes(&a[i..i + 4 * n], &b[j..j + 4 * n])
 }
 
-// Whether a tree of `size` elements and `bytes` bytes of text, at these places of a batch, is that of a memory.
-fn same_arrays(
-    b: &[u8],
-    kinds: usize,
-    measures: usize,
-    text: usize,
-    size: usize,
-    bytes: usize,
-    tree: &LentTree,
-) -> bool
-    requires { (kinds + 4 * size ≤ length b.now) × (measures + 4 * size ≤ length b.now) × (text + bytes ≤ length b.now) }
-    ensures { result ≡ same_tree (flat_at b.now kinds measures text size bytes) (tree_in (word tree.now.bytes.now) (word (drop 4 tree.now.bytes.now)) tree.now.bytes.now) }
+// Whether a tree, whose elements stand in these columns and whose text stands beside them, is that of a memory.
+fn same_arrays(columns: &Columns, text: &[u8], tree: &LentTree) -> bool
+    ensures { result ≡ same_tree (flat_beside columns.now.bytes.now columns.now.kinds columns.now.measures columns.now.count text.now) (tree_in (word tree.now.bytes.now) (word (drop 4 tree.now.bytes.now)) tree.now.bytes.now) }
 {
     let lent = tree.bytes;
     let n = read_word(lent, 0);
     let m = read_word(lent, 4);
-    if size != n {
+    if columns.count != n {
         return false;
     }
-    if bytes != m {
+    if text.len() != m {
         return false;
     }
-    if !same_words(b, kinds, lent, SIZES, n) {
+    if !same_words(columns.bytes, columns.kinds, lent, SIZES, n) {
         return false;
     }
-    if !same_words(b, measures, lent, SIZES + 4 * n, n) {
+    if !same_words(columns.bytes, columns.measures, lent, SIZES + 4 * n, n) {
         return false;
     }
-    let end = text + bytes;
     let from = SIZES + 8 * n;
     let to = from + m;
-    same_bytes(&b[text..end], &lent[from..to])
+    same_bytes(text, &lent[from..to])
 }
 
 // 22: whether tree 0 of an accepted batch is the tree left before.
@@ -82,21 +74,20 @@ pub fn same_tree(b: &[u8], l: Layout, source: &[u32], tree: &LentTree) -> bool
         words: source,
     };
     let first = first_tree(&old);
-    let bytes = text_bytes(first);
-    same_arrays(
-        b,
-        l.kinds,
-        l.measures,
-        l.text,
-        first.len() / ROW_WORDS,
-        bytes,
-        tree,
-    )
+    let columns = Columns {
+        bytes: b,
+        kinds: l.kinds,
+        measures: l.measures,
+        count: first.len() / ROW_WORDS,
+    };
+    let end = l.text + text_bytes(first);
+    same_arrays(&columns, &b[l.text..end], tree)
 }
 
 // ── The new tree ──
 
-// 13: whether the new tree, from the rows of all trees as the run leaves them, takes more than `space` bytes.
+// 13: whether the new tree, from the rows of all trees as the run leaves them, takes more than `space` bytes. It takes `Rows` and no `Left`, as `write_tree` does: `leave` has the rows in a
+// `RunEnd`, and would make a `Left` of them just for this call.
 pub fn lacks_room(rows: &Rows, text: &[u8], space: usize) -> bool
     requires { (1 ≤ rows.now.count) × (bytes (first_rows text.now rows.now.count rows.now.words.now) < 2 ^ 32) }
     ensures { result ≡ ltb space (tree_bytes (length (new_in text.now rows.now.count rows.now.words.now).kinds) (length (new_in text.now rows.now.count rows.now.words.now).text)) }

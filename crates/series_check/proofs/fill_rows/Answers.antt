@@ -7,10 +7,10 @@ pub loop-i-init : goal.loop-i-init
 loop-i-init c = search (filling_start, rules)
 
 pub store-requires : goal.store-requires
-store-requires c = (filling_room c.loop-i.invariant c.loop-i-test.true, (c.read_word-kind.ensures.1, (c.read_word-measure.ensures.1, (filling_small c.loop-i.invariant, tt))))
+store-requires c = (filling_room c.loop-i.invariant c.loop-i-test.true, (c.get-kind.ensures.kind.1, (c.get-kind.ensures.measure.1, (filling_small c.loop-i.invariant, tt))))
 
 pub loop-i-preserved : goal.loop-i-preserved
-loop-i-preserved c = filling_next c.loop-i.invariant c.loop-i-test.true c.read_word-kind.ensures c.read_word-measure.ensures c.store.ensures c.length_of-offset.ensures
+loop-i-preserved c = filling_next c.loop-i.invariant c.loop-i-test.true c.get-kind.ensures.kind c.get-kind.ensures.measure c.store.ensures c.length_of-offset.ensures
 
 pub shape_of-rows : goal.shape_of-rows
 shape_of-rows c = c.loop-i.invariant.same

@@ -1,6 +1,5 @@
 -- `leads` meets its contract.
 use borrow.Author.Rules.{rules}
-use mathlib.Core.Path.{refl}
 use Rattle.series_check.specs.Leading.{leads_beyond, leads_found}
 use Rattle.series_check.proofs.leads.Goals as goal
 
@@ -8,4 +7,4 @@ pub returns-then-n-gt-LONGEST_PATH : goal.returns-then-n-gt-LONGEST_PATH
 returns-then-n-gt-LONGEST_PATH c = search (leads_beyond, rules)
 
 pub returns : goal.returns
-returns c = leads_found _ _ _ c.slot_at-at.ensures c.word-n.ensures c.if-n-gt-LONGEST_PATH.false refl c.resolve.ensures c.is_some.ensures
+returns c = search (leads_found, rules)
