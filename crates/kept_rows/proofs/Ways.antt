@@ -1,6 +1,6 @@
 -- Each answer, from what the code knows there.
 -- Assumes nothing.
-use Rattle.std.specs.Prelude.{Result, Ok, Err, Option as Answered, Some, None, is_some as found}
+use Rattle.std.specs.Prelude.{Result, Ok, Err, Option as Answered, Some, None}
 use Rattle.std.specs.List.{filter}
 use mathlib.Core.Bool.{Bool, true, false, cond}
 use mathlib.Core.Path.{◌≡◌, refl, sym, ap, ◌∙◌}

@@ -2,10 +2,10 @@
 -- Assumes nothing.
 use Rattle.std.specs.Prelude.{◌≡◌, Bool, true, false, drop}
 use Rattle.std.proofs.Math.Path.{sym, ap}
-use Rattle.std.proofs.Common.{◌∙◌}
-use mathlib.Core.List.{List, [], ◌∷◌, tail}
+use Rattle.std.proofs.Common.{◌∙◌, length-take}
+use mathlib.Core.List.{List, ◌∷◌, tail}
 use Rattle.std.proofs.Math.Option.{Option, none, some, map}
-use Prim.Native.Nat.{ℕ, zero, suc, ◌+◌, ◌-◌, ◌*◌, ◌^◌, ◌≤◌, ◌<◌}
+use Prim.Native.Nat.{ℕ, ◌+◌, ◌-◌, ◌*◌, ◌^◌, ◌≤◌, ◌<◌}
 use native.Mathlib.Omega.{arith}
 use Rattle.std.proofs.Math.ListN.{length, get_or, take, length-drop}
 use Rattle.std.proofs.Math.Seq.{paste, length-take-le}
@@ -58,12 +58,7 @@ pub record Put (b : List ℕ) (to : ℕ) (o : Option Bookmark) (out : List ℕ) 
 
 -- a front is no longer than it says
 pub front_short : {k m : ℕ} (l : List ℕ) → k ≤ m → length (take k l) ≤ m
-front_short {k} {m} l h = omega (arith, most k l)
-  where
-    most : (k : ℕ) (l : List ℕ) → length (take k l) ≤ k
-    most zero l = omega arith
-    most (suc k) [] = omega arith
-    most (suc k) (x ∷ l) = omega (arith, most k l)
+front_short {k} {m} l h = omega (arith, length-take k l)
 
 module _ {source : List ℕ} {e : ℕ} {marks rows : List ℕ} {n : ℕ} (b : List ℕ) (i : ℕ) {at k : ℕ} (ea : at ≡ 1 + 65 * i) (ek : (k ≡ get_or b (at + 1) 0) × (k < 2 ^ 32)) (h : Here source e marks rows n (slot_at b i)) where
   long : get_or (slot_at b i) 1 0 ≡ k

@@ -2,7 +2,7 @@
 -- Assumes nothing.
 use Rattle.std.specs.Prelude.{◌≡◌, refl, ℕ, zero, suc, ◌+◌, ◌-◌, ◌*◌, ◌^◌, ◌≤◌, ◌<◌, drop}
 use Rattle.std.proofs.Math.Path.{sym, ap}
-use Rattle.std.proofs.Common.{◌∙◌, take-append-drop}
+use Rattle.std.proofs.Common.{◌∙◌, get_or-take, take-append-drop}
 use mathlib.Core.List.{List, [], ◌∷◌, ◌++◌, map, tail}
 use Rattle.std.proofs.Math.Option.{Option, none, some}
 use native.Mathlib.Omega.{arith}
@@ -49,12 +49,6 @@ take-suc zero (x ∷ p) h = refl
 take-suc (suc j) [] h = absurd (omega arith)
 take-suc (suc j) (x ∷ p) h = ap {B = Path} (λ (y : Path). x ∷ y) (take-suc j p (omega arith))
 
-get_d_front : (e : ℕ) (l : List ℕ) (k : ℕ) → k < e → get_or (take e l) k 0 ≡ get_or l k 0
-get_d_front zero l k h = absurd (omega arith)
-get_d_front (suc e) [] k h = refl
-get_d_front (suc e) (x ∷ l) zero h = refl
-get_d_front (suc e) (x ∷ l) (suc k) h = get_d_front e l k (omega arith)
-
 module _ {source : List ℕ} {e : ℕ} {marks rows : List ℕ} {n : ℕ} (s : Stood source e marks rows n) (path : Path) (v : Tree ℕ) (leads : resolve (0 ∷ path) (top s.trees) ≡ some v) where
   T : Table
   T = table 0 0 s.trees
@@ -80,7 +74,7 @@ module _ {source : List ℕ} {e : ℕ} {marks rows : List ℕ} {n : ℕ} (s : St
         k,
         within,
         ap (λ (p : Path). place p (top s.trees)) (sym is) ∙ element_row s.trees 2147483648 k l,
-        sym (get_d_front e marks k within) ∙ (ap (λ (l : List ℕ). get_or l k 0) s.told ∙ (get_d_map (mark_of s.world.trees) s.world.paths k 0 none (omega arith)
+        sym (get_or-take e marks k 0 within) ∙ (ap (λ (l : List ℕ). get_or l k 0) s.told ∙ (get_d_map (mark_of s.world.trees) s.world.paths k 0 none (omega arith)
             ∙ ap (mark_of s.world.trees) (ap (λ (l : List (Option Path)). get_or l k none) s.follows.paths ∙ (get_d_map (λ r. s.follows.move r.path) (table 0 0 s.trees) k none no_row l ∙ ap s.follows.move is)))),
       )
 

@@ -1,5 +1,6 @@
 // Bookmarks moved by a run: a bookmark is an old element, and the element's mark says where it stands now.
-// Bounds of one number stand as clauses: a value around each would be no plainer than its bound.
+// Bounds of one number, an index of what is read and room in a lent slice stand as clauses: a value around each would be no plainer than its bound. What says that elements stand somewhere
+// (`Survives`, `Stands`, `Here`, `Moving`) names the definition's run, which is data, and so is a clause too.
 #![tactic(auto)]
 
 ghost use Rattle.std.specs.Prelude.{◌≡◌, ◌==◌, not, ◌+◌, ◌*◌, ◌^◌, ◌≤◌, ◌<◌, length, get_or, take};

@@ -1,5 +1,5 @@
 -- `changed_texts` meets its contract: the library's sum over the changed elements, which are few, each with a text that a word can count.
-use Rattle.std.proofs.Common.{arith, rules, tests, ◌∙◌, ◌^◌, length}
+use Rattle.std.proofs.Common.{arith, rules, tests, ◌^◌}
 use Rattle.std.proofs.lemmas.Iterator.{YieldsList-from_slice, YieldsList-from_map}
 use Rattle.std.proofs.lemmas.Iterator.Adapters.{at_most_from_yields_List, fits_from_length}
 use Rattle.std.proofs.lemmas.Iterator.Consumers.{sum_from_yields_List}
