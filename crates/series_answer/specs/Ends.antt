@@ -1,8 +1,8 @@
 -- Where the run of a batch on a memory has ended: 13, or what is written.
 -- Assumes nothing.
 use Rattle.std.proofs.Math.Path.{◌≡◌, refl, sym, ap, subst}
-use Rattle.std.proofs.Common.{◌∙◌, zero-add, arith, length-drop, take_all}
-use Rattle.std.specs.Prelude.{Result, Ok, Err, Bool, ℕ, ◌-◌, ◌≤◌, take, drop}
+use Rattle.std.proofs.Common.{◌∙◌, zero-add, arith, take_all}
+use Rattle.std.specs.Prelude.{Result, Ok, Err, Bool, ℕ, ◌≤◌, drop}
 use Rattle.std.proofs.Math.Bool.{true, false}
 use mathlib.Core.List.{List, map}
 use Rattle.std.proofs.Math.Dec.{ltb}

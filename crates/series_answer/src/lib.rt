@@ -1,4 +1,5 @@
 // What a later call of a series answers from what its run leaves: 13, or the result's bytes and the memory as it is left (document 02, Note 14).
+// What is known at the end of the run (`ToLeave`, `ToAnswer`) stands as a clause: it names the definition's memory and run, which are data.
 #![tactic(auto)]
 
 ghost use Rattle.std.specs.Prelude.{length};
@@ -21,7 +22,8 @@ use series_move::RunEnd;
 use series_tree::lacks_room;
 
 // At the end of the run: 13 where the memory or the result slice is too short, before anything is written; else both are written, and the result has so many bytes. `starts` is for where each element's text starts.
-// Over 40 lines by its twelve parameters, of which a part of the body would be handed ten again.
+// Over 40 lines by its twelve parameters, of which a part of the body would be handed ten again. `choices` is for the contract, which tells the definition's answer by them: a ghost value in
+// its place would have to be picked by `series::follow`, and a pick goes by the arguments of the call, of which there would be none with the choices.
 fn answer_end<'a>(
     choices: Choices,
     batch: &[u8],

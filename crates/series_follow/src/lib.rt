@@ -3,14 +3,8 @@
 #![tactic(auto)]
 
 ghost use Rattle.std.specs.Prelude.{◌≡◌, ◌≤◌, length, map};
-ghost use Rattle.definition.specs.Answers.{with_choices};
 ghost use Rattle.choices.specs.Meant.{meant};
 ghost use Rattle.promises.specs.Lent.{held, Same};
-ghost use Rattle.promises.specs.Slices.{needed, lengths};
-ghost use Rattle.series_laws.specs.Memory.{most_later};
-ghost use Rattle.series_laws.specs.Lent.{lent};
-ghost use Rattle.refusals.specs.Numbers.{answered};
-ghost use Rattle.series_check.specs.Judged.{judged};
 ghost use Rattle.series_leave.specs.Leaving.{lent_of};
 ghost use Rattle.series_follow.specs.Accepting.{AcceptsOn};
 ghost use Rattle.series_follow.specs.Performing.{PerformsOn};

@@ -1,4 +1,5 @@
 // The memory that an accepted batch leaves (document 02, Note 14).
+// What is known then (`Leaving`) stands as a clause: it names the definition's memory and step, which are data.
 #![tactic(auto)]
 
 ghost use Rattle.std.specs.Prelude.{◌≡◌};
