@@ -52,6 +52,7 @@ pub struct Layout {
 }
 
 // The seven sizes at the front of a batch.
+#[tactic(auto, using(crate::proofs::Laying::sizes_read))]
 pub fn read_sizes(b: &[u8]) -> Sizes
     requires { 28 ≤ length b.now }
     ensures { sizes_of result ≡ sizes b.now }
@@ -112,6 +113,7 @@ fn placed(s: Sizes) -> Layout
 }
 
 // Line 4, of sizes within their limits.
+#[tactic(auto, using(crate::proofs::Laying::text_fits, crate::proofs::Laying::ends_elsewhere, crate::proofs::Laying::ends))]
 fn judge_length(b: &[u8], s: Sizes) -> Result<Layout, Refusal>
     requires { Limits s }
     ensures { answered result ≡ ends_at (length b.now) (sizes_of s) }
@@ -124,6 +126,7 @@ fn judge_length(b: &[u8], s: Sizes) -> Result<Layout, Refusal>
 }
 
 // Lines 2, 3 and 4.
+#[tactic(auto, using(crate::proofs::Laying::too_short, crate::proofs::Laying::out_of_limits, crate::proofs::Laying::limits, crate::proofs::Laying::in_limits))]
 pub fn lay_out(b: &[u8]) -> Result<Layout, Refusal>
     ensures { answered result ≡ laid b.now }
 {

@@ -25,6 +25,7 @@ pub const TEXT: usize = 2;
 // ── One row ──
 
 // The number of children of the element at row `i`: a token has none.
+#[tactic(auto, using(crate::proofs::Turns::count_token, crate::proofs::Turns::count_node))]
 pub fn child_count(rows: &[u32], i: usize) -> usize
     requires { 3 * i + 2 < length rows.now }
     ensures { Counted rows.now i result }
@@ -37,6 +38,7 @@ pub fn child_count(rows: &[u32], i: usize) -> usize
 }
 
 // The length of the own text of the element at row `i`: a node has none.
+#[tactic(auto, using(crate::proofs::Turns::length_token, crate::proofs::Turns::length_node))]
 pub fn text_length(rows: &[u32], i: usize) -> usize
     requires { 3 * i + 2 < length rows.now }
     ensures { Measured rows.now i result }
@@ -74,6 +76,7 @@ pub fn child_row(rows: &Rows, parent: usize, i: usize) -> usize
 }
 
 // The element at row `at` with all that is below it: its preorder run.
+#[tactic(auto, using(crate::proofs::Turns::part_made))]
 pub fn subtree<'a>(rows: &Rows<'a>, at: usize) -> &'a [u32]
     requires { at ≤ rows.now.count }
     ensures { Part rows.now.words.now rows.now.count at result.now }
@@ -193,6 +196,7 @@ pub fn number_from(marks: &mut [u32], first: usize)
 }
 
 // What becomes of a mark where the rows `p` up to `q` give way to `m` others. A mark is a word, 0 for an element that is gone: it is stored so.
+#[tactic(auto, using(crate::proofs::Turns::mark_before, crate::proofs::Turns::mark_inside, crate::proofs::Turns::mark_after))]
 fn moved_word(x: u32, p: u32, q: u32, m: u32) -> u32
     requires { (p ≤ q) × (q < 2 ^ 16) × (m < 2 ^ 16) × (x < 2 ^ 16) }
     ensures { Moved p q m x result }
