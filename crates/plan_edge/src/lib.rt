@@ -205,7 +205,8 @@ fn innermost_of(
     behind
 }
 
-// The region of the change at place `k` among `n`. From the last to the first: so among equals the last stays. A `for`: `fold` has no law over a range read backward.
+// The region of the change at place `k` among `n`. From the last to the first: so among equals the last stays. A `for`: a closure under `fold` would
+// be asked for any region so far, of which it needs what only those found have (`one_past behind ≤ 256`).
 fn region_of(rows: &[u32], n: usize, table: &[u32], k: usize) -> Option<usize>
     requires { (n ≤ 256) × (k < 2 ^ 32) }
     ensures { (one_past result ≡ region_from table.now rows.now k 0 n) × (one_past result ≤ 256) }

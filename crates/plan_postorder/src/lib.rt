@@ -1,6 +1,6 @@
 // The order in which changes run: dependents before their owner, siblings from the highest key to the lowest.
 // Bounds of one number and room in a lent slice stand as clauses: a value around each would be no plainer than its bound.
-// What is ranked and what is linked stands in clauses too: each array is written by one call and read by the next, as its type says nothing of it.
+// That places are ranked and arrays linked stands in clauses too: one call fills what is lent to it, the next one reads it.
 #![tactic(auto)]
 
 ghost use Rattle.std.specs.Prelude.{◌≡◌, ◌++◌, ◌+◌, ◌^◌, ◌≤◌, ◌<◌, length, take, drop, replicate};

@@ -1,7 +1,8 @@
 // Rewriting dependents: the targets of a change inside a replaced node move into the replacement, and its row is made anew. Rows come with a place or a count:
 // record_changes says why.
 // Bounds of one number, an index of what is read and room in a lent slice stand as clauses: a value around each would be no plainer than its bound.
-// What rows state (`Dependent`, `NewEnds`, `Fated`, `Rewritable`) stands in clauses: each speaks of another one, two or `c` rows of a slice, and of the listed elements.
+// What rows state (`Dependent`, `NewEnds`, `Fated`, `Rewritable`) stands in clauses: each speaks of one row, two or `c` of a slice and of the listed elements, so that a
+// value would hold both slices and be made anew for each row.
 #![tactic(auto)]
 
 ghost use Rattle.std.specs.Prelude.{◌≡◌, cond, ◌+◌, ◌*◌, ◌≤◌, ◌<◌, length, get_or, eqb};
