@@ -39,6 +39,7 @@ pub fn depth_above(table: &[u32], changes: &[u32], k: usize) -> usize
 
 // Rust: PlannedChange::record_as_changed. What the change at place `k` puts in is recorded as changed if it depends on no other (else its owner's is), and
 // goes into tree 0: the rule number that it is recorded by, if it is.
+#[tactic(auto, using(crate::proofs::Telling::not_recorded, crate::proofs::Telling::not_in_tree_0, crate::proofs::Telling::recorded_by))]
 pub fn recorded_by(changes: &[u32], k: usize) -> Option<usize>
     requires { k < 2 ^ 32 }
     ensures { result ≡ records_by (row_at changes.now k) }

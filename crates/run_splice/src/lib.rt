@@ -63,6 +63,7 @@ pub fn notes_left(notes: &[u32], p: usize, q: usize) -> usize
 }
 
 // The first `k` notes moved, and behind them those that come in. The new number of notes.
+#[tactic(auto, using(crate::proofs::Turns::notes_spliced))]
 pub fn splice_notes(notes: &mut [u32], k: usize, shift: &Shift, incoming: &[u32]) -> usize
     requires k_in_bounds { (3 * k ≤ length notes.old) × All (λ n. n.row < 2 ^ 16) (notes_of k notes.old) }
     requires whole { length incoming.now % 3 ≡ 0 }
@@ -95,6 +96,7 @@ fn record_changed(
 }
 
 // The first `k` changed elements moved, and behind them the parts if the change records. The new number of changed elements.
+#[tactic(auto, using(crate::proofs::Turns::changed_spliced))]
 pub fn splice_changed(
     changed: &mut [u32],
     k: usize,

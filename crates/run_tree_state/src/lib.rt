@@ -94,6 +94,7 @@ fn splice(
 }
 
 // Rust: TreeState::replace_root. What comes in stands where the root of tree 0 stood.
+#[tactic(auto, using(crate::proofs::Held::store_replaced))]
 fn replace_root(
     t: &mut TreeState,
     rows: &mut [u32],
