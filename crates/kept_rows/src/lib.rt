@@ -43,6 +43,7 @@ fn write_pair(b: &mut [u8], olds: usize, news: usize, old: usize, mark: usize, e
 }
 
 // All pairs are written in one pass: the old numbers at the front, the new ones from `half` on. `to` goes on by what each pair wrote, so that a sum of the library's would have a closure that writes.
+// Both halves are places in one slice, since what is promised is of all of it.
 fn write_kept(b: &mut [u8], marks: &[u32], end: usize, half: usize)
     requires { (half ≡ 4 * length (pairs_from end 0 marks.now)) × (2 * half ≤ length b.old) × (length marks.now < 2 ^ 16) }
     ensures { b.new ≡ paste b.old 0 (pair_bytes (pairs_from end 0 marks.now)) (2 * half) }
