@@ -12,7 +12,7 @@ use Rattle.definition.specs.Elements.{Table, table, numbers, rows, rows_below, r
 use Rattle.definition.specs.Running.{World}
 use Rattle.definition.specs.Finishing.{new_tree, new_table}
 use Rattle.definition.specs.FindElement.{alike, find_in}
-use Rattle.rows_model.specs.Row.{Row, kind, rows_of, rows_in, rows_all}
+use Rattle.rows_model.specs.Row.{Row, rows_of, rows_in, rows_all}
 use Rattle.finish_model.specs.Finished.{first_tree}
 use Rattle.finish_model.proofs.Numbers.{first_tree_lem}
 use Rattle.finish_model.specs.Alike.{alike_words, alike_from, find_row}

@@ -1,7 +1,7 @@
 -- The result told from what is held in rows is the definition's.
 -- Assumes nothing.
 use Rattle.std.specs.Prelude.{◌≡◌, ℕ, length, take}
-use Rattle.std.proofs.Math.Path.{refl, fun_ext}
+use Rattle.std.proofs.Math.Path.{refl}
 use Rattle.std.proofs.Common.{sym, ap, ◌∙◌}
 use mathlib.Core.List.{List, [], ◌∷◌, map, flat_map, append-nil}
 use Rattle.std.proofs.Math.Option
