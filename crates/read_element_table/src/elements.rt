@@ -2,7 +2,8 @@
 
 ghost use Rattle.read_element_table.specs.Wellformed.{Wellformed, wellformed_prop};
 
-// How many elements there are, their table, and their rows behind the row of the node above all trees.
+// How many elements there are, their table, and their rows behind the row of the node above all trees. The slices are work slices, lent and longer (fixed memory): cut to
+// the count, each would have it as a quotient.
 #[derive(Clone, Copy)]
 pub struct Elements<'a> {
     pub count: usize,

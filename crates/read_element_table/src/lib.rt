@@ -16,7 +16,7 @@ use read_spelling::Columns;
 use rows_syntax_node::{KIND, ROW_WORDS};
 use words::NODE_KIND;
 
-// How many words an element has, and which they are (specs/View.antt).
+// How many words an element has, and which they are (specs/View.antt): all eight, though not each is read by its name.
 pub const WORDS: usize = 8;
 
 pub const OFFSET: usize = 0;
@@ -35,7 +35,8 @@ pub const AFTER: usize = 6;
 
 pub const TREE: usize = 7;
 
-// An open element: how many of its children are to come, its number + 1 (0 for all the trees), the number of its next child.
+// An open element: how many of its children are to come, its number + 1 (0 for all the trees), the number of its next child. `owner` stays a number, since it is the
+// word that its children get in the table (`PARENT`).
 #[derive(Clone, Copy)]
 struct Open {
     left: usize,

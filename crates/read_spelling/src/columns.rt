@@ -5,7 +5,8 @@ ghost use Rattle.definition.specs.Words.{word};
 
 use words::read_word;
 
-// The kind words and the measures of `count` elements stand from these bytes on.
+// The kind words and the measures of `count` elements stand from these bytes on. Not two `WordList`s: these would hold bytes and count twice, and that they agree
+// would be two fields more.
 #[derive(Clone, Copy)]
 pub struct Columns<'a> {
     pub bytes: &'a [u8],

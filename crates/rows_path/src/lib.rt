@@ -25,6 +25,7 @@ pub fn resolve(tree: &[u32], path: &[u32]) -> Option<Resolved>
         words: tree,
     };
     let mut at = 0;
+    // A `for`, since it carries the row and leaves where there is no such child.
     for step in path {
         if n <= at {
             return None;

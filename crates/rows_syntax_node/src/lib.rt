@@ -22,7 +22,7 @@ pub const MEASURE: usize = 1;
 // Where a token's text starts in the text of all.
 pub const TEXT: usize = 2;
 
-// ── One row ──
+// ── One row: by its slice, since each asks for one row, which is less than `Rows` has. Beside read_spelling's `children_of` and `length_of`, which need both numbers read ──
 
 // The number of children of the element at row `i`: a token has none.
 #[tactic(auto, using(crate::proofs::Turns::count_token, crate::proofs::Turns::count_node))]
@@ -53,6 +53,7 @@ pub fn text_length(rows: &[u32], i: usize) -> usize
 // ── Places ──
 
 // The row after the next `owed` trees from row `at` on: each row is one element owed less, and a node's row owes its children.
+// A `for`, since it carries what is owed and leaves when nothing is.
 pub fn rows_after(rows: &Rows, at: usize, owed: usize) -> usize
     requires { (at ≤ rows.now.count) × (owed < 2 ^ 32) }
     ensures { After rows.now.words.now rows.now.count at owed result }

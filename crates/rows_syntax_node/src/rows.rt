@@ -4,7 +4,8 @@ ghost use Rattle.std.specs.Prelude.{◌≡◌, ◌-◌, ◌*◌, ◌^◌, ◌≤
 
 use crate::ROW_WORDS;
 
-// The first `count` rows of `words`, which may be longer: rows are read where they are written, in a lent slice that has room for more (fixed memory).
+// The first `count` rows of `words`, which may be longer: rows are read in the lent slice in which they are written. Not cut to them: the count would be a quotient of a
+// length, and what is promised of the lent slice would be said of a part each time.
 #[derive(Clone, Copy)]
 pub struct Rows<'a> {
     pub count: usize,

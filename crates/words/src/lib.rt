@@ -1,4 +1,5 @@
 // Words in byte slices; slices of words copied, moved and spliced.
+// Room in a lent slice and an index of what is read stand as clauses: a value around each would be no plainer than its bound.
 #![tactic(auto)]
 
 ghost use Rattle.std.specs.Prelude.{◌≡◌, ◌++◌, ◌+◌, ◌-◌, ◌*◌, ◌^◌, ◌≤◌, ◌<◌, length, get_or, take, drop};
@@ -22,7 +23,7 @@ pub fn word(s: &[u32], i: usize) -> usize
     s[i] as usize
 }
 
-// Word `i` of a slice, 0 past the end: a number, as it is what a list of the definition has there.
+// Word `i` of a slice, 0 past the end: a number, as it is what a list of the definition has there. Beside `word`, whose index is proved: there one past the end is refused.
 pub fn word_or_zero(s: &[u32], i: usize) -> usize
     ensures { (result ≡ get_or s.now i 0) × (result < 2 ^ 32) }
 {
@@ -45,7 +46,8 @@ pub fn write_word(b: &mut [u8], at: usize, w: usize)
     copy_in(b, at, &w.to_le_bytes()[..4]);
 }
 
-// The `n` words that stand in `b` from `at` on are written at `to`. By the place: `chunks_exact` and `zip` would need the law of both, and say no more.
+// The `n` words that stand in `b` from `at` on are written at `to`. By the place: of `chunks_exact`
+// the library has no law. `b`, `at` and `n` are no `WordList`: each caller would make one for this one call.
 pub fn read_words(b: &[u8], at: usize, n: usize, s: &mut [u32], to: usize)
     requires { (at + 4 * n ≤ length b.now) × (to + n ≤ length s.old) }
     ensures { s.new ≡ paste s.old to (words n (drop at b.now)) n }
@@ -85,6 +87,7 @@ pub fn move_words(s: &mut [u32], from: usize, to: usize, len: usize)
 }
 
 // Of the first `n` words those from `p` up to `q` give way to `ins`; what stands beyond the new end is as it was.
+// The count `n` stands beside the slice, which is lent, and longer than what is in use (fixed memory).
 pub fn splice_words(s: &mut [u32], n: usize, p: usize, q: usize, ins: &[u32])
     requires { (p ≤ q) × (q ≤ n) × (n ≤ length s.old) × (p + length ins.now + (n - q) ≤ length s.old) }
     ensures { s.new ≡ spliced p q ins.now (take n s.old) ++ drop (p + length ins.now + (n - q)) s.old }
