@@ -6,7 +6,7 @@ use mathlib.Core.Path.{◌≡◌, refl, sym, ap, subst, ◌∙◌}
 use mathlib.Core.List.{List, [], ◌∷◌, ◌++◌, map, append-nil, append_assoc}
 use mathlib.Core.Option
 use mathlib.Core.Option.{Option, none, some}
-use Prim.Native.Nat.{ℕ, suc, ◌+◌, ◌-◌, ◌*◌, ◌/◌, ◌%◌, ◌^◌, ◌≤◌, ◌<◌}
+use Prim.Native.Nat.{ℕ, suc, ◌+◌, ◌-◌, ◌*◌, ◌/◌, ◌^◌, ◌≤◌, ◌<◌}
 use native.Mathlib.Omega.{arith}
 use native.Mathlib.Numerals.{add-one}
 use native.Mathlib.Nat.{add-zero}
@@ -51,22 +51,10 @@ module _ {p q m x : ℕ} where
 
 -- ── Changed elements ────────────────────────────────────────────────────────────────────────────────────────
 
--- the parts of a word are in bounds
-pub row_told_lem : (w : ℕ) → w % 131072 ≡ (changed_of w).row
-unfolding changed_of
-row_told_lem w = refl
-
-pub rule_told : (w : ℕ) → w / 131072 ≡ (changed_of w).rule
-unfolding changed_of
-rule_told w = refl
-
+-- the rule number of a word is in bounds
 pub rule_room : (w : ℕ) {rule : ℕ} → rule ≡ (changed_of w).rule → w < 2 ^ 32 → rule < 32768
 unfolding changed_of
 rule_room w e h = omega arith
-
-pub word_told : (row rule : ℕ) → row + 131072 * rule ≡ changed_word (put_in rule row)
-unfolding changed_word
-word_told row rule = refl
 
 -- what becomes of a changed element is what becomes of its row
 moved_by : (l : List ℕ) (i p q m : ℕ) {w x : ℕ} (o : Option ℕ) → w ≡ get_or l i 0 → x ≡ (changed_of w).row → shift p q m x ≡ o → moved_changed p q m (changed_of (get_or l i 0)) ≡ Option.map (at_row (changed_of w)) o

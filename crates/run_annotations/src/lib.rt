@@ -49,7 +49,7 @@ pub fn moved(shift: &Shift, x: usize) -> Option<usize>
 const ROWS: usize = 131072;
 
 // The row of a changed element.
-#[tactic(auto, using(crate::proofs::Turns::row_told_lem))]
+#[tactic(auto, unfolding(crate::specs::Changed::changed_of))]
 pub fn changed_row(w: usize) -> usize
     ensures { result ≡ (changed_of w).row }
 {
@@ -57,7 +57,7 @@ pub fn changed_row(w: usize) -> usize
 }
 
 // The rule number of the change that put it in.
-#[tactic(auto, using(crate::proofs::Turns::rule_told))]
+#[tactic(auto, unfolding(crate::specs::Changed::changed_of))]
 pub fn changed_rule(w: usize) -> usize
     ensures { result ≡ (changed_of w).rule }
 {
@@ -65,7 +65,7 @@ pub fn changed_rule(w: usize) -> usize
 }
 
 // The word of a changed element.
-#[tactic(auto, using(crate::proofs::Turns::word_told))]
+#[tactic(auto, unfolding(crate::specs::Changed::changed_word))]
 fn changed_word(row: usize, rule: usize) -> usize
     requires { (row < 131072) × (rule < 32768) }
     ensures { (result ≡ changed_word (put_in rule row)) × (result < 2 ^ 32) }
