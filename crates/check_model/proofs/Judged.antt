@@ -12,7 +12,7 @@ use Rattle.std.proofs.Math.ListN.{get_or}
 use Rattle.std.proofs.lemmas.List.{length-replicate}
 use borrow.Author.Tests.{eqb-true, eq-eqb, ne_eqb}
 use Rattle.orders.specs.Lists.{All, Pairs}
-use Rattle.orders.specs.ListLaws.{bool_absurd, both_true, some_inj, none_some, lt_or_le, All-map, All-mem}
+use Rattle.orders.specs.ListLaws.{bool_absurd, both_true, some_inj, none_some, lt_or_le, All-map, All-mem, get_zeros}
 use Rattle.orders.specs.Tree.{Tree}
 use Rattle.definition.specs.Basics.{among}
 use Rattle.definition.specs.Elements.{Table, table, row, node?, parent, child, is_node}
@@ -24,7 +24,7 @@ use Rattle.check_laws.proofs.Meaning.{Before, ParentsPair, Says, accepts_says, s
 use Rattle.check_laws.proofs.Sweep.{sibling_order}
 use Rattle.check_model.specs.Clauses.{entry, part, partnered, fresh, marked, alike, meet, parents_meet, rises, accounted, each, judged_by, judged}
 use Rattle.check_model.specs.Pairing.{Within, Apart}
-use Rattle.check_model.proofs.Pairing.{same?, zeros_at, mem_partner, partner_mem, fresh_apart, apart_fresh, marks_told, rises_told, told_rises}
+use Rattle.check_model.proofs.Pairing.{same?, mem_partner, partner_mem, fresh_apart, apart_fresh, marks_told, rises_told, told_rises}
 use Rattle.check_model.proofs.Rising.{pairs_rise}
 use Rattle.check_model.proofs.Covered.{asked_new, asked_kept, says_accounted}
 use Rattle.check_model.specs.Table.{Known}
@@ -113,14 +113,14 @@ module _ (os ns : List (Tree ℕ)) (old new text text' : List ℕ) (n n' m m' : 
   alone y h = L.alone y (omega (arith, L.count))
 
   pair : (x y : ℕ) → get_or w y 0 ≡ suc x → Memᴰ (x, y) P
-  pair x y e = ⊎_elim (λ q. absurd (omega (arith, sym (zeros_at m y) ∙ q))) (λ q. q) (partner_mem P z x y within e)
+  pair x y e = ⊎_elim (λ q. absurd (omega (arith, sym (get_zeros m y) ∙ q))) (λ q. q) (partner_mem P z x y within e)
 
   mark : (y : ℕ) → eqb (get_or c y 0) 0 ≡ not (among changed y)
   mark y = go (eqb (get_or c y 0) 0) refl (marks_told changed z' y (All-map (λ y h. omega (arith, long')) changed named))
     where
       go : (b : Bool) → eqb (get_or c y 0) 0 ≡ b → (eqb (get_or c y 0) 0 ≡ true → (eqb (get_or z' y 0) 0 ≡ true) × (among changed y ≡ false)) × (eqb (get_or c y 0) 0 ≡ false → (eqb (get_or z' y 0) 0 ≡ false) ⊎ (among changed y ≡ true)) → eqb (get_or c y 0) 0 ≡ not (among changed y)
       go true e t = e ∙ ap not (sym (t.0 e).1)
-      go false e t = ⊎_elim (λ q. bool_absurd (eq-eqb (get_or z' y 0) 0 (zeros_at m' y)) q) (λ q. e ∙ ap not (sym q)) (t.1 e)
+      go false e t = ⊎_elim (λ q. bool_absurd (eq-eqb (get_or z' y 0) 0 (get_zeros m' y)) q) (λ q. e ∙ ap not (sym q)) (t.1 e)
 
   -- ── 3 and 4, of one pair ──
 
@@ -278,7 +278,7 @@ module _ (os ns : List (Tree ℕ)) (old new text text' : List ℕ) (n n' m m' : 
     unfolding judged judged_by
     says_judged =
         rw (
-          apart_fresh P z s.news (all_of (λ q. get_or z q.1 0 ≡ 0) P (λ q h. zeros_at m q.1)),
+          apart_fresh P z s.news (all_of (λ q. get_or z q.1 0 ≡ 0) P (λ q h. get_zeros m q.1)),
           eq-eqb (get_or w 0 0) 1 (partner s.news 0 0 s.roots),
           every_all (alike old new text text') P (λ p h. is_alike p.0 p.1 h (s.kinds p.0 p.1 h) (s.texts p.0 p.1 h)),
           every_all (parents_meet old new w) P (λ p h. is_meet s.news p.0 p.1 h (s.parents p.0 p.1 h)),

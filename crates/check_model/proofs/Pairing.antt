@@ -8,7 +8,7 @@ use mathlib.Core.List.{List, [], ◌∷◌, zip, zip_with, Memᴰ}
 use Rattle.std.proofs.Math.Numerals.{add-one}
 use Rattle.std.proofs.Math.Seq.{drop-cons}
 use Rattle.orders.specs.Lists.{any, All}
-use Rattle.orders.specs.ListLaws.{bool_absurd, both_true}
+use Rattle.orders.specs.ListLaws.{bool_absurd, both_true, get_zeros}
 use Rattle.definition.specs.Basics.{among}
 use Rattle.check_model.specs.Clauses.{partnered, fresh, marked, rises}
 use Rattle.check_model.specs.Pairing.{Within, Apart}
@@ -20,11 +20,6 @@ same? x y = go (eqb x y) refl
     go : (b : Bool) → eqb x y ≡ b → (x ≡ y) ⊎ (x ≡ y → ⊥)
     go true e = inl (eqb-true x y e)
     go false e = inr (λ q. bool_absurd (eq-eqb x y q) e)
-
-pub zeros_at : (m i : ℕ) → ◌≡◌ {A = ℕ} (get_or (replicate m 0) i 0) 0
-zeros_at zero i = refl
-zeros_at (suc m) zero = refl
-zeros_at (suc m) (suc i) = zeros_at m i
 
 -- ── Two lists side by side ──────────────────────────────────────────────────────────────────────────────────
 

@@ -16,7 +16,7 @@ use Rattle.check_table.specs.declared.Open.{Open}
 use Rattle.check_table.specs.Next.{Opened, Opens}
 use Rattle.read_spelling.specs.Spelling.{children_of, length_of, stands, fills, accepts}
 use Rattle.read_spelling.specs.SpellingLaws.{fills_close, stands_shallow, fills_open, fills_short, fills_long, fills_end, fills_over}
-use Rattle.read_spelling.specs.Stack.{stack, length_stack, stack_top, stack_push}
+use Rattle.read_spelling.specs.Stack.{stack, stack_none, length_stack, stack_top, stack_push}
 use Rattle.check_model.proofs.Pairing.{length_zip, pairs_from, pairs_more, pairs_none}
 use Rattle.check_table.specs.Walk.{words_from, words_of, Reads}
 use Rattle.check_table.specs.WalkLaws.{words_close, words_open, words_none}
@@ -72,20 +72,16 @@ module _ {kinds measures : List ℕ} {bytes : ℕ} {table₀ table left owner : 
   rejects e = record { verdict = sym e; words = λ q. bool_absurd q refl }
 
   -- none is open: the elements must be at their end, and the text as long as it should be
-  over : d ≤ 0 → stack 0 left d ≡ []
-  unfolding stack
-  over h = let e : d ≡ 0 = omega arith in rw e
-
   module _ (alike : length measures ≡ length kinds) where
     pub reading_long : d ≤ 0 → i < length kinds → Reads (zip kinds measures) bytes false table
-    reading_long h j = rejects (v.verdict ∙ rw (over h, pairs_more kinds measures i alike j) (fills_long bytes sum _ _))
+    reading_long h j = rejects (v.verdict ∙ rw (stack_none 0 left d h, pairs_more kinds measures i alike j) (fills_long bytes sum _ _))
 
     pub reading_end : d ≤ 0 → length kinds ≤ i → Reads (zip kinds measures) bytes (eqb sum bytes) table
     reading_end h j =
         let e : length kinds ≡ i = omega (arith, v.inside) in
         let f : 4 * length (zip kinds measures) ≡ 4 * i = omega (arith, length_zip kinds measures alike) in
         record {
-          verdict = sym (v.verdict ∙ rw (over h, pairs_none kinds measures i (omega arith)) (fills_end bytes sum));
+          verdict = sym (v.verdict ∙ rw (stack_none 0 left d h, pairs_none kinds measures i (omega arith)) (fills_end bytes sum));
           words = λ q. rw f (sym (v.words ∙ rw (pairs_none kinds measures i (omega arith), words_none (stack 0 left d) (stack 0 owner d) i sum) (append-nil (take (4 * i) table))));
         }
 

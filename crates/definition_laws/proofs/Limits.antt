@@ -39,7 +39,7 @@ use Rattle.definition_laws.specs.Limits.{Small, Within, most_bytes}
 
 -- ── The bytes of a result ───────────────────────────────────────────────────────────────────────────────────
 
-written_length : (ws : List ℕ) → length (written ws) ≡ 4 * length ws
+pub written_length : (ws : List ℕ) → length (written ws) ≡ 4 * length ws
 unfolding written flat_map bytes
 written_length [] = refl
 written_length (w ∷ ws) = omega (arith, written_length ws)

@@ -65,7 +65,7 @@ pub record Sized (s : Sizes) (b : Batch) : Type 0 where
   pub numbers : length b.numbers ≡ s.notes
   pub text : length b.text ≡ s.text
 
-words_length : (n : ℕ) (l : List ℕ) → length (words n l) ≡ n
+pub words_length : (n : ℕ) (l : List ℕ) → length (words n l) ≡ n
 unfolding words
 words_length zero l = refl
 words_length (suc n) l = ap suc (words_length n (drop 4 l))

@@ -55,6 +55,8 @@ pub fn drawn(present: u32) -> u32
     next(present) / 65536
 }
 
+// Elements by number: each kind by its own function, as the definition and docs/LOAD.md name it.
+
 // Separator i.
 #[tactic(auto, unfolding(load_laws::specs::Load::separator))]
 fn separator(i: u32) -> u32

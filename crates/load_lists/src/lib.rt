@@ -17,7 +17,8 @@ const REPLACEMENT: usize = load_draws::REPLACEMENT as usize;
 
 const COPY: usize = load_draws::COPY as usize;
 
-// The calls of a load as lists; the first `many` of `listed` are the elements that they list.
+// The calls of a load as lists; the first `many` of `listed` are the elements that they list. Parallel lists, as `write_layout::Lists` takes them; `listed` has room for
+// two of each call (no heap), so its count stands beside.
 #[derive(Clone, Copy)]
 pub struct Calls {
     pub operations: [u32; 96],
@@ -173,7 +174,7 @@ fn after_draws(n: usize, start: u32) -> u32
     present
 }
 
-// The notes: their elements and their numbers. By number, which is written too: over two zipped and enumerated lists it would be no shorter.
+// The notes: their elements and their numbers. Lent, as the trees are, where the calls' lists are a value: each slice is handed on whole to what fills it, and has no count. By number, which is written too: over two zipped and enumerated lists it would be no shorter.
 pub fn fill_notes(start: u32, noted: &mut [u32], numbers: &mut [u32])
     requires { (8 ≡ length noted.old) × (8 ≡ length numbers.old) }
     ensures { NotesFilled start noted.new numbers.new }

@@ -1,7 +1,7 @@
 // The load program: writes the batch of a starting number, its argument, to standard output (document 02, Note 12).
 #![tactic(auto)]
 
-ghost use Rattle.std.specs.Prelude.{◌≡◌, ◌<◌, ◌≤◌, length, IfOk, OnOk};
+ghost use Rattle.std.specs.Prelude.{◌≡◌, ◌≤◌, length, IfOk, OnOk};
 ghost use Rattle.std.specs.Io.KnownBytes.{Appends};
 ghost use Rattle.definition.specs.Writing.{laid_out};
 ghost use Rattle.load_laws.specs.Load.{load};

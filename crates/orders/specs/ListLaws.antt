@@ -2,7 +2,7 @@
 -- Assumes nothing.
 use Rattle.std.specs.Coded.{×_prop, Unit-prop}
 use Rattle.std.specs.List.{list_all, list_any}
-use Rattle.std.specs.Prelude.{◌≡◌, Bool, ◌&&◌, ◌||◌, ◌≢◌, ◌⊎◌, ltb, length, get_or, set, take, drop}
+use Rattle.std.specs.Prelude.{◌≡◌, Bool, ◌&&◌, ◌||◌, ◌≢◌, ◌⊎◌, ltb, length, get_or, set, take, drop, replicate}
 use Rattle.std.proofs.Math.Path.{refl, ap}
 use Rattle.std.proofs.Common.{sym, ◌∙◌, subst, inl, inr, arith, zero-add, le_of_suc-le-suc, not-suc-le-zero, length-append, length-drop, take-append-drop, take_at, drop_at, drop-drop, length-take-le, take-take}
 use Rattle.std.proofs.Math.Bool.{true, false, not, or-true}
@@ -479,6 +479,17 @@ pub some_alike : {A : Type 0} (p : A → Bool) (l : List A) → list_any p l ≡
 unfolding any
 some_alike p [] = refl
 some_alike p (x ∷ l) = ap (λ (t : Bool). p x || t) (some_alike p l)
+
+-- an element of zeros
+pub get_zeros : (n i : ℕ) → ◌≡◌ {A = ℕ} (get_or (replicate n 0) i 0) 0
+get_zeros zero i = refl
+get_zeros (suc n) zero = refl
+get_zeros (suc n) (suc i) = get_zeros n i
+
+-- the first of what begins with an element
+pub head_taken : (l : List ℕ) {y : ℕ} → take 1 l ≡ y ∷ [] → get_or l 0 0 ≡ y
+head_taken [] e = cc
+head_taken (x ∷ l) e = cc
 
 -- each passes by the library's test just if none is found among what they tell
 pub none_found : {X : Type 0} {A : Type 0} (p : A → Bool) (f : X → A) (l : List X) → list_all (λ x. not (p (f x))) l ≡ not (any p (map f l))

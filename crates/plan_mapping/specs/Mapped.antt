@@ -10,7 +10,7 @@ use Rattle.std.proofs.lemmas.List.{length-replicate}
 use Rattle.std.proofs.Math.Seq.{set_out}
 use Rattle.std.proofs.lemmas.Bool.{eqb-false}
 use Rattle.orders.specs.Lists.{All}
-use Rattle.orders.specs.ListLaws.{lt_or_le, either_false}
+use Rattle.orders.specs.ListLaws.{lt_or_le, either_false, get_zeros}
 use Rattle.definition.specs.Words.{words}
 use Rattle.definition.specs.Basics.{any}
 use Rattle.definition.specs.Elements.{Table, node?, root?}
@@ -82,14 +82,9 @@ all_noted k n (m ∷ ms) w e l h =
     go none q = q
     go (some y) q = refl
 
-zeros : (k e : ℕ) → ◌≡◌ {A = ℕ} (get_or (replicate k 0) e 0) 0
-zeros zero e = refl
-zeros (suc k) zero = refl
-zeros (suc k) (suc e) = zeros k e
-
 none_noted : (k e : ℕ) → mapped_by (replicate k 0) e ≡ none
 unfolding mapped_by element_of
-none_noted k e = ap element_of (zeros k e)
+none_noted k e = ap element_of (get_zeros k e)
 
 or_none : (o : Option ℕ) → or_else o none ≡ o
 unfolding or_else
@@ -116,7 +111,7 @@ low_noted k n (m ∷ ms) w h f = low_noted k n ms (noted w m) h.1 (λ e. one e (
 -- and its words are those of n elements
 pub mapped_elements : (k n : ℕ) (ms : List (ℕ × ℕ)) → n ≤ k → Bounded k n ms → Mapped n (mapping_words k ms)
 unfolding mapping_words
-mapped_elements k n ms l h = record { long = omega (arith, length_mapping_words k ms); low = low_noted k n ms (replicate k 0) h (λ e. omega (arith, zeros k e)) }
+mapped_elements k n ms l h = record { long = omega (arith, length_mapping_words k ms); low = low_noted k n ms (replicate k 0) h (λ e. omega (arith, get_zeros k e)) }
 
 -- ── What line 7 accepts ─────────────────────────────────────────────────────────────────────────────────────
 

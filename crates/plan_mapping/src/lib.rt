@@ -2,7 +2,7 @@
 // Bounds of one number stand as clauses: a value around each would be no plainer than its bound.
 #![tactic(auto)]
 
-ghost use Rattle.std.specs.Prelude.{◌≡◌, ◌+◌, ◌*◌, ◌<◌, length};
+ghost use Rattle.std.specs.Prelude.{◌≡◌, ◌<◌, length};
 ghost use Rattle.std.proofs.Math.Option.{get_or};
 ghost use mathlib.Core.List.{zip};
 ghost use Rattle.read_element_table.specs.Wellformed.{Lines};
@@ -25,8 +25,8 @@ pub fn fill_mapping(inputs: &WordList, outputs: &WordList, map: &mut [u32])
     }
 }
 
-// Rust: SyntaxMapping::upmap_node_single. The mapped node of element `e`, or `e`: one step along the mappings. Here and in `place_below` only the contract reads `n`: a ghost
-// value would be picked from a call's arguments, of which no other tells it; a promise for any `n` leaves its callers each bound to prove by hand (tried: six answers).
+// Rust: SyntaxMapping::upmap_node_single. The mapped node of element `e`, or `e`: one step along the mappings. Here and in `place_below` only the contract reads `n`: as a
+// ghost parameter no other argument of a call would tell it; a promise for any `n` leaves its callers each bound to prove by hand (tried: six answers).
 pub fn upmap_node_single(map: &[u32], n: usize, e: usize) -> usize
     requires mapped { Mapped n map.now }
     requires e_lt_n { e < n }

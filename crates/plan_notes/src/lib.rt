@@ -1,5 +1,6 @@
 // Where the notes of a batch settle, as words of rows.
-// Bounds of one number, the equality of two numbers and room in a lent slice stand as clauses: a value around each would be no plainer than its bound.
+// Bounds of one number and room in a lent slice stand as clauses: a value around each would be no plainer than its bound. That two lists are of one length is a clause, as
+// read_names says.
 #![tactic(auto)]
 
 ghost use mathlib.Core.List.{zip};

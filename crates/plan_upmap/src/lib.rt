@@ -28,7 +28,8 @@ pub fn nth_child(elements: &Elements, e: usize, i: usize) -> Option<usize>
     Some(c)
 }
 
-// The element to which the child numbers lead from `r`, read backward, if they lead to one.
+// The element to which the child numbers lead from `r`, read backward, if they lead to one. A `for`, since it carries the
+// element and leaves where there is no such child.
 pub fn descend(elements: &Elements, r: usize, numbers: &[u32]) -> Option<usize>
     requires { r < elements.now.count }
     ensures { Descended elements.now.count elements.now.table.now elements.now.source.now r (backward (length numbers.now) numbers.now) result }

@@ -23,7 +23,7 @@ fn digit_of(argument: &[u8]) -> usize
 }
 
 // The choices that `count` arguments give, the program's name among them, `first` and `second` being those after the name. The count tells whether they are
-// there: an empty argument is an argument.
+// there: an empty argument is an argument. Not options of the two: the operating system gives the count, of which each option would be made, to be opened again here.
 pub fn given_by(count: usize, first: &[u8], second: &[u8]) -> Choices
     ensures { meant result ≡ given (arguments count first.now second.now) }
 {

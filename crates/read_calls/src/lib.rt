@@ -5,7 +5,6 @@
 ghost use Rattle.std.specs.Prelude.{◌≡◌, ◌+◌, ◌*◌, ◌≤◌, ◌<◌, length};
 ghost use mathlib.Core.List.{head_d};
 ghost use Rattle.words.specs.List.{words_of};
-ghost use Rattle.definition.specs.Elements.{is_node};
 ghost use Rattle.definition.specs.Refusals.{operation_of, count_of, rule_of};
 ghost use Rattle.read_element_table.specs.Held.{view_of};
 ghost use Rattle.read_calls.specs.Fits.{word_fits, call_fits, run_fits};
@@ -69,7 +68,8 @@ pub fn run_fits(table: &[u32], x: usize, y: usize) -> bool
         && entry(table, x, CHILD) <= entry(table, y, CHILD)
 }
 
-// An operation stays a number here and below, and so do the patterns: a pattern is no cast of an enum.
+// An operation is a number here and below, since a call word may hold any. So are the patterns: an enum's number is no pattern, and constants would write each again.
+
 // Whether a call word names a known operation, which may list `count` elements and carry the rule number `rule`.
 #[tactic(auto, using(crate::proofs::Judging::count_one, crate::proofs::Judging::count_none, crate::proofs::Judging::count_some, crate::proofs::Judging::start_alone, crate::proofs::Judging::start_lists, crate::proofs::Judging::count_any))]
 pub fn word_fits(operation: usize, count: usize, rule: usize) -> bool

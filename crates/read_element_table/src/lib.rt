@@ -82,7 +82,8 @@ fn if_root(depth: usize, x: usize, y: usize) -> usize
     y
 }
 
-// The element with the number `owner` - 1 is closed: where its text ends, and the element after its subtree. By its place, since the table is lent to be written.
+// The element with the number `owner` - 1 is closed: where its text ends, and the element after its subtree. By its number in the table's words, and no
+// `Elements`: the table is lent to be written.
 fn close(table: &mut [u32], owner: usize, end: usize, after: usize)
     requires { (8 * owner ≤ length table.old) × (end < 2 ^ 32) × (after < 2 ^ 32) }
     ensures { table.new ≡ ended owner end after table.old }

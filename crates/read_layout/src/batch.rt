@@ -18,7 +18,7 @@ impl<'a> Batch<'a> {
     ghost use Rattle.words.specs.List.{words_of};
     ghost use Rattle.read_layout.specs.Held.{arrays_of};
 
-    // The `count` words of its bytes from `at` on.
+    // The `count` words of its bytes from `at` on. Below it one method for each list: one function of a kind of list would tell in its promise, by seven cases, what these say.
     fn words_at(&self, at: usize, count: usize) -> WordList<'a>
         requires { at + 4 * count ≤ length self.now.bytes.now }
         ensures { (result.bytes.now ≡ self.now.bytes.now) × (result.at ≡ at) × (result.count ≡ count) }

@@ -2,7 +2,7 @@
 // An index of what is read stands as a clause: a value around each would be no plainer than its bound.
 #![tactic(auto)]
 
-ghost use Rattle.std.specs.Prelude.{◌≡◌, not, ◌+◌, ◌*◌, ◌≤◌, ◌<◌, length};
+ghost use Rattle.std.specs.Prelude.{◌≡◌, not, ◌≤◌, length};
 ghost use Rattle.definition.specs.Batch.{sizes, beyond};
 ghost use Rattle.refusals.specs.Numbers.{answered};
 ghost use Rattle.read_layout.specs.Layout.{sizes_of, layout_of, Limits, ends_at, laid};
@@ -14,11 +14,11 @@ use refusals::Refusal;
 
 // At which byte the arrays start: the seven sizes stand before them.
 pub const ARRAYS: usize = 28;
-// A call word is its operation, which is below this, and this for each element that the call lists.
+// A call word is its operation, which is below this, and 256 for each element that the call lists, and `RULE` times its rule number.
 pub const OPERATIONS: usize = 256;
 // The listed count is below this.
 pub const COUNTS: usize = 4096;
-// And this for each of its rule number, which is below `RULES`.
+// What a rule number counts in a call word. It is below `RULES`.
 pub const RULE: usize = 1048576;
 
 pub const RULES: usize = 4096;

@@ -1,6 +1,7 @@
 // Lines 6, 16 and 7: the calls, the mappings and the notes of a batch, judged by what the element table tells. Their words are read by number, and so two lists
 // in step: words in bytes have no iterator, and one of our own would need its laws proved for zip, all and map.
-// The equality of two numbers stands as a clause: a value around each would be no plainer than its bound.
+// That two lists are of one length stands as a clause: call words are asked by themselves too (`lists_fit`), and each promise speaks of `zip` of the two, to which a value
+// of both would have to unfold.
 #![tactic(auto)]
 
 ghost use Rattle.std.specs.Prelude.{◌≡◌, not, leb};
@@ -47,7 +48,8 @@ fn call_stands(listed: &WordList, word: usize, target: usize, elements: &Element
     read_calls::call_fits(elements, operation, target, first)
 }
 
-// Line 6: every call takes its count of the listed elements, stands as it should, and none is left.
+// Line 6: every call takes its count of the listed elements, stands as it should, and none is left. A `for`: each call's own elements start where those before end, so a
+// turn carries a number and may leave.
 #[tactic(auto, using(crate::proofs::Calling::calling_start, crate::proofs::Calling::calling_short, crate::proofs::Calling::calling_next, crate::proofs::Calling::calling_end))]
 pub fn calls_fit(
     calls: &WordList,

@@ -10,7 +10,7 @@ use lib.ListN.{length, get_or, set, drop, replicate, length-set}
 use Rattle.definition.specs.Words.{word}
 use Rattle.read_spelling.specs.Spelling.{elements_at, children_of, length_of, stands, fills, accepts}
 use Rattle.read_spelling.specs.SpellingLaws.{fills_close, stands_shallow, fills_open, fills_short, fills_long, fills_end}
-use Rattle.read_spelling.specs.Stack.{stack, length_stack, stack_top, stack_push, elements_from, elements_all, elements_none, elements_more}
+use Rattle.read_spelling.specs.Stack.{stack, stack_none, length_stack, stack_top, stack_push, elements_from, elements_all, elements_none, elements_more}
 
 module _ (b : List ℕ) (kinds measures n trees bytes : ℕ) where
   -- after i elements the machine has this stack and this sum
@@ -38,15 +38,11 @@ module _ {b : List ℕ} {kinds measures n trees bytes : ℕ} {left : List ℕ} {
       }
 
   -- none is open: the elements must be at their end, and the text as long as it should be
-  over : d ≤ 0 → stack 0 left d ≡ []
-  unfolding stack
-  over h = let e : d ≡ 0 = omega arith in rw e
-
   pub reading_long : d ≤ 0 → i < n → false ≡ accepts trees bytes (elements_at b kinds measures n)
-  reading_long h j = sym (v.verdict ∙ rw (over h, elements_more b kinds measures n i j) (fills_long bytes sum _ _))
+  reading_long h j = sym (v.verdict ∙ rw (stack_none 0 left d h, elements_more b kinds measures n i j) (fills_long bytes sum _ _))
 
   pub reading_end : d ≤ 0 → n ≤ i → eqb sum bytes ≡ accepts trees bytes (elements_at b kinds measures n)
-  reading_end h j = sym (v.verdict ∙ rw (over h, elements_none b kinds measures n i j) (fills_end bytes sum))
+  reading_end h j = sym (v.verdict ∙ rw (stack_none 0 left d h, elements_none b kinds measures n i j) (fills_end bytes sum))
 
   module _ (h : 0 < d) (ne : get_or left (d - 1) 0 ≡ 0 → ⊥) where
     top : stack 0 left d ≡ suc (get_or left (d - 1) 0 - 1) ∷ stack 0 left (d - 1)

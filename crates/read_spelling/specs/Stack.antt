@@ -18,6 +18,10 @@ module _ {A : Type 0} (z : A) where
   stack l zero = []
   stack l (suc d) = get_or l d z ∷ stack l d
 
+  pub stack_none : (l : List A) (d : ℕ) → d ≤ 0 → stack l d ≡ []
+  unfolding stack
+  stack_none l d h = let e : d ≡ 0 = omega arith in rw e
+
   pub length_stack : (l : List A) (d : ℕ) → length (stack l d) ≡ d
   unfolding stack
   length_stack l zero = refl

@@ -1,7 +1,7 @@
 // Line 5: whether the elements of a batch spell trees.
 #![tactic(auto)]
 
-ghost use Rattle.std.specs.Prelude.{◌≡◌, ◌≤◌, ◌<◌};
+ghost use Rattle.std.specs.Prelude.{◌≡◌, ◌≤◌};
 ghost use Rattle.read_spelling.specs.Spelling.{children_of, length_of, stands as stands_at, accepts};
 ghost use Rattle.read_spelling.specs.Held.{elements_of};
 

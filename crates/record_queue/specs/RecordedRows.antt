@@ -17,6 +17,7 @@ use Rattle.record_changes.specs.ChangeRow.{ChangeRow, rows_of, operation, change
 use Rattle.record_changes.specs.ChangeRowLaws.{rows_words}
 use Rattle.record_queue.specs.Queueing.{Asks, put, through, through_map}
 use Rattle.record_queue.specs.Recorded.{meets, meets_at, merged_at, merged_keeps, all_asked, recorded_at, StandsIn}
+use Rattle.orders.specs.ListLaws.{head_taken}
 
 -- "Only 2 and 3 merge."
 unfoldable pub is_single : ℕ → Bool
@@ -80,11 +81,7 @@ module _ (T : Table) where
   module _ (L : List ℕ) where
     -- the element of a call 2
     listed_first : (at y : ℕ) → take 1 (drop at L) ≡ y ∷ [] → get_or L at 0 ≡ y
-    listed_first at y h = ap (λ (i : ℕ). get_or L i 0) (sym (add-zero at)) ∙ (sym (get_or-drop at L 0 0) ∙ first (drop at L) h)
-      where
-        first : (l : List ℕ) → take 1 l ≡ y ∷ [] → get_or l 0 0 ≡ y
-        first [] e = cc
-        first (v ∷ l) e = cc
+    listed_first at y h = ap (λ (i : ℕ). get_or L i 0) (sym (add-zero at)) ∙ (sym (get_or-drop at L 0 0) ∙ head_taken (drop at L) h)
 
     idle_row : (i j m n : ℕ) (c d : Change) → take (length (news c)) (drop i L) ≡ news c → take (length (news d)) (drop j L) ≡ news d → idle c d ≡ idle_by L (operation c) i (change_row T j n d)
     unfolding idle replaces_by idle_by change_row operation news

@@ -1,6 +1,6 @@
 // Recording: from the calls of an accepted batch to change rows, editor after editor. Rows come with a place or a count: record_changes says why.
 // Bounds of one number, an index of what is read, room in a lent slice and the order of two numbers stand as clauses: a value around each would be no plainer than its bound.
-// So does what calls name (`Fit`, `CallFits`): it is asked by one function each, of the definition's calls, which are no value here.
+// That two lists are of one length is a clause, as read_names says. So is what calls name (`Fit`, `CallFits`): it is asked by one function each, of the definition's calls, which are no value here.
 #![tactic(auto)]
 
 ghost use Rattle.std.specs.Prelude.{◌≡◌, ◌+◌, ◌*◌, ◌^◌, ◌≤◌, ◌<◌, length, drop, unwrap_or, IfSome};

@@ -12,6 +12,7 @@ use Rattle.definition.specs.Running.{news}
 use Rattle.record_changes.specs.ChangeRow.{ChangeRow, operation, end_of, change_row}
 use Rattle.plan_sort.specs.Rows.{row_fate, with_fate, fate_stated, Tells, row_tells, fate_tells}
 use Rattle.record_rewritten.specs.Stated.{change_by, new_of, change_of, Stated}
+use Rattle.orders.specs.ListLaws.{head_taken}
 
 -- the row of the change that it states, with its fate
 pub record Exact (T : Table) (listed : List ℕ) (r : ChangeRow) : Type 0 where
@@ -37,11 +38,7 @@ module _ (T : Table) (listed : List ℕ) (at n : ℕ) (f : Fate) where
   unfolding change_of new_of change_by with_fate change_row operation target end_of news
   recorded_states (insert first_child x l) h = ap (insert first_child x) h
   recorded_states (insert after x l) h = ap (insert after x) h
-  recorded_states (replace x y) h = ap (replace x) (ap (λ (i : ℕ). get_or listed i 0) (sym (add-zero at)) ∙ (sym (get_or-drop at listed 0 0) ∙ first (drop at listed) h))
-    where
-      first : (l : List ℕ) → take 1 l ≡ y ∷ [] → get_or l 0 0 ≡ y
-      first [] e = cc
-      first (v ∷ l) e = cc
+  recorded_states (replace x y) h = ap (replace x) (ap (λ (i : ℕ). get_or listed i 0) (sym (add-zero at)) ∙ (sym (get_or-drop at listed 0 0) ∙ head_taken (drop at listed) h))
   recorded_states (delete x) h = refl
   recorded_states (replace_with_many x l) h = ap (replace_with_many x) h
   recorded_states (replace_all x y l) h = ap (replace_all x y) h

@@ -26,7 +26,8 @@ fn change_anew(rows: &[u32], i: usize, x: usize, y: usize) -> Change
     record_changes::change_by(operation, x, y, listed)
 }
 
-// Fate, owner and rule number of the row at place `i` of `rows`, written at the same place of `out`.
+// Fate, owner and rule number of the row at place `i` of `rows`, written at the same place of `out`. By `field`, which asks nothing of
+// the rows' length: a part of the row would ask for its words.
 #[tactic(auto, using(crate::proofs::Writing::fate_copied))]
 fn copy_fate(rows: &[u32], i: usize, out: &mut [u32])
     requires { (i < 256) × (14 * i + 14 ≤ length out.old) }

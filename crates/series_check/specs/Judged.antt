@@ -35,7 +35,7 @@ use Rattle.series_laws.specs.Memory.{Bookmark, Memory, most_bookmarks, too_big, 
 use Rattle.series_laws.specs.Lent.{slot_words, tree_in, slots, bookmark_in, beyond_slot, slots_in, memory_in, tree_bytes, cut_off, lent}
 use Rattle.series_check.specs.Slots.{numbers_from, slots_all}
 use Rattle.series_check.specs.Leading.{lost, AllLead}
-use Rattle.series_check.specs.Rows.{rows_length}
+use Rattle.read_element_table.specs.FillingLaws.{length_rows}
 
 -- a refusal's number, 0 where there is none
 unfoldable pub number_of : {A : Type 0} → Answer A → ℕ
@@ -171,11 +171,11 @@ module _ (t : List ℕ) (n b : ℕ) (room : 8 + 8 * n + b ≤ length t) where
           part_is : part ≡ rows_from 0 (elements_at t 8 (8 + 4 * n) n)
           part_is =
               let s = rows_from 0 (elements_at t 8 (8 + 4 * n) n) in
-              let l : length s ≡ 3 * n = rows_length 0 (elements_at t 8 (8 + 4 * n) n) ∙ ap (λ (k : ℕ). 3 * k) es_long in
+              let l : length s ≡ 3 * n = length_rows 0 (elements_at t 8 (8 + 4 * n) n) ∙ ap (λ (k : ℕ). 3 * k) es_long in
               is ∙ (ap (take (3 * n)) (filled ∙ ap (λ (x : List ℕ). [] ++ x ++ drop (0 + 3 * n) rows₀) (take_all (3 * n) s (omega arith))) ∙ take_at s (drop (0 + 3 * n) rows₀) (3 * n) l)
 
           pub part_long : length part ≡ 3 * n
-          part_long = ap length part_is ∙ (rows_length 0 (elements_at t 8 (8 + 4 * n) n) ∙ ap (λ (k : ℕ). 3 * k) es_long)
+          part_long = ap length part_is ∙ (length_rows 0 (elements_at t 8 (8 + 4 * n) n) ∙ ap (λ (k : ℕ). 3 * k) es_long)
 
           told : (r : Tree ℕ) → spelt.0 ≡ r ∷ [] → triples (alone (tree_in n b t)).text part ≡ rows_of r
           unfolding forest

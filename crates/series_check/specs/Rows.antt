@@ -14,6 +14,7 @@ use Rattle.words.specs.Parts.{paste_on}
 use Rattle.read_spelling.specs.Spelling.{elements_at, children_of, length_of, stands, settled, none_open, opened, fills, accepts}
 use Rattle.read_spelling.specs.Stack.{elements_from, elements_all, elements_more}
 use Rattle.read_element_table.specs.Filling.{rows_from}
+use Rattle.read_element_table.specs.FillingLaws.{length_rows}
 
 -- the length of the text of elements
 unfoldable pub text_sum : List (ℕ × ℕ) → ℕ
@@ -36,12 +37,6 @@ unfolding accepts
 accepts_sum trees bytes es e = omega (arith, fills_sum bytes es (trees ∷ []) 0 e)
 
 -- ── The loop ────────────────────────────────────────────────────────────────────────────────────────────────
-
--- three words for each element
-pub rows_length : (o : ℕ) (es : List (ℕ × ℕ)) → length (rows_from o es) ≡ 3 * length es
-unfolding rows_from
-rows_length o [] = refl
-rows_length o (e ∷ es) = omega (arith, rows_length (o + length_of e.0 e.1) es)
 
 -- the rows of the first i elements are written
 pub record Filling (tree : List ℕ) (kinds measures n : ℕ) (rows₀ rows : List ℕ) (offset i : ℕ) : Type 0 where
@@ -73,7 +68,7 @@ module _ {tree : List ℕ} {kinds measures n : ℕ} {rows₀ rows : List ℕ} {o
       let s = rows_from 0 (elements_at tree kinds measures n) in
       let more : elements_from tree kinds measures n i ≡ (kind, measure) ∷ elements_from tree kinds measures n (i + 1) = rw (k.0, m.0) (elements_more tree kinds measures n i h) in
       let here : drop (3 * i) s ≡ kind ∷ measure ∷ offset ∷ rows_from (offset + length_of kind measure) (elements_from tree kinds measures n (i + 1)) = v.rest ∙ ap (rows_from offset) more in
-      let long : length s ≡ 3 * length (elements_at tree kinds measures n) = rows_length 0 (elements_at tree kinds measures n) in
+      let long : length s ≡ 3 * length (elements_at tree kinds measures n) = length_rows 0 (elements_at tree kinds measures n) in
       let behind : 3 * (i + 1) ≡ 3 * i + 3 = omega arith in
       record {
         bound = omega arith;

@@ -68,7 +68,7 @@ fn places(rt: &impl Print) -> io::Result<()> {
     end_line(rt)
 }
 
-// Trees, text and height of what is below the root; of X, the height alone.
+// Trees, text and height of what is below the root; how many siblings the rows of X are.
 fn measures(rt: &impl Print) -> io::Result<()> {
     let words = S;
     let below = &words[6..15];

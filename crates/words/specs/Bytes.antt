@@ -5,6 +5,8 @@ use Rattle.std.proofs.Common.{sym, ap, ◌∙◌, suc-add, zero-add, add-zero, a
 use mathlib.Core.List.{List, [], ◌∷◌, ◌++◌, append_assoc, flat_map}
 use Rattle.std.proofs.Math.Nat.{div-div-eq-div-mul}
 use Rattle.definition.specs.Words.{word, words, bytes, written}
+pub use Rattle.definition_laws.specs.Accepted.{words_length as length_words}
+pub use Rattle.definition_laws.proofs.Limits.{written_length as length_written}
 
 -- each is a word
 abbrev pub Words : List ℕ → Type 0
@@ -20,11 +22,6 @@ Bytes b = (i : ℕ) → get_or b i 0 < 2 ^ 8
 pub word_drop : (at : ℕ) (l : List ℕ) → word (drop at l) ≡ get_or l at 0 + 256 * get_or l (at + 1) 0 + 65536 * get_or l (at + 2) 0 + 16777216 * get_or l (at + 3) 0
 unfolding word
 word_drop at l = rw (get_or-drop at l 0 0, get_or-drop at l 1 0, get_or-drop at l 2 0, get_or-drop at l 3 0, add-zero)
-
-pub length_words : (n : ℕ) (l : List ℕ) → length (words n l) ≡ n
-unfolding words
-length_words zero l = refl
-length_words (suc n) l = ap suc (length_words n (drop 4 l))
 
 pub get_d_words : (n : ℕ) (l : List ℕ) (i : ℕ) → i < n → get_or (words n l) i 0 ≡ word (drop (4 * i) l)
 unfolding words
@@ -82,11 +79,6 @@ pub written_append : (a b : List ℕ) → written (a ++ b) ≡ written a ++ writ
 unfolding written flat_map
 written_append [] b = refl
 written_append (w ∷ a) b = rw append_assoc (ap (λ (r : List ℕ). bytes w ++ r) (written_append a b))
-
-pub length_written : (ws : List ℕ) → length (written ws) ≡ 4 * length ws
-unfolding written flat_map
-length_written [] = refl
-length_written (w ∷ ws) = rw (length-append, length_bytes) (omega (arith, length_written ws))
 
 module _ (n : ℕ) (ws : List ℕ) (h : n ≤ length ws) where
   written_parts : written ws ≡ written (take n ws) ++ written (drop n ws)

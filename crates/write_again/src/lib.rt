@@ -10,7 +10,7 @@ use refusals::Refusal;
 use write_batch::Work;
 use write_layout::Lists;
 
-// Each call word as its operation, its count and its rule number.
+// Each call word as its operation, its count and its rule number. By number: of each word three lists take a part, and three zips would be longer.
 #[tactic(auto, unfolding(definition::specs::Refusals::operation_of, definition::specs::Refusals::count_of, definition::specs::Refusals::rule_of))]
 fn part_words(words: &[u32], operations: &mut [u32], counts: &mut [u32], rules: &mut [u32])
     requires { (length words.now ≤ length operations.old) × (length words.now ≤ length counts.old) × (length words.now ≤ length rules.old) }

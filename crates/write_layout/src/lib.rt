@@ -15,7 +15,7 @@ ghost use Rattle.write_layout.specs.Laying.{lists_in};
 
 use read_layout::Sizes;
 
-// The trees, calls, mappings and notes as lists, in the order of document 02, Note 2.
+// The trees, calls, mappings and notes as lists, in the order of document 02, Note 2. They are parallel, as C lends them.
 #[derive(Clone, Copy)]
 pub struct Lists<'a> {
     pub trees: usize,
