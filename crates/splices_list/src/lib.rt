@@ -17,7 +17,8 @@ use splices_model::{SPLICE_WORDS, SpliceList, SpliceRefusal, Splices};
 use splices_step::splice_once;
 use words::NODE_KIND;
 
-// Its splices, from the first to the last. The new number of rows. A `for`, since a turn writes rows and marks: a `fold` would take a closure of which they are not told.
+// Its splices, from the first to the last. The new number of rows. A `for`, since a turn writes rows and marks: of what a closure writes in slices that it captures
+// a proof is told nothing.
 fn splice_each(rows: &mut [u32], n: usize, marks: &mut [u32], list: &SpliceList) -> usize
     requires room { (3 * n + 3 * rows_to list.now.splices.words.now list.now.splices.count ≤ length rows.old) × (n + rows_to list.now.splices.words.now list.now.splices.count < 2 ^ 16) }
     requires marks_below { (length marks.old < 2 ^ 16) × All (λ m. m < n) marks.old }
