@@ -1,10 +1,10 @@
--- What stands at the front of the output, of the bytes at the front of a batch's buffer.
+-- What stands at the front of the output, of a batch.
 -- Assumes nothing.
 use Rattle.std.specs.Prelude.{◌≡◌, Result, Ok, Err, false, List, ◌++◌, ℕ, ◌≤◌, length, take, drop}
 use Rattle.std.proofs.Math.Path.{refl, sym}
 use Rattle.std.proofs.Common.{ap, ◌∙◌, arith, length-append, take_at, take_all, length-take-le}
 use Rattle.std.proofs.lemmas.List.{take-take}
-use Rattle.program_input.specs.Told as frame
+use Rattle.program_input.specs.Told.{Prints}
 use Rattle.definition.specs.Basics as basics
 use Rattle.definition.specs.Basics.{gives, refused, ◌>>=◌}
 use Rattle.definition.specs.Choices.{Choices, chosen}
@@ -32,10 +32,6 @@ Says h b (Ok n) out = (n ≤ length out) × (recount h b ≡ gives (take n out))
 pub record Tells (h : Choices) (b : List ℕ) (r : Result ℕ Refusal) (out : List ℕ) : Type 0 where
   pub says : Says h b r out
   pub long : length out ≡ most_text
-
--- the first `written` bytes of the output are what document 02 prints by the choices h of the first `read` bytes of the batch's buffer
-abbrev pub Responds : Choices → List ℕ → ℕ → List ℕ → ℕ → Type 0
-Responds h = frame.Responds (account_printed h)
 
 -- no more of the input is judged than the buffer has room for
 pub judged_in_room : (h : Choices) (bs : List ℕ) → account_printed h (take 65536 bs) ≡ account_printed h bs
@@ -81,18 +77,18 @@ account_tells {h} {b} {held} {work} {holds} {left} {r} p e l s = record { says =
 
 -- ── Printed ─────────────────────────────────────────────────────────────────────────────────────────────────
 
-module _ {h : Choices} (b : List ℕ) (read : ℕ) {r : Result ℕ Refusal} {out : List ℕ} (n : 65536 ≡ length b) (c : read ≤ length b) (t : Tells h (take read b) r out) where
-  whole : take program_room (take read b) ≡ take read b
-  whole = take_all 65536 (take read b) (omega (arith, length-take-le read b c))
+module _ {h : Choices} (b : List ℕ) {r : Result ℕ Refusal} {out : List ℕ} (n : length b ≤ 65536) (t : Tells h b r out) where
+  whole : take program_room b ≡ b
+  whole = take_all 65536 b n
 
-  pub refused_responds : {e : Refusal} {k : ℕ} {l : List ℕ} {to : ℕ} → r ≡ Err e → k ≡ number e → Put out 0 (tell (refused k)) l to → length l ≡ length out → Responds h b read l to
+  pub refused_responds : {e : Refusal} {k : ℕ} {l : List ℕ} {to : ℕ} → r ≡ Err e → k ≡ number e → Put out 0 (tell (refused k)) l to → length l ≡ length out → Prints (account_printed h) b l to
   unfolding account_printed
   refused_responds {k = k} {l} {to} e q p m =
-      let s : recount h (take read b) ≡ refused k = rw (e, ← q) at t.says in
-      record { judged = c; fits = (put_fits p m, sym (length-take-le to l (put_fits p m))); says = put_front p m ∙ rw (whole, s) refl }
+      let s : recount h b ≡ refused k = rw (e, ← q) at t.says in
+      record { fits = (put_fits p m, sym (length-take-le to l (put_fits p m))); says = put_front p m ∙ rw (whole, s) refl }
 
-  pub told_responds : {n : ℕ} → r ≡ Ok n → Responds h b read out n
+  pub told_responds : {n : ℕ} → r ≡ Ok n → Prints (account_printed h) b out n
   unfolding account_printed tell
   told_responds {n} e =
-      let s : Says h (take read b) (Ok n) out = rw e at t.says in
-      record { judged = c; fits = (s.0, sym (length-take-le n out s.0)); says = rw (whole, s.1) refl }
+      let s : Says h b (Ok n) out = rw e at t.says in
+      record { fits = (s.0, sym (length-take-le n out s.0)); says = rw (whole, s.1) refl }

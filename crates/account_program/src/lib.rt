@@ -1,4 +1,5 @@
 // The account program: reads its choices, the first two arguments, and a batch on standard input, and prints what becomes of each change.
+// How long a batch may be and room in a lent slice stand as clauses: a value around each would be no plainer than its bound.
 #![tactic(auto)]
 
 ghost use Rattle.std.specs.Prelude.{◌≡◌, ◌≤◌, length, OnOk};
@@ -57,9 +58,8 @@ impl Program<65536, 8192> for Accounting {
     ghost room = { λ out e. e };
 
     // The text, or a refusal's number alone.
-    fn answer(&self, batch: &[u8], read: usize, out: &mut [u8]) -> usize {
-        let told = account_batch(self.choices, &batch[..read], out);
-        match told {
+    fn answer(&self, batch: &[u8], out: &mut [u8]) -> usize {
+        match account_batch(self.choices, batch, out) {
             Err(refusal) => account_lines::print_refusal(out, refusal.number()),
             Ok(n) => n,
         }

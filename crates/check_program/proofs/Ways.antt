@@ -1,6 +1,6 @@
 -- The ways out of the program's functions.
 -- Assumes nothing.
-use mathlib.Core.Path.{◌≡◌, sym, ap, ◌∙◌}
+use mathlib.Core.Path.{◌≡◌, refl, sym, ap, ◌∙◌}
 use mathlib.Core.Bool.{Bool}
 use mathlib.Core.List.{List, [], ◌∷◌, zip, zip_with}
 use Prim.Native.Nat.{ℕ, ◌+◌, ◌-◌, ◌*◌, ◌≤◌, ◌<◌}
@@ -11,20 +11,12 @@ use lib.Seq.{paste, take_all, take-paste}
 use borrow.Author.Tests.{lt-ltb, le-ltb, eq-eqb, ne_eqb}
 use Rattle.definition.specs.Basics.{Answer, refused, ◌>>=◌, refuse, any}
 use Rattle.definition.specs.Answers.{too_short, with_work}
-use Rattle.definition.specs.Printed.{ascii, line}
 use Rattle.definition.specs.Words.{word, words}
 use Rattle.words.specs.Bytes.{length_words}
 use Rattle.promises.specs.Slices.{lengths}
 use Rattle.check_laws.specs.Check.{Claims, checked}
-use Rattle.check_laws.specs.Layout.{size_of, list_words, claims_from, claims_of, verdict_line}
+use Rattle.check_laws.specs.Layout.{size_of, list_words, claims_from, claims_of}
 use Rattle.check_claim.specs.Promise.{checker_needs, claims_in, told, Checks}
-use Rattle.check_claim.specs.Judging.{answer_of}
-use Rattle.check_claim.specs.declared.Verdict.{Verdict}
-use Rattle.check_claim.specs.declared.Verdict.TheVariants.{Accepted, Rejected}
-use Rattle.std.specs.Prelude.{Result, Ok, Err}
-use Rattle.refusals.specs.Numbers.{number}
-use Rattle.refusals.specs.declared.Refusal.{Refusal}
-use Rattle.edit_print.specs.Lines.{Put, line_of, spaced}
 use Rattle.check_program.specs.Responds.{answered}
 
 -- ── The call ────────────────────────────────────────────────────────────────────────────────────────────────
@@ -39,10 +31,9 @@ rest : (l : List ℕ) (i k : ℕ) → k ≡ length l - i → take k (drop i l) �
 rest l i k e = take_all k (drop i l) (omega (arith, length-drop i l))
 
 -- the parts of the lists, as the slices have them
-pub parts_claimed : (l t : List ℕ) (a b c d e g : ℕ) (k₁ k₂ k₃ k₄ k₅ k₆ k₇ : ℕ) {r : Answer Bool}
-    → r ≡ checked (claims_in (take a l) (take k₁ (drop a l)) (take c t) (take k₂ (drop (a + b) l)) (take k₃ (drop (a + b + d) l)) (take k₄ (drop c t)) (take k₅ (drop (a + b + d + e) l)) (take k₆ (drop (a + b + d + e + g) l)) (take k₇ (drop (a + b + d + e + g + g) l)))
-    → k₁ ≡ b → k₂ ≡ d → k₃ ≡ e → k₄ ≡ length t - c → k₅ ≡ g → k₆ ≡ g → k₇ ≡ length l - (a + b + d + e + g + g) → r ≡ checked (claims_from l t a b c d e g)
-parts_claimed l t a b c d e g k₁ k₂ k₃ k₄ k₅ k₆ k₇ q e₁ e₂ e₃ e₄ e₅ e₆ e₇ = q ∙ rw (e₁, e₂, e₃, e₅, e₆, rest t c k₄ e₄, rest l (a + b + d + e + g + g) k₇ e₇)
+pub parts_claimed : (l t : List ℕ) (a b c d e g : ℕ) (k₁ k₂ k₃ k₄ k₅ k₆ k₇ : ℕ) → k₁ ≡ b → k₂ ≡ d → k₃ ≡ e → k₄ ≡ length t - c → k₅ ≡ g → k₆ ≡ g → k₇ ≡ length l - (a + b + d + e + g + g)
+    → claims_in (take a l) (take k₁ (drop a l)) (take c t) (take k₂ (drop (a + b) l)) (take k₃ (drop (a + b + d) l)) (take k₄ (drop c t)) (take k₅ (drop (a + b + d + e) l)) (take k₆ (drop (a + b + d + e + g) l)) (take k₇ (drop (a + b + d + e + g + g) l)) ≡ claims_from l t a b c d e g
+parts_claimed l t a b c d e g k₁ k₂ k₃ k₄ k₅ k₆ k₇ e₁ e₂ e₃ e₄ e₅ e₆ e₇ = rw (e₁, e₂, e₃, e₅, e₆, rest t c k₄ e₄, rest l (a + b + d + e + g + g) k₇ e₇) refl
 
 -- ── The layout ──────────────────────────────────────────────────────────────────────────────────────────────
 
@@ -73,26 +64,5 @@ module _ (n : ℕ) (x z l : List ℕ) (e : l ≡ paste z 0 (words n x) n) (h : n
   pub front_words : take n l ≡ words n x
   front_words = ap (take n) e ∙ (ap (λ (k : ℕ). take k (paste z 0 (words n x) n)) (sym (zero-add n)) ∙ (take-paste z 0 (words n x) n (omega arith) (omega (arith, length_words n x)) ∙ take_all n (words n x) (omega (arith, length_words n x))))
 
-  pub front_long : n ≡ length (take n l)
-  front_long = sym (ap length front_words ∙ length_words n x)
-
 pub texts_left : (x : List ℕ) (i k : ℕ) → k ≡ length x - i → take k (drop i x) ≡ drop i x
 texts_left x i k e = rest x i k e
-
-pub texts_long : (x : List ℕ) (i k : ℕ) → k ≡ length x - i → length (take k (drop i x)) ≡ length x - i
-texts_long x i k e = ap length (rest x i k e) ∙ length-drop i x
-
--- ── The line ────────────────────────────────────────────────────────────────────────────────────────────────
-
-module _ {v : Result Verdict Refusal} {d l : List ℕ} {to : ℕ} where
-  pub refused_shown : {r : Refusal} {k : ℕ} → v ≡ Err r → k ≡ number r → Put d 0 (line_of (114 ∷ 101 ∷ 102 ∷ 117 ∷ 115 ∷ 101 ∷ 100 ∷ []) (k ∷ [])) l to → Put d 0 (verdict_line (answer_of v)) l to
-  unfolding verdict_line answer_of line line_of spaced ascii
-  refused_shown e k p = rw (e, ← k) p
-
-  pub accepted_shown : {w : Verdict} → v ≡ Ok w → w ≡ Accepted → Put d 0 (line_of (97 ∷ 99 ∷ 99 ∷ 101 ∷ 112 ∷ 116 ∷ 101 ∷ 100 ∷ []) []) l to → Put d 0 (verdict_line (answer_of v)) l to
-  unfolding verdict_line answer_of line line_of spaced ascii
-  accepted_shown e k p = rw (e, k) p
-
-  pub rejected_shown : {w : Verdict} → v ≡ Ok w → w ≡ Rejected → Put d 0 (line_of (114 ∷ 101 ∷ 106 ∷ 101 ∷ 99 ∷ 116 ∷ 101 ∷ 100 ∷ []) []) l to → Put d 0 (verdict_line (answer_of v)) l to
-  unfolding verdict_line answer_of line line_of spaced ascii
-  rejected_shown e k p = rw (e, k) p

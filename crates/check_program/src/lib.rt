@@ -1,9 +1,11 @@
 // The program `check`: reads claims on standard input and prints whether they are accepted.
+// How long claims may be, an index of what is read and room in a lent slice stand as clauses: a value around each would be no plainer than its bound.
 #![tactic(auto)]
 
 ghost use Rattle.std.specs.Prelude.{◌≡◌, ◌+◌, ◌≤◌, length, OnOk};
 ghost use Rattle.check_laws.specs.Check.{checked};
 ghost use Rattle.check_laws.specs.Layout.{claims_from, claim_printed, verdict_line};
+ghost use Rattle.check_claim.specs.Held.{claimed};
 ghost use Rattle.check_claim.specs.Judging.{answer_of};
 ghost use Rattle.edit_print.specs.Lines.{Put};
 ghost use Rattle.program_input.specs.Told.{Writes, enough};
@@ -15,30 +17,26 @@ use refusals::Refusal;
 use std::io;
 use std::io::{Read, Write};
 
-// The verdict on lists that stand one behind another, and on texts that do. The work slices are made here, of the lengths of docs/WORK.md.
-fn judge_lists(
-    lists: &[u32],
-    texts: &[u8],
+// The claims whose lists stand one behind another, and whose texts do.
+fn cut<'a>(
+    lists: &'a [u32],
+    texts: &'a [u8],
     old_kinds: usize,
     old_measures: usize,
     old_text: usize,
     new_kinds: usize,
     new_measures: usize,
     pairs: usize,
-) -> Result<Verdict, Refusal>
+) -> Claims<'a>
     requires { (old_kinds + old_measures + new_kinds + new_measures + pairs + pairs ≤ length lists.now) × (length lists.now ≤ 65536) × (old_text ≤ length texts.now) }
-    ensures { answer_of result ≡ checked (claims_from lists.now texts.now old_kinds old_measures old_text new_kinds new_measures pairs) }
+    ensures { claimed result ≡ claims_from lists.now texts.now old_kinds old_measures old_text new_kinds new_measures pairs }
 {
-    let mut old = [0u32; 16384];
-    let mut new = [0u32; 16384];
-    let mut partners = [0u32; 4096];
-    let mut marks = [0u32; 4096];
     let from = old_kinds + old_measures;
     let measures = from + new_kinds;
     let olds = measures + new_measures;
     let news = olds + pairs;
     let changed = news + pairs;
-    let claims = Claims {
+    Claims {
         old: Tree {
             kinds: &lists[..old_kinds],
             measures: &lists[old_kinds..from],
@@ -52,14 +50,24 @@ fn judge_lists(
         olds: &lists[olds..news],
         news: &lists[news..changed],
         changed: &lists[changed..],
-    };
+    }
+}
+
+// The verdict on claims. The work slices are made here, of the lengths of docs/WORK.md.
+fn judge_claims(claims: &Claims) -> Result<Verdict, Refusal>
+    ensures { answer_of result ≡ checked (claimed claims.now) }
+{
+    let mut before = [0u32; 16384];
+    let mut after = [0u32; 16384];
+    let mut partners = [0u32; 4096];
+    let mut marks = [0u32; 4096];
     let mut work = Work {
-        before: &mut old,
-        after: &mut new,
+        before: &mut before,
+        after: &mut after,
         partners: &mut partners,
         marks: &mut marks,
     };
-    check_claim::check(&claims, &mut work)
+    check_claim::check(claims, &mut work)
 }
 
 // 2 and 4 of the layout, then the verdict on the claims.
@@ -85,7 +93,7 @@ fn judge(claim: &[u8]) -> Result<Verdict, Refusal>
     let mut lists = [0u32; 65536];
     words::read_words(claim, 32, n, &mut lists, 0);
     let at = 32 + 4 * n;
-    judge_lists(
+    let claims = cut(
         &lists[..n],
         &claim[at..],
         old_kinds,
@@ -94,10 +102,12 @@ fn judge(claim: &[u8]) -> Result<Verdict, Refusal>
         new_kinds,
         new_measures,
         pairs,
-    )
+    );
+    judge_claims(&claims)
 }
 
 // What is printed of a verdict is written at the front of `out`.
+#[tactic(auto, unfolding(check_laws::specs::Layout::verdict_line, check_claim::specs::Judging::answer_of, definition::specs::Printed::line, definition::specs::Printed::ascii, edit_print::specs::Lines::line_of, edit_print::specs::Lines::spaced))]
 fn show(verdict: Result<Verdict, Refusal>, out: &mut [u8]) -> usize
     requires { 32 ≤ length out.old }
     ensures { Put out.old 0 (verdict_line (answer_of verdict)) out.new result }
@@ -119,9 +129,8 @@ impl Program<262144, 32> for Checking {
 
     ghost room = { λ out e. enough 32 out e };
 
-    fn answer(&self, claim: &[u8], read: usize, out: &mut [u8]) -> usize {
-        let verdict = judge(&claim[..read]);
-        show(verdict, out)
+    fn answer(&self, claim: &[u8], out: &mut [u8]) -> usize {
+        show(judge(claim), out)
     }
 
     ghost cut = { λ _ bs. judged_in_room bs };

@@ -1,4 +1,5 @@
 // The edit program: reads its choices, the first two arguments, and a batch on standard input, and prints the batch's answer.
+// How long a batch may be and room in a lent slice stand as clauses: a value around each would be no plainer than its bound.
 #![tactic(auto)]
 
 ghost use Rattle.std.specs.Prelude.{◌≡◌, ◌≤◌, length, OnOk};
@@ -69,9 +70,9 @@ impl Program<65536, 190000> for Editing {
 
     ghost room = { λ out e. enough 190000 out e };
 
-    fn answer(&self, batch: &[u8], read: usize, out: &mut [u8]) -> usize {
+    fn answer(&self, batch: &[u8], out: &mut [u8]) -> usize {
         let mut result = [0u8; 65536];
-        let answer = edit_batch(self.choices, &batch[..read], &mut result);
+        let answer = edit_batch(self.choices, batch, &mut result);
         show(answer, &result, out)
     }
 

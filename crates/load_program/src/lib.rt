@@ -1,4 +1,5 @@
 // The load program: writes the batch of a starting number, its argument, to standard output (document 02, Note 12).
+// Room in a lent slice stands as a clause: a value around each would be no plainer than its bound.
 #![tactic(auto)]
 
 ghost use Rattle.std.specs.Prelude.{◌≡◌, ◌≤◌, length, IfOk, OnOk};

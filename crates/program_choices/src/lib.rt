@@ -1,4 +1,5 @@
 // A program's choices, read from its arguments.
+// Room in a lent slice stands as a clause: a value around each would be no plainer than its bound.
 #![tactic(auto)]
 
 ghost use Rattle.std.specs.Prelude.{◌≡◌, ◌≤◌, length};
@@ -12,7 +13,7 @@ use std::env::{Env, FillError};
 // The number of an argument that is not one digit: no choice has it. Not an `Option`: `Choices` holds any number, and what is given stays so until `judge` refuses it.
 const NO_CHOICE: usize = 10;
 
-// The digit that an argument is.
+// The digit that an argument is. `char::to_digit` would make a `char` of the byte and a `usize` of what its `Option` holds.
 fn digit_of(argument: &[u8]) -> usize
     ensures { result ≡ digit argument.now }
 {

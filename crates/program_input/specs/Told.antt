@@ -8,6 +8,11 @@ use Rattle.std.specs.declared.option.Option.{Option}
 use Rattle.program_input.specs.Counts.{IsPrefixLen}
 use borrow.Author.Tests.{ltb-true, ltb-false}
 
+-- the first `written` bytes of the output are what is said of the input
+pub record Prints (say : List ℕ → List ℕ) (input : List ℕ) (out : List ℕ) (written : ℕ) : Type 0 where
+  pub fits : IsPrefixLen written out
+  pub says : take written out ≡ say input
+
 -- the first `written` bytes of the output are what is said of the first `read` bytes of the input's buffer
 pub record Responds (say : List ℕ → List ℕ) (input : List ℕ) (read : ℕ) (out : List ℕ) (written : ℕ) : Type 0 where
   pub judged : read ≤ length input

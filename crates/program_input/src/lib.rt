@@ -1,10 +1,11 @@
 // A program's batch, read from its input, and its arguments; words printed in a line.
+// How long lent buffers are stands as a clause: a value around each would be no plainer than its bound.
 #![tactic(auto)]
 
 ghost use Rattle.std.specs.Prelude.{◌≡◌, ◌<◌, ◌≤◌, ◌^◌, ℕ, List, length, take, IfOk, OnOk};
 ghost use Rattle.std.specs.Io.KnownBytes.{Consumes, IsAtEnd};
 ghost use Rattle.program_input.specs.Counts.{IsPrefixLen};
-ghost use Rattle.program_input.specs.Told.{Responds, Writes};
+ghost use Rattle.program_input.specs.Told.{Prints, Responds, Writes};
 ghost use Rattle.program_input.specs.Parts.{ReadsWord, ReadsPart};
 
 use std::env::Env;
@@ -83,10 +84,10 @@ pub trait Program<const IN: usize, const OUT: usize> {
 
     ghost room: { (out : List ℕ) → OUT ≡ length out → takes out };
 
-    // What is printed of the first `read` bytes is written at the front of `out`.
-    fn answer(&self, input: &[u8], read: usize, out: &mut [u8]) -> usize
-        requires { (IN ≡ length input.now) × (read ≤ length input.now) × takes out.old }
-        ensures { Responds (says self.now) input.now read out.new result };
+    // What is printed of the input is written at the front of `out`.
+    fn answer(&self, input: &[u8], out: &mut [u8]) -> usize
+        requires { (length input.now ≤ IN) × takes out.old }
+        ensures { Prints (says self.now) input.now out.new result };
 
     // No more of an input matters than there is room for.
     ghost cut: { (program : Self) (bs : List ℕ) → says program (take IN bs) ≡ says program bs };
@@ -115,7 +116,7 @@ pub fn respond<const IN: usize, const OUT: usize, P: Program<IN, OUT>, R: Read>(
 {
     let filled = read_full(from, input);
     let read = filled.count;
-    let written = program.answer(input, read, out);
+    let written = program.answer(&input[..read], out);
     (Response { read, written }, filled.ended)
 }
 
@@ -150,10 +151,7 @@ pub fn run<const IN: usize, const OUT: usize, P: Program<IN, OUT>, H: Input + Pr
 pub fn read_argument(rt: &impl Env, i: usize, buf: &mut [u8]) -> usize
     ensures { IsPrefixLen result buf.new }
 {
-    match rt.arg(i, buf) {
-        Ok(n) => n,
-        Err(_) => 0,
-    }
+    rt.arg(i, buf).unwrap_or(0)
 }
 
 // Prints words in a line.

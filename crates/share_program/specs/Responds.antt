@@ -1,11 +1,11 @@
--- What stands at the front of the output, of the bytes at the front of a batch's buffer.
+-- What stands at the front of the output, of a batch.
 -- Assumes nothing.
 use Rattle.std.specs.Prelude.{◌≡◌, refl, false, ℕ, ◌≤◌, length, take}
 use Rattle.std.proofs.Math.Path.{sym, ap}
 use Rattle.std.proofs.Common.{◌∙◌, arith, take_all, length-take-le}
 use mathlib.Core.List.{List, [], ◌∷◌}
 use Rattle.std.proofs.lemmas.List.{take-take}
-use Rattle.program_input.specs.Told as frame
+use Rattle.program_input.specs.Told.{Prints}
 use Rattle.definition.specs.Basics as basics
 use Rattle.definition.specs.Basics.{gives, refused, ◌>>=◌}
 use Rattle.definition.specs.Choices.{Choices, chosen}
@@ -24,10 +24,6 @@ reckoned h b = chosen h >>= λ u. share h b
 -- an answer tells it
 pub record Tells (h : Choices) (b : List ℕ) (r : basics.Answer (ℕ × ℕ)) : Type 0 where
   pub says : r ≡ reckoned h b
-
--- the first `written` bytes of the output are what is printed by the choices h of the first `read` bytes of the batch's buffer
-abbrev pub Responds : Choices → List ℕ → ℕ → List ℕ → ℕ → Type 0
-Responds h = frame.Responds (share_printed h)
 
 -- no more of the input is judged than the buffer has room for
 pub judged_in_room : (h : Choices) (bs : List ℕ) → share_printed h (take 65536 bs) ≡ share_printed h bs
@@ -50,18 +46,18 @@ share_tells {h} {b} {work} r p s = record { says = p.share ∙ shared_whole h (l
 
 -- ── Printed ─────────────────────────────────────────────────────────────────────────────────────────────────
 
-module _ {h : Choices} (b : List ℕ) (read : ℕ) {r : basics.Answer (ℕ × ℕ)} (n : 65536 ≡ length b) (c : read ≤ length b) (t : Tells h (take read b) r) where
-  whole : take program_room (take read b) ≡ take read b
-  whole = take_all 65536 (take read b) (omega (arith, length-take-le read b c))
+module _ {h : Choices} (b : List ℕ) {r : basics.Answer (ℕ × ℕ)} (n : length b ≤ 65536) (t : Tells h b r) where
+  whole : take program_room b ≡ b
+  whole = take_all 65536 b n
 
-  printed : share_printed h (take read b) ≡ share_line r
+  printed : share_printed h b ≡ share_line r
   unfolding share_printed
   printed = ap (λ (l : List ℕ). share_line (reckoned h l)) whole ∙ ap share_line (sym t.says)
 
-  pub refused_responds : {k : ℕ} {d out : List ℕ} {to : ℕ} → r ≡ refused k → Put d 0 (print (refused k)) out to → length out ≡ length d → Responds h b read out to
+  pub refused_responds : {k : ℕ} {d out : List ℕ} {to : ℕ} → r ≡ refused k → Put d 0 (print (refused k)) out to → length out ≡ length d → Prints (share_printed h) b out to
   unfolding share_line print
-  refused_responds {k} {d} {out} {to} e p m = record { judged = c; fits = (put_fits p m, sym (length-take-le to out (put_fits p m))); says = put_front p m ∙ sym (printed ∙ rw e refl) }
+  refused_responds {k} {d} {out} {to} e p m = record { fits = (put_fits p m, sym (length-take-le to out (put_fits p m))); says = put_front p m ∙ sym (printed ∙ rw e refl) }
 
-  pub told_responds : {q s : ℕ} {d out : List ℕ} {to : ℕ} → r ≡ gives (q, s) → Put d 0 (line_of (115 ∷ 104 ∷ 97 ∷ 114 ∷ 101 ∷ []) (q ∷ s ∷ [])) out to → length out ≡ length d → Responds h b read out to
+  pub told_responds : {q s : ℕ} {d out : List ℕ} {to : ℕ} → r ≡ gives (q, s) → Put d 0 (line_of (115 ∷ 104 ∷ 97 ∷ 114 ∷ 101 ∷ []) (q ∷ s ∷ [])) out to → length out ≡ length d → Prints (share_printed h) b out to
   unfolding share_line line line_of spaced ascii
-  told_responds {q} {s} {d} {out} {to} e p m = record { judged = c; fits = (put_fits p m, sym (length-take-le to out (put_fits p m))); says = put_front p m ∙ sym (printed ∙ rw e refl) }
+  told_responds {q} {s} {d} {out} {to} e p m = record { fits = (put_fits p m, sym (length-take-le to out (put_fits p m))); says = put_front p m ∙ sym (printed ∙ rw e refl) }

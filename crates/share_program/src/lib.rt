@@ -26,10 +26,8 @@ impl Program<65536, 64> for Sharing {
 
     ghost room = { λ out e. e };
 
-    fn answer(&self, batch: &[u8], read: usize, out: &mut [u8]) -> usize {
-        let told = promises::with_work(0, |work| {
-            edit_algo::share(self.choices, &batch[..read], work)
-        });
+    fn answer(&self, batch: &[u8], out: &mut [u8]) -> usize {
+        let told = promises::with_work(0, |work| { edit_algo::share(self.choices, batch, work) });
         match told {
             Err(refusal) => edit_print::print_refusal(out, refusal.number()),
             Ok(share) => edit_print::put_line(out, 0, b"share", &[share.quotient, share.remainder]),

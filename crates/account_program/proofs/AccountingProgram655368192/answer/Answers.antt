@@ -1,12 +1,8 @@
 -- `answer` meets its contract.
 -- Assumes nothing.
 use borrow.Author.Rules.{rules}
-use Rattle.program_input.specs.Told.{front_within}
 use Rattle.account_program.specs.Responds.{refused_responds, told_responds}
 use Rattle.account_program.proofs.AccountingProgram655368192.answer.Goals as goal
-
-pub account_batch-told-requires : goal.account_batch-told-requires
-account_batch-told-requires c = (search (front_within, rules), search rules)
 
 pub print_refusal-requires : goal.print_refusal-requires
 print_refusal-requires c = search rules

@@ -5,4 +5,4 @@ use borrow.Author.Rules.{rules}
 use Rattle.check_program.proofs.CheckingProgram26214432.answer.Goals as goal
 
 pub returns : goal.returns
-returns c = let p = c.requires in responds _ _ (search rules) (search rules) c.judge-verdict.ensures c.show.ensures (search rules)
+returns c = search (responds, rules)
