@@ -1,4 +1,5 @@
 // The public calls: one for every job, and the edit, the found element, the account, the share and the surviving pairs, each thin over it.
+// Which answers can come stands as a clause: `Told` holds those of every job, and the promise of `serve` says which.
 #![tactic(auto)]
 
 ghost use Rattle.choices.specs.Meant.{meant};
@@ -30,6 +31,7 @@ pub fn serve(
     ensures serves { Serves (meant choices) job batch.now res.old (held work.old) result res.new (held work.new) }
 {
     let done = perform(choices, batch, work);
+    // Lent before the call: in it none of these may be read while another field is lent.
     let table = &mut *work.table;
     let source = &mut *work.source;
     let changes = &mut *work.changes;

@@ -4,13 +4,14 @@ use Rattle.std.specs.Prelude.{Result, Ok, Err, Some, None}
 use Rattle.std.specs.Prelude as prelude
 use mathlib.Core.Path.{◌≡◌, refl, sym, ap, subst, ◌∙◌}
 use mathlib.Core.Bool.{Bool, true, false}
+use mathlib.Core.Logic.{◌⊎◌, inl, inr}
 use mathlib.Core.List.{List}
 use mathlib.Core.Option.{Option, none, some}
 use Prim.Native.Nat.{ℕ, suc, ◌+◌, ◌-◌, ◌*◌, ◌/◌, ◌^◌, ◌≤◌, ◌<◌}
 use native.Mathlib.Nat.{add-zero}
 use native.Mathlib.Omega.{arith}
-use lib.ListN.{length, get_or, drop, take, length-drop}
-use lib.Seq.{take_all, length-take-le}
+use lib.ListN.{length, get_or, drop, take}
+use lib.Seq.{length-take-le}
 use lib.Dec.{eqb}
 use Rattle.definition.specs.Basics as basics
 use Rattle.definition.specs.Basics.{gives, ◌>>=◌}
@@ -130,21 +131,12 @@ tells_8 : (job : Job) (j k room : ℕ) (held : List ℕ) → overlap_told job j 
 unfolding outcome written left_in answer_told number
 tells_8 job j k room held e = rw e (record { answer = refl; result = refl })
 
-pub edit_8 : {job : Job} (j k : ℕ) (held : List ℕ) → job ≡ Edit → Tells (overlap_told job j k (length held)) held (Err Overlaps) held
+pub others_8 : {job : Job} (j k : ℕ) (held : List ℕ) → (job ≡ Edit) ⊎ (((n : ℕ) × job ≡ Find n) ⊎ ((job ≡ Share) ⊎ (job ≡ Kept))) → Tells (overlap_told job j k (length held)) held (Err Overlaps) held
 unfolding overlap_told
-edit_8 {job} j k held e = tells_8 job j k (length held) held (rw e refl)
-
-pub find_8 : {job : Job} {n : ℕ} (j k : ℕ) (held : List ℕ) → job ≡ Find n → Tells (overlap_told job j k (length held)) held (Err Overlaps) held
-unfolding overlap_told
-find_8 {job} j k held e = tells_8 job j k (length held) held (rw e refl)
-
-pub share_8 : {job : Job} (j k : ℕ) (held : List ℕ) → job ≡ Share → Tells (overlap_told job j k (length held)) held (Err Overlaps) held
-unfolding overlap_told
-share_8 {job} j k held e = tells_8 job j k (length held) held (rw e refl)
-
-pub kept_8 : {job : Job} (j k : ℕ) (held : List ℕ) → job ≡ Kept → Tells (overlap_told job j k (length held)) held (Err Overlaps) held
-unfolding overlap_told
-kept_8 {job} j k held e = tells_8 job j k (length held) held (rw e refl)
+others_8 {job} j k held (inl e) = tells_8 job j k (length held) held (rw e refl)
+others_8 {job} j k held (inr (inl (n, e))) = tells_8 job j k (length held) held (rw e refl)
+others_8 {job} j k held (inr (inr (inl e))) = tells_8 job j k (length held) held (rw e refl)
+others_8 {job} j k held (inr (inr (inr e))) = tells_8 job j k (length held) held (rw e refl)
 
 pub account_8 : {job : Job} (j k : ℕ) {held out : List ℕ} {r : Result Told Refusal} → job ≡ Account → Tells (tell_in (length held) (overlap_line j k)) held r out → Tells (overlap_told job j k (length held)) held r out
 unfolding overlap_told

@@ -1,5 +1,7 @@
 // From what a run leaves to what each job answers.
 // An index of what is read stands as a clause: a value around each would be no plainer than its bound.
+// `choices` and `batch` stand in most functions for the promise alone: what a run left is told of them. As a `ghost` value they would have to be picked from what a call is
+// given, where nothing holds them (tried). Nor are they one value with `d`: what joins the three is `AtEnd`, which tells the definition's data and so would be no field.
 #![tactic(auto)]
 
 ghost use Rattle.std.specs.Prelude.{◌≡◌, ◌≤◌, ◌<◌, length};
@@ -70,14 +72,13 @@ fn write_answer(
 }
 
 // Whether element `k` is a node of tree 0.
+#[tactic(auto, using(crate::proofs::Ends::token_there, crate::proofs::Ends::root_there))]
 fn is_old_node(elements: &Elements, k: usize) -> bool
     requires { k < elements.now.count }
     ensures { result ≡ old_node (view_of elements.now) k }
 {
-    if !read_element_table::is_node(elements.source, k) {
-        return false;
-    }
-    read_element_table::entry(elements.table, k, read_element_table::TREE) == 0
+    read_element_table::is_node(elements.source, k)
+        && read_element_table::entry(elements.table, k, read_element_table::TREE) == 0
 }
 
 // Where element `k` stands in the new tree, from the rows that the run of the batch leaves.
@@ -202,11 +203,8 @@ fn overlapping(job: Job, j: usize, k: usize, res: &mut [u8]) -> Result<Told, Ref
     ensures { Tells (overlap_told job j k (length res.old)) res.old result res.new }
 {
     match job {
-        Job::Edit => Err(Refusal::Overlap),
-        Job::Find(_) => Err(Refusal::Overlap),
         Job::Account => account_lines::tell_overlap(j, k, res),
-        Job::Share => Err(Refusal::Overlap),
-        Job::Kept => Err(Refusal::Overlap),
+        Job::Edit | Job::Find(_) | Job::Share | Job::Kept => Err(Refusal::Overlap),
     }
 }
 

@@ -1,4 +1,5 @@
 // An outcome as one number, for callers in C and Rust.
+// Bounds of one number stand as clauses: a value around each would be no plainer than its bound.
 #![tactic(auto)]
 
 ghost use Rattle.std.specs.Prelude.{◌≡◌, ◌≤◌, ◌<◌, pos, neg_ℤ};
@@ -63,7 +64,7 @@ pub fn number_of(told: Result<Told, Refusal>) -> i64
     }
 }
 
-// The number of what the writer tells.
+// The number of what the writer tells. Beside `number_of`: a length would be made a `Told` only to be taken out of it again, and what is said of it then would be said of all three.
 pub fn number_written(told: Result<usize, Refusal>) -> i64
     requires { Few (answered told) }
     ensures { result ≡ length_number (answered told) }

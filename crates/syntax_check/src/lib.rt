@@ -1,4 +1,5 @@
 // The checker for C and Rust (document 02, Note 11): a slice is a pointer and a length, a verdict is one number.
+// Which refusals can come stands as a clause: `Refusal` is any, and the promise of `check` says which.
 #![tactic(auto)]
 
 ghost use Rattle.std.specs.Prelude.{◌≡◌, ◌∷◌, []};

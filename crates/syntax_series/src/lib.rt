@@ -6,7 +6,7 @@ ghost use Rattle.series_leave.specs.Leaving.{lent_of};
 ghost use Rattle.syntax_series.specs.Returned.{ReturnsStart, ReturnsFollow};
 
 use choices::Choices;
-use edit_numbers::number_written;
+use edit_numbers::{negative, number_written};
 use promises::Work;
 
 // THE FIRST CALL of a series: 0 if it may begin with this tree and these bookmarks, or a refusal's number (1, 3, 4, 5, 20 or 21) with a minus. `rows` is a work slice, which ends as
@@ -17,7 +17,7 @@ pub extern "C" fn syntax_series_start(tree: &[u8], bookmarks: &[u32], rows: &mut
 {
     match series::start(tree, bookmarks, rows) {
         Ok(()) => 0,
-        Err(refusal) => number_written(Err(refusal)),
+        Err(refusal) => negative(refusal.number()),
     }
 }
 
