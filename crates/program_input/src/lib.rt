@@ -1,4 +1,4 @@
-// A program's batch, read from its input, and its arguments; words printed in a line.
+// What programs share: input read whole, by words or by parts; the frame of a program that answers its input; arguments; words printed in a line.
 // How long lent buffers are stands as a clause: a value around each would be no plainer than its bound.
 #![tactic(auto)]
 
@@ -12,7 +12,7 @@ use std::env::Env;
 use std::io;
 use std::io::{Read, Write};
 
-// What filling a buffer came to: how many bytes were read, and whether reading ended well.
+// What filling a buffer came to: how many bytes were read, and whether reading ended well. No `Result` of the count: it is told too where a read fails.
 #[derive(Drop)]
 pub struct Filled {
     pub count: usize,

@@ -91,10 +91,11 @@ fn byte_count(z: Sizes) -> usize
     read_layout::ARRAYS + 4 * word_count(z) + z.text
 }
 
-// A batch of these sizes, with `n` words behind them.
-fn write_words(b: &[u8], z: Sizes, n: usize, destination: &mut [u8]) -> Result<usize, Refusal>
-    requires { (n ≡ word_count z) × (28 + 4 * n ≤ length b.now) × (length b.now ≤ 65536) }
+// A batch of these sizes, which has all the words and the text that they tell.
+fn write_behind(b: &[u8], z: Sizes, destination: &mut [u8]) -> Result<usize, Refusal>
+    requires { Worded z × (28 + 4 * word_count z ≤ length b.now) × (length b.now ≤ 65536) }
 {
+    let n = word_count(z);
     let text = read_layout::ARRAYS + 4 * n;
     let mut list = [0u32; 16384];
     words::read_words(b, read_layout::ARRAYS, n, &mut list, 0);
@@ -115,5 +116,5 @@ pub fn write_again(b: &[u8], destination: &mut [u8]) -> Result<usize, Refusal> {
     if 65536 < b.len() {
         return Err(Refusal::Lists);
     }
-    write_words(b, z, word_count(z), destination)
+    write_behind(b, z, destination)
 }
