@@ -93,7 +93,7 @@ pub fn tell_overlap(j: usize, k: usize, res: &mut [u8]) -> Result<Told, Refusal>
     hand_out(&draft[..n], res)
 }
 
-// What the account program prints of a refusal is written at the front.
+// What the account program prints of a refusal is written at the front. A number, as edit_print takes it.
 pub fn print_refusal(out: &mut [u8], number: usize) -> usize
     requires { 11 ≤ length out.old }
     ensures { Put out.old 0 (tell (refused number)) out.new result }

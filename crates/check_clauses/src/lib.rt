@@ -6,7 +6,7 @@ ghost use Rattle.std.specs.Prelude.{◌≡◌, ◌+◌, ◌*◌, ◌≤◌, ◌<
 ghost use mathlib.Core.List.{zip};
 ghost use Rattle.orders.specs.Lists.{any};
 ghost use Rattle.check_laws.specs.Check.{every, same_bytes};
-ghost use Rattle.check_model.specs.Clauses.{entry as word_of, marked, alike as alike_in, parents_meet, rises, accounted as accounted_in, each, judged_by};
+ghost use Rattle.check_model.specs.Clauses.{marked, alike as alike_in, parents_meet, rises, accounted as accounted_in, each, judged_by};
 ghost use Rattle.check_model.specs.Pairing.{Below};
 ghost use Rattle.check_clauses.specs.Asked.{PairsUp, Reaches, Reached, Climbs, Linked, Climbed, Ready};
 
@@ -113,7 +113,8 @@ fn all_parents_meet(pairs: &Pairs, old: &[u32], new: &[u32], partners: &[u32]) -
     ))
 }
 
-// 5: whether the partners rise. A `for`, since what a turn asks is another for each: a chain would be `filter` and `is_sorted_by`, whose laws are longer than the loop's.
+// 5: whether the partners rise. A `for`, since each turn compares with the last partner before it: a chain would be `filter` and
+// `is_sorted_by`, whose laws are longer than the loop's.
 fn rising(partners: &[u32]) -> bool
     ensures { result ≡ rises 0 partners.now }
 {

@@ -17,7 +17,7 @@ use refusals::Refusal;
 use std::io;
 use std::io::{Read, Write};
 
-// The claims whose lists stand one behind another, and whose texts do.
+// The claims whose lists stand one behind another, and whose texts do. The six sizes are parameters: `judge` alone reads them, and a struct would be made for this one call.
 fn cut<'a>(
     lists: &'a [u32],
     texts: &'a [u8],

@@ -1,6 +1,6 @@
 // A tree given as lists of kind words and measures: whether line 5 accepts it, and four words for each of its elements.
 // An index of what is read and room in the lent table stand as clauses: a value around each would be no plainer than its bound. So does that the two lists have one
-// length: C lends them apart, and the checker refuses others before.
+// length: C lends them apart, and the checker has refused two of unequal length before it reads them.
 #![tactic(auto)]
 
 ghost use Rattle.std.specs.Prelude.{◌≡◌, ◌+◌, ◌*◌, ◌^◌, ◌≤◌, ◌<◌, length};
@@ -66,7 +66,8 @@ fn element_at(
     })
 }
 
-// An open element: how many of its children are to come, and its number + 1, 0 for what is above the tree.
+// An open element: how many of its children are to come, and its number + 1, 0 for what is above the tree: a number, since it is the word that its children get in the
+// table (`PARENT`).
 #[derive(Clone, Copy)]
 struct Open {
     left: usize,

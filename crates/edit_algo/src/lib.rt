@@ -1,5 +1,6 @@
 // The public calls: one for every job, and the edit, the found element, the account, the share and the surviving pairs, each thin over it.
 // Which answers can come stands as a clause: `Told` holds those of every job, and the promise of `serve` says which.
+// `choices`, `batch`, `res` and `work` are parameters of each call: a struct of them would be made for one call and taken apart in it, two of the four to be written.
 #![tactic(auto)]
 
 ghost use Rattle.choices.specs.Meant.{meant};
@@ -18,7 +19,7 @@ use refusals::Refusal;
 // ── One call for all ──
 
 // THE CALL for every job: refusals 17, 18 and 1, the run of the batch, what the job answers from what the run leaves, and every work slice cleared. What the
-// job writes stands at the front of `result`; the work slices end as zeros. The job is a value, since refusals and the order of what is written and cleared are then
+// job writes stands at the front of `res`; the work slices end as zeros. The job is a value, since refusals and the order of what is written and cleared are then
 // promised once; a type for each job would have that promise once for each.
 pub fn serve(
     choices: Choices,
@@ -57,6 +58,8 @@ pub fn serve(
 }
 
 // ── The public calls ──
+
+// Three, one for each of what is told: over one function with a closure each call would prove again that the others are unreachable.
 
 // What is told of an edit, an account or pairs. (None finds an element or tells a share.)
 fn answer_in(told: Result<Told, Refusal>) -> Result<usize, Refusal>
@@ -97,7 +100,7 @@ fn share_in(told: Result<Told, Refusal>) -> Result<Thousandths, Refusal>
     }
 }
 
-// THE EDIT of a batch. The result's bytes are written to the front of `result`; the work slices end as zeros.
+// THE EDIT of a batch. The result's bytes are written to the front of `res`; the work slices end as zeros.
 pub fn edit(
     choices: Choices,
     batch: &[u8],
@@ -124,7 +127,7 @@ pub fn find_element(
     element_in(serve(choices, Job::Find(number), batch, &mut none, work))
 }
 
-// THE ACCOUNT of a batch: what becomes of each change, a line each, in sorted order; or which two overlap. The text is written to the front of `result`; the
+// THE ACCOUNT of a batch: what becomes of each change, a line each, in sorted order; or which two overlap. The text is written to the front of `res`; the
 // work slices end as zeros.
 pub fn account(
     choices: Choices,
@@ -149,7 +152,7 @@ pub fn share(choices: Choices, batch: &[u8], work: &mut Work) -> Result<Thousand
 }
 
 // THE SURVIVING PAIRS of a batch's edit: each element of the old tree that is in the new tree, with its number there, by rising old numbers. All old numbers, then all
-// new ones, are written to the front of `result`, a word of four bytes each; the work slices end as zeros.
+// new ones, are written to the front of `res`, a word of four bytes each; the work slices end as zeros.
 pub fn kept(
     choices: Choices,
     batch: &[u8],

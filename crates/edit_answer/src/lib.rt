@@ -81,7 +81,7 @@ fn is_old_node(elements: &Elements, k: usize) -> bool
         && read_element_table::entry(elements.table, k, read_element_table::TREE) == 0
 }
 
-// Where element `k` stands in the new tree, from the rows that the run of the batch leaves.
+// Where element `k` stands in the new tree, from the rows that the run of the batch leaves. It and `share_from` answer a `Told`, as each job does: so `answer` only chooses.
 fn find_from(
     choices: Choices,
     batch: &[u8],

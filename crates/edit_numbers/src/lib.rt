@@ -10,7 +10,7 @@ ghost use Rattle.edit_numbers.specs.ReturnedBatch.{Few, length_number};
 use promises::Told;
 use refusals::Refusal;
 
-// A refusal's number, with a minus.
+// A refusal's number, with a minus: a number, since that is all it needs of a refusal.
 pub fn negative(n: usize) -> i64
     requires { n ≤ 134217728 }
     ensures { result ≡ neg_ℤ (pos n) }
@@ -19,7 +19,7 @@ pub fn negative(n: usize) -> i64
     -m
 }
 
-// A length or an element's number.
+// A length, an element's number or a share's.
 fn positive(n: usize) -> i64
     requires { n ≤ 134217728 }
     ensures { result ≡ pos n }
@@ -65,6 +65,7 @@ pub fn number_of(told: Result<Told, Refusal>) -> i64
 }
 
 // The number of what the writer tells. Beside `number_of`: a length would be made a `Told` only to be taken out of it again, and what is said of it then would be said of all three.
+// Nor is it one over a closure with syntax_check's: each would name its own bound of what is told.
 pub fn number_written(told: Result<usize, Refusal>) -> i64
     requires { Few (answered told) }
     ensures { result ≡ length_number (answered told) }

@@ -227,7 +227,7 @@ pub fn print_result(out: &mut [u8], b: &[u8]) -> usize
     put_arrays(out, sized, b, elements, text, changed, notes)
 }
 
-// What is printed of a refusal is written at the front.
+// What is printed of a refusal is written at the front. A number, since any is printed: a `Refusal` would ask more of callers.
 pub fn print_refusal(out: &mut [u8], number: usize) -> usize
     requires { 19 ≤ length out.old }
     ensures { Put out.old 0 (print (refused number)) out.new result }

@@ -1,4 +1,4 @@
-// What is asked for and answered; the work slices: whether one is too short, and all of them cleared.
+// What is asked for and answered; the work slices: whether one is too short, all of them cleared, and slices of those lengths made.
 #![tactic(auto)]
 
 ghost use Rattle.std.specs.Prelude.{◌≡◌};
@@ -17,7 +17,8 @@ pub enum Job {
     Kept,
 }
 
-// What a call that is not refused tells: how many bytes the result, the account or the pairs have; an element's number, if one is found; or a share's quotient and remainder.
+// What a call that is not refused tells: how many bytes the result, the account or the pairs have; an element's number, if one is found; or a share's quotient and remainder:
+// the two numbers of `share_rows::Thousandths`, which stands in a crate of rows, that these promises do not know.
 #[derive(Clone, Copy)]
 pub enum Told {
     Bytes(usize),

@@ -104,37 +104,40 @@ fn run_job(
     })
 }
 
+// What was recorded of a batch: its choices, itself, its refusal's number (0 for none) and its result.
+#[derive(Clone, Copy)]
+struct Recorded<'a> {
+    choices: Choices,
+    batch: &'a [u8],
+    refusal: usize,
+    expected: &'a [u8],
+}
+
 // Whether the edit of a batch, its result slice and its work slices are as recorded.
-fn edit_agrees(choices: Choices, batch: &[u8], refusal: usize, expected: &[u8]) -> bool {
+fn edit_agrees(recorded: &Recorded) -> bool {
     let mut result = [BYTE; 65536];
-    let Some(told) = run_job(choices, Job::Edit, batch, &mut result) else {
+    let Some(told) = run_job(recorded.choices, Job::Edit, recorded.batch, &mut result) else {
         return false;
     };
-    is_recorded(told, &result, refusal, expected)
+    is_recorded(told, &result, recorded.refusal, recorded.expected)
 }
 
 // Whether an element is found where it was recorded.
-fn find_agrees(
-    choices: Choices,
-    batch: &[u8],
-    number: usize,
-    refusal: usize,
-    found: Option<usize>,
-) -> bool {
+fn find_agrees(recorded: &Recorded, number: usize, found: Option<usize>) -> bool {
     let mut none = [BYTE; 0];
-    let Some(told) = run_job(choices, Job::Find(number), batch, &mut none) else {
+    let Some(told) = run_job(
+        recorded.choices,
+        Job::Find(number),
+        recorded.batch,
+        &mut none,
+    ) else {
         return false;
     };
-    is_element(told, refusal, found)
+    is_element(told, recorded.refusal, found)
 }
 
 // The next element to find and where it was found: whether it is.
-fn next_found<R: Read>(
-    from: &mut R,
-    choices: Choices,
-    batch: &[u8],
-    refusal: usize,
-) -> io::Result<bool> {
+fn next_found<R: Read>(from: &mut R, recorded: &Recorded) -> io::Result<bool> {
     let Some(number) = read_word(from)? else {
         return Ok(false);
     };
@@ -142,16 +145,11 @@ fn next_found<R: Read>(
         return Ok(false);
     };
     let found = (found != NONE).then_some(found);
-    Ok(find_agrees(choices, batch, number, refusal, found))
+    Ok(find_agrees(recorded, number, found))
 }
 
 // The elements to find, all of which are read: whether all are found where they were.
-fn all_found<R: Read>(
-    from: &mut R,
-    choices: Choices,
-    batch: &[u8],
-    refusal: usize,
-) -> io::Result<bool> {
+fn all_found<R: Read>(from: &mut R, recorded: &Recorded) -> io::Result<bool> {
     let Some(n) = read_word(from)? else {
         return Ok(false);
     };
@@ -160,7 +158,7 @@ fn all_found<R: Read>(
     }
     let mut all = true;
     for _ in 0..n {
-        all &= next_found(from, choices, batch, refusal)?;
+        all &= next_found(from, recorded)?;
     }
     Ok(all)
 }
@@ -185,32 +183,20 @@ fn is_due(refusal: usize, again: Result<bool, Refusal>) -> bool {
 }
 
 // Whether the elements found and the edit are as recorded.
-fn calls_agree<R: Read>(
-    from: &mut R,
-    choices: Choices,
-    batch: &[u8],
-    refusal: usize,
-    expected: &[u8],
-) -> io::Result<bool> {
-    if all_found(from, choices, batch, refusal)? {
-        Ok(edit_agrees(choices, batch, refusal, expected))
+fn calls_agree<R: Read>(from: &mut R, recorded: &Recorded) -> io::Result<bool> {
+    if all_found(from, recorded)? {
+        Ok(edit_agrees(recorded))
     } else {
         Ok(false)
     }
 }
 
 // What a case comes to; its elements to find are read here.
-fn case_of<R: Read>(
-    from: &mut R,
-    choices: Choices,
-    batch: &[u8],
-    refusal: usize,
-    expected: &[u8],
-) -> io::Result<Case> {
-    let agrees = calls_agree(from, choices, batch, refusal, expected)?;
-    let again = rewrite(batch);
+fn case_of<R: Read>(from: &mut R, recorded: &Recorded) -> io::Result<Case> {
+    let agrees = calls_agree(from, recorded)?;
+    let again = rewrite(recorded.batch);
     Ok(Case {
-        agrees: agrees && is_due(refusal, again),
+        agrees: agrees && is_due(recorded.refusal, again),
         again,
     })
 }
@@ -239,7 +225,13 @@ fn next_batch<R: Read>(from: &mut R, choices: Choices) -> io::Result<Case> {
     let Some(m) = read_part(from, &mut expected)? else {
         return Ok(MISSING);
     };
-    case_of(from, choices, &batch[..n], refusal, &expected[..m])
+    let recorded = Recorded {
+        choices,
+        batch: &batch[..n],
+        refusal,
+        expected: &expected[..m],
+    };
+    case_of(from, &recorded)
 }
 
 // Whether a batch stays whole, since no lists are laid out as it is.

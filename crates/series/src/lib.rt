@@ -18,7 +18,7 @@ use refusals::Refusal;
 // How many words the rows of 4,096 elements have.
 pub const ROWS: usize = 12288;
 
-// As many as a batch may have.
+// How many elements a starting tree may have: as many as a batch.
 pub const MOST_AT_START: usize = 2048;
 
 // Whether a series may begin with this tree and its bookmarks.
@@ -40,7 +40,7 @@ pub fn start(tree: &[u8], bookmarks: &[u32], rows: &mut [u32]) -> Result<(), Ref
     told
 }
 
-// A LATER CALL of a series: the batch is edited, its result written to the front of `result`, and the memory then holds the new tree and the bookmarks that survive, each with its
+// A LATER CALL of a series: the batch is edited, its result written to the front of `res`, and the memory then holds the new tree and the bookmarks that survive, each with its
 // path of now. How many bytes the result has, or the refusal out of 1 to 13, 16 to 18 and 20 to 22: then the result slice and both slices of the memory are as they were. The work
 // slices end as zeros.
 pub fn follow(
@@ -55,6 +55,7 @@ pub fn follow(
     ensures follows { Follows (meant choices) batch.now (lent_of tree.old bookmarks.old) res.old (held work.old) result res.new (lent_of tree.new bookmarks.new) (held work.new) }
 {
     let done = series_follow::perform(choices, batch, tree, bookmarks, work);
+    // Lent before the call: in it none of these may be read while another field is lent.
     let source = &mut *work.source;
     let marks = &mut *work.marks;
     let rows = &mut *work.rows;

@@ -2,7 +2,7 @@
 
 ghost use Rattle.std.specs.Prelude.{◌+◌, ◌*◌, ◌^◌, ◌≤◌, ◌<◌, length};
 
-// The first `count` bookmarks of `words`, whose first word is their count.
+// The first `count` bookmarks of `words`, whose first word is their count. It stands beside the slice, since it is read and bounded once; the lent slice may be longer.
 #[derive(Clone, Copy)]
 pub struct Bookmarks<'a> {
     pub count: usize,

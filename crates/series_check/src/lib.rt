@@ -111,7 +111,8 @@ fn fill_rows(columns: &Columns, rows: &mut [u32])
     }
 }
 
-// Lines 5, 20 and 21 of a tree of `n` elements with `b` bytes of text, and of bookmarks. The rows are for the tree.
+// Lines 5, 20 and 21 of a tree of `n` elements with `b` bytes of text, and of bookmarks. The rows are for the tree. `tree`, `n` and `b` are no value, as a memory's tree is
+// in series_tree: `judge` has read the sizes, and a value of them would be made for this one call.
 fn judge_memory(
     tree: &[u8],
     n: usize,

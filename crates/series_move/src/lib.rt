@@ -1,6 +1,7 @@
 // Bookmarks moved by a run: a bookmark is an old element, and the element's mark says where it stands now.
 // Bounds of one number, an index of what is read and room in a lent slice stand as clauses: a value around each would be no plainer than its bound. What says that elements stand somewhere
-// (`Survives`, `Stands`, `Here`, `Moving`) names the definition's run, which is data, and so is a clause too.
+// (`Survives`, `Stands`, `Here`, `Moving`) names the definition's run, which is data, and so is a clause too. They take the run's five words
+// apart: their laws, of lists, are also those of words that no `RunEnd` holds.
 #![tactic(auto)]
 
 ghost use Rattle.std.specs.Prelude.{◌≡◌, ◌==◌, not, ◌+◌, ◌*◌, ◌^◌, ◌≤◌, ◌<◌, length, get_or, take};
@@ -60,7 +61,7 @@ fn survives(run: &RunEnd, path: &[u32]) -> bool
     word(run.marks, found.row) != 0
 }
 
-// The path now of the element to which a path leads; false where it is gone.
+// The path now of the element to which a path leads; false where it is gone. A truth value, since the path goes to a lent slice: an option would hold nothing more.
 fn path_now(run: &RunEnd, path: &[u32], out: &mut [u32]) -> bool
     requires stands { Stands run.now.source.now run.now.elements run.now.marks.now run.now.rows.words.now run.now.rows.count path.now }
     requires path_in_bounds { length path.now ≤ length out.old }
@@ -86,7 +87,8 @@ fn put_bookmark(bookmarks: &mut [u32], to: usize, number: u32, path: &[u32])
     words::copy_in(bookmarks, at + PATH, path);
 }
 
-// The bookmark of slot `i` after a run: written to slot `to`, which is no later, or dropped. The slot for the next one.
+// The bookmark of slot `i` after a run: written to slot `to`, which is no later, or dropped. The slot for the next one. `path` is lent
+// for all bookmarks, as long as the longest path.
 fn move_bookmark(
     run: &RunEnd,
     bookmarks: &mut [u32],

@@ -4,7 +4,8 @@ ghost use Rattle.std.specs.Prelude.{◌+◌, ◌*◌, ◌^◌, ◌≤◌, ◌<�
 
 use rows_syntax_node::Rows;
 
-// Where the elements of a batch stood, and where they stand.
+// Where the elements of a batch stood, and where they stand. `elements` and `source` are no `Rows`: every clause speaks of elements, which would be a count less one, and
+// that it is not 0 would be a field more.
 #[derive(Clone, Copy)]
 pub struct RunEnd<'a> {
     // How many they are. Their rows stand in `source` behind that of the node above all trees.

@@ -1,6 +1,7 @@
 // Plays the recorded series on standard input: of each its first call, then its batches one after another on the memory that the one before left; after each call the bookmarks.
 // Input, in words of four bytes and parts (a length and as many bytes): how many series; of each the tree's slice and the bookmarks' slice as parts, how many batches; of each
 // batch the edge rule, how many bytes the result slice has, and the batch as a part.
+// The memory's two slices travel apart, as `series::follow` is lent them: a struct would be lent again and taken apart at each call.
 #![tactic(auto)]
 
 use choices::Choices;

@@ -30,8 +30,8 @@ use words::{read_word, write_word};
 
 // ── 22 ──
 
-// Whether the `n` words at `i` of some bytes are those at `j` of others: just where their bytes are, which the library compares. Beside `same_bytes`, since its two callers
-// would each show that words are the same where bytes are.
+// Whether the `n` words at `i` of some bytes are those at `j` of others: just where their bytes are, which the library compares. Beside `same_bytes`, since each of its two
+// calls would show that words are the same where bytes are.
 fn same_words(a: &[u8], i: usize, b: &[u8], j: usize, n: usize) -> bool
     requires { (i + 4 * n ≤ length a.now) × (j + 4 * n ≤ length b.now) }
     ensures { result ≡ same_bytes (words n (drop i a.now)) (words n (drop j b.now)) }
@@ -63,7 +63,7 @@ fn same_arrays(columns: &Columns, text: &[u8], tree: &LentTree) -> bool
     same_bytes(text, &lent[from..to])
 }
 
-// 22: whether tree 0 of an accepted batch is the tree left before.
+// 22: whether tree 0 of an accepted batch is the tree left before. `b` and `l` are no `Batch`: of the layout `Read` asks less than that all arrays lie within.
 pub fn same_tree(b: &[u8], l: Layout, source: &[u32], tree: &LentTree) -> bool
     requires { Read b.now l source.now }
     ensures { (a : Accepted) → accepted b.now ≡ gives a → result ≡ same_tree (flat_of (old_tree a.trees)) (tree_in (word tree.now.bytes.now) (word (drop 4 tree.now.bytes.now)) tree.now.bytes.now) }
@@ -86,8 +86,8 @@ pub fn same_tree(b: &[u8], l: Layout, source: &[u32], tree: &LentTree) -> bool
 
 // ── The new tree ──
 
-// 13: whether the new tree, from the rows of all trees as the run leaves them, takes more than `space` bytes. It takes `Rows` and no `Left`, as `write_tree` does: `leave` has the rows in a
-// `RunEnd`, and would make a `Left` of them just for this call.
+// 13: whether the new tree, from the rows of all trees as the run leaves them, takes more than `space` bytes. It takes `Rows` and no `Left`, as `write_tree`
+// does, which `leave` calls with the rows of a `RunEnd`: so both speak of the same.
 pub fn lacks_room(rows: &Rows, text: &[u8], space: usize) -> bool
     requires { (1 ≤ rows.now.count) × (bytes (first_rows text.now rows.now.count rows.now.words.now) < 2 ^ 32) }
     ensures { result ≡ ltb space (tree_bytes (length (new_in text.now rows.now.count rows.now.words.now).kinds) (length (new_in text.now rows.now.count rows.now.words.now).text)) }

@@ -1,7 +1,7 @@
 // The share program: it reads a batch and prints how much of the text is rewritten.
 #![tactic(auto)]
 
-ghost use Rattle.std.specs.Prelude.{◌≡◌, ◌≤◌, length, OnOk};
+ghost use Rattle.std.specs.Prelude.{◌≡◌, length, OnOk};
 ghost use Rattle.choices.specs.Meant.{meant};
 ghost use Rattle.share_laws.specs.Printed.{share_printed};
 ghost use Rattle.program_input.specs.Told.{Writes};
@@ -27,7 +27,7 @@ impl Program<65536, 64> for Sharing {
     ghost room = { λ out e. e };
 
     fn answer(&self, batch: &[u8], out: &mut [u8]) -> usize {
-        let told = promises::with_work(0, |work| { edit_algo::share(self.choices, batch, work) });
+        let told = promises::with_work(0, |work| edit_algo::share(self.choices, batch, work));
         match told {
             Err(refusal) => edit_print::print_refusal(out, refusal.number()),
             Ok(share) => edit_print::put_line(out, 0, b"share", &[share.quotient, share.remainder]),

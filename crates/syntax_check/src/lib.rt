@@ -26,6 +26,7 @@ fn verdict_number(verdict: Result<Verdict, Refusal>) -> i64
 
 // THE CHECKER: 1 if the new tree, with these pairs of kept elements (an old number and a new one each) and these changed elements, is an edit of the old tree; 0 if it is
 // not; or a refusal's number (1, 3, 4, 5 or 19) with a minus. The last four are work slices, which end as zeros.
+// Over 40 lines by its thirteen parameters, which C lends apart.
 #[unsafe(no_mangle)]
 pub extern "C" fn syntax_check(
     old_kinds: &[u32],

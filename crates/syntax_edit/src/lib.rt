@@ -1,4 +1,5 @@
 // The public calls for C and Rust: a slice is a pointer and a length, an outcome is one number.
+// Each call makes `Work` of its nine slices itself: a function for that would be handed the nine again.
 #![tactic(auto)]
 
 ghost use Rattle.std.specs.Prelude.{◌∷◌, []};
@@ -207,7 +208,8 @@ pub extern "C" fn syntax_kept(
     edit_numbers::number_of(told)
 }
 
-// THE WRITER: the length of the batch that the lists make, which stands at the front of `destination`, or a refusal's number with a minus.
+// THE WRITER: the length of the batch that the lists make, which stands at the front of `destination`, or a refusal's number with a minus. Over 40 lines by its
+// parameters, which C lends apart.
 // The three others are work slices, which end as zeros.
 #[unsafe(no_mangle)]
 pub extern "C" fn syntax_write(
