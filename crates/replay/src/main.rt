@@ -243,7 +243,7 @@ fn is_whole(again: Result<bool, Refusal>) -> bool {
 }
 
 // The cases, counted; each that does not agree is named.
-fn replay<R: io::Read, W: Write>(from: &mut R, to: &mut W, cases: usize) -> io::Result<Counts>
+fn replay<R: Read, W: Write>(from: &mut R, to: &mut W, cases: usize) -> io::Result<Counts>
     ensures { IfOk result (λ r. r.missed ≤ cases) }
 {
     let mut missed = 0;
@@ -269,7 +269,7 @@ fn replay<R: io::Read, W: Write>(from: &mut R, to: &mut W, cases: usize) -> io::
 }
 
 // What is said of the cases of the input.
-fn tell<R: io::Read, W: Write>(from: &mut R, to: &mut W) -> io::Result<()> {
+fn tell<R: Read, W: Write>(from: &mut R, to: &mut W) -> io::Result<()> {
     let Some(cases) = read_word(from)? else {
         return Ok(());
     };
