@@ -9,7 +9,8 @@ use native.Mathlib.Numerals.{add-one}
 use native.Mathlib.Omega.{arith}
 use lib.ListN.{length, get_or, set, drop, replicate, length-set, take-append-drop}
 use lib.Seq.{set_out, drop-drop}
-use Rattle.std.specs.Prelude.{Some}
+use Rattle.std.specs.Prelude.{Some, None}
+use Rattle.std.specs.Option.{SomeIff}
 use Rattle.std.specs.Prelude.{Option as Maybe}
 use Rattle.plan_sort.specs.Lists.{one_past}
 use lib.Dec.{leb, eqb}
@@ -148,6 +149,11 @@ module _ (w : List ℕ) (k p x : ℕ) (f : x ≡ get_or (drop (14 * k) w) 10 0) 
   last_itself n = rw (← f, ne_eqb x 0 n)
 
 -- ── One change ──────────────────────────────────────────────────────────────────────────────────────────────
+
+-- a word, index + 1, read as an option
+pub past_word : (o : Maybe ℕ) {m : ℕ} → SomeIff o (1 ≤ m) (m - 1) → (l : List ℕ) (t : ℕ) → m ≡ get_or l t 0 → one_past o ≡ get_or l t 0
+past_word None n l t e = omega (arith, n, e)
+past_word (Some j) n l t e = omega (arith, n.0, n.1, e)
 
 module _ (w tops : List ℕ) (k t x : ℕ) (low : All (λ q. q ≤ k) tops) (e : x ≡ get_or tops t 0) where
   top_low : x ≤ k

@@ -5,7 +5,7 @@
 // That last regions stand before the change (`All`), and the region around one before it (`Outward`), are clauses too: both slices are written at each turn.
 #![tactic(auto)]
 
-ghost use Rattle.std.specs.Prelude.{◌≡◌, cond, ◌++◌, suc, ◌+◌, ◌-◌, ◌*◌, ◌^◌, ◌≤◌, ◌<◌, length, get_or, set, drop, eqb};
+ghost use Rattle.std.specs.Prelude.{◌≡◌, cond, ◌++◌, suc, ◌+◌, ◌-◌, ◌*◌, ◌^◌, ◌≤◌, ◌<◌, length, set, drop, eqb};
 ghost use Rattle.orders.specs.Lists.{All};
 ghost use Rattle.definition.specs.Planning.{fate};
 ghost use Rattle.record_changes.specs.ChangeRow.{rows_of, fate_of};
@@ -42,14 +42,18 @@ fn outer_region(rows: &[u32], j: usize) -> Option<usize>
     Some(field(rows, j, record_changes::OWNER))
 }
 
-// Rust: `rposition` over the regions in EditPlan::build. Of the stack whose last region is told by `top`, index + 1, 0 = none: the place of the last region that
-// contains the range from `from` to `to`. The way out from region to region has no range to count over: its loop stays.
+// Rust: `rposition` over the regions in EditPlan::build. Of the stack whose last region is `region`: the place of the last region that contains the range from
+// `from` to `to`. The way out from region to region has no range to count over: its loop stays.
 #[tactic(auto, using(crate::proofs::Regions::popping_start, crate::proofs::Regions::popping_falls, crate::proofs::Regions::popping_next, crate::proofs::Regions::popping_found, crate::proofs::Regions::popping_none))]
-fn enclosing_region(rows: &[u32], top: usize, from: usize, to: usize) -> Option<usize>
-    requires { (top ≤ 256) × Outward rows.now top }
-    ensures { one_past result ≡ enclosing from to rows.now top top }
+fn enclosing_region(
+    rows: &[u32],
+    mut region: Option<usize>,
+    from: usize,
+    to: usize,
+) -> Option<usize>
+    requires { (one_past region ≤ 256) × Outward rows.now (one_past region) }
+    ensures { one_past result ≡ enclosing from to rows.now (one_past region) (one_past region) }
 {
-    let mut region = top.checked_sub(1);
     while let Some(j) = region {
         if contains_range(rows, j, from, to) {
             return region;
@@ -89,7 +93,7 @@ fn state_fate(rows: &mut [u32], k: usize, around: Option<usize>)
     record_changes::write_fate(rows, k, fate, around.unwrap_or(0));
 }
 
-// The last region of a tree becomes `top`, stored as index + 1, 0 = none.
+// The last region of a tree becomes `top`, stored as index + 1, 0 = none. Not by `get_mut`: the library does not tell what the slice holds after a write through it.
 #[tactic(auto, using(crate::proofs::Regions::set_past))]
 fn set_top(tops: &mut [u32], tree: usize, top: Option<usize>)
     requires { one_past top < 2 ^ 32 }
@@ -118,10 +122,10 @@ fn region_around(rows: &[u32], k: usize, tops: &[u32]) -> Option<usize>
     requires { (k < 256) × All (λ q. q ≤ k) tops.now × Outward rows.now k }
     ensures { (one_past result ≡ region_around rows.now tops.now k) × (one_past result ≤ k) }
 {
-    let top = word_or_zero(tops, field(rows, k, record_changes::TREE));
+    let last = word_or_zero(tops, field(rows, k, record_changes::TREE)).checked_sub(1);
     enclosing_region(
         rows,
-        top,
+        last,
         field(rows, k, record_changes::FROM),
         field(rows, k, record_changes::TO),
     )
@@ -148,6 +152,7 @@ pub fn plan_fates(rows: &mut [u32], n: usize)
     requires { (14 * n ≤ length rows.old) × (n ≤ 256) }
     ensures { rows.new ≡ rows_words (planned_rows (rows_of n rows.old)) ++ drop (14 * n) rows.old }
 {
+    // Words, index + 1: the model's lists hold numbers, into which options would be turned in each clause.
     let mut tops = [0u32; 16];
     for k in 0..n {
         plan_change(rows, k, &mut tops);
