@@ -2,11 +2,12 @@
 // Rows have their count beside them: record_changes says why. The table comes alone and not in `Elements`, since nothing is asked of it: past its end words are 0.
 // Rows and table are no one value: no fact binds them, the rows are written between, and each clause would name both through the value.
 // Bounds of one number and room in a lent slice stand as clauses: a value around each would be no plainer than its bound.
+// A run's ends stay two numbers: no fact binds them, and each clause names the words of one or the other.
 // That a change is no root's replacement and has the target parent `p` is a clause of two functions: both are found once for all regions that are asked.
 #![tactic(auto)]
 
-ghost use Rattle.std.specs.Prelude.{◌≡◌, false, ◌++◌, suc, ◌+◌, ◌-◌, ◌*◌, ◌^◌, ◌≤◌, ◌<◌, length, get_or, drop};
-ghost use Rattle.record_changes.specs.ChangeRow.{rows_of, fate_of};
+ghost use Rattle.std.specs.Prelude.{◌≡◌, false, ◌++◌, ◌+◌, ◌-◌, ◌*◌, ◌^◌, ◌≤◌, ◌<◌, length, get_or, drop};
+ghost use Rattle.record_changes.specs.ChangeRow.{fate_of};
 ghost use Rattle.record_changes.specs.Numbers.{fate_number};
 ghost use Rattle.record_changes.specs.ChangeRowLaws.{row_at, rows_words};
 ghost use Rattle.plan_sort.specs.Lists.{one_past};
@@ -205,8 +206,8 @@ fn innermost_of(
     behind
 }
 
-// The region of the change at place `k` among `n`. From the last to the first: so among equals the last stays. A `for`: a closure under `fold` would
-// be asked for any region so far, of which it needs what only those found have (`one_past behind ≤ 256`).
+// The region of the change at place `k` among `n`. From the last to the first: so among equals the last stays. A `for`: over `fold` the same invariant would go
+// through `fold_over`, with the range read backward shown first (as in plan_overlap); no plainer.
 fn region_of(rows: &[u32], n: usize, table: &[u32], k: usize) -> Option<usize>
     requires { (n ≤ 256) × (k < 2 ^ 32) }
     ensures { (one_past result ≡ region_from table.now rows.now k 0 n) × (one_past result ≤ 256) }
@@ -295,6 +296,7 @@ pub fn plan_edge_fates(rows: &mut [u32], n: usize, table: &[u32])
     requires { (14 * n ≤ length rows.old) × (n ≤ 256) }
     ensures { rows.new ≡ rows_words (edge_rows table.now n rows.old) ++ drop (14 * n) rows.old }
 {
+    // Words, index + 1: the model's lists hold numbers, into which options would be turned in each clause.
     let mut all = [0u32; 256];
     let regions = &mut all[..n];
     find_regions(rows, table, regions);
