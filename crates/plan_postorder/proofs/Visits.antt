@@ -8,6 +8,9 @@ use native.Mathlib.Numerals.{add-one}
 use native.Mathlib.Omega.{arith}
 use lib.ListN.{length, get_or, set, take, drop, length-set, length-append, take-append-drop}
 use lib.Seq.{length-take-le, take_at, drop_at, drop-drop, take-suc-set, drop-set-lt}
+use Rattle.std.specs.Prelude.{Some, None}
+use Rattle.std.specs.Prelude.{Option as Maybe}
+use Rattle.std.specs.Option.{SomeIff}
 use Rattle.plan_sort.specs.Sorting.{ranked_places, length_ranked}
 use Rattle.plan_postorder.specs.Order.{ordered, owner_told, owned_at, runs, running_places}
 use Rattle.definition_laws.proofs.Limits.{keep_length}
@@ -31,10 +34,10 @@ visits_all : (first next : List ℕ) (o : ℕ) → length (dependents first next
 unfolding linked_runs
 visits_all first next o h = linked_more first next 257 o (omega arith)
 
--- the changes of the owner o are to be written at `at` of l₀; l is l₀ with what the first of them gave, up to `end`, and k tells the next one
-pub record Appending (first next : List ℕ) (o : ℕ) (l₀ : List ℕ) (at : ℕ) (l : List ℕ) (end k : ℕ) : Type 0 where
+-- the changes of the owner o are to be written at `at` of l₀; l is l₀ with what the first of them gave, up to `end`, and `link` tells the next one
+pub record Appending (first next : List ℕ) (o : ℕ) (l₀ : List ℕ) (at : ℕ) (l : List ℕ) (end link : ℕ) : Type 0 where
   pub rest : List ℕ
-  pub told : Linked next k rest
+  pub told : Linked next link rest
   pub from : at ≤ end
   pub room : end ≤ at + length (dependents first next o)
   pub long : length l ≡ length l₀
@@ -53,37 +56,46 @@ appending_start first next o left l at k v h few most e = record {
   beyond = refl;
 }
 
--- the first of the places that are linked from k on, and the others
+-- the place k, of which a link told tells, and the others
 record Parts (next qs : List ℕ) (k : ℕ) : Type 0 where
   others : List ℕ
-  parted : qs ≡ (k - 1) ∷ others
-  low : k ≤ 256
-  linked : Linked next (get_or next (k - 1) 0) others
+  parted : qs ≡ k ∷ others
+  low : k < 256
+  linked : Linked next (get_or next k 0) others
 
-parts : (next qs : List ℕ) (k : ℕ) → Linked next k qs → 0 < k → Parts next qs k
-parts next [] k h p = absurd (omega arith)
-parts next (q ∷ qs) k h p =
-    let e : q ≡ k - 1 = omega (arith, h.0) in
+parts : (next qs : List ℕ) (link k : ℕ) → Linked next link qs → link ≡ suc k → Parts next qs k
+parts next [] link k h p = absurd (omega arith)
+parts next (q ∷ qs) link k h p =
+    let e : q ≡ k = omega (arith, h.0) in
     record { others = qs; parted = rw e; low = omega (arith, h.0, h.1); linked = rw e at h.2 }
 
-none_linked : (next qs : List ℕ) (k : ℕ) → Linked next k qs → k ≤ 0 → qs ≡ []
-none_linked next [] k h p = refl
-none_linked next (q ∷ qs) k h p = absurd (omega (arith, h.0))
+none_linked : (next qs : List ℕ) (link : ℕ) → Linked next link qs → link ≤ 0 → qs ≡ []
+none_linked next [] link h p = refl
+none_linked next (q ∷ qs) link h p = absurd (omega (arith, h.0))
 
-module _ {first next : List ℕ} {o : ℕ} {l₀ : List ℕ} {at : ℕ} {l : List ℕ} {end k : ℕ} (v : Appending first next o l₀ at l end k) (h : 0 < k) where
+-- a link as the code reads it
+link_past : (told : Maybe ℕ) (link k : ℕ) → SomeIff told (1 ≤ link) (link - 1) → told ≡ Some k → link ≡ suc k
+link_past None link k s e = cc
+link_past (Some j) link k s e = let i : j ≡ k = cc in omega (arith, s.0, s.1)
+
+link_none : (told : Maybe ℕ) (link : ℕ) → SomeIff told (1 ≤ link) (link - 1) → told ≡ None → link ≤ 0
+link_none None link s e = omega (arith, s)
+link_none (Some j) link s e = cc
+
+module _ {first next : List ℕ} {o : ℕ} {l₀ : List ℕ} {at : ℕ} {l : List ℕ} {end link : ℕ} (v : Appending first next o l₀ at l end link) {told : Maybe ℕ} (i : SomeIff told (1 ≤ link) (link - 1)) {k : ℕ} (h : told ≡ Some k) where
   abbrev turn : Parts next v.rest k
-  turn = parts next v.rest k v.told h
+  turn = parts next v.rest link k v.told (link_past told link k i h)
 
-  pub told_low : k ≤ 256
-  told_low = turn.low
+  pub told_low : k + 1 ≤ 256
+  told_low = omega (arith, turn.low)
 
-  pub told_fits : k - 1 < 2 ^ 32
-  told_fits = omega (arith, told_low)
+  pub told_fits : k < 2 ^ 32
+  told_fits = omega (arith, turn.low)
 
-  pub told_inside : Links (linked_to first next) first next → k - 1 < length next
-  told_inside e = omega (arith, told_low, e.nexts)
+  pub told_inside : Links (linked_to first next) first next → k < length next
+  told_inside e = omega (arith, turn.low, e.nexts)
 
-module _ {first next : List ℕ} {o left : ℕ} {l₀ : List ℕ} {at : ℕ} {l : List ℕ} {end k : ℕ} (v : Appending first next o l₀ at l end k)
+module _ {first next : List ℕ} {o left : ℕ} {l₀ : List ℕ} {at : ℕ} {l : List ℕ} {end link : ℕ} (v : Appending first next o l₀ at l end link)
     (fits : at + left ≤ length l₀) (most : length (dependents first next o) ≤ left) where
   abbrev all : List ℕ
   all = dependents first next o
@@ -99,34 +111,35 @@ module _ {first next : List ℕ} {o left : ℕ} {l₀ : List ℕ} {at : ℕ} {l 
       let c = ap length v.done in
       omega (arith, long_front, length-take-le at l₀ (omega arith))
 
-  rest_none : k ≤ 0 → visits first next v.rest ≡ []
-  unfolding flat_map
-  rest_none h = rw (none_linked next v.rest k v.told h)
+  module _ {told : Maybe ℕ} (i : SomeIff told (1 ≤ link) (link - 1)) (h : told ≡ None) where
+    rest_none : visits first next v.rest ≡ []
+    unfolding flat_map
+    rest_none = rw (none_linked next v.rest link v.told (link_none told link i h))
 
-  pub appended_to : k ≤ 0 → end ≡ at + length all
-  appended_to h = omega (arith, counted, ap length (rest_none h))
+    pub appended_to : end ≡ at + length all
+    appended_to = omega (arith, counted, ap length rest_none)
 
-  pub appended : k ≤ 0 → l ≡ take at l₀ ++ (all ++ drop end l₀)
-  appended h =
-      let e : take end l ≡ take at l₀ ++ all = sym (append-nil (take end l)) ∙ (ap {B = List ℕ} (λ r. take end l ++ r) (sym (rest_none h)) ∙ v.done) in
-      sym (take-append-drop end l) ∙ rw (e, v.beyond) (append_assoc (take at l₀) all (drop end l₀))
+    pub appended : l ≡ take at l₀ ++ (all ++ drop end l₀)
+    appended =
+        let e : take end l ≡ take at l₀ ++ all = sym (append-nil (take end l)) ∙ (ap {B = List ℕ} (λ r. take end l ++ r) (sym rest_none) ∙ v.done) in
+        sym (take-append-drop end l) ∙ rw (e, v.beyond) (append_assoc (take at l₀) all (drop end l₀))
 
-  module _ (h : 0 < k) where
+  module _ {told : Maybe ℕ} (i : SomeIff told (1 ≤ link) (link - 1)) {k : ℕ} (h : told ≡ Some k) where
     abbrev others : List ℕ
-    others = (turn v h).others
+    others = (turn v i h).others
 
     abbrev S : List ℕ
-    S = dependents first next k
+    S = dependents first next (k + 1)
 
-    visited : visits first next v.rest ≡ (S ++ ((k - 1) ∷ [])) ++ visits first next others
+    visited : visits first next v.rest ≡ (S ++ (k ∷ [])) ++ visits first next others
     unfolding flat_map
-    visited = let c : suc (k - 1) ≡ k = omega arith in ap (visits first next) (turn v h).parted ∙ rw c
+    visited = let c : suc k ≡ k + 1 = omega arith in ap (visits first next) (turn v i h).parted ∙ rw c
 
     -- what was appended, what runs below the change, and the change itself are among those of the owner
     below_room : end + length S + 1 ≤ at + length all
     below_room =
-        let a = length-append (S ++ ((k - 1) ∷ [])) (visits first next others) in
-        let c = length-append S ((k - 1) ∷ []) in
+        let a = length-append (S ++ (k ∷ [])) (visits first next others) in
+        let c = length-append S (k ∷ []) in
         omega (arith, counted, ap length visited)
 
     pub some_left : 1 ≤ left - (end - at)
@@ -168,18 +181,18 @@ module _ {first next : List ℕ} {o left : ℕ} {l₀ : List ℕ} {at : ℕ} {l 
             let d : place + 1 ≡ end + (length S + 1) = omega arith in
             rw (d, ← drop-drop (length S + 1) end l, ← drop-drop (length S + 1) end l₀, v.beyond)
 
-        written : take (place + 1) (set l₁ place (k - 1)) ++ visits first next others ≡ take end l ++ ((S ++ ((k - 1) ∷ [])) ++ visits first next others)
-        written = rw (add-one place, take-suc-set l₁ place (k - 1) place_inside, front) (simp append_assoc)
+        written : take (place + 1) (set l₁ place k) ++ visits first next others ≡ take end l ++ ((S ++ (k ∷ [])) ++ visits first next others)
+        written = rw (add-one place, take-suc-set l₁ place k place_inside, front) (simp append_assoc)
 
-        pub appending_next : (k' : ℕ) → k' ≡ get_or next (k - 1) 0 → Appending first next o l₀ at (set l₁ place (k - 1)) (place + 1) k'
-        appending_next k' e = record {
+        pub appending_next : (link' : ℕ) → link' ≡ get_or next k 0 → Appending first next o l₀ at (set l₁ place k) (place + 1) link'
+        appending_next link' e = record {
           rest = others;
-          told = rw e (turn v h).linked;
+          told = rw e (turn v i h).linked;
           from = omega (arith, v.from);
           room = omega (arith, below_room);
           long = simp length-set (m ∙ v.long);
           done = written ∙ (ap {B = List ℕ} (λ r. take end l ++ r) (sym visited) ∙ v.done);
-          beyond = drop-set-lt (place + 1) l₁ place (k - 1) (omega arith) ∙ (back ∙ further);
+          beyond = drop-set-lt (place + 1) l₁ place k (omega arith) ∙ (back ∙ further);
         }
 
 -- ── All changes ─────────────────────────────────────────────────────────────────────────────────────────────

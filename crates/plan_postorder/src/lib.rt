@@ -11,8 +11,8 @@ ghost use Rattle.plan_postorder.specs.Links.{OwnerOf, Links, owned_by, linked_to
 use record_changes::{Fate, field};
 use words::word;
 
-// Rust: PlanEntry::parent. The list of `first` into which the change at place `k` is linked: that of its owner, index + 1, or list 0 of a change that has no owner. None of a change that
-// never runs.
+// Rust: PlanEntry::parent. The list of `first` into which the change at place `k` is linked: that of its owner, index + 1, or list 0 of a change that has no
+// owner. None of a change that never runs.
 #[tactic(auto, using(crate::proofs::Linking::owner_none, crate::proofs::Linking::owner_discarded, crate::proofs::Linking::owner_dependent, crate::proofs::Linking::owner_outside))]
 fn owner_of(rows: &[u32], k: usize) -> Option<usize>
     requires { k < 2 ^ 32 }
@@ -34,6 +34,7 @@ fn owner_of(rows: &[u32], k: usize) -> Option<usize>
 
 // Rust: `children` and `roots` in EditPlan::build. The ranked changes of each owner are linked, from the last to the first: `first` has the first one of
 // an owner and `next` the one after a change, index + 1; 0 = none. Links are made once, so that no owner looks through all changes.
+// They stand in two arrays, as numbers: there is no heap (fixed memory).
 fn link_dependents(rows: &[u32], ranked: &[u32], first: &mut [u32; 257], next: &mut [u32; 256])
     requires ranked { (length ranked.now ≤ 256) × (ranked.now ≡ ranked_places rows.now (length ranked.now)) }
     requires unlinked { (first.old ≡ replicate 257 0) × (length next.old ≡ 256) }
@@ -49,7 +50,7 @@ fn link_dependents(rows: &[u32], ranked: &[u32], first: &mut [u32; 257], next: &
     }
 }
 
-// Rust: EditPlan::append_postorder. The changes of an owner (index + 1; 0 = none) are appended to `running` at `at`, each after its own dependents: these
+// Rust: EditPlan::append_postorder. The changes in list `owner` (0 of those that have none) are appended to `running` at `at`, each after its own dependents: these
 // edit the replacement before it goes in. Of all changes `left` are not yet visited, which falls with each call. Where the next one is to be appended.
 // A walk along links has no range to count over: its loop stays.
 fn append_postorder(
@@ -66,13 +67,13 @@ fn append_postorder(
     ensures running_after { running.new ≡ take at running.old ++ (dependents first.now next.now owner ++ drop result running.old) }
 {
     let mut end = at;
-    let mut k = word(first, owner);
-    while 0 < k {
+    let mut link = word(first, owner);
+    while let Some(k) = link.checked_sub(1) {
         let unvisited = left - (end - at);
-        let place = append_postorder(first, next, k, unvisited - 1, running, end);
-        running[place] = (k - 1) as u32;
+        let place = append_postorder(first, next, k + 1, unvisited - 1, running, end);
+        running[place] = k as u32;
         end = place + 1;
-        k = word(next, k - 1);
+        link = word(next, k);
     }
     end
 }
@@ -86,6 +87,7 @@ pub fn running_order(rows: &[u32], ranked: &mut [u32], running: &mut [u32]) -> u
     ensures ranked_after { ranked.new ≡ ranked_places rows.now (length ranked.old) }
 {
     plan_sort::rank_changes(rows, ranked);
+    // Words, index + 1: the model's lists hold numbers, into which options would be turned in each clause.
     let mut first = [0u32; 257];
     let mut next = [0u32; 256];
     link_dependents(rows, ranked, &mut first, &mut next);

@@ -8,7 +8,7 @@ abbrev pub decreases-append_postorder : goal.decreases-append_postorder
 decreases-append_postorder l = l.left
 
 abbrev pub invariant-loop-k : goal.invariant-loop-k
-invariant-loop-k l = Appending l.first l.next l.owner l.initial.running l.at l.running l.end l.k
+invariant-loop-k l = Appending l.first l.next l.owner l.initial.running l.at l.running l.end l.link
 
 abbrev pub decreases-loop-k : goal.decreases-loop-k
 decreases-loop-k l = l.left - (l.end - l.at)
