@@ -1,8 +1,9 @@
 // Rewriting dependents: the targets of a change inside a replaced node move into the replacement, and its row is made anew. Rows come with a place or a count:
 // record_changes says why.
 // Bounds of one number, an index of what is read and room in a lent slice stand as clauses: a value around each would be no plainer than its bound.
-// What rows state (`Dependent`, `NewEnds`, `Fated`, `Rewritable`) stands in clauses: each speaks of one row, two or `c` of a slice and of the listed elements, so that a
-// value would hold both slices and be made anew for each row.
+// What rows state (`Dependent`, `NewEnds`, `Fated`, `Rewritable`) stands in clauses: each speaks of one row, two or the first `c` of a slice and of the listed elements, so
+// that a value would hold both slices; the first three would be made anew for each row, and `Rewritable` once, for a single function.
+// Mapping, list and rows are no one value: each clause would name all three through it, and the rows are read by place (record_changes).
 #![tactic(auto)]
 
 ghost use Rattle.std.specs.Prelude.{◌≡◌, cond, ◌+◌, ◌*◌, ◌≤◌, ◌<◌, length, get_or, eqb};
@@ -28,7 +29,8 @@ pub struct Ends {
     pub steps: usize,
 }
 
-// Where the target and, of a run, the end go when `input` is replaced by `output`; the start of a run before its end.
+// Where the target and, of a run, the end go when `input` is replaced by `output`; the start of a run before its end. `input` and `output` stay two numbers: only
+// the bound of each is known.
 fn upmap_ends(
     mapping: &Mapping,
     input: usize,
