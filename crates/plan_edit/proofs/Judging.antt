@@ -40,6 +40,7 @@ use Rattle.plan_model.specs.Fated.{gone, left_rows, fated_rows}
 use Rattle.plan_model.proofs.Fated.{rows_many, fated_rows_lem, rule_0, rule_1, gone_on}
 use Rattle.plan_model.specs.Ready.{listed_in, calls_in, table_in, Ready, ready_facts}
 use Rattle.plan_model.proofs.Outcome.{gone_is, judged_overlap, judged_fated, out_overlap}
+use Rattle.std.specs.Result.{MatchResult, IsErrAnd, is_ok}
 use Rattle.plan_edit.specs.Stages.{Sorted, rule_words, LeftBy, rule_rows, judged_by, judgement_of, RowsJudged, Withdrew, ChangesFated, ChangesJudged}
 use Rattle.plan_edit.specs.Answers.{planned_by, PlanMade, recorded_as, Planning}
 use Rattle.plan_edit.specs.declared.Fated.{Fated}
@@ -212,15 +213,28 @@ module _ (h : Choices) {b : List ℕ} {l : Layout} {t s : List ℕ} (r : Ready b
 -- ── The answer on rows ──────────────────────────────────────────────────────────────────────────────────────
 
 module _ {h : Choices} {t : List ℕ} {n c : ℕ} {v p : List ℕ} {q : Result (Unit {0}) Overlap} (e : q ≡ replacements (rows_overlap (rows_of c v))) where
-  pub rows_overlap_lem : (d : Overlap) (x y : ℕ) → q ≡ Err d → x ≡ number_at 0 (take n p) d.earlier → y ≡ number_at 0 (take n p) d.later → RowsJudged h t n c v v p (Err (record { earlier = x; later = y }))
+  rows_overlap_lem : (d : Overlap) (x y : ℕ) → q ≡ Err d → x ≡ number_at 0 (take n p) d.earlier → y ≡ number_at 0 (take n p) d.later → RowsJudged h t n c v v p (Err (record { earlier = x; later = y }))
   unfolding judgement_of
   rows_overlap_lem d x y z f g =
       let o = overlaps (rows_overlap (rows_of c v)) d (sym e ∙ z) in
       record { answer = rw (o, f, g) refl; fates = λ k. none_some (sym k ∙ o) }
 
-  pub rows_fated : q ≡ Ok tt → {v' : List ℕ} → v' ≡ rows_words (rule_rows h t c v) ++ drop (14 * c) v → RowsJudged h t n c v v' p (Ok (record { recorded = n; staying = c }))
+  pub rows_fated : {m : Result (Unit {0}) Overlap} → is_ok m ≡ is_ok q → m ≡ Ok tt → {v' : List ℕ} → v' ≡ rows_words (rule_rows h t c v) ++ drop (14 * c) v → RowsJudged h t n c v v' p (Ok (record { recorded = n; staying = c }))
   unfolding judgement_of
-  rows_fated z f = record { answer = rw (disjoints (rows_overlap (rows_of c v)) (sym e ∙ z)) refl; fates = λ k. f }
+  rows_fated u z f = record { answer = rw (disjoints (rows_overlap (rows_of c v)) (sym e ∙ go q (sym u ∙ ap is_ok z))) refl; fates = λ k. f }
+    where
+      go : (r : Result (Unit {0}) Overlap) → is_ok r ≡ true → r ≡ Ok tt
+      go (Ok x) k = refl
+      go (Err d) k = cc
+
+  -- the places told by their numbers
+  pub rows_told : {m : Result (Unit {0}) Overlap} {P : Overlap → Overlap → Type 0} → MatchResult q (λ x. m ≡ Ok x) (λ d. IsErrAnd m (P d)) → ((d o : Overlap) → P d o → (o.earlier ≡ number_at 0 (take n p) d.earlier) × (o.later ≡ number_at 0 (take n p) d.later))
+      → (o : Overlap) → m ≡ Err o → RowsJudged h t n c v v p (Err o)
+  rows_told {m} {P} told f o z = go q refl told
+    where
+      go : (r : Result (Unit {0}) Overlap) → q ≡ r → MatchResult r (λ x. m ≡ Ok x) (λ d. IsErrAnd m (P d)) → RowsJudged h t n c v v p (Err o)
+      go (Ok x) k a = cc
+      go (Err d) k a = let (g, i) = f d o (subst (λ (r : Result (Unit {0}) Overlap). IsErrAnd r (P d)) z a) in rows_overlap_lem d o.earlier o.later k g i
 
 -- ── The second stage ────────────────────────────────────────────────────────────────────────────────────────
 

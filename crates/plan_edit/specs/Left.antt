@@ -5,7 +5,7 @@ use Rattle.std.proofs.Common.{sym, ap, ◌∙◌}
 use Rattle.definition.specs.Basics.{Answer, refused, gives, ◌>>=◌, keep}
 use Rattle.definition.specs.Choices.{Choices}
 use Rattle.definition.specs.Planning as rules
-use Rattle.definition.specs.Planning.{Fate, is_discarded, Judgement, overlaps, fated}
+use Rattle.definition.specs.Planning.{is_discarded, Judgement, overlaps, fated}
 use Rattle.definition.specs.Rewriting.{mapping, rewritten, settled}
 use Rattle.definition.specs.Refusals.{Accepted, accepted}
 use Rattle.definition.specs.Withdrawing.{numbers_left}

@@ -1,10 +1,13 @@
 // Planning: from an accepted batch to the changes that run, in order, and the notes where they settle; refusals 8, 9 and 10. In two stages: what is withdrawn and
-// what becomes of each other change (`judge_changes`), then where dependents and notes go. Nothing is edited meanwhile: the run need not think of overlaps, owners or order again.
+// what becomes of each other change (`judge_changes`), then where dependents and notes go. Nothing is edited meanwhile: the run need not think of overlaps, owners or
+// order again.
 // Rows have their count beside them, and the table comes alone: record_changes and plan_edge say why.
-// Bounds of one number and room in a lent slice stand as clauses: a value around each would be no plainer than its bound.
+// Bounds of one number, an index of what is read and room in a lent slice stand as clauses: a value around each would be no plainer than its bound.
+// The slices that planning writes come apart: they are parts of work slices that serve other ends, and a stage reads some while it writes others.
 // What a stage leaves for the next (`ChangesFated`, `Rewrote`) and `withdrawn`, filled with 0, stand in clauses: they speak of slices that are written between.
 // That a mapping has as many elements as the batch (`counted`) is a clause too, since a `Mapping` knows no batch.
-// `Ready` stands in clauses, since it names the definition's trees, which are data: as a field it would be truncated, and each proof that reads it would have to show that its own goal has one proof at most.
+// `Ready` stands in clauses, since it names the definition's trees, which are data: as a field it would be truncated, and each proof that reads it would have to show
+// that its own goal has one proof at most.
 #![tactic(auto)]
 
 ghost use Rattle.std.specs.Prelude.{◌≡◌, ◌++◌, ◌+◌, ◌*◌, ◌≤◌, length, drop, replicate};
@@ -24,7 +27,6 @@ use choices::Choices;
 use plan_overlap::Overlap;
 use plan_upmap::Mapping;
 use plan_withdraw::number_of;
-use read_element_table::Elements;
 use read_layout::Batch;
 use record_changes::{Fate, field};
 use refusals::Refusal;
@@ -49,8 +51,8 @@ pub struct Fated {
     pub staying: usize,
 }
 
-// Why there is no plan: a refusal; where it is 8, the numbers of the two changes that overlap. Neither an Option nor a Result: the numbers go to the account alone, so that they are
-// no part of a `Refusal`.
+// Why there is no plan: a refusal; where it is 8, the numbers of the two changes that overlap. Neither an Option nor a Result: the numbers go to the account alone, so
+// that they are no part of a `Refusal`.
 #[derive(Clone, Copy, Debug, PartialEq, Eq)]
 pub enum Unplanned {
     Refused(Refusal),
@@ -149,13 +151,11 @@ fn judge_rest(
     requires { (c ≤ 256) × (14 * c ≤ length sorted.old) × (n ≤ length withdrawn.now) }
     ensures { RowsJudged (meant choices) table.now n c sorted.old sorted.new withdrawn.now result }
 {
-    if let Err(places) = plan_overlap::replacements_are_disjoint(sorted, c) {
-        let told = &withdrawn[..n];
-        return Err(Overlap {
-            earlier: number_of(told, places.earlier),
-            later: number_of(told, places.later),
-        });
-    }
+    let told = &withdrawn[..n];
+    plan_overlap::replacements_are_disjoint(sorted, c).map_err(|places| Overlap {
+        earlier: number_of(told, places.earlier),
+        later: number_of(told, places.later),
+    })?;
     state_fates(choices, sorted, c, table);
     Ok(Fated {
         recorded: n,
