@@ -30,7 +30,7 @@ pub const PLACE: usize = 2;
 
 // Rust: SyntaxPath::adjust_for_splice, here of a row. Where the row `x` comes to stand; none if it gives way.
 #[tactic(auto, using(crate::proofs::Turns::moved_before, crate::proofs::Turns::moved_inside, crate::proofs::Turns::moved_after))]
-pub fn moved(shift: &Shift, x: usize) -> Option<usize>
+fn moved(shift: &Shift, x: usize) -> Option<usize>
     requires { x < 2 ^ 32 }
     ensures { Moved shift.now.from shift.now.to shift.now.count x result }
 {
@@ -114,7 +114,7 @@ pub fn add_changed(changed: &mut [u32], k: usize, at: usize, rule: usize, sizes:
 
 // ── Notes: three words each, the row, the number and the place in the queue ──
 
-// The note at `i` is written at place `r`, with another row.
+// The note at `i` is written at place `r`, with another row. A note's words are read where they are used: a value of it would be made for two numbers.
 fn keep_note(notes: &mut [u32], i: usize, r: usize, row: usize)
     requires { (3 * i + 3 ≤ length notes.old) × (3 * r + 3 ≤ length notes.old) × (row < 2 ^ 32) }
     ensures { notes.new ≡ paste notes.old (3 * r) (note_words (with_row (note_at notes.old i) row)) 3 }
@@ -151,7 +151,8 @@ pub fn move_notes(notes: &mut [u32], k: usize, shift: &Shift) -> usize
 
 // ── The notes that come in with a part ──
 
-// The note at `i` is written to `out` at place `r`, with another row. Beside `keep_note`, since one slice cannot be lent to read and to write at once.
+// The note at `i` is written to `out` at place `r`, with another row. Beside `keep_note`, since one slice cannot be lent to read and to write at once;
+// it reads a note's words as that does.
 fn copy_note(notes: &[u32], i: usize, out: &mut [u32], r: usize, row: usize)
     requires { (3 * i + 3 ≤ length notes.now) × (3 * r + 3 ≤ length out.old) × (row < 2 ^ 32) }
     ensures { out.new ≡ paste out.old (3 * r) (note_words (with_row (note_at notes.now i) row)) 3 }

@@ -2,11 +2,12 @@
 // go through together. 12 is decided before anything is written.
 // These four stay slices here and in the crates above, and what is prepared for a step does there: a step reads some of them while it writes others, so that each
 // function would begin by lending the fields of one value by themselves again; no plainer.
-// Bounds of one number, the order of two numbers and room in a lent slice stand as clauses: a value around each would be no plainer than its bound.
+// Bounds of one number, the order of two numbers, an index of what is read and room in a lent slice stand as clauses: a value around each would be no plainer
+// than its bound.
 // `Open`, `RoomFor` and what is told of text bytes stand in clauses, since they are of slices that are written.
 #![tactic(auto)]
 
-ghost use Rattle.std.specs.Prelude.{◌≡◌, List, ℕ, ◌+◌, ◌-◌, ◌*◌, ◌/◌, ◌^◌, ◌≤◌, ◌<◌, length};
+ghost use Rattle.std.specs.Prelude.{◌≡◌, List, ℕ, ◌+◌, ◌-◌, ◌*◌, ◌/◌, ◌≤◌, ◌<◌, length};
 ghost use Rattle.rows_model.specs.Row.{first_rows, bytes as bytes_of};
 ghost use Rattle.run_tree_state.specs.Store.{Open, RoomFor, StoreSpliced};
 ghost use Rattle.run_tree_state.specs.Sizes.{BytesBetween, StepSize};
@@ -73,7 +74,8 @@ fn splice_store(
 }
 
 // ── The state, lent to each splice step ──
-// Two thin functions over `&mut TreeState`: the splice by value does the work.
+// Two thin functions over `&mut TreeState`. Document 01's form, a small record lent to each splice step (DECISIONS 31), asks for both, though a root that is
+// replaced keeps its row; the splice by value does the work.
 
 // Rust: TreeState::splice. The state is lent, and the answer of the function by value is stored in it.
 fn splice(
@@ -145,9 +147,7 @@ fn bytes_between(rows: &Rows, p: usize, q: usize) -> usize
     requires { (p ≤ q) × (q ≤ rows.now.count) }
     ensures { BytesBetween rows.now.words.now rows.now.count p q result }
 {
-    let from = ROW_WORDS * p;
-    let to = ROW_WORDS * q;
-    text_bytes(&rows.words[from..to])
+    text_bytes(rows.between(p, q))
 }
 
 // How many text bytes a step makes what is held, none if that is too large, decided before it writes: the gap gives way to the parts.
@@ -190,8 +190,6 @@ pub fn apply(
     requires room { (12291 ≤ length rows.old) × (3072 ≤ length notes.old) }
     ensures { Applied s rows.old marks.old notes.old changed.old site.now.gap site.now.above site.now.recorded parts.now.run.now parts.now.sizes.now parts.now.notes.now rows.new marks.new notes.new changed.new result }
 {
-    let Some(bytes) = step_size(rows, notes, s, site, parts) else {
-        return Err(Refusal::Large);
-    };
+    let bytes = step_size(rows, notes, s, site, parts).ok_or(Refusal::Large)?;
     Ok(splice_held(s, rows, marks, notes, changed, site, parts, bytes))
 }

@@ -68,10 +68,9 @@ fn parent_row(store: &TreeStore, x: usize) -> usize
     requires { x < length store.now.marks.now }
     ensures { result ≡ parent_mark store.now.table.now store.now.marks.now x }
 {
-    match entry(store.table, x, PARENT).checked_sub(1) {
-        Some(p) => word(store.marks, p),
-        None => 0,
-    }
+    entry(store.table, x, PARENT)
+        .checked_sub(1)
+        .map_or(0, |p| word(store.marks, p))
 }
 
 // The element `x` at row `m` gives way.
