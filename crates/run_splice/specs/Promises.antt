@@ -1,7 +1,7 @@
 -- What the functions promise, part by part. Text is not read, so that each promise holds for any.
 -- Assumes nothing.
 use Rattle.std.specs.Prelude as prelude
-use Rattle.std.specs.Prelude.{◌≡◌, List, [], ◌++◌, map, ℕ, ◌+◌, ◌-◌, ◌*◌, ◌/◌, ◌≤◌, ◌<◌, length, drop}
+use Rattle.std.specs.Prelude.{◌≡◌, List, ◌++◌, map, ℕ, ◌+◌, ◌-◌, ◌*◌, ◌/◌, ◌≤◌, ◌<◌, length, drop}
 use Rattle.orders.specs.Lists.{All, pick}
 use Rattle.rows_model.specs.Row.{first_rows, triples}
 use Rattle.rows_model.specs.Place.{splice_rows, moved_mark}
