@@ -2,6 +2,7 @@
 -- Assumes nothing.
 use Rattle.std.specs.Prelude as prelude
 use Rattle.std.specs.Prelude.{None, Some, Ok, Err}
+use Rattle.std.specs.Option.{ok_or}
 use mathlib.Core.Path.{◌≡◌, refl, sym, ap, ◌∙◌}
 use mathlib.Core.Bool.{Bool, true, false, cond, ◌||◌}
 use mathlib.Core.List.{List, [], ◌++◌, map, flat_map}
@@ -41,9 +42,9 @@ between_less rows n p q text l h k =
     let z = length_first text n rows l in
     omega (arith, splice_bytes (first_rows text n rows) 0 p q 0 [] 0 h (omega arith))
 
-pub bytes_between : (rows : List ℕ) (n p q r : ℕ) → (3 * n ≤ length rows) × (n < 65536) × (p ≤ q) × (q ≤ n) → Bytes (take (3 * q - 3 * p) (drop (3 * p) rows)) r → BytesBetween rows n p q r
-bytes_between rows n p q r h b =
-    let e : (text : List ℕ) → r ≡ bytes (between p q (first_rows text n rows)) = λ text. b.sum text ∙ ap bytes (words_between text n rows p q h.2 h.3) in
+pub bytes_between : (rows : List ℕ) (n p q r : ℕ) {run : List ℕ} → (3 * n ≤ length rows) × (n < 65536) × (p ≤ q) × (q ≤ n) → Bytes run r → run ≡ take (3 * q - 3 * p) (drop (3 * p) rows) → BytesBetween rows n p q r
+bytes_between rows n p q r h b c =
+    let e : (text : List ℕ) → r ≡ bytes (between p q (first_rows text n rows)) = λ text. (rw c at b).sum text ∙ ap bytes (words_between text n rows p q h.2 h.3) in
     record { sum = e; small = omega (arith, e [], between_less rows n p q [] h.0 h.2 h.3) }
 
 pub bytes_enough : {rows : List ℕ} {n p q r b : ℕ} → BytesBetween rows n p q r → ((text : List ℕ) → b ≡ bytes (first_rows text n rows)) → r ≤ b
@@ -65,6 +66,11 @@ height_none {run} {o} v e text = go (ltb 64 (height (triples text run))) refl (s
     go : (b : Bool) → ltb 64 (height (triples text run)) ≡ b → None ≡ cond b None (Some (height (triples text run))) → 64 < height (triples text run)
     go true y h = ltb-true 64 (height (triples text run)) y
     go false y h = let z : ◌≡◌ {A = ℕ} 0 1 = cc in absurd (omega arith)
+
+-- nothing is refused as it is told
+pub nothing : {A E : Type 0} {e v : E} (o : prelude.Option A) → ok_or o e ≡ Err v → (o ≡ None) × (v ≡ e)
+nothing None q = (refl, grind arith)
+nothing (Some x) q = absurd (grind arith)
 
 -- ── The answer ──────────────────────────────────────────────────────────────────────────────────────────────
 
