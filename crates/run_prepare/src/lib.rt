@@ -42,28 +42,27 @@ fn element_notes(
     run_annotations::notes_in(stores.notes, m, m + size, at, incoming, c, 1024)
 }
 
-// Rust: TreeStore::prepare_element. What element `e` yields goes behind the first `m` prepared rows and the first `c` incoming notes; prepared row 0 comes
-// to stand at the row `at`. None if that is more than a step may bring.
+// Rust: TreeStore::prepare_element. What element `e` yields goes behind the rows and notes that have come in; prepared row 0 comes to stand at the row `at`.
+// None if that is more than a step may bring.
 fn prepare_element(
     stores: &Stores,
     e: usize,
     at: usize,
     prepared: &mut [u32],
-    m: usize,
     incoming: &mut [u32],
-    c: usize,
+    held: Prepared,
 ) -> Option<Prepared>
     requires e_in_bounds { (e < length stores.now.trees.marks.now) × (at ≤ 4097) }
-    requires room { (m ≤ 4096) × (12288 ≤ length prepared.old) × (c ≤ 1024) × (3072 ≤ length incoming.old) }
-    ensures { ElementPrepared stores.now.trees.rows.words.now stores.now.trees.rows.count stores.now.source.now stores.now.trees.marks.now stores.now.first.now (notes_in stores.now.notes.now) e at prepared.old m incoming.old c prepared.new incoming.new result }
+    requires room { (held.rows ≤ 4096) × (12288 ≤ length prepared.old) × (held.notes ≤ 1024) × (3072 ≤ length incoming.old) }
+    ensures { ElementPrepared stores.now.trees.rows.words.now stores.now.trees.rows.count stores.now.source.now stores.now.trees.marks.now stores.now.first.now (notes_in stores.now.notes.now) e at prepared.old held.rows incoming.old held.notes prepared.new incoming.new result }
 {
     let run = prepared_rows(&stores.trees, stores.source, e);
     let size = run.len() / ROW_WORDS;
-    if 4096 - m < size {
+    if 4096 - held.rows < size {
         return None;
     }
-    let end = append_rows(prepared, m, run);
-    let count = element_notes(stores, e, size, at + m, incoming, c)?;
+    let end = append_rows(prepared, held.rows, run);
+    let count = element_notes(stores, e, size, at + held.rows, incoming, held.notes)?;
     Some(Prepared {
         rows: end,
         notes: count,
@@ -88,7 +87,7 @@ pub fn prepare(
     let mut held = Prepared { rows: 0, notes: 0 };
     for i in 0..list.len() / 4 {
         let e = read_word(list, 4 * i);
-        let next = prepare_element(stores, e, at, prepared, held.rows, incoming, held.notes)?;
+        let next = prepare_element(stores, e, at, prepared, incoming, held)?;
         sizes[i] = (next.rows - held.rows) as u32;
         held = next;
     }

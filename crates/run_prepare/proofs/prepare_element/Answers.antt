@@ -3,8 +3,8 @@ use borrow.Author.Rules.{rules}
 use Rattle.run_prepare.proofs.Turns.{run_whole, run_fits, element_long, element_full, element_came}
 use Rattle.run_prepare.proofs.prepare_element.Goals as goal
 
-pub returns-then-m-size : goal.returns-then-m-size
-returns-then-m-size c = search (element_long, rules)
+pub returns-then-held-size : goal.returns-then-held-size
+returns-then-held-size c = search (element_long, rules)
 
 pub append_rows-end-requires : goal.append_rows-end-requires
 append_rows-end-requires c = search (run_whole, run_fits, rules)
