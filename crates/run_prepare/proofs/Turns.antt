@@ -12,6 +12,7 @@ use native.Mathlib.Numerals.{add-one}
 use borrow.Author.Tests.{ltb-true, ltb-false}
 use lib.ListN.{length, get_or, set, drop, length-set, length-append, length-map}
 use lib.Seq.{take-suc-set}
+use Rattle.std.proofs.lemmas.List.{take-append-le}
 use lib.Dec.{ltb}
 use Rattle.orders.specs.Lists.{meant, All, pick}
 use Rattle.orders.specs.ListLaws.{none_some, some_inj, map_append, All-at}
@@ -215,6 +216,10 @@ module _ {text : List ℕ} {new : List Part} {at : ℕ} {prepared sizes incoming
         notes = B.notes end z refl ∙ (ap (λ (l : List HeldNote). l ++ map (λ n. with_row n (at + m + n.row)) y.notes) C.notes ∙ sym N);
       }
 
+  -- what stands behind the sizes does not matter
+  came_longer : (rest : List ℕ) → length new ≤ length sizes → Came text new at prepared (sizes ++ rest) incoming m c
+  came_longer rest h = record { many = C.many; noted = C.noted; few_rows = C.few_rows; few_notes = C.few_notes; rows = C.rows; sizes = take-append-le (length new) sizes rest h ∙ C.sizes; notes = C.notes }
+
   -- one more is too many
   came_over : (y : Part) (rest : List Part) → None ≡ prepared_by (m + length y.rows) (c + length y.notes) → None ≡ prepared_by (length (new_rows (new ++ (y ∷ rest)))) (length (new_notes at (new ++ (y ∷ rest))))
   came_over y rest h =
@@ -289,22 +294,24 @@ module _ (rows : List ℕ) (n : ℕ) (source marks first : List ℕ) (notes : Li
     }
 
     module _ (prepared sizes incoming : List ℕ) (i m c : ℕ) (v : Preparing prepared sizes incoming i m c) where
-      pub preparing_done : count ≤ i → ElementsPrepared rows n source marks first notes (words count b) at prepared sizes incoming (came_in m c)
-      preparing_done h =
+      pub preparing_done : (rest : List ℕ) → count ≤ length sizes₀ → count ≤ i → ElementsPrepared rows n source marks first notes (words count b) at prepared (sizes ++ rest) incoming (came_in m c)
+      preparing_done rest room h =
           let e : i ≡ count = omega (arith, v.inside) in
           record {
             parts = λ text changed₀ changed.
-                let C : Came text (map (part_in rows n source marks first notes text changed₀ changed) (words count b)) at prepared sizes incoming m c = rw e at (v.came text changed₀ changed) in
+                let part : ℕ → Part = part_in rows n source marks first notes text changed₀ changed in
+                let C : Came text (map part (words count b)) at prepared sizes incoming m c = rw e at (v.came text changed₀ changed) in
+                let D = came_longer C rest (omega (arith, length-map (words count b) part, length_words count b, v.long_sizes)) in
                 record {
                   answer = none_over m c v.few_rows v.few_notes ∙ rw (← C.many, ← C.noted);
-                  came = λ m' c' z. let f : m' ≡ m = sym (came_same z).0 in let g : c' ≡ c = sym (came_same z).1 in rw (f, g) C;
+                  came = λ m' c' z. let f : m' ≡ m = sym (came_same z).0 in let g : c' ≡ c = sym (came_same z).1 in rw (f, g) D;
                 };
           }
 
       module _ (e : ℕ) (h : i < count) (w : (e ≡ word (drop (4 * i) b)) × (e < 2 ^ 32)) (prepared' incoming' : List ℕ) (r : prelude.Option Prepared)
           (E : ElementPrepared rows n source marks first notes e at prepared m incoming c prepared' incoming' r) where
-        pub preparing_over : r ≡ None → ElementsPrepared rows n source marks first notes (words count b) at prepared' sizes incoming' None
-        preparing_over z = record {
+        pub preparing_over : (sizes' : List ℕ) → r ≡ None → ElementsPrepared rows n source marks first notes (words count b) at prepared' sizes' incoming' None
+        preparing_over sizes' z = record {
           parts = λ text changed₀ changed.
               let part : ℕ → Part = part_in rows n source marks first notes text changed₀ changed in
               let rest : List ℕ = words (count - (i + 1)) (drop 4 (drop (4 * i) b)) in
@@ -336,13 +343,13 @@ module _ (rows : List ℕ) (n : ℕ) (source marks first : List ℕ) (notes : Li
 -- the same of what is held
 module _ {rows : List ℕ} {n : ℕ} {source marks first : List ℕ} {notes : List HeldNote} {b : List ℕ} {count at : ℕ} {prepared₀ sizes₀ incoming₀ prepared sizes incoming : List ℕ} {i : ℕ} {held : Prepared}
     (v : Preparing rows n source marks first notes b count at prepared₀ sizes₀ incoming₀ prepared sizes incoming i held.rows held.notes) where
-  pub prepared_done : count ≤ i → ElementsPrepared rows n source marks first notes (words count b) at prepared sizes incoming (Some held)
-  prepared_done h = preparing_done rows n source marks first notes b count at prepared₀ sizes₀ incoming₀ prepared sizes incoming i held.rows held.notes v h
+  pub prepared_done : (rest : List ℕ) → count ≤ length sizes₀ → count ≤ i → ElementsPrepared rows n source marks first notes (words count b) at prepared (sizes ++ rest) incoming (Some held)
+  prepared_done rest = preparing_done rows n source marks first notes b count at prepared₀ sizes₀ incoming₀ prepared sizes incoming i held.rows held.notes v rest
 
   module _ {e : ℕ} (w : (e ≡ word (drop (4 * i) b)) × (e < 2 ^ 32)) {prepared' incoming' : List ℕ} {r : prelude.Option Prepared}
       (E : ElementPrepared rows n source marks first notes e at prepared held.rows incoming held.notes prepared' incoming' r) (h : i < count) where
-    pub prepared_over : {r' : prelude.Option Prepared} → r ≡ None → r' ≡ None → ElementsPrepared rows n source marks first notes (words count b) at prepared' sizes incoming' r'
-    prepared_over z y = rw y (preparing_over rows n source marks first notes b count at prepared₀ sizes₀ incoming₀ prepared sizes incoming i held.rows held.notes v e h w prepared' incoming' r E z)
+    pub prepared_over : {sizes' : List ℕ} {r' : prelude.Option Prepared} → r ≡ None → r' ≡ None → ElementsPrepared rows n source marks first notes (words count b) at prepared' sizes' incoming' r'
+    prepared_over {sizes'} z y = rw y (preparing_over rows n source marks first notes b count at prepared₀ sizes₀ incoming₀ prepared sizes incoming i held.rows held.notes v e h w prepared' incoming' r E sizes' z)
 
     pub prepared_next : {next : Prepared} → r ≡ Some next → count ≤ length sizes₀ → length prepared' ≡ length prepared → length incoming' ≡ length incoming
         → Preparing rows n source marks first notes b count at prepared₀ sizes₀ incoming₀ prepared' (set sizes i (next.rows - held.rows)) incoming' (i + 1) next.rows next.notes

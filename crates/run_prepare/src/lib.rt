@@ -71,7 +71,8 @@ fn prepare_element(
 
 // Rust: `replacement` in TreeStore::execute. What the listed elements yield: all are prepared before the step's splice,
 // which may remove them, and prepared row 0 comes to stand at the row `at`. None if that is more than a step may bring.
-// Its loop counts, since a turn reads the list's word `i` and writes the size `i`: a `zip` of the list's chunks with the sizes would read each word from its four bytes by hand.
+// A turn reads the list's word by its number: a `zip` of the list's chunks with the sizes would read each word from its four bytes by hand. The list is bytes and
+// no `WordList`: the run's promises speak of `words_in` of all its bytes, and each would name where it starts and its count too.
 pub fn prepare(
     stores: &Stores,
     list: &[u8],
@@ -85,10 +86,11 @@ pub fn prepare(
     ensures { ElementsPrepared stores.now.trees.rows.words.now stores.now.trees.rows.count stores.now.source.now stores.now.trees.marks.now stores.now.first.now (notes_in stores.now.notes.now) (words_in list.now) at prepared.new sizes.new incoming.new result }
 {
     let mut held = Prepared { rows: 0, notes: 0 };
-    for i in 0..list.len() / 4 {
+    let n = list.len() / 4;
+    for (i, size) in sizes[..n].iter_mut().enumerate() {
         let e = read_word(list, 4 * i);
         let next = prepare_element(stores, e, at, prepared, incoming, held)?;
-        sizes[i] = (next.rows - held.rows) as u32;
+        *size = (next.rows - held.rows) as u32;
         held = next;
     }
     Some(held)
