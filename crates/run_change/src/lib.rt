@@ -1,5 +1,6 @@
 // What the row of a change tells one step of the run.
-// Bounds of one number and an index of what is read stand as clauses: a value around each would be no plainer than its bound.
+// Bounds of one number and an index of what is read stand as clauses: a value around each would be no plainer than its bound. Rows come with a place: record_changes
+// says why.
 #![tactic(auto)]
 
 ghost use Rattle.std.specs.Prelude.{◌≡◌, ℕ, ◌^◌, ◌<◌, length};

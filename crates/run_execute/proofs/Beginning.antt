@@ -86,8 +86,8 @@ module _ {n : ℕ} {lines source first : List ℕ} (b : Begun n lines source fir
   pub begun_standing : Standing (length marks) lines source first s rows marks notes changed
   begun_standing = subst (λ (k : ℕ). Standing k lines source first s rows marks notes changed) (sym many) stands
 
-  pub begun_listed : (b : List ℕ) → (length b ≤ 4096) × All (λ e. e < n) (words_in b) → (length b ≤ 4096) × All (λ e. e < length marks) (words_in b)
-  begun_listed b x = (x.0, subst (λ (n : ℕ). All (λ e. e < n) (words_in b)) (sym many) x.1)
+  pub begun_listed : (b : List ℕ) → All (λ e. e < n) (words_in b) → All (λ e. e < length marks) (words_in b)
+  begun_listed b x = subst (λ (n : ℕ). All (λ e. e < n) (words_in b)) (sym many) x
 
   module _ (listed changes running : List ℕ) where
     pub begun_performs : All (λ k. Performs n (view n lines source) listed (row_at changes k)) running → All (λ k. Performs (length marks) (view (length marks) lines source) listed (row_at changes k)) running

@@ -44,8 +44,8 @@ module _ {n : ℕ} {lines source first listed changes running : List ℕ} {m : �
   pub walking_standing : Standing (length marks) lines source first s rows marks notes changed
   walking_standing = subst (λ (k : ℕ). Standing k lines source first s rows marks notes changed) (sym many) v.standing
 
-  pub walking_listed : (b : List ℕ) (k : ℕ) → (length b ≤ 4096) × All (λ e. e < n) (words_in b) → k < 2 ^ 32 → (length b ≤ 4096) × All (λ e. e < length marks) (words_in b) × (k < 2 ^ 32)
-  walking_listed b k x h = (x.0, subst (λ (n : ℕ). All (λ e. e < n) (words_in b)) (sym many) x.1, h)
+  pub walking_listed : (b : List ℕ) (k : ℕ) → All (λ e. e < n) (words_in b) → k < 2 ^ 32 → All (λ e. e < length marks) (words_in b) × (k < 2 ^ 32)
+  walking_listed b k x h = (subst (λ (n : ℕ). All (λ e. e < n) (words_in b)) (sym many) x, h)
 
   module _ {k : ℕ} (h : i < length running) (e : (k ≡ get_or running i 0) × (k < 2 ^ 32)) (all : All (λ k. Performs n (view n lines source) listed (row_at changes k)) running) where
     here : drop i running ≡ k ∷ drop (suc i) running

@@ -1,12 +1,11 @@
 // The run: from the batch's own trees, the performed changes step by step.
 // The slices that are lent to be written stay apart, as run_tree_state says.
-// Bounds of one number and room in a lent slice stand as clauses: a value around each would be no plainer than its bound.
+// Bounds of one number, an index of what is read and room in a lent slice stand as clauses: a value around each would be no plainer than its bound.
 // What is held and what a `Task` is asked of stand in clauses, as the task says.
 #![tactic(auto)]
 
-ghost use Rattle.std.specs.Prelude.{◌≡◌, ◌+◌, ◌*◌, ◌≤◌, ◌<◌, length};
+ghost use Rattle.std.specs.Prelude.{◌+◌, ◌*◌, ◌≤◌, ◌<◌, length};
 ghost use Rattle.orders.specs.Lists.{All};
-ghost use Rattle.definition.specs.Refusals.{most_listed};
 ghost use Rattle.read_element_table.specs.View.{view};
 ghost use Rattle.record_changes.specs.ChangeRowLaws.{row_at};
 ghost use Rattle.run_step.specs.Standing.{Begun, Lent, Standing};
@@ -68,7 +67,7 @@ fn run_steps(
 ) -> Result<TreeState, Refusal>
     requires standing { Standing (length marks.old) task.now.table.now task.now.source.now task.now.first.now start rows.old marks.old notes.old changed.old }
     requires in_bounds { Lent rows.old notes.old prepared.old sizes.old incoming.old }
-    requires listed_len_bound { (length task.now.listed.now ≤ 4096) × All (λ e. e < length marks.old) (words_in task.now.listed.now) }
+    requires listed_low { All (λ e. e < length marks.old) (words_in task.now.listed.now) }
     requires all { All (λ k. Performs (length marks.old) (view (length marks.old) task.now.table.now task.now.source.now) (words_in task.now.listed.now) (row_at task.now.changes.now k)) running.now }
     requires running_in_bounds { start.changed + lists_all (view (length marks.old) task.now.table.now task.now.source.now) (words_in task.now.listed.now) task.now.changes.now running.now ≤ length changed.old }
     ensures { RanSteps task.now.table.now task.now.source.now task.now.first.now (words_in task.now.listed.now) task.now.changes.now running.now start rows.old marks.old notes.old changed.old rows.new marks.new notes.new changed.new result }
@@ -106,7 +105,7 @@ pub fn execute(
 ) -> Result<TreeState, Refusal>
     requires begun { Begun (length marks.old) task.now.table.now task.now.source.now task.now.first.now }
     requires in_bounds { Lent rows.old notes.old prepared.old sizes.old incoming.old }
-    requires listed_len_bound { (length task.now.listed.now ≤ 4096) × All (λ e. e < length marks.old) (words_in task.now.listed.now) }
+    requires listed_low { All (λ e. e < length marks.old) (words_in task.now.listed.now) }
     requires all { All (λ k. Performs (length marks.old) (view (length marks.old) task.now.table.now task.now.source.now) (words_in task.now.listed.now) (row_at task.now.changes.now k)) running.now }
     requires running_in_bounds { lists_all (view (length marks.old) task.now.table.now task.now.source.now) (words_in task.now.listed.now) task.now.changes.now running.now ≤ length changed.old }
     ensures { Ran (length marks.old) task.now.table.now task.now.source.now task.now.first.now (words_in task.now.listed.now) task.now.changes.now running.now rows.new marks.new notes.new changed.new result }

@@ -157,7 +157,8 @@ step_found T first s p g above recorded l e a r n = rw (e, a, r, n)
 
 module _ {lines source first : List ℕ} {s : TreeState} {rows marks notes changed : List ℕ} (v : Standing (length marks) lines source first s rows marks notes changed)
     (listed changes : List ℕ) (k : ℕ)
-    (x : (length listed ≤ 4096) × All (λ e. e < length marks) (words_in listed) × (k < 2 ^ 32))
+    (few : length listed ≤ 4096)
+    (x : All (λ e. e < length marks) (words_in listed) × (k < 2 ^ 32))
     (u : Performs (length marks) (view (length marks) lines source) (words_in listed) (row_at changes k)) where
   abbrev T : Table
   T = view (length marks) lines source
@@ -175,7 +176,7 @@ module _ {lines source first : List ℕ} {s : TreeState} {rows marks notes chang
   asks_gap = (v.long, omega (arith, rows_few v), rows_some v, marks_below v, v.begun.formed)
 
   pub asks_ends : (k < 2 ^ 32) × (R.target < length marks) × (R.end < length marks)
-  asks_ends = (x.2, u.kept.stated.target, u.kept.stated.end)
+  asks_ends = (x.1, u.kept.stated.target, u.kept.stated.end)
 
   pub list_within : 4 * R.list + 4 * R.count ≤ length listed
   list_within = omega (arith, u.kept.stated.within, long_listed)
@@ -213,14 +214,14 @@ module _ {lines source first : List ℕ} {s : TreeState} {rows marks notes chang
       news_are = news_listed listed R.list R.count list_within (length marks) R u.kept.stated refl refl ∙ ap words_in (sym el)
 
       pub listed_low : (length list ≤ 4 * most_listed) × All (λ e. e < length marks) (words_in list)
-      listed_low = rw el (omega (arith, part_long listed R.list R.count list_within, many, u.few), part_listed listed R.list R.count list_within (λ e. e < length marks) x.1)
+      listed_low = rw el (omega (arith, part_long listed R.list R.count list_within, many, u.few), part_listed listed R.list R.count list_within (λ e. e < length marks) x.0)
 
       pub opens : 3072 ≤ length notes → s.changed + lists_in T L R ≤ length changed → Open s rows marks notes changed g recorded (length list / 4)
       unfolding lists_in plan_of
       opens long room =
           subst (Open s rows marks notes changed g recorded) (sym (ap (λ (l : List ℕ). length l / 4) el ∙ part_many listed R.list R.count list_within))
           (subst (λ (h : Gap). Open s rows marks notes changed h recorded R.count) (held_told g)
-          (gap_room v (change_of L R) (right_sits T (change_of L R) u.right) (gap_told g) (gap_here v.begun.text) recorded R.count (omega (arith, list_within, x.0)) long
+          (gap_room v (change_of L R) (right_sits T (change_of L R) u.right) (gap_told g) (gap_here v.begun.text) recorded R.count (omega (arith, list_within, few)) long
           (subst (λ (n : ℕ). s.changed + n ≤ length changed) (sym (counted_is R.count ∙ ap (λ (n : ℕ). cond (records T (plan_of L R)) n 0) many)) room)
           (rw er (ruled_row u.kept u.ruled))))
 

@@ -1,7 +1,7 @@
 // One step of the run over all that is held.
 // The slices that are lent to be written stay apart, as run_tree_state says.
 // Bounds of one number, an index of what is read and room in a lent slice stand as clauses: a value around each would be no plainer than its bound.
-// What is held and what a `Task` is asked of stand in clauses, as the task says.
+// What is held and what a `Task` is asked of stand in clauses, as the task says. Rows come with a place: record_changes says why.
 #![tactic(auto)]
 
 ghost use Rattle.std.specs.Prelude.{◌≡◌, ◌+◌, ◌*◌, ◌/◌, ◌^◌, ◌≤◌, ◌<◌, length};
@@ -42,7 +42,7 @@ fn change_site(store: &TreeStore, changes: &[u32], k: usize) -> Option<Site>
     })
 }
 
-// The elements that the change at place `k` lists.
+// The elements that the change at place `k` lists. Bytes, as run_prepare says.
 fn listed<'a>(task: &Task<'a>, k: usize) -> &'a [u8]
     requires { (k < 2 ^ 32) × (4 * (row_at task.now.changes.now k).list + 4 * (row_at task.now.changes.now k).count ≤ length task.now.listed.now) }
     ensures { result.now ≡ part_from task.now.listed.now (row_at task.now.changes.now k).list (row_at task.now.changes.now k).count }
@@ -82,9 +82,8 @@ fn step_at(
         source: task.source,
         first: task.first,
     };
-    let Some(made) = prepare(&stores, list, site.gap.from, prepared, sizes, incoming) else {
-        return Err(Refusal::Large);
-    };
+    let at = site.gap.from;
+    let made = prepare(&stores, list, at, prepared, sizes, incoming).ok_or(Refusal::Large)?;
     let parts = Parts {
         run: &prepared[..ROW_WORDS * made.rows],
         sizes: &sizes[..list.len() / 4],
@@ -108,7 +107,7 @@ pub fn step(
 ) -> Result<TreeState, Refusal>
     requires standing { Standing (length marks.old) task.now.table.now task.now.source.now task.now.first.now s rows.old marks.old notes.old changed.old }
     requires in_bounds { Lent rows.old notes.old prepared.old sizes.old incoming.old }
-    requires listed_len_bound { (length task.now.listed.now ≤ 4096) × All (λ e. e < length marks.old) (words_in task.now.listed.now) × (k < 2 ^ 32) }
+    requires listed_low { All (λ e. e < length marks.old) (words_in task.now.listed.now) × (k < 2 ^ 32) }
     requires performs { Performs (length marks.old) (view (length marks.old) task.now.table.now task.now.source.now) (words_in task.now.listed.now) (row_at task.now.changes.now k) }
     requires k_in_bounds { s.changed + lists_in (view (length marks.old) task.now.table.now task.now.source.now) (words_in task.now.listed.now) (row_at task.now.changes.now k) ≤ length changed.old }
     ensures { Stepped task.now.table.now task.now.source.now task.now.first.now (words_in task.now.listed.now) (row_at task.now.changes.now k) s rows.old marks.old notes.old changed.old rows.new marks.new notes.new changed.new result }
@@ -122,9 +121,7 @@ pub fn step(
         marks,
         table: task.table,
     };
-    let Some(site) = change_site(&store, task.changes, k) else {
-        return Err(Refusal::Gone);
-    };
+    let site = change_site(&store, task.changes, k).ok_or(Refusal::Gone)?;
     let list = listed(task, k);
     step_at(
         rows, marks, notes, changed, prepared, sizes, incoming, task, list, s, &site,

@@ -1,8 +1,9 @@
 // What a run is to do, as its steps read it.
 
-// The element table, the batch's own rows, its notes as first moved, the elements that the changes list, and the change rows. What is known of them is known
-// together with what is held at the time, and tells of the definition's trees, which are data: so it stands in clauses,
-// and with it how long the list is.
+ghost use Rattle.std.specs.Prelude.{◌≤◌, length};
+
+// The element table, the batch's own rows, its notes as first moved, the elements that the changes list (as bytes: run_prepare says why), and the change rows. What
+// is known of them together with what is held at the time tells of the definition's trees, which are data: so it stands in clauses.
 #[derive(Clone, Copy)]
 pub struct Task<'a> {
     pub table: &'a [u32],
@@ -10,4 +11,5 @@ pub struct Task<'a> {
     pub first: &'a [u32],
     pub listed: &'a [u8],
     pub changes: &'a [u32],
+    pub ghost few: { length listed.now ≤ 4096 },
 }

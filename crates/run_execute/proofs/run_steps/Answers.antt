@@ -17,7 +17,7 @@ step-requires c =
     record {
       standing = walking_standing v.0;
       in_bounds = (omega arith, omega arith, omega arith, omega arith, omega arith);
-      listed_len_bound = walking_listed v.0 c.args.task.now.listed.now k p.listed_len_bound e.1;
+      listed_low = walking_listed v.0 c.args.task.now.listed.now k p.listed_low e.1;
       performs = walking_performs v.0 c.loop-k-test.true e p.all;
       k_in_bounds = omega arith;
     }
