@@ -16,7 +16,8 @@ use words::{NODE_KIND, word};
 
 // ── It fits ──
 
-// Whether a run spells whole trees: nothing is owed behind it. By the number of each row, as `trees_in` beside it: `child_count` reads a row of many, so that a chunk's row would owe a law more.
+// Whether a run spells whole trees: nothing is owed behind it. By the number of each row, as `trees_in` beside it: `child_count` reads a row of many, so that a
+// chunk's row would owe a law more. A `for`: over `fold` the bound of `o` would go through `fold_over`; no plainer.
 fn closes(run: &[u32]) -> bool
     requires { length run.now < 3 * 2 ^ 16 }
     ensures { Closes run.now result }
@@ -41,7 +42,7 @@ fn bounded(e: usize, list: &SpliceList, j: usize) -> bool
         && ROW_WORDS * splice.start + ROW_WORDS * splice.rows <= list.prepared.len()
 }
 
-// Whether the parent of splice `j` is a node with so many children.
+// Whether the parent of splice `j` is a node with so many children. The kind word of a row tells it, by the number that words has for it.
 #[tactic(auto, unfolding(splices_model::specs::Verdict::has_run_at))]
 fn has_run(rows: &Rows, splices: &Splices, j: usize) -> bool
     requires { (j < splices.now.count) × (get_or splices.now.words.now (6 * j + 1) 0 < rows.now.count) }
@@ -82,7 +83,7 @@ fn one_tree(run: &[u32]) -> bool
 fn spells_tree(rows: &Rows) -> bool
     ensures { OneTree (take (3 * rows.now.count) rows.now.words.now) result }
 {
-    one_tree(&rows.words[..ROW_WORDS * rows.count])
+    one_tree(rows.between(0, rows.count))
 }
 
 // ── There is room ──

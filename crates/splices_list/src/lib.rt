@@ -1,6 +1,6 @@
 // A list of splices, done in the order given on the rows and marks of one old tree. Six words a splice: number, row of its parent in the old tree, from, to,
 // where its prepared rows start, how many they are. The mark of an old element is the row where it stands now.
-// Bounds of one number and room in a lent slice stand as clauses: a value around each would be no plainer than its bound.
+// Bounds of one number, the order of two numbers and room in a lent slice stand as clauses: a value around each would be no plainer than its bound.
 // That marks are rows stands in clauses, since they are written; `BoundedAll` and `Good` do, as splices_step says of the words of splices.
 #![tactic(auto)]
 

@@ -124,7 +124,7 @@ fn gap_now(rows: &Rows, marks: &[u32], list: &SpliceList, i: usize) -> Gap
     }
 }
 
-// Whether the row `parent` is a node's, which can lose and gain so many children.
+// Whether the row `parent` is a node's, by its kind word and the number that words has for it, which can lose and gain so many children.
 #[tactic(auto, unfolding(crate::specs::Promises::takes_by))]
 fn takes(rows: &Rows, parent: usize, lost: usize, gain: usize) -> bool
     requires { (parent < rows.now.count) × (gain < 2 ^ 16) }

@@ -107,7 +107,7 @@ fn arrange(list: &[u32], order: &[u32], out: &mut [u32]) {
     }
 }
 
-// The old tree, and the list done on it in this order. More than four splices, or rows too short for the old tree, are out of limits here as in the call, so that it asks nothing.
+// The old tree, and the list done on it in this order. More than four splices, or rows too short for the old tree, are refused here, so that it asks nothing.
 fn run(
     list: &[u32],
     order: &[u32],
@@ -130,10 +130,8 @@ fn run(
 fn leaves(list: &[u32], order: &[u32], n: usize, rows: &[u32], marks: &[u32]) -> bool {
     let mut other_rows = [9u32; 42];
     let mut other_marks = [0u32; 7];
-    match run(list, order, &mut other_rows, &mut other_marks) {
-        Ok(m) => m == n && rows == &other_rows[..] && marks == &other_marks[..],
-        Err(_) => false,
-    }
+    let left = run(list, order, &mut other_rows, &mut other_marks).is_ok_and(|m| m == n);
+    left && rows == &other_rows[..] && marks == &other_marks[..]
 }
 
 // Whether each order leaves these rows and marks.
