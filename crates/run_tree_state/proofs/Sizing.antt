@@ -2,7 +2,6 @@
 -- Assumes nothing.
 use Rattle.std.specs.Prelude as prelude
 use Rattle.std.specs.Prelude.{None, Some, Ok, Err}
-use Rattle.std.specs.Option.{ok_or}
 use mathlib.Core.Path.{◌≡◌, refl, sym, ap, ◌∙◌}
 use mathlib.Core.Bool.{Bool, true, false, cond, ◌||◌}
 use mathlib.Core.List.{List, [], ◌++◌, map, flat_map}
@@ -66,11 +65,6 @@ height_none {run} {o} v e text = go (ltb 64 (height (triples text run))) refl (s
     go : (b : Bool) → ltb 64 (height (triples text run)) ≡ b → None ≡ cond b None (Some (height (triples text run))) → 64 < height (triples text run)
     go true y h = ltb-true 64 (height (triples text run)) y
     go false y h = let z : ◌≡◌ {A = ℕ} 0 1 = cc in absurd (omega arith)
-
--- nothing is refused as it is told
-pub nothing : {A E : Type 0} {e v : E} (o : prelude.Option A) → ok_or o e ≡ Err v → (o ≡ None) × (v ≡ e)
-nothing None q = (refl, grind arith)
-nothing (Some x) q = absurd (grind arith)
 
 -- ── The answer ──────────────────────────────────────────────────────────────────────────────────────────────
 

@@ -1,9 +1,9 @@
 -- `step` meets its contract.
-use mathlib.Core.Path.{◌≡◌, refl, sym, ◌∙◌}
+use mathlib.Core.Path.{◌≡◌, refl}
 use native.Mathlib.Omega.{arith}
-use Rattle.std.specs.Prelude.{Some}
+use Rattle.std.specs.Prelude.{None, Some, Err}
 use Rattle.std.proofs.lemmas.Result.{err_from_is_err_and}
-use Rattle.run_tree_state.proofs.Sizing.{nothing}
+use Rattle.refusals.specs.declared.Refusal.TheVariants.{Gone}
 use Rattle.run_step.proofs.Performing.{asks_gap, asks_ends, list_within, listed_low, opens, performed, performed_gone}
 use Rattle.run_step.proofs.step.Goals as goal
 
@@ -26,9 +26,10 @@ step_at-requires c =
 
 pub returns-in_err-site : goal.returns-in_err-site
 returns-in_err-site c =
+    let n : c.change_site.result ≡ None = grind arith in
     let p = err_from_is_err_and c.from_residual.result c.from_residual.ensures.1 in
-    let q = nothing c.change_site.result (sym c.ok_or.ensures.value ∙ c.in_err-site.was) in
-    rw (p.1, p.2, q.1) (performed_gone c.requires.standing c.args.task.now.listed.now c.args.task.now.changes.now c.args.k c.args.task.now.few c.requires.listed_low c.requires.performs (c.change_site.ensures.gone q.0) refl)
+    let e : c.from_residual.result ≡ Err Gone = grind arith in
+    rw e (performed_gone c.requires.standing c.args.task.now.listed.now c.args.task.now.changes.now c.args.k c.args.task.now.few c.requires.listed_low c.requires.performs (c.change_site.ensures.gone n) refl)
 
 pub returns : goal.returns
 returns c =

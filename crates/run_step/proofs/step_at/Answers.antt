@@ -1,10 +1,10 @@
 -- `step_at` meets its contract.
-use mathlib.Core.Path.{◌≡◌, sym, ◌∙◌}
+use mathlib.Core.Path.{◌≡◌, sym}
 use native.Mathlib.Omega.{arith}
 use lib.Seq.{length-take-le}
-use Rattle.std.specs.Prelude.{Some}
+use Rattle.std.specs.Prelude.{None, Some, Err}
 use Rattle.std.proofs.lemmas.Result.{err_from_is_err_and}
-use Rattle.run_tree_state.proofs.Sizing.{nothing}
+use Rattle.refusals.specs.declared.Refusal.TheVariants.{Large}
 use Rattle.run_step.proofs.Steps.{made_small, asks_apply, step_done, step_refused, notes_held}
 use Rattle.run_step.proofs.step_at.Goals as goal
 
@@ -37,9 +37,10 @@ apply-requires c = let s : c.prepare.result ≡ Some c.in_ok-made.made = grind a
 
 pub returns-in_err-made : goal.returns-in_err-made
 returns-in_err-made c =
+    let n : c.prepare.result ≡ None = grind arith in
     let p = err_from_is_err_and c.from_residual.result c.from_residual.ensures.1 in
-    let q = nothing c.prepare.result (sym c.ok_or.ensures.value ∙ c.in_err-made.was) in
-    rw (p.1, p.2, q.1) (step_refused c.requires.fact c.args.list.now c.prepare.ensures q.0)
+    let e : c.from_residual.result ≡ Err Large = grind arith in
+    rw e (step_refused c.requires.fact c.args.list.now c.prepare.ensures n)
 
 pub returns : goal.returns
 returns c = let s : c.prepare.result ≡ Some c.in_ok-made.made = grind arith in let y = c.requires.task_in_bounds.3 in step_done c.requires.fact c.args.list.now c.prepare.ensures s (omega (arith, c.prepare.auto.sizes, y)) (omega (arith, c.prepare.auto.incoming)) c.apply.ensures

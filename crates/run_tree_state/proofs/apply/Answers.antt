@@ -1,9 +1,10 @@
 -- `apply` meets its contract.
-use mathlib.Core.Path.{◌≡◌, sym, ◌∙◌}
+use mathlib.Core.Path.{◌≡◌}
 use native.Mathlib.Omega.{arith}
-use Rattle.std.specs.Prelude.{Some}
+use Rattle.std.specs.Prelude.{None, Some, Err}
 use Rattle.std.proofs.lemmas.Result.{err_from_is_err_and}
-use Rattle.run_tree_state.proofs.Sizing.{apply_done, apply_refused, apply_asks, nothing}
+use Rattle.run_tree_state.proofs.Sizing.{apply_done, apply_refused, apply_asks}
+use Rattle.refusals.specs.declared.Refusal.TheVariants.{Large}
 use Rattle.run_tree_state.proofs.apply.Goals as goal
 
 pub step_size-requires : goal.step_size-requires
@@ -11,9 +12,10 @@ step_size-requires c = let v = c.requires.fact in record { rows_in_bounds = (v.l
 
 pub returns-in_err-bytes : goal.returns-in_err-bytes
 returns-in_err-bytes c =
+    let n : c.step_size.result ≡ None = grind arith in
     let p = err_from_is_err_and c.from_residual.result c.from_residual.ensures.1 in
-    let q = nothing c.step_size.result (sym c.ok_or.ensures.value ∙ c.in_err-bytes.was) in
-    rw (p.1, p.2, q.1) (apply_refused c.requires.fact c.args.parts.now.bounded c.step_size.ensures q.0)
+    let e : c.from_residual.result ≡ Err Large = grind arith in
+    rw e (apply_refused c.requires.fact c.args.parts.now.bounded c.step_size.ensures n)
 
 pub splice_held-requires : goal.splice_held-requires
 splice_held-requires c =
