@@ -30,8 +30,8 @@ pub fn first_tree<'a>(rows: &Rows<'a>) -> &'a [u32]
 pub fn number_at(row: usize, end: usize) -> Option<usize>
     ensures { result ≡ told (in_run 1 end row) }
 {
-    if row < ROOT || end <= row {
+    if end <= row {
         return None;
     }
-    Some(row - ROOT)
+    row.checked_sub(ROOT)
 }
