@@ -1,27 +1,29 @@
 -- The loops: for each its invariant, that it holds at the start, after a turn, and what it says at the end.
 -- Assumes nothing.
 use mathlib.Core.Path.{◌≡◌, refl, sym, ap, ◌∙◌}
-use mathlib.Core.List.{List, [], ◌++◌, map, flat_map}
+use mathlib.Core.List.{List, [], ◌++◌, map, flat_map, append-nil}
 use Rattle.std.specs.Prelude.{Option as Found, None, Some, unwrap_or}
 use Rattle.std.specs.Slice.{IsGetRangeResult}
 use Rattle.std.proofs.Common.{Bor, ◌⊎◌, inl, inr}
 use Rattle.std.specs.List.{sum, range_with_len}
 use Rattle.std.proofs.lemmas.List.Concat.{length-flat_map}
+use Rattle.std.proofs.lemmas.List.Edits.{paste_all}
 use Prim.Native.Nat.{ℕ, suc, ◌+◌, ◌-◌, ◌*◌, ◌/◌, ◌^◌, ◌≤◌, ◌<◌}
 use native.Mathlib.Omega.{arith}
 use native.Mathlib.Nat.{zero-add, add-zero, sub_self}
 use native.Mathlib.Numerals.{add-one}
-use lib.ListN.{length, get_or, set, take, drop, length-set, length-map, length-append, length-drop, take-append-drop}
-use lib.Seq.{paste, paste-zero, paste-suc, length-paste, get_or-drop, drop-drop, drop_at, take_at, take-length}
+use lib.ListN.{length, get_or, set, take, drop, length-set, length-map, length-append, length-take, length-drop, take-append-drop, drop_of_length-le}
+use lib.Seq.{paste, paste-zero, paste-suc, length-paste, length-take-le, get_or-drop, drop-drop, drop_at, take_at, take-length}
 use borrow.Author.Tests.{lt-ltb, le-leb, lt-leb}
 use Rattle.definition.specs.Words.{bytes as bytes_of, written}
+use Rattle.orders.specs.ListLaws.{lt_or_le}
 use Rattle.definition_laws.specs.Basics.{get_d_map}
 use Rattle.words.proofs.Turns.{Writing, writing_next}
-use Rattle.rows_model.specs.Row.{Row, nod, kind, measure, own, row_in, triples, bytes}
+use Rattle.rows_model.specs.Row.{Row, nod, kind, measure, own, text_length, row_in, triples, bytes}
 use Rattle.words.specs.Bytes.{length_written}
 use Rattle.words.specs.Parts.{paste_on, paste_swap}
 use Rattle.rows_model.proofs.RowLaws.{bytes_append}
-use Rattle.rows_model.proofs.Words.{rows_summed, kind_word, measure_word, node_row, length_triples, triples_at, triples_end}
+use Rattle.rows_model.proofs.Words.{rows_summed, kind_word, measure_word, node_row, token_length, length_triples, triples_at, triples_end}
 use Rattle.rows_syntax_node.specs.Promises.{Measured}
 use Rattle.finish_model.specs.Finished.{starts}
 use Rattle.finish_model.proofs.Numbers.{starts_at}
@@ -48,24 +50,26 @@ summing_next {run} {sum} {i} v h c =
       rest = λ text. rw (add-one i) (v.rest text ∙ rw (triples_at text i run h) (omega (arith, c.own text)));
     }
 
--- l is d with the starts of the first i rows at its front; their text is `sum` long
+-- l, as long as the tree has rows, is d with the starts of the first i rows at its front; their text is `sum` long
 pub record Starting (tree d l : List ℕ) (sum i : ℕ) : Type 0 where
   pub summing : Summing tree sum i
-  pub inside : i ≤ length tree / 3
+  pub whole : length d ≡ length tree / 3
   pub low : sum ≤ bytes (triples [] tree)
   pub long : length l ≡ length d
   pub filled : (text : List ℕ) → l ≡ paste d 0 (starts 0 (triples text tree)) i
 
-pub starting : (tree d : List ℕ) → Starting tree d d 0 0
-starting tree d = record { summing = summing_start tree; inside = omega arith; low = omega arith; long = refl; filled = λ text. paste-zero d 0 (starts 0 (triples text tree)) }
+pub starting : (tree out : List ℕ) → length tree ≤ 3 * length out → Starting tree (take (length tree / 3) out) (take (length tree / 3) out) 0 0
+starting tree out h =
+    let d : List ℕ = take (length tree / 3) out in
+    record { summing = summing_start tree; whole = length-take-le (length tree / 3) out (omega arith); low = omega arith; long = refl; filled = λ text. paste-zero d 0 (starts 0 (triples text tree)) }
 
 module _ {tree d l : List ℕ} {sum i : ℕ} (v : Starting tree d l sum i) where
-  pub starting_next : {r : ℕ} → i < length tree / 3 → length tree ≤ 3 * length d → Measured tree i r → Starting tree d (set l i sum) (sum + r) (i + 1)
-  starting_next h k m =
-      let next = summing_next v.summing (omega arith) m in
+  pub starting_next : {r : ℕ} → i < length d → Measured tree i r → Starting tree d (set l i sum) (sum + r) (i + 1)
+  starting_next h m =
+      let next = summing_next v.summing (omega (arith, v.whole)) m in
       record {
         summing = next;
-        inside = omega arith;
+        whole = v.whole;
         low = omega (arith, next.rest []);
         long = simp length-set v.long;
         filled = λ text. rw (add-one i) (go text);
@@ -76,11 +80,23 @@ module _ {tree d l : List ℕ} {sum i : ℕ} (v : Starting tree d l sum i) where
           let rs = triples text tree in
           let n : length rs ≡ length tree / 3 = length_triples text tree in
           let s : bytes rs ≡ bytes (take i rs) + bytes (drop i rs) = ap bytes (sym (take-append-drop i rs)) ∙ bytes_append (take i rs) (drop i rs) in
-          let e : sum ≡ get_or (starts 0 rs) i 0 = sym (starts_at rs 0 i (omega arith) ∙ omega (arith, v.summing.rest text)) in
-          rw (v.filled text, e) (ap (λ n. set (paste d 0 (starts 0 rs) i) n (get_or (starts 0 rs) i 0)) (sym (zero-add i)) ∙ paste-suc d 0 (starts 0 rs) i 0 (omega arith) (omega (arith, length_starts 0 rs)))
+          let e : sum ≡ get_or (starts 0 rs) i 0 = sym (starts_at rs 0 i (omega (arith, v.whole)) ∙ omega (arith, v.summing.rest text)) in
+          rw (v.filled text, e) (ap (λ n. set (paste d 0 (starts 0 rs) i) n (get_or (starts 0 rs) i 0)) (sym (zero-add i)) ∙ paste-suc d 0 (starts 0 rs) i 0 (omega arith) (omega (arith, v.whole, length_starts 0 rs)))
 
-  pub starting_done : length tree / 3 ≤ i → length tree ≤ 3 * length d → Starts tree d l
-  starting_done h k = let e : length tree / 3 ≡ i = omega (arith, v.inside) in starts_listed tree d (omega arith) (λ text. rw e (v.filled text))
+-- what is written over the front of a list, and the rest
+front_over : (d s : List ℕ) (n : ℕ) → n ≡ length s → paste (take n d) 0 s n ++ drop n d ≡ paste d 0 s n
+front_over d s n e =
+    let z : drop (0 + n) (take n d) ≡ [] = drop_of_length-le (take n d) (omega (arith, length-take n d)) in
+    rw (paste_all (take n d) 0 s n e, z, append-nil s, paste_all d 0 s n e, zero-add n)
+
+pub starting_done : {tree out l : List ℕ} {sum i : ℕ} → Starting tree (take (length tree / 3) out) l sum i → length (take (length tree / 3) out) ≤ i → length tree ≤ 3 * length out → Starts tree out (l ++ drop (length tree / 3) out)
+starting_done {tree} {out} {l} {sum} {i} v h k = starts_listed tree out (omega arith) go
+  where
+    go : (text : List ℕ) → l ++ drop (length tree / 3) out ≡ paste out 0 (starts 0 (triples text tree)) (length tree / 3)
+    go text =
+        let S : List ℕ = starts 0 (triples text tree) in
+        let e : i ≡ length tree / 3 = omega (arith, v.whole, v.summing.inside) in
+        rw (v.filled text, e) (front_over out S (length tree / 3) (sym (length_starts 0 (triples text tree) ∙ length_triples text tree)))
 
 -- ── Kinds and measures ──────────────────────────────────────────────────────────────────────────────────────
 
@@ -172,27 +188,35 @@ module _ {tree d : List ℕ} {at measures : ℕ} {l : List ℕ} {reads i : ℕ} 
 
 -- ── The text ────────────────────────────────────────────────────────────────────────────────────────────────
 
-module _ (tree text : List ℕ) (i : ℕ) {k : ℕ} (e : k ≡ get_or tree (3 * i) 0) where
-  pub own_node : 2147483648 ≤ k → [] ≡ own (row_in text tree i)
-  own_node h = sym (ap own (node_row text _ _ _ (rw e at h)))
+module _ (tree text : List ℕ) (i : ℕ) {o m : ℕ} (a : o ≡ get_or tree (3 * i + 2) 0) (f : Measured tree i m) where
+  own_node : 2147483648 ≤ get_or tree (3 * i) 0 → [] ≡ own (row_in text tree i)
+  own_node h = sym (ap own (node_row text _ _ _ h))
 
-  module _ (h : k < 2147483648) {o m : ℕ} (a : o ≡ get_or tree (3 * i + 2) 0) (b : m ≡ get_or tree (3 * i + 1) 0) where
-    pub own_token : o + m ≤ length text → take (o + m - o) (drop o text) ≡ own (row_in text tree i)
+  module _ (h : get_or tree (3 * i) 0 < 2147483648) where
+    long : m ≡ get_or tree (3 * i + 1) 0
+    long = f.own text ∙ token_length text _ _ _ h
+
+    own_token : o + m ≤ length text → take (o + m - o) (drop o text) ≡ own (row_in text tree i)
     own_token l =
         let z : o + m - o ≡ m = omega arith in
-        rw (z, ← e, ← a, ← b, lt-ltb k 2147483648 h, le-leb (o + m) (length text) l)
+        rw (z, ← a, ← long, lt-ltb (get_or tree (3 * i) 0) 2147483648 h, le-leb (o + m) (length text) l)
 
-    pub own_outside : length text < o + m → [] ≡ own (row_in text tree i)
-    own_outside l = rw (← e, ← a, ← b, lt-ltb k 2147483648 h, lt-leb (o + m) (length text) l)
+    own_outside : length text < o + m → [] ≡ own (row_in text tree i)
+    own_outside l = rw (← a, ← long, lt-ltb (get_or tree (3 * i) 0) 2147483648 h, lt-leb (o + m) (length text) l)
 
-    -- the library's part of the text, and nothing where it has none there
-    pub own_part : (r : Found (Bor (List ℕ))) (z : Bor (List ℕ)) {q : Bor (List ℕ)} → z.now ≡ [] → IsGetRangeResult text o (o + m) r → q ≡ unwrap_or r z → q.now ≡ own (row_in text tree i)
-    own_part None z y p u = ap (λ (x : Bor (List ℕ)). x.now) u ∙ (y ∙ own_outside (outside p.0))
-      where
-        outside : (o + m < o) ⊎ (length text < o + m) → length text < o + m
-        outside (inl w) = absurd (omega arith)
-        outside (inr w) = w
-    own_part (Some x) z y p u = ap (λ (x : Bor (List ℕ)). x.now) u ∙ (p.0.2 ∙ own_token p.0.1)
+  -- the library's part of the text, which is empty for a node, and nothing where it has none there
+  pub own_part : (r : Found (Bor (List ℕ))) (z : Bor (List ℕ)) {q : Bor (List ℕ)} → z.now ≡ [] → IsGetRangeResult text o (o + m) r → q ≡ unwrap_or r z → q.now ≡ own (row_in text tree i)
+  own_part None z y p u = ap (λ (x : Bor (List ℕ)). x.now) u ∙ (y ∙ go (lt_or_le (get_or tree (3 * i) 0) 2147483648) p.0)
+    where
+      go : (get_or tree (3 * i) 0 < 2147483648) ⊎ (2147483648 ≤ get_or tree (3 * i) 0) → (o + m < o) ⊎ (length text < o + m) → [] ≡ own (row_in text tree i)
+      go (inr h) w = own_node h
+      go (inl h) (inl w) = absurd (omega arith)
+      go (inl h) (inr w) = own_outside h w
+  own_part (Some x) z y p u = ap (λ (x : Bor (List ℕ)). x.now) u ∙ (p.0.2 ∙ go (lt_or_le (get_or tree (3 * i) 0) 2147483648))
+    where
+      go : (get_or tree (3 * i) 0 < 2147483648) ⊎ (2147483648 ≤ get_or tree (3 * i) 0) → take (o + m - o) (drop o text) ≡ own (row_in text tree i)
+      go (inl h) = own_token h p.0.1
+      go (inr h) = let z : o + m - o ≡ 0 = omega (arith, f.own text ∙ ap text_length (node_row text _ _ _ h)) in rw z (own_node h)
 
 module _ (tree text : List ℕ) where
   -- how long the own text of row i is

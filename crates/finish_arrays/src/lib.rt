@@ -1,6 +1,7 @@
 // Finishing: text starts, and the result's sizes and arrays written as bytes.
 // Bounds of one number, an index of what is read and room in a lent slice stand as clauses: a value around each would be no plainer than its bound.
-// What is written goes to a place in the whole result, not to a part that is cut out first: the arrays lie one behind another, and the promise is of all the bytes (`paste`).
+// What is written goes to a place in the whole result, not to a part that is cut out first: the arrays lie one behind another, and the promise is of all the bytes
+// (`paste`).
 // That a tree's text can be counted stands in clauses: a tree is a part of the rows, of which `finish_model::Left` knows it.
 #![tactic(auto)]
 
@@ -14,21 +15,19 @@ ghost use Rattle.finish_arrays.specs.Sweep.{Swept};
 
 mod tally;
 
-use rows_syntax_node::{MEASURE, ROW_WORDS, TEXT};
+use rows_syntax_node::{MEASURE, ROW_WORDS, TEXT, text_length};
 pub use tally::Tally;
-use words::NODE_KIND;
 
-// Where the text of each row of a tree starts: what resolving its path would give, of all rows in one pass. A row is read by its number, as the readers of rows take it:
-// over `chunks_exact` each would be told that row 0 is meant, and the sum be carried along all the same. So it is in the two loops below, which write at a place that moves on.
+// Where the text of each row of a tree starts: what resolving its path would give, of all rows in one pass. A row is read by its number, as the readers of rows take
+// it: over `chunks_exact` each would be told that row 0 is meant. So it is in the two loops below, which write at a place that moves on.
 pub fn fill_starts(tree: &[u32], out: &mut [u32])
     requires { (length tree.now ≤ 3 * length out.old) × (length tree.now < 3 * 2 ^ 16) × (bytes (triples [] tree.now) < 2 ^ 32) }
     ensures { Starts tree.now out.old out.new }
 {
     let mut sum = 0;
-    for i in 0..tree.len() / ROW_WORDS {
-        let next = sum + rows_syntax_node::text_length(tree, i);
-        out[i] = sum as u32;
-        sum = next;
+    for (i, start) in out[..tree.len() / ROW_WORDS].iter_mut().enumerate() {
+        *start = sum as u32;
+        sum += text_length(tree, i);
     }
 }
 
@@ -43,8 +42,8 @@ fn write_element(b: &mut [u8], kinds: usize, measures: usize, tree: &[u32], row:
     words::write_word(b, measures, measure);
 }
 
-// One sweep over a tree writes its kind words at `at` and its measures behind them. How many times it read an element: that is promised of the sweep, as document 02 asks (Note 4: each
-// element is read once), and so it is counted: `rows` would be no count of reads.
+// One sweep over a tree writes its kind words at `at` and its measures behind them. How many times it read an element: that is promised of the sweep, as document 02
+// asks (Note 4: each element is read once), and so it is counted: `rows` would be no count of reads.
 pub fn write_elements(b: &mut [u8], at: usize, tree: &[u32]) -> usize
     requires { (at + 8 * (length tree.now / 3) ≤ length b.old) × (length tree.now < 3 * 2 ^ 16) }
     ensures { Swept tree.now at b.old b.new result }
@@ -59,7 +58,7 @@ pub fn write_elements(b: &mut [u8], at: usize, tree: &[u32]) -> usize
     reads
 }
 
-// The six sizes are written at the front.
+// The six sizes are written at the front. They come one by one: how many elements there are is counted by the sweep itself, when the others are known.
 pub fn write_sizes(
     b: &mut [u8],
     elements: usize,
@@ -82,16 +81,13 @@ pub fn write_sizes(
     words::write_words(b, 0, &six);
 }
 
-// The own text of the element at row `i`: a node has none.
+// The own text of the element at row `i`, which is as long as its row says: a node has none.
 fn own_text<'a>(tree: &[u32], i: usize, text: &'a [u8]) -> &'a [u8]
     requires { 3 * i + 2 < length tree.now }
     ensures { result.now ≡ own (row_in text.now tree.now i) }
 {
-    if NODE_KIND <= words::word(tree, ROW_WORDS * i) {
-        return &[];
-    }
     let from = words::word(tree, ROW_WORDS * i + TEXT);
-    let to = from + words::word(tree, ROW_WORDS * i + MEASURE);
+    let to = from + text_length(tree, i);
     text.get(from..to).unwrap_or(&[])
 }
 
