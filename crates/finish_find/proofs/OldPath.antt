@@ -18,10 +18,9 @@ use Rattle.finish_find.specs.OldStart.{TreesTold, PathFrom, old_resolved}
 
 -- ── The path of an element ──────────────────────────────────────────────────────────────────────────────────
 
--- the way up from element k has come to `at`, whose parent + 1 is p, and the child numbers passed stand from `from` on
-pub record Rising (n : ℕ) (w : List ℕ) (k : ℕ) (a : List ℕ) (at from p : ℕ) : Type 0 where
+-- the way up from element k has come to `at`, and the child numbers passed stand from `from` on
+pub record Rising (n : ℕ) (w : List ℕ) (k : ℕ) (a : List ℕ) (at from : ℕ) : Type 0 where
   pub here : at < n
-  pub parent : p ≡ get_or w (8 * at + 1) 0
   pub deeper : get_or w (8 * at + 3) 0 + 64 ≡ get_or w (8 * k + 3) 0 + from
   pub high : from ≤ 64
   pub long : length a ≡ 64
@@ -50,60 +49,55 @@ path_top n w s L e h z = go (get_or w (8 * e + 3) 0) (L.root e h z).0
     go d q = rw (q, path_to, z)
 
 module _ {n : ℕ} {w : List ℕ} {k : ℕ} {a : List ℕ} where
-  pub rising_start : {p : ℕ} → (k < n) × (length a ≡ 64) → (p ≡ get_or w (8 * k + 1) 0) × (p < 2 ^ 32) → Rising n w k a k 64 p
-  rising_start h e = record {
+  pub rising_start : (k < n) × (length a ≡ 64) → Rising n w k a k 64
+  rising_start h = record {
     here = h.0;
-    parent = e.0;
     deeper = refl;
     high = omega arith;
     long = h.1;
     rest = λ s. sym (ap (λ r. path_to w s (get_or w (8 * k + 3) 0) k ++ r) (drop_of_length-le a {i = 64} (omega (arith, h.1))) ∙ append-nil (path_to w s (get_or w (8 * k + 3) 0) k));
   }
 
-module _ {n : ℕ} {w : List ℕ} {k : ℕ} {a : List ℕ} {at from p : ℕ} (v : Rising n w k a at from p) (L : Lines n w) (hk : k < n) where
+module _ {n : ℕ} {w : List ℕ} {k : ℕ} {a : List ℕ} {at from : ℕ} (v : Rising n w k a at from) (L : Lines n w) (hk : k < n) where
   pub rising_entry : 8 * at + 8 ≤ length w
   rising_entry = omega (arith, v.here, L.long)
 
-  module _ (z : p ≡ 0 → ⊥) where
-    above : get_or w (8 * at + 1) 0 ≡ suc (p - 1)
-    above = omega (arith, v.parent)
+  module _ {p : ℕ} (e : (p ≡ get_or w (8 * at + 1) 0) × (p < 2 ^ 32)) where
+    -- an element above it
+    module _ {x : ℕ} (z : (1 ≤ p) × (x ≡ p - 1)) where
+      above : get_or w (8 * at + 1) 0 ≡ suc x
+      above = omega (arith, e.0, z.0, z.1)
 
-    pub rising_room : 0 < from
-    rising_room = omega (arith, v.deeper, L.shallow k hk, deep n w L at v.here)
+      pub rising_room : 0 < from
+      rising_room = omega (arith, v.deeper, L.shallow k hk, deep n w L at v.here)
 
-    pub rising_less : p - 1 < at
-    rising_less = omega (arith, L.before at v.here, above)
+      pub rising_less : x < at
+      rising_less = omega (arith, L.before at v.here, above)
 
-    rising_here : p - 1 < n
-    rising_here = parent_below n w L at (p - 1) v.here above
+      pub rising_next : {c : ℕ} → (c ≡ get_or w (8 * at + 2) 0) × (c < 2 ^ 32) → Rising n w k (set a (from - 1) c) x (from - 1)
+      rising_next {c} f =
+          let i : suc (from - 1) ≡ from = omega (arith, rising_room) in
+          let h : from - 1 < length a = omega (arith, v.long, v.high, rising_room) in
+          record {
+            here = parent_below n w L at x v.here above;
+            deeper = omega (arith, v.deeper, (L.below at x v.here above).0);
+            high = omega (arith, v.high);
+            long = length-set a (from - 1) c ∙ v.long;
+            rest = λ s.
+                let P : Path = path_to w s (get_or w (8 * x + 3) 0) x in
+                v.rest s ∙ (ap (λ q. q ++ drop from a) (path_up n w s L at x v.here above ∙ ap (λ x. P ++ (x ∷ [])) (sym f.0)) ∙ (append_assoc P (c ∷ []) (drop from a) ∙ ap (λ r. P ++ r) (sym (drop_set a (from - 1) c h ∙ ap (λ j. c ∷ drop j a) i))));
+          }
 
-    pub rising_above : 8 * (p - 1) + 8 ≤ length w
-    rising_above = omega (arith, rising_here, L.long)
-
-    pub rising_next : {c p' : ℕ} → (c ≡ get_or w (8 * at + 2) 0) × (c < 2 ^ 32) → (p' ≡ get_or w (8 * (p - 1) + 1) 0) × (p' < 2 ^ 32) → Rising n w k (set a (from - 1) c) (p - 1) (from - 1) p'
-    rising_next {c} f e =
-        let i : suc (from - 1) ≡ from = omega (arith, rising_room) in
-        let h : from - 1 < length a = omega (arith, v.long, v.high, rising_room) in
-        record {
-          here = rising_here;
-          parent = e.0;
-          deeper = omega (arith, v.deeper, (L.below at (p - 1) v.here above).0);
-          high = omega (arith, v.high);
-          long = length-set a (from - 1) c ∙ v.long;
-          rest = λ s.
-              let P : Path = path_to w s (get_or w (8 * (p - 1) + 3) 0) (p - 1) in
-              v.rest s ∙ (ap (λ q. q ++ drop from a) (path_up n w s L at (p - 1) v.here above ∙ ap (λ x. P ++ (x ∷ [])) (sym f.0)) ∙ (append_assoc P (c ∷ []) (drop from a) ∙ ap (λ r. P ++ r) (sym (drop_set a (from - 1) c h ∙ ap (λ j. c ∷ drop j a) i))));
-        }
-
-  pub rising_done : p ≡ 0 → PathFrom n w k a from
-  unfolding row_at field tree head_d
-  rising_done z = record { high = v.high; long = v.long; numbers = go }
-    where
-      go : (s : List ℕ) → (row (view n w s) k).path ≡ tree (view n w s) k ∷ drop from a
-      go s =
-          let e : (row (view n w s) k).path ≡ get_or w (8 * at + 2) 0 ∷ drop from a =
-          ap (λ r. r.path) (row_view n w s k hk) ∙ (v.rest s ∙ ap (λ q. q ++ drop from a) (path_top n w s L at v.here (sym v.parent ∙ z))) in
-          e ∙ ap (λ q. head_d q 0 ∷ drop from a) (sym e)
+    pub rising_done : (1 ≤ p → ⊥) → PathFrom n w k a from
+    unfolding row_at field tree head_d
+    rising_done z = record { high = v.high; long = v.long; numbers = go }
+      where
+        go : (s : List ℕ) → (row (view n w s) k).path ≡ tree (view n w s) k ∷ drop from a
+        go s =
+            let t : get_or w (8 * at + 1) 0 ≡ 0 = omega (arith, e.0) in
+            let e : (row (view n w s) k).path ≡ get_or w (8 * at + 2) 0 ∷ drop from a =
+            ap (λ r. r.path) (row_view n w s k hk) ∙ (v.rest s ∙ ap (λ q. q ++ drop from a) (path_top n w s L at v.here t)) in
+            e ∙ ap (λ q. head_d q 0 ∷ drop from a) (sym e)
 
 -- ── What resolving it gives ─────────────────────────────────────────────────────────────────────────────────
 

@@ -1,6 +1,6 @@
 // `find_element`: where the old node's text starts, and in the new tree the first node in preorder with its kind word and that start.
-// Bounds of one number and an index of what is read stand as clauses: a value around each would be no plainer than its bound. That the elements are those of some trees (`TreesTold`)
-// is a clause since it names the trees, which are data.
+// Bounds of one number and an index of what is read stand as clauses: a value around each would be no plainer than its bound. That the elements are those of some trees
+// (`TreesTold`) is a clause since it names the trees, which are data.
 #![tactic(auto)]
 
 ghost use Rattle.std.specs.Prelude.{◌≡◌, List, ℕ, ◌≤◌, ◌<◌, length};
@@ -30,13 +30,11 @@ fn path_in_tree(elements: &Elements, k: usize, path: &mut [u32; 64]) -> usize
     let table = elements.table;
     let mut at = k;
     let mut from: usize = 64;
-    let mut parent = entry(table, k, PARENT);
     // A climb has no bound to count to but its elements: as a range of 64 steps it would owe a case behind it that never comes.
-    while parent != 0 {
+    while let Some(parent) = entry(table, at, PARENT).checked_sub(1) {
         from -= 1;
         path[from] = entry(table, at, CHILD) as u32;
-        at = parent - 1;
-        parent = entry(table, at, PARENT);
+        at = parent;
     }
     from
 }
@@ -66,8 +64,8 @@ fn is_alike(kind: usize, start: usize, other: usize, sum: usize) -> bool
     NODE_KIND <= other && other == kind && sum == start
 }
 
-// The number of the first node of tree 0 with this kind word and text start, from the rows of all trees. The tree ends where no element is owed: each row is one owed less, and a
-// node's row owes its children. So the tree is walked once; over `first_tree` its end would be looked for first, a second walk.
+// The number of the first node of tree 0 with this kind word and text start, from the rows of all trees. The tree ends where no element is owed: each row is one owed
+// less, and a node's row owes its children. So the tree is walked once; over `first_tree` its end would be looked for first, a second walk.
 pub fn find_in_tree(rows: &Rows, kind: usize, start: usize) -> Option<usize>
     requires { 1 ≤ rows.now.count }
     ensures { (text : List ℕ) → result ≡ found (find_row (first_tree (first_rows text rows.now.count rows.now.words.now)) kind start) }
