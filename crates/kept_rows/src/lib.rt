@@ -1,5 +1,5 @@
 // The surviving elements of tree 0 as pairs (document 02, Note 11), from the marks and the rows that a run leaves.
-// Bounds of one number and room in a lent slice stand as clauses: a value around each would be no plainer than its bound.
+// Bounds of one number, an index of what is read and room in a lent slice stand as clauses: a value around each would be no plainer than its bound.
 #![tactic(auto)]
 
 ghost use Rattle.std.specs.Prelude.{◌≡◌, List, ℕ, ◌+◌, ◌*◌, ◌^◌, ◌≤◌, ◌<◌, length};
@@ -42,8 +42,8 @@ fn write_pair(b: &mut [u8], olds: usize, news: usize, old: usize, mark: usize, e
     }
 }
 
-// All pairs are written in one pass: the old numbers at the front, the new ones from `half` on. `to` goes on by what each pair wrote, so that a sum of the library's would have a closure that writes.
-// Both halves are places in one slice, since what is promised is of all of it.
+// All pairs are written in one pass: the old numbers at the front, the new ones from `half` on. `to` goes on by what each pair wrote, so that a sum of the library's
+// would have a closure that writes. Both halves are places in one slice, since what is promised is of all of it.
 fn write_kept(b: &mut [u8], marks: &[u32], end: usize, half: usize)
     requires { (half ≡ 4 * length (pairs_from end 0 marks.now)) × (2 * half ≤ length b.old) × (length marks.now < 2 ^ 16) }
     ensures { b.new ≡ paste b.old 0 (pair_bytes (pairs_from end 0 marks.now)) (2 * half) }
@@ -67,8 +67,8 @@ fn hand_out(marks: &[u32], end: usize, res: &mut [u8]) -> Result<Told, Refusal>
     Ok(Told::Bytes(8 * count))
 }
 
-// THE SURVIVING PAIRS, from the batch's own rows, which are that of the node above all its elements and theirs, the marks of the elements, and the rows of all trees as the run
-// leaves them; or 13.
+// THE SURVIVING PAIRS, from the batch's own rows, which are that of the node above all its elements and theirs, the marks of the elements, and the rows of all trees as
+// the run leaves them; or 13.
 pub fn kept(own: &Rows, marks: &[u32], rows: &Rows, res: &mut [u8]) -> Result<Told, Refusal>
     requires { (1 ≤ own.now.count) × (own.now.count ≤ 2 ^ 12) × (own.now.count ≤ length marks.now + 1) × (1 ≤ rows.now.count) }
     ensures { (before after : List ℕ) → Tells (tell_pairs (length res.old) (kept_rows (first_rows before own.now.count own.now.words.now) (first_rows after rows.now.count rows.now.words.now) marks.now)) res.old result res.new }
