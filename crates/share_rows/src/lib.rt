@@ -1,5 +1,5 @@
 // The share of text rewritten (document 02, Note 10), from the rows and the changed elements that a run leaves.
-// Bounds of one number stand as clauses: a value around each would be no plainer than its bound.
+// Bounds of one number and an index of what is read stand as clauses: a value around each would be no plainer than its bound.
 #![tactic(auto)]
 
 ghost use Rattle.std.specs.Prelude.{◌^◌, ◌≤◌, ◌<◌, length};
