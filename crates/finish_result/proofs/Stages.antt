@@ -2,7 +2,6 @@
 -- Assumes nothing.
 use mathlib.Core.Path.{◌≡◌, sym, ap, ◌∙◌}
 use mathlib.Core.List.{List, [], map, flat_map}
-use mathlib.Core.Option.{Option}
 use Prim.Native.Nat.{ℕ, ◌+◌, ◌-◌, ◌*◌, ◌/◌, ◌^◌, ◌≤◌, ◌<◌}
 use native.Mathlib.Nat.{zero-add}
 use native.Mathlib.Numerals.{add-one}
@@ -86,7 +85,3 @@ module _ {rows : List ℕ} {n : ℕ} {tree : List ℕ} (p : Part rows n 1 tree) 
   pub tree_weighs : (text : List ℕ) (notes : List HeldNote) (changed : List HeldChanged) (k c : ℕ) {size x y r : ℕ} → (size ≡ length (flat_map own (triples text tree))) × (size < 2 ^ 32)
       → Counts (element_in 1 (length tree / 3 + 1)) changed c x → Counts (note_in 1 (length tree / 3 + 1)) notes k y → r ≡ 24 + 8 * (length tree / 3) + 8 * x + 8 * y + size → Weighs text n rows notes changed r
   tree_weighs text notes changed k c s u v g = parts_weigh text notes changed k c p s u v g
-
--- a number that is counted is no more than those that are looked at
-pub counted_few : {X : Type 0} {f : X → Option X} {l : List X} {c r : ℕ} → Counts f l c r → c < 2 ^ 16 → r < 2 ^ 32
-counted_few u h = omega (arith, u.most)

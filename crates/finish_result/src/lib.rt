@@ -1,5 +1,6 @@
 // The result from what the run leaves: changed elements and notes in order, refusal 13, and the bytes.
 // Bounds of one number and room in a lent slice stand as clauses: a value around each would be no plainer than its bound.
+// That a tree's text can be counted stands in clauses, as finish_arrays says.
 // Each `write_*` is told the place in the whole result where its arrays begin, and not their part of it: the promise is of all the bytes, one `paste` over another.
 #![tactic(auto)]
 
@@ -112,6 +113,7 @@ pub fn write_result(
 }
 
 // ── From what the run leaves ──
+// Notes and changed elements are no part of `Left`: finishing sorts them in place while the rows are read. Nor is the text: it is the batch's.
 
 // The changed elements and the notes of the new tree in order, then the result as bytes; `starts` says where each element's text starts.
 fn finish_tree(
