@@ -30,7 +30,8 @@ pub use share_rows::Thousandths;
 // How many bytes the edit program's result buffer has.
 const PROGRAM_ROOM: usize = 65536;
 
-// The result's bytes from what the run of the batch leaves, or 13. Beside `series_answer::answer_end`: what is common is `finish`, and one function over both would need a crate of its own. `starts` is for where each element's text starts.
+// The result's bytes from what the run of the batch leaves, or 13. Beside `series_answer::answer_end`: what is common is `finish`, and one function over both would need
+// a crate of its own. `starts` is for where each element's text starts.
 fn write_answer(
     choices: Choices,
     batch: &[u8],
