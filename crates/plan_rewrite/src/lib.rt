@@ -1,8 +1,8 @@
 // Rewriting dependents: the targets of a change inside a replaced node move into the replacement, and its row is made anew. Rows come with a place or a count:
 // record_changes says why.
 // Bounds of one number, an index of what is read and room in a lent slice stand as clauses: a value around each would be no plainer than its bound.
-// What rows state (`Dependent`, `NewEnds`, `Fated`, `Rewritable`) stands in clauses: each speaks of one row, two or the first `c` of a slice and of the listed elements, so
-// that a value would hold both slices; the first three would be made anew for each row, and `Rewritable` once, for a single function.
+// What rows state (`Dependent`, `NewEnds`, `Fated`, `Rewritable`) stands in clauses: each speaks of one row, two or the first `c` of a slice and of the listed elements,
+// so that a value would hold both slices; the first three would be made anew for each row, and `Rewritable` once, for a single function.
 // Mapping, list and rows are no one value: each clause would name all three through it, and the rows are read by place (record_changes).
 #![tactic(auto)]
 

@@ -1,6 +1,6 @@
 // Mapping elements into a replacement: the way down by child numbers, where a dependent's target goes, where a note's element settles.
-// An index of what is read stands as a clause: a value around each would be no plainer than its bound. So `input` and `output` stay two numbers: only the bound of each is
-// known.
+// An index of what is read stands as a clause: a value around each would be no plainer than its bound. So `input` and `output` stay two numbers: only the bound of
+// each is known.
 #![tactic(auto)]
 
 ghost use Rattle.std.specs.Prelude.{◌<◌, length};
