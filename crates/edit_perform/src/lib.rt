@@ -1,7 +1,7 @@
 // From a batch to what its run leaves: refusals 17 and 18, lines 1 to 7, planning, and the steps.
-// Room in a lent slice stands as a clause: a value around each would be no plainer than its bound.
-// `LaidOut` and `Planning` stand in clauses, since they name the definition's trees and what is planned, which are data: as a field each would be truncated, and each proof
-// that reads it would have to show that its own goal has one proof at most.
+// An index of what is read, the equality of two numbers and room in a lent slice stand as clauses: a value around each would be no plainer than its bound.
+// `LaidOut` and `Planning` stand in clauses, since they name the definition's trees and what is planned, which are data: as a field each would be truncated, and each
+// proof that reads it would have to show that its own goal has one proof at most.
 #![tactic(auto)]
 
 ghost use Rattle.std.specs.Prelude.{◌≡◌, ◌≤◌, length, map};
@@ -26,7 +26,8 @@ use refusals::Refusal;
 use run_annotations::NOTE_WORDS;
 use run_execute::{Task, execute};
 
-// What a run leaves: where the batch's text starts, how many elements it has, how many changes are recorded (withdrawn ones among them), the rows, notes and changed elements that are held, and two numbers of the result.
+// What a run leaves: where the batch's text starts, how many elements it has, how many changes are recorded (withdrawn ones among them), the rows, notes and changed
+// elements that are held, and two numbers of the result.
 #[derive(Clone, Copy)]
 pub struct Ended {
     pub text: usize,
@@ -48,7 +49,8 @@ struct Plan<'a> {
     first: &'a [u32],
 }
 
-// The steps of the plan, over marks for just the batch's elements. Over 40 lines by its clauses, as the next one is: nine lines name what is lent, the body has fewer.
+// The steps of the plan, over marks for just the batch's elements. Over 40 lines by its clauses, as the next one is: nine lines name the parameters, of which six are
+// lent to be written; the body has fewer.
 // `choices` names the definition's in the clauses: a ghost value in its place could be picked from the call's other arguments alone, which do not tell it.
 fn run_plan(
     choices: Choices,
