@@ -16,7 +16,7 @@ use std::io;
 use std::io::{Read, Write};
 use std::rt::Env;
 
-// The account of a batch, its text at the front of `out`. The work slices are made here, of the lengths of docs/WORK.md: what a closure of `promises::with_work` leaves in a slice that it was lent is not told to its caller (tried).
+// The account of a batch, its text at the front of `out`. The work slices are made here, of the lengths of docs/WORK.md: what a closure of `promises::with_work` leaves in a slice that it captures is not told to its caller (tried).
 fn account_batch(choices: Choices, batch: &[u8], out: &mut [u8]) -> Result<usize, Refusal>
     requires { (length batch.now ≤ 65536) × (8192 ≡ length out.old) }
     ensures { Tells (meant choices) batch.now result out.new }

@@ -83,6 +83,7 @@ fn is_old_node(elements: &Elements, k: usize) -> bool
 }
 
 // Where element `k` stands in the new tree, from the rows that the run of the batch leaves. It and `share_from` answer a `Told`, as each job does: so `answer` only chooses.
+// `table` and `source` come apart: the fact of `Elements` follows from `ElementsTold`, a clause that names the batch.
 fn find_from(
     choices: Choices,
     batch: &[u8],

@@ -18,7 +18,7 @@ use std::io;
 use std::io::{Read, Write};
 use std::rt::Env;
 
-// The answer to a batch, its result at the front of `res`. The work slices are made here, of the lengths of docs/WORK.md: what a closure of `promises::with_work` leaves in a slice that it was lent is not told to its caller (tried).
+// The answer to a batch, its result at the front of `res`. The work slices are made here, of the lengths of docs/WORK.md: what a closure of `promises::with_work` leaves in a slice that it captures is not told to its caller (tried).
 fn edit_batch(choices: Choices, batch: &[u8], res: &mut [u8]) -> Result<usize, Refusal>
     requires { (length batch.now ≤ 65536) × (65536 ≡ length res.old) }
     ensures { Tells (meant choices) batch.now result res.new }

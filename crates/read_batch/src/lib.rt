@@ -1,5 +1,6 @@
 // Lines 2 to 7, with 16 right after 6.
 // Room in a lent slice and the equality of two numbers stand as clauses: a value around each would be no plainer than its bound.
+// The table and the rows come as two slices: they are lent to be filled, and are `Elements` once they are.
 #![tactic(auto)]
 
 ghost use Rattle.std.specs.Prelude.{◌≡◌, ◌≤◌, length};

@@ -104,7 +104,7 @@ fn run_job(
     })
 }
 
-// What was recorded of a batch: its choices, itself, its refusal's number (0 for none) and its result.
+// What was recorded of a batch: its choices, itself, its refusal's number (0 for none; a number, as `is_answer` says) and its result.
 #[derive(Clone, Copy)]
 struct Recorded<'a> {
     choices: Choices,

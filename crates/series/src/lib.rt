@@ -1,4 +1,5 @@
 // The public calls on a series of edits (document 02, Note 14).
+// The memory's two slices come apart, as C lends them (DECISIONS 60): both are written.
 #![tactic(auto)]
 
 ghost use Rattle.std.specs.Prelude.{◌≡◌, ◌∷◌, []};

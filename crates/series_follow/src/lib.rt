@@ -22,7 +22,7 @@ use series_tree::{LentTree, same_tree};
 // A tree left by a batch may have so many elements.
 const MOST_LATER: usize = 4096;
 
-// Lines 2 to 7 with 16, and 22 after them.
+// Lines 2 to 7 with 16, and 22 after them. Table and rows come as two slices, as read_batch says.
 fn accept_same(
     b: &[u8],
     tree: &LentTree,

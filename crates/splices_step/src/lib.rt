@@ -3,6 +3,8 @@
 // Bounds of one number, the order of two numbers, an index of what is read and room in a lent slice stand as clauses: a value around each would be no plainer
 // than its bound. That marks are rows stands in clauses, since they are written; that the words of splices are in bounds does, since it is of a list and an old tree
 // together, and the check of a list, which finds it out, reads the same `SpliceList`.
+// Rows and marks stay two slices, here and in splices_list: the gap is read of both, then both are written; each function would begin by lending the fields of one value
+// again.
 #![tactic(auto)]
 
 ghost use Rattle.std.specs.Prelude.{◌≡◌, true, ℕ, ◌+◌, ◌*◌, ◌^◌, ◌≤◌, ◌<◌, length, get_or};

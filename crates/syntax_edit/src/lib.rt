@@ -12,7 +12,7 @@ use edit_algo::serve;
 use promises::{Job, Work};
 use write_layout::Lists;
 
-// THE EDIT of a batch: the length of the answer, which stands at the front of `result`, or a refusal's number with a minus.
+// THE EDIT of a batch: the length of the answer, which stands at the front of `res`, or a refusal's number with a minus.
 // The nine others are work slices, which end as zeros.
 #[unsafe(no_mangle)]
 pub extern "C" fn syntax_edit(
@@ -89,7 +89,7 @@ pub extern "C" fn syntax_find_element(
     edit_numbers::number_of(told)
 }
 
-// THE ACCOUNT of a batch, what becomes of each change or which two overlap: the length of the text, which stands at the front of `result`, or a refusal's
+// THE ACCOUNT of a batch, what becomes of each change or which two overlap: the length of the text, which stands at the front of `res`, or a refusal's
 // number with a minus.
 // The nine others are work slices, which end as zeros.
 #[unsafe(no_mangle)]
@@ -173,7 +173,7 @@ pub extern "C" fn syntax_share(
 }
 
 // THE SURVIVING PAIRS of a batch's edit: how many bytes they have, or a refusal's number with a minus. Each element of the old tree that is in the new tree, by rising
-// numbers, makes a pair: all old numbers, then all new ones, stand at the front of `result`, a word of four bytes each.
+// numbers, makes a pair: all old numbers, then all new ones, stand at the front of `res`, a word of four bytes each.
 // The nine others are work slices, which end as zeros.
 #[unsafe(no_mangle)]
 pub extern "C" fn syntax_kept(

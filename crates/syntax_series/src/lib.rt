@@ -1,4 +1,5 @@
-// The calls on a series of edits for C and Rust (document 02, Note 14): a slice is a pointer and a length, an outcome is one number.
+// The calls on a series of edits for C and Rust (document 02, Note 14): a slice is a pointer and a length, an outcome is one number. The slices come one by one,
+// since C lends them so.
 #![tactic(auto)]
 
 ghost use Rattle.std.specs.Prelude.{◌∷◌, []};
@@ -21,7 +22,7 @@ pub extern "C" fn syntax_series_start(tree: &[u8], bookmarks: &[u32], rows: &mut
     }
 }
 
-// A LATER CALL of a series: the length of the answer, which stands at the front of `result`; `tree` and `bookmarks` then hold the new tree and the bookmarks that survive. Or a refusal's
+// A LATER CALL of a series: the length of the answer, which stands at the front of `res`; `tree` and `bookmarks` then hold the new tree and the bookmarks that survive. Or a refusal's
 // number with a minus, and these three are as they were. The nine others are work slices, which end as zeros.
 #[unsafe(no_mangle)]
 pub extern "C" fn syntax_series_follow(

@@ -1,6 +1,7 @@
 // Lists of splices on one old tree, each in all its orders: every word of what they leave is printed once where all orders agree. Then lists that are refused, by
 // their numbers.
 // The old tree is root(X(a, b), Y(c), d), with one-letter tokens: rows 0 to 6.
+// Rows and marks travel apart, as `splices_list::splice_all` is lent them: a struct would be taken apart at each call.
 #![tactic(auto)]
 
 use program_input::print_words;
