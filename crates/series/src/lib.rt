@@ -16,7 +16,7 @@ use choices::Choices;
 use promises::Work;
 use refusals::Refusal;
 
-// How many words the rows of 4,096 elements have.
+// How many words the first call is lent: half of them for the rows of 2,048 elements, half for where their children stand.
 pub const ROWS: usize = 12288;
 
 // How many elements a starting tree may have: as many as a batch.
@@ -29,7 +29,8 @@ fn judge_start(tree: &[u8], bookmarks: &[u32], rows: &mut [u32]) -> Result<(), R
     if rows.len() < ROWS {
         return Err(Refusal::ShortWork);
     }
-    series_check::judge(MOST_AT_START, tree, bookmarks, rows)
+    let (rows, spare) = rows.split_at_mut(ROWS / 2);
+    series_check::judge(MOST_AT_START, tree, bookmarks, rows, spare)
 }
 
 // THE FIRST CALL of a series: whether it may begin with this tree and these bookmarks, or the refusal out of 1, 3, 4, 5, 20 and 21. Nothing is written but the work slice `rows`, which ends as zeros.

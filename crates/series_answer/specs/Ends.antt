@@ -48,7 +48,7 @@ left_over held (gives bytes) = rw (take_all (length bytes) bytes (omega arith), 
 pub record ToLeave (h : Choices) (tree bookmarks b s rows notes changed marks starts : List ℕ) (d : Ended) : Type 0 where
   pub table : List ℕ
   pub ends : EndsOn h (lent_of tree bookmarks) b table s rows notes changed marks d
-  pub room : 4096 ≤ length starts
+  pub room : 12288 ≤ length starts
 
 -- if it has
 pub record ToAnswer (h : Choices) (tree bookmarks b s rows notes changed marks starts : List ℕ) (p : Result Ended Unplanned) : Type 0 where
@@ -99,7 +99,7 @@ module _ {h : Choices} {tree bookmarks b s rows notes changed marks starts : Lis
           many = M.long;
           long_old = omega (arith, T.formed.long);
           long_new = A.rows_within;
-          few = omega (arith, T.formed.lines.few);
+          few = T.formed.lines.few;
           few_new = A.few_rows;
         }
 

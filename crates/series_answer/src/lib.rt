@@ -21,7 +21,7 @@ use series_leave::leave;
 use series_move::RunEnd;
 use series_tree::lacks_room;
 
-// At the end of the run: 13 where the memory or the result slice is too short, before anything is written; else both are written, and the result has so many bytes. `starts` is for where each element's text starts.
+// At the end of the run: 13 where the memory or the result slice is too short, before anything is written; else both are written, and the result has so many bytes. `starts` is for where each element's text starts, and then for what the rows tell of bookmarks.
 // Over 40 lines by its twelve parameters, of which a part of the body would be handed ten again. `choices` is for the contract, which tells the definition's answer by them: a ghost value in
 // its place would have to be picked by `series::follow`, and a pick goes by the arguments of the call, of which there would be none with the choices.
 fn answer_end<'a>(
@@ -72,7 +72,7 @@ fn answer_end<'a>(
         marks,
         rows: new,
     };
-    leave(&run, text, tree, bookmarks);
+    leave(&run, text, tree, bookmarks, starts);
     Ok(n)
 }
 

@@ -166,7 +166,7 @@ module _ (t : List ℕ) (n b : ℕ) (room : 8 + 8 * n + b ≤ length t) where
             shuffle false true c d = refl
             shuffle false false c d = refl
 
-        module _ (fine : false ≡ not (no_repeat (numbers_from marks k 0))) (rows₀ rows part : List ℕ) (long : 12288 ≤ length rows₀) (small : n ≤ 4096)
+        module _ (fine : false ≡ not (no_repeat (numbers_from marks k 0))) (rows₀ rows part : List ℕ) (long : 3 * n ≤ length rows₀)
             (filled : rows ≡ paste rows₀ 0 (rows_from 0 (elements_at t 8 (8 + 4 * n) n)) (3 * n)) (is : part ≡ take (3 * n) rows) where
           part_is : part ≡ rows_from 0 (elements_at t 8 (8 + 4 * n) n)
           part_is =

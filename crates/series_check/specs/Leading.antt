@@ -3,7 +3,7 @@
 use Rattle.std.proofs.Math.Path.{◌≡◌, refl, sym, ap}
 use Rattle.std.proofs.Common.{◌∙◌}
 use Rattle.std.specs.List.{list_all, range_with_len}
-use Rattle.std.specs.Prelude.{Bool, ◌||◌, ◌&&◌, zero, suc, Option as Answer, None, is_some as found, List, ℕ, ◌+◌, ◌-◌, ◌*◌, ◌^◌, ◌≤◌, ◌<◌, get_or, drop}
+use Rattle.std.specs.Prelude.{Bool, ◌||◌, ◌&&◌, zero, suc, Option as Answer, is_some as found, List, ℕ, ◌+◌, ◌-◌, ◌*◌, ◌^◌, ◌≤◌, ◌<◌, get_or, drop}
 use Rattle.std.proofs.Math.Bool.{true, false, not, not-not}
 use Rattle.std.proofs.Math.Option.{Option, none, some}
 use native.Mathlib.Omega.{arith}
@@ -13,8 +13,7 @@ use Rattle.orders.specs.Lists.{any}
 use Rattle.orders.specs.Tree.{Tree, resolve}
 use Rattle.definition.specs.Basics.{is_some}
 use Rattle.rows_model.specs.Row.{rows_of, triples}
-use Rattle.rows_path.specs.Promises.{Resolves, standing}
-use Rattle.rows_path.specs.declared.Resolved.{Resolved}
+use Rattle.rows_children.specs.Tables.{row_by, RowAt}
 use Rattle.series_laws.specs.Lent.{longest_path, bookmark_in, beyond_slot}
 use Rattle.series_check.specs.Slots.{slot_at, slots_from, slots_none, slots_more, slot_word, slot_path}
 
@@ -32,12 +31,12 @@ AllLead rows b k r = (text : List ℕ) (t : Tree ℕ) → triples text rows ≡ 
 
 -- ── One ─────────────────────────────────────────────────────────────────────────────────────────────────────
 
-module _ (rows b : List ℕ) (i : ℕ) {at n : ℕ} (ea : at ≡ 1 + 65 * i) (en : (n ≡ get_or b (at + 1) 0) × (n < 2 ^ 32)) where
+module _ (rows : List ℕ) (m : ℕ) (b : List ℕ) (i : ℕ) {at n : ℕ} (ea : at ≡ 1 + 65 * i) (en : (n ≡ get_or b (at + 1) 0) × (n < 2 ^ 32)) where
   long : get_or (slot_at b i) 1 0 ≡ n
   long = slot_word b i 1 (at + 1) (omega arith) (omega arith) ∙ sym en.0
 
   -- a path that is too long for its slot
-  pub leads_beyond : 63 < n → Leads rows (slot_at b i) false
+  pub leads_beyond : 63 < n → Leads (take (3 * m) rows) (slot_at b i) false
   unfolding lost beyond_slot
   leads_beyond h text t q = rw (long, lt-ltb longest_path n h)
 
@@ -49,20 +48,14 @@ module _ (rows b : List ℕ) (i : ℕ) {at n : ℕ} (ea : at ≡ 1 + 65 * i) (en
         let z : take (get_or (slot_at b i) 1 0) (drop 2 (slot_at b i)) ≡ path = ap (λ (k : ℕ). take k (drop 2 (slot_at b i))) long ∙ (slot_path b i n (at + 2) h (omega arith) ∙ sym (p ∙ ap (λ (k : ℕ). take k (drop (at + 2) b)) same)) in
         rw (z, long, le-ltb longest_path n h)
 
-    -- the answer is what resolving tells
-    pub leads_resolved : {r : Answer Resolved} (c : Bool) → Resolves rows path r → ((o : Option (Tree ℕ)) (t : Tree ℕ) → r ≡ standing path t o → c ≡ is_some o) → Leads rows (slot_at b i) c
-    leads_resolved {r} c v f text t q = f (resolve path t) t (v.element text t q) ∙ sym (ap not (within t) ∙ not-not (is_some (resolve path t)))
-
-    pub leads_found : {r : Answer Resolved} {c : Bool} → Resolves rows path r → c ≡ found r → Leads rows (slot_at b i) c
-    unfolding standing is_some
-    leads_found {r} {c} v is = leads_resolved c v (λ o t e. is ∙ (ap found e ∙ go o t))
+    -- the answer is whether resolving finds a row
+    pub leads_found : {r : Answer ℕ} {c : Bool} → RowAt rows m path r → c ≡ found r → Leads (take (3 * m) rows) (slot_at b i) c
+    unfolding row_by is_some
+    leads_found {r} {c} v is text t q = is ∙ (ap found (v text t q) ∙ (go (resolve path t) ∙ sym (ap not (within t) ∙ not-not (is_some (resolve path t)))))
       where
-        go : (o : Option (Tree ℕ)) (t : Tree ℕ) → found (standing path t o) ≡ is_some o
-        go none t = refl
-        go (some u) t = refl
-
-    pub leads_nowhere : {r : Answer Resolved} → Resolves rows path r → r ≡ None → Leads rows (slot_at b i) false
-    leads_nowhere {r} v is = leads_found v (sym (ap found is))
+        go : (o : Option (Tree ℕ)) → found (row_by path t o) ≡ is_some o
+        go none = refl
+        go (some u) = refl
 
 -- ── All ─────────────────────────────────────────────────────────────────────────────────────────────────────
 

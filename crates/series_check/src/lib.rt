@@ -2,9 +2,10 @@
 // Bounds of one number, an index of what is read and room in a lent slice stand as clauses: a value around each would be no plainer than its bound.
 #![tactic(auto)]
 
-ghost use Rattle.std.specs.Prelude.{◌≡◌, not, ◌+◌, ◌*◌, ◌^◌, ◌≤◌, ◌<◌, length, get_or};
+ghost use Rattle.std.specs.Prelude.{◌≡◌, not, ◌+◌, ◌*◌, ◌^◌, ◌≤◌, ◌<◌, length, get_or, take};
 ghost use Rattle.std.proofs.Math.Seq.{paste};
 ghost use Rattle.definition.specs.Basics.{among};
+ghost use Rattle.rows_children.specs.Tables.{ChildrenTold};
 ghost use Rattle.read_spelling.specs.Spelling.{elements_at};
 ghost use Rattle.read_element_table.specs.Filling.{rows_from};
 ghost use Rattle.check_laws.specs.Check.{no_repeat};
@@ -20,8 +21,8 @@ mod bookmarks;
 use bookmarks::Bookmarks;
 use read_spelling::Columns;
 use refusals::Refusal;
-use rows_path::resolve;
-use rows_syntax_node::ROW_WORDS;
+use rows_children::{Children, fill_children, row_at};
+use rows_syntax_node::{ROW_WORDS, Rows};
 use words::{read_word, word};
 
 // The tree's two sizes in bytes: elements, text bytes.
@@ -73,9 +74,10 @@ fn repeats(bookmarks: &Bookmarks) -> bool
 // ── 21: paths ──
 
 // Whether the path of bookmark `i` finds an element of the tree with these rows.
-fn leads(rows: &[u32], bookmarks: &Bookmarks, i: usize) -> bool
-    requires { (i < bookmarks.now.count) × (length rows.now < 3 * 2 ^ 16) }
-    ensures { Leads rows.now (slot_at bookmarks.now.words.now i) result }
+fn leads(rows: &Rows, children: &Children, bookmarks: &Bookmarks, i: usize) -> bool
+    requires told { ChildrenTold rows.now.words.now rows.now.count children.now.first.now children.now.rows.now }
+    requires i_in_bounds { i < bookmarks.now.count }
+    ensures { Leads (take (3 * rows.now.count) rows.now.words.now) (slot_at bookmarks.now.words.now i) result }
 {
     let words = bookmarks.words;
     let at = slot_at(i);
@@ -85,15 +87,15 @@ fn leads(rows: &[u32], bookmarks: &Bookmarks, i: usize) -> bool
     }
     let from = at + PATH;
     let to = from + n;
-    resolve(rows, &words[from..to]).is_some()
+    row_at(rows, children, &words[from..to]).is_some()
 }
 
 // Whether every path does.
-fn all_lead(rows: &[u32], bookmarks: &Bookmarks) -> bool
-    requires { length rows.now < 3 * 2 ^ 16 }
-    ensures { AllLead rows.now bookmarks.now.words.now bookmarks.now.count result }
+fn all_lead(rows: &Rows, children: &Children, bookmarks: &Bookmarks) -> bool
+    requires { ChildrenTold rows.now.words.now rows.now.count children.now.first.now children.now.rows.now }
+    ensures { AllLead (take (3 * rows.now.count) rows.now.words.now) bookmarks.now.words.now bookmarks.now.count result }
 {
-    (0..bookmarks.count).all(|i| leads(rows, bookmarks, i))
+    (0..bookmarks.count).all(|i| leads(rows, children, bookmarks, i))
 }
 
 // ── The memory ──
@@ -111,7 +113,7 @@ fn fill_rows(columns: &Columns, rows: &mut [u32])
     }
 }
 
-// Lines 5, 20 and 21 of a tree of `n` elements with `b` bytes of text, and of bookmarks. The rows are for the tree. `tree`, `n` and `b` are no value, as a memory's tree is
+// Lines 5, 20 and 21 of a tree of `n` elements with `b` bytes of text, and of bookmarks. The rows are for the tree, the spare words for where its children stand. `tree`, `n` and `b` are no value, as a memory's tree is
 // in series_tree: `judge` has read the sizes, and a value of them would be made for this one call.
 fn judge_memory(
     tree: &[u8],
@@ -119,8 +121,9 @@ fn judge_memory(
     b: usize,
     bookmarks: &Bookmarks,
     rows: &mut [u32],
+    spare: &mut [u32],
 ) -> Result<(), Refusal>
-    requires { (8 + 8 * n + b ≤ length tree.now) × (n ≤ 4096) × (b ≤ 16384) × (12288 ≤ length rows.old) }
+    requires { (8 + 8 * n + b ≤ length tree.now) × (n ≤ 4096) × (b ≤ 16384) × (3 * n ≤ length rows.old) × (3 * n ≤ length spare.old) }
     ensures { Remains tree.now n b bookmarks.now.words.now bookmarks.now.count result }
 {
     let columns = Columns {
@@ -136,16 +139,29 @@ fn judge_memory(
         return Err(Refusal::Bookmarks);
     }
     fill_rows(&columns, rows);
-    let end = ROW_WORDS * n;
-    if all_lead(&rows[..end], bookmarks) {
+    let (roots, rest) = spare.split_at_mut(n);
+    let (first, child) = rest.split_at_mut(n);
+    let filled = Rows {
+        count: n,
+        words: rows,
+    };
+    fill_children(&filled, roots, first, child);
+    let children = Children { first, rows: child };
+    if all_lead(&filled, &children, bookmarks) {
         return Ok(());
     }
     Err(Refusal::Astray)
 }
 
 // The first refusal of a memory whose tree may have `most` elements, out of 3, 4, 5, 20 and 21.
-pub fn judge(most: usize, tree: &[u8], bookmarks: &[u32], rows: &mut [u32]) -> Result<(), Refusal>
-    requires { (most ≤ 4096) × (12288 ≤ length rows.old) }
+pub fn judge(
+    most: usize,
+    tree: &[u8],
+    bookmarks: &[u32],
+    rows: &mut [u32],
+    spare: &mut [u32],
+) -> Result<(), Refusal>
+    requires { (most ≤ 4096) × (3 * most ≤ length rows.old) × (3 * most ≤ length spare.old) }
     ensures { answered result ≡ judged (lent most (record { tree = tree.entry.now; bookmarks = bookmarks.now })) }
 {
     if tree.len() < SIZES {
@@ -167,5 +183,5 @@ pub fn judge(most: usize, tree: &[u8], bookmarks: &[u32], rows: &mut [u32]) -> R
         count: k,
         words: bookmarks,
     };
-    judge_memory(tree, n, b, &lent, rows)
+    judge_memory(tree, n, b, &lent, rows, spare)
 }

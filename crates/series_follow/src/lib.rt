@@ -39,7 +39,7 @@ fn accept_same(
     Err(Refusal::AnotherTree)
 }
 
-// From what is lent to what the run leaves, or the first refusal before 13. The rows are first for the memory's tree. Beside `edit_perform::perform`: what is common is
+// From what is lent to what the run leaves, or the first refusal before 13. The rows, and the prepared rows, are first for the memory's tree. Beside `edit_perform::perform`: what is common is
 // `plan_and_run`, and what comes before it is told of other answers.
 pub fn perform(
     choices: Choices,
@@ -53,7 +53,7 @@ pub fn perform(
     ensures performs { PerformsOn (meant choices) (held work.old) (lent_of tree.now bookmarks.now) b.now work.new.table.now work.new.source.now work.new.rows.now work.new.notes.now work.new.changed.now work.new.marks.now result }
 {
     refused_first(choices, work)?;
-    judge(MOST_LATER, tree, bookmarks, work.rows)?;
+    judge(MOST_LATER, tree, bookmarks, work.rows, work.prepared)?;
     let table = &mut *work.table;
     let source = &mut *work.source;
     let lent = LentTree { bytes: tree };

@@ -18,7 +18,7 @@ use Rattle.series_laws.specs.Lent.{slot_words, bookmark_in, bookmark_out}
 use Rattle.series_check.specs.Slots.{slot_at, slot_word, slot_path}
 use Rattle.series_move.specs.Standing.{Stood}
 use Rattle.series_move.specs.Found.{Stands, moved_by}
-use Rattle.series_move.specs.Moved.{PathNow}
+use Rattle.series_move.specs.Paths.{PathNow}
 
 -- ── What is known ───────────────────────────────────────────────────────────────────────────────────────────
 

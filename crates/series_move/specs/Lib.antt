@@ -1,15 +1,15 @@
 -- Where bookmarks go.
 --     Standing  the path of a bookmark now, from the marks of the elements on its way
+--     Found     its element, and what its mark tells
 --     Paths     that path written, child number by child number
---     Moved     a bookmark moved, and its words in a slot
---     Found     its element, by resolving its old path in the batch's own rows
+--     Moved     its words in a slot
 --     Kept      one bookmark of the slots after a run: written to a slot, or dropped
 --     Packing   all of them: the survivors in their order, packed to the front
 --     Ready     an accepted batch on a lent memory has what is asked, and what is written is what the definition leaves
 --     Examples  lent bookmarks moved, by computation
 pub mod Standing
-pub mod Paths
 pub mod Found
+pub mod Paths
 pub mod Moved
 pub mod Kept
 pub mod Packing

@@ -2,6 +2,7 @@
 
 ghost use Rattle.std.specs.Prelude.{◌+◌, ◌*◌, ◌^◌, ◌≤◌, ◌<◌, length};
 
+use rows_children::Children;
 use rows_syntax_node::Rows;
 
 // Where the elements of a batch stood, and where they stand. `elements` and `source` are no `Rows`: every clause speaks of elements, which would be a count less one, and
@@ -16,5 +17,13 @@ pub struct RunEnd<'a> {
     // The rows of the current trees.
     pub rows: Rows<'a>,
     pub ghost long: { 3 * (elements + 1) ≤ length source.now },
-    pub ghost few: { elements < 2 ^ 12 },
+    pub ghost few: { elements ≤ 2048 },
+}
+
+// The same with what its rows tell at once: where the children of the old elements stand, and how many trees begin from each of the new rows on.
+#[derive(Clone, Copy)]
+pub struct Ways<'a> {
+    pub run: RunEnd<'a>,
+    pub children: Children<'a>,
+    pub trees: &'a [u32],
 }

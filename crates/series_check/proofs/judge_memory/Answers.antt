@@ -2,7 +2,7 @@
 use mathlib.Core.Path.{refl, sym, ◌∙◌}
 use borrow.Author.Rules.{rules}
 use Rattle.series_check.specs.Rows.{accepts_sum}
-use Rattle.series_check.specs.Judged.{remains_unspelled, remains_many, remains_repeated, part_long, remains_lead, remains_astray}
+use Rattle.series_check.specs.Judged.{remains_unspelled, remains_many, remains_repeated, remains_lead, remains_astray}
 use Rattle.series_check.proofs.judge_memory.Goals as goal
 use Rattle.series_check.proofs.judge_memory.Goals.{
   then-bookmarks-gt-MOST_BOOKMARKS-via-then-bookmarks-gt-MOST_BOOKMARKS,
@@ -22,14 +22,8 @@ returns-then-bookmarks-gt-MOST_BOOKMARKS c =
 pub fill_rows-requires : goal.fill_rows-requires
 fill_rows-requires c = search (accepts_sum, rules)
 
-pub slice_bounds-all_lead-end-2 : goal.slice_bounds-all_lead-end-2
-slice_bounds-all_lead-end-2 c = search (part_long, rules)
-
-pub all_lead-requires : goal.all_lead-requires
-all_lead-requires c = search (part_long, rules)
-
 pub returns-then-all_lead : goal.returns-then-all_lead
-returns-then-all_lead c = remains_lead _ _ _ c.requires.0 _ _ c.if-not-spells.ensures c.if-bookmarks-gt-MOST_BOOKMARKS.false c.if-repeats.ensures _ _ _ c.requires.3 c.requires.1 c.fill_rows.ensures refl c.all_lead.ensures c.if-all_lead.true
+returns-then-all_lead c = remains_lead _ _ _ c.requires.0 _ _ c.if-not-spells.ensures c.if-bookmarks-gt-MOST_BOOKMARKS.false c.if-repeats.ensures _ _ _ c.requires.3 c.fill_rows.ensures refl c.all_lead.ensures c.if-all_lead.true
 
 pub returns : goal.returns
-returns c = remains_astray _ _ _ c.requires.0 _ _ c.if-not-spells.ensures c.if-bookmarks-gt-MOST_BOOKMARKS.false c.if-repeats.ensures _ _ _ c.requires.3 c.requires.1 c.fill_rows.ensures refl c.all_lead.ensures c.if-all_lead.false
+returns c = remains_astray _ _ _ c.requires.0 _ _ c.if-not-spells.ensures c.if-bookmarks-gt-MOST_BOOKMARKS.false c.if-repeats.ensures _ _ _ c.requires.3 c.fill_rows.ensures refl c.all_lead.ensures c.if-all_lead.false

@@ -17,7 +17,7 @@ returns-in_err-refused_first-clause-performs c =
     rw (p.1, p.2) (performs_early (before_first _ _ _ c.refused_first.ensures _ (ap answered c.in_err-refused_first.was)) _ (ap answered c.in_err-refused_first.was))
 
 pub judge-requires : goal.judge-requires
-judge-requires c = (omega arith, omega (arith, (long_enough _ _ _ _ _ _ _ _ _ (early_passed _ _ c.refused_first.ensures c.in_ok-refused_first.was).1).1.4))
+judge-requires c = let v = long_enough _ _ _ _ _ _ _ _ _ (early_passed _ _ c.refused_first.ensures c.in_ok-refused_first.was).1 in (omega arith, omega (arith, v.1.4), omega (arith, v.1.5))
 
 pub returns-in_err-judge-clause-performs : goal.returns-in_err-judge-clause-performs
 unfolding answered
@@ -48,7 +48,7 @@ pub plan_and_run-requires-clause-in_bounds : goal.plan_and_run-requires-clause-i
 plan_and_run-requires-clause-in_bounds c = let v = long_enough _ _ _ _ _ _ _ _ _ (early_passed _ _ c.refused_first.ensures c.in_ok-refused_first.was).1 in (omega (arith, c.accept_same.auto.source, v.0.1), v.0.2)
 
 pub plan_and_run-requires-clause-in_bounds_2 : goal.plan_and_run-requires-clause-in_bounds_2
-plan_and_run-requires-clause-in_bounds_2 c = let v = long_enough _ _ _ _ _ _ _ _ _ (early_passed _ _ c.refused_first.ensures c.in_ok-refused_first.was).1 in (v.1.0, v.1.1, v.1.2, v.1.3, omega (arith, c.judge.auto.rows, v.1.4), v.1.5)
+plan_and_run-requires-clause-in_bounds_2 c = let v = long_enough _ _ _ _ _ _ _ _ _ (early_passed _ _ c.refused_first.ensures c.in_ok-refused_first.was).1 in (v.1.0, v.1.1, v.1.2, v.1.3, omega (arith, c.judge.auto.rows, v.1.4), omega (arith, c.judge.auto.spare, v.1.5))
 
 pub returns-in_err-layout-clause-performs : goal.returns-in_err-layout-clause-performs
 unfolding answered

@@ -1,12 +1,20 @@
--- `path_now` meets its contract.
-use Rattle.series_move.specs.Moved.{now_gone, now_survives, now_kept}
+-- `path_now` meets its contract. The child numbers passed are written.
+use native.Mathlib.Omega.{arith}
+use mathlib.Core.Path.{refl}
+use Rattle.series_move.specs.Paths.{writing_start, writing_row, writing_next, writing_done}
 use Rattle.series_move.proofs.path_now.Goals as goal
 
-pub returns-then-not-survives : goal.returns-then-not-survives
-returns-then-not-survives c = now_gone c.survives.ensures c.if-not-survives.true
+pub loop-j-init : goal.loop-j-init
+loop-j-init c = writing_start _ _ _ _ _ _ _ c.word_or_zero-mark.ensures
 
-pub write_path-requires : goal.write_path-requires
-write_path-requires c = record { survives = now_survives c.survives.ensures c.if-not-survives.false c.requires.stands; path_in_bounds = c.requires.path_in_bounds }
+pub overflow_sub-x : goal.overflow_sub-x
+overflow_sub-x c = writing_row c.loop-j.invariant c.requires.tables c.loop-j-test.true c.child_at-x.ensures.0 c.requires.stands
+
+pub loop-j-preserved : goal.loop-j-preserved
+loop-j-preserved c = writing_next c.loop-j.invariant c.requires.tables c.loop-j-test.true c.child_at-x.ensures.0 c.requires.path_in_bounds c.word_or_zero-here.ensures c.word_or_zero-behind.ensures.0 c.word_or_zero.ensures.0 c.saturating_sub.ensures
+
+pub shape_of-out : goal.shape_of-out
+shape_of-out c = c.loop-j.invariant.same
 
 pub returns : goal.returns
-returns c = now_kept c.survives.ensures c.if-not-survives.false c.write_path.ensures
+returns c = writing_done c.loop-j.invariant c.loop-j-test.false refl
