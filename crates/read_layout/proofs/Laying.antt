@@ -13,11 +13,12 @@ use borrow.Author.Tests.{lt-ltb, le-ltb, eq-eqb, ne_eqb, not-true, not-false}
 use Rattle.definition.specs.Basics.{gives, ◌>>=◌, refuse}
 use Rattle.definition.specs.Batch.{sizes, beyond, whole, arrays, batch}
 use Rattle.definition.specs.Words.{word}
+use Rattle.definition_laws.specs.Accepted.{Limited, limited}
 use Rattle.std.specs.Prelude.{Result, Ok, Err}
 use Rattle.refusals.specs.Numbers.{number, answered}
 use Rattle.refusals.specs.declared.Refusal.{Refusal}
 use Rattle.refusals.specs.declared.Refusal.TheVariants.{ShortBatch, Size, Length}
-use Rattle.read_layout.specs.Layout.{sizes_of, layout_of, ends_at, laid, Limits, limits_of}
+use Rattle.read_layout.specs.Layout.{sizes_of, layout_of, ends_at, laid}
 use Rattle.read_layout.specs.declared.Sizes.{Sizes}
 use Rattle.read_layout.specs.declared.Layout.{Layout}
 
@@ -31,8 +32,8 @@ sizes_read b t e x c l m a p q r s u v w = rw (p, q, r, s, u, v, w)
 -- ── The limits ──────────────────────────────────────────────────────────────────────────────────────────────
 
 module _ (s : Sizes) where
-  pub limits : (t : Bool) → t ≡ not (beyond (sizes_of s)) → t ≡ true → Limits s
-  limits t e h = limits_of s (not-true (beyond (sizes_of s)) (sym e ∙ h))
+  pub limits : (t : Bool) → t ≡ not (beyond (sizes_of s)) → t ≡ true → Limited (sizes_of s)
+  limits t e h = limited (sizes_of s) (not-true (beyond (sizes_of s)) (sym e ∙ h))
 
 -- ── The layout ──────────────────────────────────────────────────────────────────────────────────────────────
 
@@ -42,7 +43,7 @@ module _ (n : ℕ) (s : Sizes) (l : Layout) (e : l ≡ layout_of (sizes_of s)) w
   unfolding layout_of whole
   text_ends = ap (λ (k : Layout). k.text + s.text) e ∙ omega arith
 
-  pub text_fits : Limits s → Fits w64 (l.text + s.text)
+  pub text_fits : Limited (sizes_of s) → Fits w64 (l.text + s.text)
   unfolding whole
   text_fits h = record { fits = omega (arith, text_ends) }
 

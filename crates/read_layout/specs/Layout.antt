@@ -9,7 +9,7 @@ use Rattle.definition.specs.Batch as def
 use Rattle.definition.specs.Batch.{Batch, sizes, beyond, whole, arrays, batch}
 use Rattle.definition.specs.Words.{words}
 use Rattle.definition_laws.specs.Answers.{gives_inj, both_given, not_wrong}
-use Rattle.definition_laws.specs.Right.{neither}
+use Rattle.definition_laws.specs.Accepted.{Limited, limited}
 use Rattle.read_layout.specs.declared.Sizes.{Sizes}
 use Rattle.read_layout.specs.declared.Layout.{Layout}
 
@@ -86,20 +86,9 @@ laid b = batch b >>= (λ _. gives (layout_of (sizes b)))
 
 -- ── What an accepted layout guarantees ──────────────────────────────────────────────────────────────────────
 
--- line 3 in numbers
-pub record Limits (s : Sizes) : Type 0 where
-  pub tree : 1 ≤ s.trees
-  pub trees : s.trees ≤ 16
-  pub elements : s.elements ≤ 2048
-  pub text : s.text ≤ 16384
-  pub calls : s.calls ≤ 256
-  pub listed : s.listed ≤ 1024
-  pub mappings : s.mappings ≤ 1024
-  pub notes : s.notes ≤ 256
-
 -- each array stands within the batch, and the text ends it
 pub record Within (b : List ℕ) (l : Layout) : Type 0 where
-  pub limits : Limits l.sizes
+  pub limits : Limited (sizes_of l.sizes)
   pub kinds : l.kinds + 4 * l.sizes.elements ≤ length b
   pub measures : l.measures + 4 * l.sizes.elements ≤ length b
   pub words : l.words + 4 * l.sizes.calls ≤ length b
@@ -110,27 +99,6 @@ pub record Within (b : List ℕ) (l : Layout) : Type 0 where
   pub noted : l.noted + 4 * l.sizes.notes ≤ length b
   pub numbers : l.numbers + 4 * l.sizes.notes ≤ length b
   pub text : l.text + l.sizes.text ≡ length b
-
-pub limits_of : (s : Sizes) → beyond (sizes_of s) ≡ false → Limits s
-unfolding beyond
-limits_of s q =
-    let (q, notes) = neither _ (ltb 256 s.notes) q in
-    let (q, mappings) = neither _ (ltb 1024 s.mappings) q in
-    let (q, listed) = neither _ (ltb 1024 s.listed) q in
-    let (q, calls) = neither _ (ltb 256 s.calls) q in
-    let (q, text) = neither _ (ltb 16384 s.text) q in
-    let (q, elements) = neither _ (ltb 2048 s.elements) q in
-    let (tree, trees) = neither (ltb s.trees 1) (ltb 16 s.trees) q in
-    record {
-      tree = ltb-false s.trees 1 tree;
-      trees = ltb-false 16 s.trees trees;
-      elements = ltb-false 2048 s.elements elements;
-      text = ltb-false 16384 s.text text;
-      calls = ltb-false 256 s.calls calls;
-      listed = ltb-false 1024 s.listed listed;
-      mappings = ltb-false 1024 s.mappings mappings;
-      notes = ltb-false 256 s.notes notes;
-    }
 
 module _ (b : List ℕ) (l : Layout) (q : laid b ≡ gives l) where
   -- what lines 2 to 4 accept
@@ -152,7 +120,7 @@ module _ (b : List ℕ) (l : Layout) (q : laid b ≡ gives l) where
   within =
       let g = given in
       rw g.3 (record {
-        limits = limits_of (layout_of (sizes b)).sizes g.1;
+        limits = limited (sizes b) g.1;
         kinds = omega arith;
         measures = omega arith;
         words = omega arith;

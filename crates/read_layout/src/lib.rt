@@ -4,8 +4,9 @@
 
 ghost use Rattle.std.specs.Prelude.{◌≡◌, not, ◌≤◌, length};
 ghost use Rattle.definition.specs.Batch.{sizes, beyond};
+ghost use Rattle.definition_laws.specs.Accepted.{Limited};
 ghost use Rattle.refusals.specs.Numbers.{answered};
-ghost use Rattle.read_layout.specs.Layout.{sizes_of, layout_of, Limits, ends_at, laid};
+ghost use Rattle.read_layout.specs.Layout.{sizes_of, layout_of, ends_at, laid};
 
 mod batch;
 
@@ -84,7 +85,7 @@ pub fn within_limits(s: Sizes) -> bool
 
 // The arrays stand one after another. That sizes are within their limits stays a clause: those that are read may not be, so a value would be a second type of sizes.
 fn placed(s: Sizes) -> Layout
-    requires { Limits s }
+    requires { Limited (sizes_of s) }
     ensures { result ≡ layout_of (sizes_of s) }
 {
     let kinds = ARRAYS;
@@ -115,7 +116,7 @@ fn placed(s: Sizes) -> Layout
 // Line 4, of sizes within their limits.
 #[tactic(auto, using(crate::proofs::Laying::text_fits, crate::proofs::Laying::ends_elsewhere, crate::proofs::Laying::ends))]
 fn judge_length(b: &[u8], s: Sizes) -> Result<Layout, Refusal>
-    requires { Limits s }
+    requires { Limited (sizes_of s) }
     ensures { answered result ≡ ends_at (length b.now) (sizes_of s) }
 {
     let l = placed(s);

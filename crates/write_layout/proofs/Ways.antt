@@ -12,7 +12,6 @@ use Rattle.definition.specs.Refusals.{call_word}
 use Rattle.definition.specs.Words.{bytes, written}
 use Rattle.definition.specs.Writing.{Lists, sizes_of, seven_sizes, call_words, laid_out}
 use Rattle.read_layout.specs.Layout as read
-use Rattle.read_layout.specs.Layout.{Limits}
 use Rattle.read_layout.specs.declared.Sizes.{Sizes}
 use Rattle.words.specs.Bytes.{length_bytes, length_written, written_append}
 use Rattle.write_laws.specs.CallWords.{length_calls}
@@ -94,63 +93,45 @@ pub sizes_appended : (l : Lists) (s : Sizes) {d e : List ℕ} {r : ℕ} → read
 unfolding seven_sizes
 sizes_appended l s q p = rw (← q) p
 
--- the sizes of lists, as the code has them
-abbrev told : Lists → Sizes
-told l = record {
-  trees = l.trees;
-  elements = length l.kinds;
-  text = length l.text;
-  calls = length l.operations;
-  listed = length l.listed;
-  mappings = length l.inputs;
-  notes = length l.noted;
-}
-
 module _ (l : Lists) (y : InStep l) where
-  in_limits : Limits (told l)
-  unfolding sizes_of
-  in_limits = record {
-    tree = y.limits.some_tree;
-    trees = y.limits.trees;
-    elements = y.limits.elements;
-    text = y.limits.text;
-    calls = y.limits.calls;
-    listed = y.limits.listed;
-    mappings = y.limits.mappings;
-    notes = y.limits.notes;
-  }
-
   module _ {d d₁ : List ℕ} {r₁ : ℕ} (room : 49180 ≤ length d) (p₁ : Appended d 0 (written (seven_sizes (sizes_of l))) d₁ r₁) (e₁ : length d₁ ≡ length d) where
     sizes_end : r₁ ≡ 28
     unfolding seven_sizes
     sizes_end = omega (arith, p₁.ends, length_written (seven_sizes (sizes_of l)))
 
     pub room_trees : r₁ + 4 * length l.kinds + 4 * length l.measures ≤ length d₁
-    room_trees = omega (arith, sizes_end, in_limits.elements, y.measures)
+    unfolding sizes_of
+    room_trees = omega (arith, sizes_end, y.limits.elements, y.measures)
 
     module _ {d₂ : List ℕ} {r₂ : ℕ} (p₂ : Appended d₁ r₁ (written l.kinds ++ written l.measures) d₂ r₂) (e₂ : length d₂ ≡ length d₁) where
       trees_end : r₂ ≤ 16412
-      trees_end = omega (arith, sizes_end, p₂.ends, length_two l.kinds l.measures, in_limits.elements, y.measures)
+      unfolding sizes_of
+      trees_end = omega (arith, sizes_end, p₂.ends, length_two l.kinds l.measures, y.limits.elements, y.measures)
 
       pub room_queue : r₂ + 4 * length l.operations + 4 * length l.targets + 4 * length l.listed ≤ length d₂
-      room_queue = omega (arith, trees_end, in_limits.calls, in_limits.listed, y.targets)
+      unfolding sizes_of
+      room_queue = omega (arith, trees_end, y.limits.calls, y.limits.listed, y.targets)
 
       module _ {d₃ : List ℕ} {r₃ : ℕ} (p₃ : Appended d₂ r₂ (written (call_words l.operations l.counts l.rules) ++ (written l.targets ++ written l.listed)) d₃ r₃) (e₃ : length d₃ ≡ length d₂) where
         queue_long : length (written (call_words l.operations l.counts l.rules) ++ (written l.targets ++ written l.listed)) ≤ 6144
-        queue_long = rw (length-append, length_two l.targets l.listed, length_written, length_calls l.operations l.counts l.rules y.counts y.rules) (omega (arith, in_limits.calls, in_limits.listed, y.targets))
+        unfolding sizes_of
+        queue_long = rw (length-append, length_two l.targets l.listed, length_written, length_calls l.operations l.counts l.rules y.counts y.rules) (omega (arith, y.limits.calls, y.limits.listed, y.targets))
 
         queue_end : r₃ ≤ 22556
         queue_end = omega (arith, trees_end, p₃.ends, queue_long)
 
         pub room_names : r₃ + 4 * length l.inputs + 4 * length l.outputs + 4 * length l.noted + 4 * length l.numbers ≤ length d₃
-        room_names = omega (arith, queue_end, in_limits.mappings, in_limits.notes, y.outputs, y.numbers)
+        unfolding sizes_of
+        room_names = omega (arith, queue_end, y.limits.mappings, y.limits.notes, y.outputs, y.numbers)
 
         module _ {d₄ : List ℕ} {r₄ : ℕ} (p₄ : Appended d₃ r₃ ((written l.inputs ++ written l.outputs) ++ (written l.noted ++ written l.numbers)) d₄ r₄) (e₄ : length d₄ ≡ length d₃) where
           names_long : length ((written l.inputs ++ written l.outputs) ++ (written l.noted ++ written l.numbers)) ≤ 10240
-          names_long = rw (length-append, length_two l.inputs l.outputs, length_two l.noted l.numbers) (omega (arith, in_limits.mappings, in_limits.notes, y.outputs, y.numbers))
+          unfolding sizes_of
+          names_long = rw (length-append, length_two l.inputs l.outputs, length_two l.noted l.numbers) (omega (arith, y.limits.mappings, y.limits.notes, y.outputs, y.numbers))
 
           pub room_text : r₄ + length l.text ≤ length d₄
-          room_text = omega (arith, queue_end, p₄.ends, names_long, in_limits.text)
+          unfolding sizes_of
+          room_text = omega (arith, queue_end, p₄.ends, names_long, y.limits.text)
 
           pub all_laid : {d₅ : List ℕ} {r₅ : ℕ} → Appended d₄ r₄ l.text d₅ r₅ → Appended d 0 (laid_out l) d₅ r₅
           all_laid p₅ = rw (← laid_out_lem l) (appended_on p₁ (appended_on p₂ (appended_on p₃ (appended_on p₄ p₅))))
