@@ -22,7 +22,7 @@ use Rattle.definition.specs.Rewriting.{mapping, rewritten, settled}
 use Rattle.definition.specs.Running.{World}
 use Rattle.definition.specs.Finishing.{Result, result, six_sizes}
 use Rattle.definition.specs.Answers.{remaining, judge_changes, disjoint, rewrite_changes, Plan, plan, performed, ran, edit}
-use Rattle.definition_laws.specs.Basics.{keep_yes, keep_no}
+use Rattle.definition_laws.specs.Basics.{keep_yes, keep_no, numbered_get}
 use Rattle.definition_laws.specs.Answers.{given, gives_inj}
 use Rattle.definition_laws.specs.Kin.{path_leads, path_long, get_get_d}
 use Rattle.definition_laws.specs.Right.{Right, Sits, right_sits}
@@ -31,7 +31,7 @@ use Rattle.definition_laws.specs.Stages.{planned_fates, judge_fated, rewritten_a
 use Rattle.definition_laws.specs.Plans.{disjoint_fated, checked, changes, changes_right}
 use Rattle.definition_edge.proofs.Depths.{taken_deeper}
 use Rattle.definition_edge.specs.Fates.{FateAt, Says}
-use Rattle.definition_edge.proofs.Fates.{fates_true, numbered_get}
+use Rattle.definition_edge.proofs.Fates.{fates_true}
 use Rattle.account_laws.specs.Words.{at, tree_of, InTrees, fate_at, Overlap}
 use Rattle.account_laws.proofs.Owners.{named_exactly, own_exactly, dependent_exactly, named_contains}
 use Rattle.account_laws.proofs.Overlap.{overlap_true, overlap_first}

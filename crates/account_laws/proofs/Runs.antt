@@ -17,24 +17,9 @@ use Rattle.definition.specs.Elements.{Table}
 use Rattle.definition.specs.Recording.{delete}
 use Rattle.definition.specs.Planning.{key, Fate, own, dependent, discarded, is_discarded, Planned}
 use Rattle.definition.specs.Running.{owned, ranked, order}
-use Rattle.definition_laws.specs.Basics.{keep_yes, keep_no, up_from, All-append, All-keep, All-flatMap, total_append, total_zeros, total_flat_map}
+use Rattle.definition_laws.specs.Basics.{keep_yes, keep_no, up_from, All-append, All-keep, All-flatMap, total_append, total_add, total_zero, total_flat_map}
 use Rattle.definition_laws.specs.Sorting.{map_falling, falling_perm}
 use Rattle.account_laws.proofs.Counts.{times, times_cons, times_nil, perm_times, total_one_of, times_keep, times_up}
-
--- ── Sums ────────────────────────────────────────────────────────────────────────────────────────────────────
-
-total_add : {X : Type 0} (p : X → Bool) (f g : X → ℕ) (l : List X) → total p (λ x. f x + g x) l ≡ total p f l + total p g l
-unfolding total
-total_add p f g [] = refl
-total_add p f g (x ∷ l) = go (p x) (total_add p f g l)
-  where
-    go : (b : Bool) → total p (λ x. f x + g x) l ≡ total p f l + total p g l
-        → cond b (f x + g x) 0 + total p (λ x. f x + g x) l ≡ cond b (f x) 0 + total p f l + (cond b (g x) 0 + total p g l)
-    go true e = omega arith
-    go false e = omega arith
-
-total_zero : {X : Type 0} (p : X → Bool) (l : List X) → total p (λ x. 0) l ≡ 0
-total_zero p l = total_zeros p (λ x. 0) (λ x e. refl) l
 
 -- ── The order, as places ────────────────────────────────────────────────────────────────────────────────────
 

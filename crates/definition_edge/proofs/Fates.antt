@@ -1,23 +1,24 @@
 -- THE ACCOUNT OF RULE 1 IS TRUE: what it says of a change is so, and where it is so it says so.
 -- Assumes nothing.
-use Rattle.std.specs.Prelude.{◌≡◌, Bool, not, ◌&&◌, ◌↔◌, ◌⊎◌}
+use Rattle.std.specs.Prelude.{◌≡◌, Bool, not, ◌&&◌, ◌↔◌}
 use Rattle.std.proofs.Math.Path.{refl, ap}
-use Rattle.std.proofs.Common.{sym, ◌∙◌, inl, inr}
+use Rattle.std.proofs.Common.{sym, ◌∙◌}
 use Rattle.std.proofs.Math.Bool.{true, false, cond}
 use mathlib.Core.List.Memᴰ
-use mathlib.Core.List.{List, [], ◌∷◌, map, Memᴰ}
+use mathlib.Core.List.{List, Memᴰ}
 use Rattle.std.proofs.Math.Option.{Option, none, some}
-use Prim.Native.Nat.{ℕ, zero, suc, ◌+◌, ◌<◌}
+use Prim.Native.Nat.{ℕ, zero, suc, ◌<◌}
 use native.Mathlib.Omega.{arith}
 use Rattle.std.proofs.Math.ListN.{get_elem?}
 use Rattle.orders.specs.Lists.{All}
-use Rattle.orders.specs.ListLaws.{some_inj, none_some, All-mem, get_mem}
+use Rattle.orders.specs.ListLaws.{some_inj, All-mem, get_mem, get_map}
 use Rattle.orders.specs.Tree.{Tree}
 use Rattle.definition.specs.Basics.{numbered}
 use Rattle.definition.specs.Elements.{Table, table}
 use Rattle.definition.specs.Recording.{Change}
 use Rattle.definition.specs.Planning.{Fate, own, dependent, discarded, is_discarded, node_by_node, inner}
 use Rattle.definition.specs.EdgeRule.{region_depth, region_of, fate_in, fate_within, fate_among, fates1}
+use Rattle.definition_laws.specs.Basics.{get_numbered, numbered_get}
 use Rattle.definition_laws.specs.Performed.{numbered_rising}
 use Rattle.definition_laws.specs.Right.{Sits}
 use Rattle.definition_laws.specs.Stages.{numbered_all}
@@ -82,27 +83,6 @@ module _ (ts : List (Tree ℕ)) where
             stable d (suc (region_depth T r.1)) r k.one (taken_deeper ts r c (sits r k.one) (sits c z) k.belongs q) (omega arith))
 
 -- ── The account ─────────────────────────────────────────────────────────────────────────────────────────────
-
-get_map : {A B : Type 0} (f : A → B) (l : List A) (i : ℕ) (x : A) → get_elem? l i ≡ some x → get_elem? (map f l) i ≡ some (f x)
-get_map f [] i x e = none_some e
-get_map {B = B} f (y ∷ l) zero x e = ap {B = Option B} (λ z. some (f z)) (some_inj e)
-get_map f (y ∷ l) (suc i) x e = get_map f l i x e
-
-module _ {A : Type 0} where
-  get_numbered : (n j : ℕ) (l : List A) (i : ℕ) (x : A) → n + i ≡ j → get_elem? l i ≡ some x → get_elem? (numbered n l) i ≡ some (j, x)
-  unfolding numbered
-  get_numbered n j [] i x z e = none_some e
-  get_numbered n j (y ∷ l) zero x z e = let k : n ≡ j = omega arith in rw (k, some_inj e)
-  get_numbered n j (y ∷ l) (suc i) x z e = get_numbered (suc n) j l i x (omega arith) e
-
-  pub numbered_get : (n : ℕ) (l : List A) (q : ℕ × A) → Memᴰ q (numbered n l) → (i : ℕ) × (q.0 ≡ n + i) × (get_elem? l i ≡ some q.1)
-  unfolding numbered
-  numbered_get n [] q m = absurd (Memᴰ.not-nil m)
-  numbered_get n (x ∷ l) q m = go (Memᴰ.cases_cons m) (λ m. numbered_get (suc n) l q m)
-    where
-      go : (q ≡ (n, x)) ⊎ Memᴰ q (numbered (suc n) l) → (Memᴰ q (numbered (suc n) l) → (i : ℕ) × (q.0 ≡ suc n + i) × (get_elem? l i ≡ some q.1)) → (i : ℕ) × (q.0 ≡ n + i) × (get_elem? (x ∷ l) i ≡ some q.1)
-      go (inl e) k = (0, omega (arith, ap (λ z. z.0) e), ap {B = Option A} (λ z. some z.1) (sym e))
-      go (inr m) k = let (i, a, b) = k m in (suc i, omega arith, b)
 
 module _ (ts : List (Tree ℕ)) (cs : List Change) (s : All (Sits (table 0 0 ts)) cs) where
   abbrev T₀ : Table

@@ -1,18 +1,21 @@
 -- Laws on lists: what passes a test, numbers one after another, lists joined, pairs of two lists' elements, an element by its place.
 -- Assumes nothing.
-use Rattle.std.specs.Prelude.{◌≡◌, Bool, length, take, drop, get_or}
+use Rattle.std.specs.Prelude.{◌≡◌, Bool, ◌⊎◌, length, take, drop, get_or}
 use Rattle.std.proofs.Math.Path.{refl, ap}
 use Rattle.std.proofs.Common.{sym, ◌∙◌, take-append-drop}
 use Rattle.std.proofs.Math.Bool.{true, false, cond}
+use Rattle.std.proofs.Math.Logic.{inl, inr}
+use Rattle.std.proofs.Math.ListN.{get_elem?}
 use Rattle.std.proofs.Math.Option
 use Rattle.std.proofs.Math.Option.{Option, none, some}
-use mathlib.Core.List.{List, [], ◌∷◌, ◌++◌, map, flat_map, zip, append_assoc}
+use mathlib.Core.List.Memᴰ
+use mathlib.Core.List.{List, [], ◌∷◌, ◌++◌, map, flat_map, zip, append_assoc, Memᴰ}
 use Prim.Native.Nat.{ℕ, zero, suc, ◌+◌, ◌≤◌, ◌<◌}
 use native.Mathlib.Omega.{arith}
 use Rattle.orders.specs.Lists.{more, pick, All, total}
 use Rattle.orders.specs.Tree.{modify}
 use Rattle.orders.specs.ListLaws.{some_inj, none_some}
-use Rattle.definition.specs.Basics.{keep, first}
+use Rattle.definition.specs.Basics.{keep, first, numbered}
 
 -- ── What passes a test ──────────────────────────────────────────────────────────────────────────────────────
 
@@ -132,6 +135,23 @@ get_d_map f [] k d d' h = absurd (omega arith)
 get_d_map f (x ∷ l) zero d d' h = refl
 get_d_map f (x ∷ l) (suc k) d d' h = get_d_map f l k d d' (omega arith)
 
+-- an element numbered, and the other way round
+module _ {A : Type 0} where
+  pub get_numbered : (n j : ℕ) (l : List A) (i : ℕ) (x : A) → n + i ≡ j → get_elem? l i ≡ some x → get_elem? (numbered n l) i ≡ some (j, x)
+  unfolding numbered
+  get_numbered n j [] i x z e = none_some e
+  get_numbered n j (y ∷ l) zero x z e = let k : n ≡ j = omega arith in rw (k, some_inj e)
+  get_numbered n j (y ∷ l) (suc i) x z e = get_numbered (suc n) j l i x (omega arith) e
+
+  pub numbered_get : (n : ℕ) (l : List A) (q : ℕ × A) → Memᴰ q (numbered n l) → (i : ℕ) × (q.0 ≡ n + i) × (get_elem? l i ≡ some q.1)
+  unfolding numbered
+  numbered_get n [] q m = absurd (Memᴰ.not-nil m)
+  numbered_get n (x ∷ l) q m = go (Memᴰ.cases_cons m) (λ m. numbered_get (suc n) l q m)
+    where
+      go : (q ≡ (n, x)) ⊎ Memᴰ q (numbered (suc n) l) → (Memᴰ q (numbered (suc n) l) → (i : ℕ) × (q.0 ≡ suc n + i) × (get_elem? l i ≡ some q.1)) → (i : ℕ) × (q.0 ≡ n + i) × (get_elem? (x ∷ l) i ≡ some q.1)
+      go (inl e) k = (0, omega (arith, ap (λ z. z.0) e), ap {B = Option A} (λ z. some z.1) (sym e))
+      go (inr m) k = let (i, a, b) = k m in (suc i, omega arith, b)
+
 -- ── Sums ────────────────────────────────────────────────────────────────────────────────────────────────────
 
 module _ {A : Type 0} (p : A → Bool) (f : A → ℕ) where
@@ -156,6 +176,17 @@ module _ {A : Type 0} (p : A → Bool) (f : A → ℕ) where
       go true e r = omega (arith, h x e)
       go false e r = omega arith
 
+  -- two sums in one
+  pub total_add : (g : A → ℕ) (l : List A) → total p (λ x. f x + g x) l ≡ total p f l + total p g l
+  unfolding total
+  total_add g [] = refl
+  total_add g (x ∷ l) = go (p x) (total_add g l)
+    where
+      go : (b : Bool) → total p (λ x. f x + g x) l ≡ total p f l + total p g l
+          → cond b (f x + g x) 0 + total p (λ x. f x + g x) l ≡ cond b (f x) 0 + total p f l + (cond b (g x) 0 + total p g l)
+      go true e = omega arith
+      go false e = omega arith
+
   pub total_flat_map : {B : Type 0} (t : B → Bool) (g : B → List A) (l : List B) → total p f (flat_map g (keep t l)) ≡ total t (λ x. total p f (g x)) l
   unfolding total flat_map keep pick
   total_flat_map t g [] = refl
@@ -165,6 +196,9 @@ module _ {A : Type 0} (p : A → Bool) (f : A → ℕ) where
           → total p f (flat_map g (keep t (x ∷ l))) ≡ cond b (total p f (g x)) 0 + total t (λ x. total p f (g x)) l
       go true e r = rw (keep_yes t x l e) (total_append (g x) (flat_map g (keep t l)) ∙ rw r)
       go false e r = rw (keep_no t x l e) (omega arith)
+
+pub total_zero : {A : Type 0} (p : A → Bool) (l : List A) → total p (λ x. 0) l ≡ 0
+total_zero p l = total_zeros p (λ x. 0) (λ x e. refl) l
 
 -- a list's length is a sum of ones
 pub total_length : {A : Type 0} (l : List A) → total (λ x. true) (λ x. 1) l ≡ length l

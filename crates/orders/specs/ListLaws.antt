@@ -254,6 +254,11 @@ module _ {ℓ κ} {X : Type ℓ} {Y : Type κ} (f : X → Y) where
   map_drop (suc n) [] = refl
   map_drop (suc n) (x ∷ l) = map_drop n l
 
+  pub get_map : (l : List X) (i : ℕ) (x : X) → get_elem? l i ≡ some x → get_elem? (map f l) i ≡ some (f x)
+  get_map [] i x e = none_some e
+  get_map (y ∷ l) zero x e = ap {B = Option Y} (λ z. some (f z)) (some_inj e)
+  get_map (y ∷ l) (suc i) x e = get_map l i x e
+
 -- ── A property of each element, a relation between any two ──────────────────────────────────────────────────
 
 pub All-map {ℓ κ μ} : {A : Type ℓ} {P : A → Type κ} {Q : A → Type μ} → ((x : A) → P x → Q x) → (l : List A) → All P l → All Q l

@@ -13,10 +13,11 @@ use Rattle.orders.specs.Lists.{total}
 use Rattle.definition.specs.Basics.{keep, insert_by}
 use Rattle.definition.specs.Planning.{Fate, own, dependent, discarded}
 use Rattle.definition.specs.Running.{owned}
+use Rattle.definition_laws.specs.Basics.{total_add, total_zero}
 use Rattle.record_changes.specs.ChangeRowLaws.{row_at}
 use Rattle.plan_sort.specs.Rows.{row_fate}
 use Rattle.plan_sort.specs.Sorting.{sort_from, comes_at, ranked_places, length_ranked}
-use Rattle.plan_postorder.specs.Sums.{all, total_at_most, total_add, total_zero, total_count, total_most, total_swap, length_kept}
+use Rattle.plan_postorder.specs.Sums.{all, total_at_most, total_count, total_most, total_swap, length_kept}
 use Rattle.plan_postorder.specs.Order.{ordered, owner_told, runs, running_places}
 
 -- ── How often a place runs ──────────────────────────────────────────────────────────────────────────────────

@@ -8,26 +8,13 @@ use Rattle.std.proofs.Common.{zero-add, length-append}
 use native.Mathlib.Omega.{arith}
 use Rattle.orders.specs.Lists.{pick, total}
 use Rattle.definition.specs.Basics.{keep}
-use Rattle.definition_laws.specs.Basics.{total_le, total_zeros}
+use Rattle.definition_laws.specs.Basics.{total_le, total_add, total_zero}
 use Rattle.plan_sort.specs.Lists.{keep_cons}
 
 abbrev pub all : {X : Type 0} → X → Bool
 all x = true
 
 module _ {X : Type 0} where
-  pub total_add : (p : X → Bool) (f g : X → ℕ) (l : List X) → total p (λ x. f x + g x) l ≡ total p f l + total p g l
-  unfolding total
-  total_add p f g [] = refl
-  total_add p f g (x ∷ l) = go (p x) (total_add p f g l)
-    where
-      go : (b : Bool) → total p (λ x. f x + g x) l ≡ total p f l + total p g l
-          → cond b (f x + g x) 0 + total p (λ x. f x + g x) l ≡ cond b (f x) 0 + total p f l + (cond b (g x) 0 + total p g l)
-      go true e = omega arith
-      go false e = omega arith
-
-  pub total_zero : (p : X → Bool) (l : List X) → total p (λ x. 0) l ≡ 0
-  total_zero p l = total_zeros p (λ x. 0) (λ x e. refl) l
-
   -- each term at most another's, of those that pass the same test
   pub total_at_most : (p : X → Bool) (f g : X → ℕ) → ((x : X) → f x ≤ g x) → (l : List X) → total p f l ≤ total p g l
   total_at_most p f g h l = total_le p f p g (λ x. go (p x) (f x) (g x) (h x)) l

@@ -6,7 +6,7 @@ use mathlib.Core.List.Permᴰ
 use mathlib.Core.List.{List, [], ◌∷◌, ◌++◌, map, append-nil, reverse_aux, Permᴰ, cons≢nil}
 use Rattle.std.proofs.Math.Option.{Option, none, some}
 use Rattle.std.proofs.Math.ListN.{get_elem?}
-use Rattle.orders.specs.ListLaws.{none_some}
+use Rattle.orders.specs.ListLaws.{none_some, get_map}
 use Rattle.orders.specs.Tree.{Tree, Path, resolve}
 use Rattle.orders.specs.Splices.{Splice, State, begin, performs, one_go, EntersDeleted, AllApart}
 use Rattle.orders.proofs.Parts.{neat}
@@ -20,7 +20,7 @@ use Rattle.rows_model.proofs.PlaceLaws.{place_pos}
 use Rattle.rows_model.proofs.Moves.{place_inj}
 use Rattle.definition_laws.specs.Kin.{get_get_d}
 use Rattle.splices_model.specs.Cuts.{paths, state_of}
-use Rattle.splices_model.specs.Places.{get_map, paths_at}
+use Rattle.splices_model.specs.Places.{paths_at}
 use Rattle.splices_model.specs.Orders.{map_same, state_after, performs_state}
 use Rattle.definition.specs.Basics.{Answer, refused, gives}
 use Rattle.splices_model.specs.SpliceList.{old_tree, words_of, splices_to, filled, rewritten}

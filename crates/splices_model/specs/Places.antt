@@ -7,7 +7,7 @@ use Rattle.std.proofs.Math.ListN.{get_elem?}
 use Rattle.std.proofs.lemmas.List.{length-map}
 use Rattle.orders.specs.Lists.{All}
 use Rattle.orders.specs.Tree.{Tree, Trees, node, token, nil, cons, list, Path, resolve}
-use Rattle.orders.specs.ListLaws.{some_inj, none_some, lt_or_le, get_lt, get_left, get_right}
+use Rattle.orders.specs.ListLaws.{some_inj, none_some, lt_or_le, get_lt, get_left, get_right, get_map}
 use Rattle.orders.proofs.TreeLaws.{resolve_child, resolve_at}
 use Rattle.definition_laws.specs.Basics.{up_from}
 use Rattle.rows_model.specs.Row.{rows_of, rows_in, rows_all}
@@ -18,11 +18,6 @@ use Rattle.splices_model.specs.Cuts.{paths, paths_from}
 -- ── Elements of a mapped list ───────────────────────────────────────────────────────────────────────────────
 
 module _ {X Y : Type 0} (f : X → Y) where
-  pub get_map : (l : List X) (i : ℕ) (x : X) → get_elem? l i ≡ some x → get_elem? (map f l) i ≡ some (f x)
-  get_map [] i x e = none_some e
-  get_map (y ∷ l) zero x e = rw (some_inj e)
-  get_map (y ∷ l) (suc i) x e = get_map l i x e
-
   pub map_get : (l : List X) (i : ℕ) (y : Y) → get_elem? (map f l) i ≡ some y → (x : X) × (get_elem? l i ≡ some x) × (f x ≡ y)
   map_get [] i y e = none_some e
   map_get (x ∷ l) zero y e = (x, refl, some_inj e)

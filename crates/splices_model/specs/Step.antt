@@ -7,7 +7,7 @@ use mathlib.Core.List.{List, [], ◌∷◌, ◌++◌, map, head-eq_of_cons-eq, t
 use Rattle.std.proofs.Math.Option.{Option, some, bind}
 use Rattle.std.proofs.Math.ListN.{get_or, get_elem?}
 use Rattle.orders.specs.Lists.{All, total}
-use Rattle.orders.specs.ListLaws.{bool?, bool_absurd, map_some, All-map}
+use Rattle.orders.specs.ListLaws.{bool?, bool_absurd, map_some, get_map, All-map}
 use Rattle.orders.specs.Tree.{Tree, Path, adjust, splice, Run, HasRun}
 use Rattle.orders.specs.Splices.{Splice, State, begin, perform, perform_at, run_now, start, left_in, left_of, inserted, deleted, same_path}
 use Rattle.orders.proofs.Check.{says_same}
@@ -22,7 +22,7 @@ use Rattle.rows_model.proofs.Marks.{mark_follows, held_after}
 use Rattle.rows_model.proofs.Words.{length_triples}
 use Rattle.splices_model.specs.Cuts.{Cut, cut_of, cut_at, cuts_to, part_at, gain, loss, left_cut, start_cut, paths, Holds, Stands, Told}
 use Rattle.definition_laws.specs.Basics.{up_from}
-use Rattle.splices_model.specs.Places.{get_map, paths_at, places_count, paths_lead}
+use Rattle.splices_model.specs.Places.{paths_at, places_count, paths_lead}
 
 -- ── The start of a run ──────────────────────────────────────────────────────────────────────────────────────
 

@@ -14,17 +14,17 @@ use Rattle.std.proofs.Math.Dec.{ltb, eqb}
 use Rattle.std.proofs.Math.ListN.{length, get_elem?}
 use borrow.Author.Tests.{ltb-true, lt-ltb, le-ltb, eqb-true, eq-eqb}
 use Rattle.orders.specs.Lists.{pick, All, Pairs}
-use Rattle.orders.specs.ListLaws.{bool_absurd, either_true, both_true, some_inj, none_some, map_some, lt_or_le, get_mem, get_lt, lt_get, All-map, All-map₂, All-mem, All-perm, any_mem, mem_any, mem_pick}
+use Rattle.orders.specs.ListLaws.{bool_absurd, either_true, both_true, some_inj, none_some, map_some, lt_or_le, get_mem, get_lt, lt_get, get_map, All-map, All-map₂, All-mem, All-perm, any_mem, mem_any, mem_pick}
 use Rattle.definition.specs.Basics.{any, is_some, keep, numbered, lower, insert_by, sort_by, falling}
 use Rattle.definition.specs.Elements.{Table, tree}
 use Rattle.definition.specs.Recording.{Recorded, Change}
 use Rattle.definition.specs.Planning.{target, from, to, parent_depth, peers}
 use Rattle.definition.specs.EdgeRule.{removes}
-use Rattle.definition_laws.specs.Basics.{keep_yes, keep_no, All-append, append_All, All-keep, first_passes}
+use Rattle.definition_laws.specs.Basics.{keep_yes, keep_no, All-append, append_All, All-keep, get_numbered, numbered_get, first_passes}
 use Rattle.definition_laws.specs.Sorting.{insert_first, insert_later, insert_perm, sort_all, falling_perm, at_first, at_rest, lower_why, lower_not_why}
 use Rattle.definition_laws.specs.Performed.{numbered_rising}
 use Rattle.definition.specs.Withdrawing.{Numbered, replaces, crosses, shares, overlapping, gives_way, stronger, keeping, kept, withdrawn_by, withdrawals}
-use Rattle.withdraw_laws.specs.Lists.{keep_passes, first_none, none_first, first_mem, first_before, get_map, get_numbered, numbered_get}
+use Rattle.withdraw_laws.specs.Lists.{keep_passes, first_none, none_first, first_mem, first_before}
 use Rattle.withdraw_laws.specs.Words.{Overlapping, GivesWay, Kept, Under}
 
 -- ── The order in which they are taken ───────────────────────────────────────────────────────────────────────

@@ -9,13 +9,12 @@ use Prim.Native.Nat.{ℕ, zero, suc, ◌+◌, ◌≤◌, ◌<◌}
 use Rattle.std.proofs.Math.ListN.{get_elem?}
 use Rattle.std.proofs.lemmas.List.{length-map}
 use Rattle.orders.specs.Lists.{All, Pairs}
-use Rattle.orders.specs.ListLaws.{some_inj, none_some, get_mem, All-map, All-mem}
+use Rattle.orders.specs.ListLaws.{some_inj, none_some, get_mem, get_map, All-map, All-mem}
 use Rattle.definition.specs.Basics.{numbered}
 use Rattle.definition.specs.Planning.{Fate, own, dependent, discarded}
 use Rattle.definition_laws.specs.Basics.{up_from, up_at}
 use Rattle.definition.specs.Withdrawing.{staying, numbers_left}
 use Rattle.definition.specs.Account.{fate_line, Said, planned, withdrawn, renumbered, sayings, account_of, said_line, said_lines}
-use Rattle.withdraw_laws.specs.Lists.{get_map}
 
 -- ── Places and numbers ──────────────────────────────────────────────────────────────────────────────────────
 

@@ -6,6 +6,6 @@
 --     Numbers      places of what is left and numbers of all: `place_number`, `number_place`, `numbers_rise`; the account by them: `account_length`,
 --                  `account_withdrawn`, `account_planned`; where nothing is withdrawn: `account_same`, `lines_same`
 -- The proofs rest on:
---     Lists        of tests on lists, and of elements with their places
+--     Lists        of tests on lists
 pub mod Lists
 pub mod Words

@@ -1,19 +1,16 @@
--- What the laws of withdrawal ask of lists: tests, the first that passes, elements with their places.
+-- What the laws of withdrawal ask of lists: tests, the first that passes.
 -- Assumes nothing.
 use Rattle.std.specs.Prelude.{◌≡◌, Bool, ◌⊎◌}
-use Rattle.std.proofs.Math.Path.{refl, ap}
+use Rattle.std.proofs.Math.Path.{refl}
 use Rattle.std.proofs.Common.{sym, subst}
 use Rattle.std.proofs.Math.Bool.{true, false, cond}
 use Rattle.std.proofs.Math.Logic.{inl, inr}
-use Rattle.std.proofs.Math.Option.{Option, none, some}
+use Rattle.std.proofs.Math.Option.{none, some}
 use mathlib.Core.List.Memᴰ
-use mathlib.Core.List.{List, [], ◌∷◌, map, Memᴰ}
-use Prim.Native.Nat.{ℕ, zero, suc, ◌+◌}
-use native.Mathlib.Omega.{arith}
-use Rattle.std.proofs.Math.ListN.{get_elem?}
+use mathlib.Core.List.{List, [], ◌∷◌, Memᴰ}
 use Rattle.orders.specs.Lists.{pick, All, Pairs}
 use Rattle.orders.specs.ListLaws.{bool_absurd, some_inj, none_some, All-map}
-use Rattle.definition.specs.Basics.{keep, first, numbered}
+use Rattle.definition.specs.Basics.{keep, first}
 use Rattle.definition_laws.specs.Basics.{keep_yes, keep_no}
 
 -- ── The first that passes a test ────────────────────────────────────────────────────────────────────────────
@@ -63,26 +60,3 @@ module _ {A : Type 0} (p : A → Bool) where
       go : (b : Bool) → p y ≡ b → cond b (some y) (first p l) ≡ some x → (first p l ≡ some x → All (λ y. p y ≡ true → (y ≡ x) ⊎ R x y) l) → All (λ y. p y ≡ true → (y ≡ x) ⊎ R x y) (y ∷ l)
       go true b q k = let z = some_inj q in ((λ i. inl z), subst (λ w. All (λ v. p v ≡ true → (v ≡ w) ⊎ R w v) l) z (All-map (λ u r i. inr r) l h.0))
       go false b q k = ((λ i. bool_absurd i b), k q)
-
--- ── Elements with their places ──────────────────────────────────────────────────────────────────────────────
-
-pub get_map : {A B : Type 0} (f : A → B) (l : List A) (i : ℕ) (x : A) → get_elem? l i ≡ some x → get_elem? (map f l) i ≡ some (f x)
-get_map f [] i x e = none_some e
-get_map {B = B} f (y ∷ l) zero x e = ap {B = Option B} (λ z. some (f z)) (some_inj e)
-get_map f (y ∷ l) (suc i) x e = get_map f l i x e
-
-module _ {A : Type 0} where
-  pub get_numbered : (n j : ℕ) (l : List A) (i : ℕ) (x : A) → n + i ≡ j → get_elem? l i ≡ some x → get_elem? (numbered n l) i ≡ some (j, x)
-  unfolding numbered
-  get_numbered n j [] i x z e = none_some e
-  get_numbered n j (y ∷ l) zero x z e = let k : n ≡ j = omega arith in rw (k, some_inj e)
-  get_numbered n j (y ∷ l) (suc i) x z e = get_numbered (suc n) j l i x (omega arith) e
-
-  pub numbered_get : (n : ℕ) (l : List A) (q : ℕ × A) → Memᴰ q (numbered n l) → (i : ℕ) × (q.0 ≡ n + i) × (get_elem? l i ≡ some q.1)
-  unfolding numbered
-  numbered_get n [] q m = absurd (Memᴰ.not-nil m)
-  numbered_get n (x ∷ l) q m = go (Memᴰ.cases_cons m) (λ m. numbered_get (suc n) l q m)
-    where
-      go : (q ≡ (n, x)) ⊎ Memᴰ q (numbered (suc n) l) → (Memᴰ q (numbered (suc n) l) → (i : ℕ) × (q.0 ≡ suc n + i) × (get_elem? l i ≡ some q.1)) → (i : ℕ) × (q.0 ≡ n + i) × (get_elem? (x ∷ l) i ≡ some q.1)
-      go (inl e) k = (0, omega (arith, ap (λ z. z.0) e), ap {B = Option A} (λ z. some z.1) (sym e))
-      go (inr m) k = let (i, a, b) = k m in (suc i, omega arith, b)
