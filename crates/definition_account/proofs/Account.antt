@@ -8,8 +8,8 @@ use mathlib.Core.List.{List, [], ◌∷◌, head_d}
 use Rattle.std.proofs.Math.Option.{Option, none, some, map, bind}
 use Rattle.std.proofs.lemmas.Bool.{not-true}
 use Rattle.orders.specs.Lists.{All}
-use Rattle.orders.specs.ListLaws.{bool_absurd, none_some, some_inj, none_passes, All-map}
-use Rattle.orders.specs.Tree.{Tree, forest, Path}
+use Rattle.orders.specs.ListLaws.{bool_absurd, none_some, none_passes, All-map}
+use Rattle.orders.specs.Tree.{Tree, Path}
 use Rattle.orders.specs.Splices as Splices
 use Rattle.orders.specs.Splices.{Splice, State, EntersDeleted}
 use Rattle.definition.specs.Basics.{gives}
@@ -32,7 +32,7 @@ use Rattle.definition_laws.proofs.Limits.{ran_known}
 use Rattle.definition_demand.specs.Aims.{replaces_root}
 use Rattle.definition_demand.proofs.Tree0.{Tree0}
 use Rattle.definition_demand.specs.Run.{splices_in0}
-use Rattle.definition_demand.proofs.Run.{run_made}
+use Rattle.definition_demand.proofs.Run.{run_made, tree0_begin}
 use Rattle.definition_account.specs.Words.{ChangedApart, Full, went_to, ChangedApartInNew, dependent_in0, keeps_root, no_dependent_in0, EachOneOf, NowhereIfDeleted, FullAccount}
 use Rattle.definition_account.proofs.Run.{Kept, Recorded, first_kept, first_full, steps_kept}
 use Rattle.definition_account.proofs.Numbers.{present_leads, apart_in_new, full_each}
@@ -102,20 +102,6 @@ module _ (ts : List (Tree ℕ)) (notes : List Note) (ps : List Planned) (w : Wor
           let (m, a, i, b) = number_found w q (subst (Leads w.trees) is (present_leads w ts all_kept.0 all_hold x p y)) in
           none_some (sym n ∙ (ap (number_at (new_table w)) is ∙ a))
 
--- tree 0 before the first step
-start : (old : Tree ℕ) (others : List (Tree ℕ)) (notes : List Note) → Tree0 (table 0 0 (old ∷ others)) (begin (old ∷ others) (table 0 0 (old ∷ others)) notes) (Splices.begin old)
-unfolding begin Splices.begin forest
-start old others notes = record {
-  kind = 2147483648;
-  others = forest others;
-  trees = refl;
-  move = λ p. some p;
-  keeps = stay_keeps;
-  paths = refl;
-  here = λ e. refl;
-  elsewhere = λ t e q z. (e, sym (some_inj z));
-}
-
 -- where an element of tree 0 is, by what its path came to
 present_here : (T : Table) (w : World) (now : State ℕ) → Tree0 T w now → (x : ℕ) (e : Path) → x < length T → (row T x).path ≡ 0 ∷ e → present w x ≡ map (λ p. 0 ∷ p) (now.path e)
 unfolding present row
@@ -129,7 +115,7 @@ nowhere_if_deleted (old ∷ others) notes ps w h c x e l z =
     let T = table 0 0 ts in
     let first = begin ts T notes in
     let sits = All-map (λ p s. right_sits T p.change s) ps h.right in
-    let m = run_made ts notes ps 0 first w (Splices.begin old) (start old others notes) sits (none_passes (λ p. replaces_root T p.change) ps (not-true _ c)) h.ran in
+    let m = run_made ts notes ps 0 first w (Splices.begin old) (tree0_begin old others notes) sits (none_passes (λ p. replaces_root T p.change) ps (not-true _ c)) h.ran in
     let there = present_here T w m.final m.tree0 x e l z in
     let (to, from) = targets_drop (splices_in0 T first ps) m.targets (Splices.begin old) m.final stay_keeps m.made e in
     let (gone, lost) = gone ts notes ps w h x e z in
