@@ -45,10 +45,6 @@ pub record Ready (olds news old new : List ℕ) (bytes bytes' partners marks n :
   pub room : n ≤ partners
   pub room' : n ≤ marks
 
--- whoever is reached can be climbed from
-pub reached_climbed : {table : List ℕ} {bytes : ℕ} {list : List ℕ} → Reached table bytes list → Climbed table list
-reached_climbed r = record { n = r.n; linked = record { long = r.long; before = r.sound.before }; below = r.below }
-
 -- THE PROMISE of `pair_up`: no new element stands twice, and then all partners are written
 pub record PairsUp (P : List (ℕ × ℕ)) (w : List ℕ) (r : Bool) (w' : List ℕ) : Type 0 where
   pub verdict : r ≡ fresh w P

@@ -121,10 +121,6 @@ pub changed_length : (m : ℕ × ℕ) → length (changed_line m) ≤ 30
 unfolding changed_line line line_of spaced ascii
 changed_length m = line_length (99 ∷ 104 ∷ 97 ∷ 110 ∷ 103 ∷ 101 ∷ 100 ∷ []) (m.0 ∷ m.1 ∷ []) 30 (omega arith)
 
-pub note_length : (m : ℕ × ℕ) → length (note_line m) ≤ 27
-unfolding note_line line line_of spaced ascii
-note_length m = line_length (110 ∷ 111 ∷ 116 ∷ 101 ∷ []) (m.0 ∷ m.1 ∷ []) 27 (omega arith)
-
 pub hex_length : (b : ℕ) → length (hex b) ≤ 2
 unfolding hex
 hex_length b = omega arith

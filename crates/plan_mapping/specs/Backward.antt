@@ -1,8 +1,8 @@
 -- Numbers that are written to an array from its front on, and read backward.
 -- Assumes nothing.
-use Rattle.std.specs.Prelude.{List, [], ◌∷◌, reverse, ◌≡◌, refl, ℕ, zero, suc, ◌+◌, ◌-◌, ◌≤◌, ◌<◌, length, get_or, set, take}
+use Rattle.std.specs.Prelude.{List, [], ◌∷◌, reverse, ◌≡◌, refl, ℕ, ◌+◌, ◌≤◌, ◌<◌, length, set, take}
 use Rattle.std.proofs.lemmas.List.{reverse-append, length-reverse}
-use Rattle.std.proofs.Common.{ap, ◌∙◌, add-one, arith, take_all, take-suc, take-suc-set, length-take-le}
+use Rattle.std.proofs.Common.{ap, ◌∙◌, add-one, arith, take_all, take-suc-set, length-take-le}
 
 -- the first k numbers, the last first
 unfoldable pub backward : ℕ → List ℕ → List ℕ
@@ -21,14 +21,6 @@ backward_front k a = ap reverse (take_all (length (take k a)) (take k a) (omega 
 pub backward_set : (a : List ℕ) (k v : ℕ) → k < length a → backward (k + 1) (set a k v) ≡ v ∷ backward k a
 unfolding backward
 backward_set a k v h = rw (add-one k, take-suc-set a k v h, reverse-append (take k a) (v ∷ []))
-
--- the last is read
-pub backward_read : (a : List ℕ) (k : ℕ) → 0 < k → k ≤ length a → backward k a ≡ get_or a (k - 1) 0 ∷ backward (k - 1) a
-unfolding backward
-backward_read a zero h l = absurd (omega arith)
-backward_read a (suc k) h l =
-    let e : suc k - 1 ≡ k = omega arith in
-    rw (e, take-suc a k 0 l, reverse-append (take k a) (get_or a k 0 ∷ []))
 
 pub length_backward : (a : List ℕ) (k : ℕ) → k ≤ length a → length (backward k a) ≡ k
 unfolding backward

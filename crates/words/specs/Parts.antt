@@ -6,7 +6,7 @@ use Rattle.std.proofs.Math.Path.{refl}
 use Rattle.std.proofs.Common.{sym, ap, ap₂, ◌∙◌, append_assoc, add_assoc, add-one, arith, length-append, length-drop, drop-drop, take-add, drop_at, take_at, get_or-take, get_or-drop, get_or-append-add}
 use Prim.Native.Nat.{ℕ, zero, suc, ◌+◌, ◌-◌, ◌≤◌, ◌<◌}
 use Rattle.std.proofs.Math.Nat.{sub-zero, zero-sub, suc-sub-suc}
-use Rattle.std.proofs.Math.ListN.{length, get_or-append, get_or-eq_default}
+use Rattle.std.proofs.Math.ListN.{length, get_or-append}
 use Rattle.std.proofs.Math.Seq.{paste, take-take, take_all, take-nil, take-append-add, length-take-le, length_paste_head}
 use Rattle.std.proofs.lemmas.List.Edits.{take-paste, drop-paste}
 use Rattle.std.proofs.lemmas.List.{take-append-le, set_split}
@@ -15,15 +15,7 @@ use Rattle.std.proofs.lemmas.List.{take-append-le, set_split}
 unfoldable pub spliced {ℓ} : {A : Type ℓ} → ℕ → ℕ → List A → List A → List A
 spliced a b new l = take a l ++ (new ++ drop b l)
 
--- past the end of words stands 0
-pub past_end : (l : List ℕ) (i : ℕ) → length l ≤ i → 0 ≡ get_or l i 0
-past_end l i h = sym (get_or-eq_default l 0 h)
-
 module _ {ℓ} {A : Type ℓ} where
-  -- the part from 0 on is the front
-  pub part_front : (k : ℕ) (l : List A) → take (k - 0) (drop 0 l) ≡ take k l
-  part_front k l = let e : k - 0 ≡ k = omega arith in rw e
-
   -- ── Two copies, side by side ──────────────────────────────────────────────────────────────────────────────
 
   take_both : (m n : ℕ) (s t : List A) → m ≤ length s → take (m + n) (take m s ++ t) ≡ take m s ++ take n t
