@@ -40,11 +40,6 @@ unfolding told_all
 told_append [] U = refl
 told_append (r ∷ T) U = ap (λ (l : List ℕ). r.kind ∷ r.start ∷ own_end r ∷ up_of (tail r.line) ∷ l) (told_append T U)
 
-pub length_told : (T : Table) → length (told_all T) ≡ 4 * length T
-unfolding told_all
-length_told [] = refl
-length_told (r ∷ T) = omega (arith, length_told T)
-
 -- those of element e
 told_at : (T : Table) (e : ℕ) → e < length T
     → (l : List ℕ) × (drop (4 * e) (told_all T) ≡ (get_or T e no_row).kind ∷ (get_or T e no_row).start ∷ own_end (get_or T e no_row) ∷ up_of (tail (get_or T e no_row).line) ∷ l)

@@ -40,16 +40,3 @@ module _ (c : Choices) where
   pub rightly_chosen : c.edge ≤ 1 → c.stronger ≤ 1 → answered (Ok tt) ≡ definition.chosen (meant c)
   unfolding definition.chosen refuse ◌>>=◌ answered
   rightly_chosen h k = rw (le-ltb 1 c.edge h, le-ltb 1 c.stronger k) refl
-
-  -- so 0 tells that the choices are some, and any other number is their refusal
-  pub well_chosen : (k : ℕ) → k ≡ refusal_of (definition.chosen (meant c)) → k ≡ 0 → definition.chosen (meant c) ≡ gives tt
-  unfolding definition.chosen refuse ◌>>=◌ refusal_of
-  well_chosen k e z = go (ltb 1 c.edge) (ltb 1 c.stronger) e
-    where
-      go : (a b : Bool) → k ≡ refusal_of (refuse 17 a >>= λ _. refuse 18 b) → (refuse 17 a >>= λ _. refuse 18 b) ≡ gives tt
-      go true b e = absurd (omega arith)
-      go false true e = absurd (omega arith)
-      go false false e = refl
-
-  pub wrongly_chosen : (k : ℕ) → k ≡ refusal_of (definition.chosen (meant c)) → ¬ (k ≡ 0) → definition.chosen (meant c) ≡ refused k
-  wrongly_chosen k e n = some_refused (definition.chosen (meant c)) k e n

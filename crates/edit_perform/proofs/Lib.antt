@@ -1,4 +1,2 @@
--- Stages       the ways from stage to stage, and out
--- FirstNumber  what the number of the refusals before everything else tells
+-- Stages   the ways from stage to stage, and out
 pub mod Stages
-pub mod FirstNumber

@@ -115,10 +115,6 @@ module _ {h : definition.Choices} {b : List ℕ} {l : Layout} {t s changes runni
       let z : lists_all (view n t s) (words_in part) changes (take c.runs running) ≤ 1024 = rw (told, q) (room_recorded L.leaves P.made) in
       omega arith
 
-  -- what is cut out is there
-  pub notes_within : 768 ≤ length first → 3 * l.sizes.notes ≤ length first
-  notes_within lf = omega (arith, L.leaves.within.limits.notes)
-
   pub runs_within : 256 ≤ length running → c.runs ≤ length running
   runs_within lr = omega (arith, P.made.within.most, P.made.within.few)
 

@@ -75,9 +75,6 @@ module _ {r : Result ℕ Refusal} (result : List ℕ) where
   pub edited_holds : {n : ℕ} (room : ℕ) → r ≡ Ok n → Showable r result room → Holds n result room
   edited_holds {n} room e h = rw e at h
 
-  pub edited_counted : {n : ℕ} (room : ℕ) → r ≡ Ok n → Showable r result room → n ≡ length (take n result)
-  edited_counted room e h = (edited_holds room e h).counted
-
   pub edited_printable : {n : ℕ} (room : ℕ) → r ≡ Ok n → Showable r result room → Printable (take n result) room
   edited_printable room e h = (edited_holds room e h).printable
 

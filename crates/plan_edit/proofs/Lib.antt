@@ -3,5 +3,3 @@ pub mod Sorting
 pub mod Settling
 pub mod Rewriting
 pub mod Judging
--- Laws of the discarded changes, counted row by row.
-pub mod Counting

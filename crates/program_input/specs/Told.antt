@@ -47,10 +47,6 @@ written_said say room same (Some bs) (Some ys) old new batch text read l h c z t
     let e : text ≡ say bs = t ∙ (ap say (sym f) ∙ same bs) in
     rw (← e) w
 
--- the bytes that are judged are no more than the buffer has
-pub front_within : (room read : ℕ) (input : List ℕ) → room ≡ length input → read ≤ length input → length (take read input) ≤ room
-front_within room read input e h = omega (arith, length-take-le read input h)
-
 -- an output of n bytes has n bytes and more
 pub enough : (n : ℕ) (out : List ℕ) → n ≡ length out → n ≤ length out
 enough n out e = omega arith

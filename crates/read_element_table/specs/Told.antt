@@ -175,14 +175,6 @@ module _ (n : ℕ) (w r : List ℕ) (e : ℕ) (h : e < n) where
   unfolding node? row_at kind_word
   node_told = rw (row_view n w r e h)
 
-  pub start_told : (row (view n w r) e).start ≡ get_or w (8 * e + 4) 0
-  unfolding row_at field
-  start_told = rw (row_view n w r e h)
-
-  pub end_told : (row (view n w r) e).end ≡ get_or w (8 * e + 5) 0
-  unfolding row_at field
-  end_told = rw (row_view n w r e h)
-
   pub children_told : (row (view n w r) e).children ≡ siblings w r (child_count r e) (suc e)
   unfolding row_at kind_word measure_word child_count
   children_told = rw (row_view n w r e h)

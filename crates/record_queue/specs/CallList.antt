@@ -68,9 +68,6 @@ module _ (a b : List ℕ) where
   abbrev pub calls_from : ℕ → List (ℕ × ℕ)
   calls_from i = zip (drop i a) (drop i b)
 
-  pub calls_all : calls_from 0 ≡ zip a b
-  calls_all = refl
-
   pub calls_more : (i : ℕ) → i < length a → length b ≡ length a → calls_from i ≡ (get_or a i 0, get_or b i 0) ∷ calls_from (i + 1)
   unfolding zip zip_with
   calls_more i h k =

@@ -117,10 +117,3 @@ module _ {rows : List ℕ} {n : ℕ} {source marks first : List ℕ} {notes : Li
       let new : List Part = map (part_in rows n source marks first notes [] [] []) (words count bytes) in
       let C : Came [] new at prepared sizes incoming m c = (P.parts [] [] []).came m c refl in
       rw (sizes_told count bytes P [] [] []) (All-map (λ x h. omega (arith, C.many, C.few_rows)) (part_rows 0 (part_sizes new)) (parts_low 0 (length (new_rows new)) new (omega arith)))
-
-  -- The notes that came in are at the rows that came in.
-  pub notes_low : {l : List ℕ} → ElementsPrepared rows n source marks first notes l at prepared sizes incoming (came_in m c) → All (λ x. x.row < at + m) (notes_of c incoming)
-  notes_low {l} P =
-      let part : ℕ → Part = part_in rows n source marks first notes [] [] [] in
-      let C : Came [] (map part l) at prepared sizes incoming m c = (P.parts [] [] []).came m c refl in
-      rw (C.notes, C.many) (new_notes_low at (map part l) (All-over part (λ e. Unit {0}) NotesWithin (λ e u. yield_within _ _ e) l (All-all (λ e. tt) l)))

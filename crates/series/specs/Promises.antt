@@ -71,12 +71,6 @@ pub follow_answers : {h : Choices} {work : List (List ℕ)} {tree bookmarks b t 
     → (too_short (lengths needed work) ≡ false → 4096 ≤ length starts) → ToAnswer h tree bookmarks b s rows notes changed marks starts p
 follow_answers {t = t} P starts q = record { leaves = λ d e. record { table = t; ends = P.ends d e; room = q (P.long d e) } }
 
--- the lengths in between are those at entry
-pub zeroed_same : (a b c d e f g h i a' b' c' d' e' f' g' h' i' : List ℕ) → length a' ≡ length a → length b' ≡ length b → length c' ≡ length c → length d' ≡ length d → length e' ≡ length e → length f' ≡ length f → length g' ≡ length g
-    → length h' ≡ length h → length i' ≡ length i → zeroed (a' ∷ b' ∷ c' ∷ d' ∷ e' ∷ f' ∷ g' ∷ h' ∷ i' ∷ []) ≡ zeroed (a ∷ b ∷ c ∷ d ∷ e ∷ f ∷ g ∷ h ∷ i ∷ [])
-unfolding zeroed Slices.zeros
-zeroed_same a b c d e f g h i a' b' c' d' e' f' g' h' i' p₁ p₂ p₃ p₄ p₅ p₆ p₇ p₈ p₉ = rw (p₁, p₂, p₃, p₄, p₅, p₆, p₇, p₈, p₉) refl
-
 -- what is told, and then cleared, is what is promised
 pub follow_told : {h : Choices} {work : List (List ℕ)} {l : Lent} {b t s rows notes changed marks held holds : List ℕ} {after : Lent} {left : List (List ℕ)} {p : Result Ended Unplanned} {r : Result ℕ Refusal}
     → PerformsOn h work l b t s rows notes changed marks p → TellsOn (afterwards p (reached_on h l b (length held))) l held r holds after → left ≡ zeroed work → Follows h b l held work r holds after left

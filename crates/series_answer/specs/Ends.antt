@@ -71,11 +71,6 @@ module _ {h : Choices} {tree bookmarks b s rows notes changed marks starts : Lis
   reached_fits room =
       rw (v.ends.passes, step_of_lem h v.ends.memory b v.ends.ends.end.batch v.ends.ends.end.planned v.ends.ends.end.world way.accepts v.ends.same way.plans way.runs) refl
 
-  -- the edit's bytes are the result's
-  applied_at : (room : ℕ) → applied h b room ≡ (fitting room step_at.result >>= λ r. gives (encoded r))
-  unfolding applied result_at ◌>>=◌
-  applied_at room = rw (edit_ending h b, v.ends.ends.ends) refl
-
   -- ── The rows ──
 
   module _ (text : List ℕ) (t : text ≡ drop d.text b) where

@@ -73,12 +73,6 @@ judged_refuses most l {r} e z = go (lent most l) refl e
 
 -- ── The same of what the check answers ──────────────────────────────────────────────────────────────────────
 
--- a refusal stays one, by the same number
-pub judged_number : {A : Type 0} (o : Answer A) → number_of (judged o) ≡ number_of o
-unfolding judged number_of
-judged_number (refused n) = refl
-judged_number (gives a) = refl
-
 -- where none is answered, something is given
 pub judged_ok : {A : Type 0} (o : Answer A) {p : Answer (Unit {0})} → p ≡ judged o → p ≡ gives tt → (a : A) × (o ≡ gives a)
 unfolding judged

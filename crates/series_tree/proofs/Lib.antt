@@ -1,2 +1,1 @@
--- Comparing   laws of words in bytes compared one by one; the library compares them now
-pub mod Comparing
+-- Nothing beside the proofs of the functions.

@@ -87,9 +87,6 @@ module _ {b : List ℕ} {l : Layout} {source : List ℕ} (r : Read b l source) {
   size_few {size} e =
       omega (arith, size_is size e, length-append F G, ap length (parted preorder), length-map (flat_map preorder r.what.trees) label, ap length r.spells.kinds, length_words l.sizes.elements (drop l.kinds b))
 
-  pub part_short : length part < 3 * 2 ^ 16
-  part_short = omega (arith, size_few {size = length part / 3} refl, r.few)
-
   module _ {size n : ℕ} (e : size ≡ length part / 3) (h : Bytes part n) where
     pub bytes_within : l.text + n ≤ length b
     bytes_within =

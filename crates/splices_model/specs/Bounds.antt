@@ -46,11 +46,5 @@ bounded_to h k = record { last = h.all _ k; each = λ j l. h.all j (omega arith)
 
 -- ── The prepared rows of a splice ───────────────────────────────────────────────────────────────────────────
 
--- the words from one place to another are the splice's part
-pub part_is : (s p : List ℕ) (j : ℕ) {a m : ℕ} → a ≡ get_or s (6 * j + 4) 0 → m ≡ get_or s (6 * j + 5) 0 → take (3 * a + 3 * m - 3 * a) (drop (3 * a) p) ≡ part_at s p j
-part_is s p j {a} {m} h k =
-    let e : 3 * a + 3 * m - 3 * a ≡ 3 * m = omega arith in
-    rw (e, h, k)
-
 pub part_long : (s p : List ℕ) (j : ℕ) → 3 * get_or s (6 * j + 4) 0 + 3 * get_or s (6 * j + 5) 0 ≤ length p → length (part_at s p j) ≡ 3 * get_or s (6 * j + 5) 0
 part_long s p j h = length-take-le (3 * get_or s (6 * j + 5) 0) (drop (3 * get_or s (6 * j + 4) 0) p) (simp length-drop (omega arith))

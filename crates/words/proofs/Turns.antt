@@ -48,9 +48,6 @@ pub record Writing (d : List ℕ) (at : ℕ) (ws l : List ℕ) (i : ℕ) : Type 
   pub long : length l ≡ length d
   pub copied : l ≡ paste d at (written ws) (4 * i)
 
-pub writing_start : (d : List ℕ) (at : ℕ) (ws : List ℕ) → Writing d at ws d 0
-writing_start d at ws = record { inside = omega arith; long = refl; copied = paste-zero d at (written ws) }
-
 module _ {d : List ℕ} {at : ℕ} {ws l : List ℕ} {i : ℕ} (v : Writing d at ws l i) where
   pub writing_next : {l' : List ℕ} {w : ℕ} → i < length ws → at + 4 * length ws ≤ length d → w ≡ get_or ws i 0 → length l' ≡ length l → l' ≡ paste l (at + 4 * i) (bytes w) 4
       → Writing d at ws l' (i + 1)
@@ -66,6 +63,3 @@ module _ {d : List ℕ} {at : ℕ} {ws l : List ℕ} {i : ℕ} (v : Writing d at
             ∙ rw v.copied
             (paste_on d at (written ws) (4 * i) (bytes w) 4 (at + 4 * i) (4 * (i + 1)) refl (omega arith) (omega arith) (omega (arith, length_written ws)) (rw f));
       }
-
-  pub writing_done : length ws ≤ i → l ≡ paste d at (written ws) (4 * length ws)
-  writing_done h = let e : length ws ≡ i = omega arith in rw e v.copied
