@@ -72,16 +72,20 @@ pub fn find_in_tree(rows: &Rows, kind: usize, start: usize) -> Option<usize>
 {
     let mut sum = 0;
     let mut owed = 1;
+    // Tokens and nodes are told apart first: to ask each row for both its text and its children takes longer.
     for i in ROOT..rows.count {
+        let other = word(rows.words, ROW_WORDS * i);
+        if other < NODE_KIND {
+            sum += text_length(rows.words, i);
+        } else if is_alike(kind, start, other, sum) {
+            return Some(i - ROOT);
+        } else {
+            owed += child_count(rows.words, i);
+        }
+        owed -= 1;
         if owed == 0 {
             return None;
         }
-        let other = word(rows.words, ROW_WORDS * i);
-        if is_alike(kind, start, other, sum) {
-            return Some(i - ROOT);
-        }
-        owed = owed - 1 + child_count(rows.words, i);
-        sum += text_length(rows.words, i);
     }
     None
 }
