@@ -15,17 +15,6 @@ use Rattle.choices.specs.declared.Choices.{Choices}
 abbrev pub meant : Choices → definition.Choices
 meant c = record { edge = c.edge; stronger = c.stronger }
 
--- a refusal's number, 0 where there is none
-unfoldable pub refusal_of : Answer (Unit {0}) → ℕ
-refusal_of (refused k) = k
-refusal_of (gives u) = 0
-
--- one that is not 0 is the refusal
-some_refused : (o : Answer (Unit {0})) (k : ℕ) → k ≡ refusal_of o → ¬ (k ≡ 0) → o ≡ refused k
-unfolding refusal_of
-some_refused (refused j) k e n = ap refused (omega arith)
-some_refused (gives u) k e n = absurd (n e)
-
 -- ── The judgement ───────────────────────────────────────────────────────────────────────────────────────────
 
 module _ (c : Choices) where

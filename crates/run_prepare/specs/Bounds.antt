@@ -66,15 +66,6 @@ part_within s m = All-pick (note_in m (end_row s m)) (λ n. Unit {0}) (λ n. n.r
         go none g h = none_some h
         go (some y) g h = let f : y ≡ n'.row = ap (λ (x : HeldNote). x.row) (some_inj h) in omega (arith, in_run_low m (end_row s m) n.row y g, end_row_lem s m)
 
--- Whatever a listed element yields, its notes are at its own rows.
-pub yield_within : (first s : Store) (e : ℕ) → NotesWithin (part_of first s e)
-unfolding part_of
-yield_within first s e = go (marked s e)
-  where
-    go : (o : Option ℕ) → NotesWithin (elim o as (λ o. Part) [ none ↦ part_at first (get_or first.marks e 0) | some m ↦ part_at s m ])
-    go none = part_within first (get_or first.marks e 0)
-    go (some m) = part_within s m
-
 -- The notes that come in are at the rows that come in.
 pub new_notes_low : (at : ℕ) (new : List Part) → All NotesWithin new → All (λ n. n.row < at + length (new_rows new)) (new_notes at new)
 unfolding new_notes new_rows placed_parts flat_map with_row
