@@ -63,13 +63,7 @@ fn put_bookmark(bookmarks: &mut [u32], to: usize, number: u32, path: &[u32])
 
 // The bookmark of slot `i` after a run: written to slot `to`, which is no later, or dropped. The slot for the next one. `path` is lent
 // for all bookmarks, as long as the longest path.
-fn move_bookmark(
-    ways: &Ways,
-    bookmarks: &mut [u32],
-    i: usize,
-    to: usize,
-    path: &mut [u32],
-) -> usize
+fn move_bookmark(ways: &Ways, bookmarks: &mut [u32], i: usize, to: usize, path: &mut [u32]) -> usize
     requires tables { Tables ways.now.run.source.now ways.now.run.elements ways.now.run.rows.words.now ways.now.run.rows.count ways.now.children.first.now ways.now.children.rows.now ways.now.trees.now }
     requires here { Here ways.now.run.source.now ways.now.run.elements ways.now.run.marks.now ways.now.run.rows.words.now ways.now.run.rows.count (slot_at bookmarks.old i) }
     requires i_in_bounds { (1 + 65 * (i + 1) ≤ length bookmarks.old) × (to ≤ i) × (i < 2 ^ 32) × (63 ≤ length path.old) }
