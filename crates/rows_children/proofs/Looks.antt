@@ -10,7 +10,7 @@ use Rattle.rows_model.specs.Row.{Row, owes, row_of, rows_of, first_rows, skip, t
 use Rattle.rows_model.specs.Place.{place, size, rows_after, child_row}
 use Rattle.rows_model.proofs.PlaceLaws.{child_at, place_lt, parent_of, row_at_lem}
 use Rattle.rows_model.proofs.Words.{length_first}
-use Rattle.rows_children.specs.Tables.{ChildrenTold, TreesTold}
+use Rattle.rows_children.specs.Tables.{ChildrenTold, BegunTold}
 
 -- ── How many trees begin ────────────────────────────────────────────────────────────────────────────────────
 
@@ -74,9 +74,9 @@ module _ (text rows : List ℕ) (n : ℕ) (t : Tree ℕ) (long : 3 * n ≤ lengt
         v.told text (place q t) i (row_of (node k cs)) here (get_lt (list cs) i b) (omega (arith, is_row, low)) ∙ is_row
 
     -- and what its number is
-    pub number_stands : {trees : List ℕ} → TreesTold rows n trees → get_or trees (suc (place q t)) 0 ≡ i + get_or trees (place (q ++ (i ∷ [])) t) 0
+    pub number_stands : {begun : List ℕ} → BegunTold rows n begun → get_or begun (suc (place q t)) 0 ≡ i + get_or begun (place (q ++ (i ∷ [])) t) 0
     unfolding child_row rows_after
-    number_stands {trees} v =
+    number_stands {begun} v =
         let p : ℕ = place q t in
         let r : ℕ = place (q ++ (i ∷ [])) t in
         let rs : List Row = first_rows text n rows in

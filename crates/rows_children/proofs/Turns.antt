@@ -16,7 +16,7 @@ use Rattle.rows_model.proofs.RowLaws.{skip_none}
 use Rattle.rows_model.proofs.PlaceLaws.{place_lt, parent_of, row_at_lem}
 use Rattle.rows_model.proofs.Words.{first_at, first_end, first_get, length_first}
 use Rattle.rows_syntax_node.specs.Promises.{Counted}
-use Rattle.rows_children.specs.Tables.{ChildrenTold, TreesTold, row_by, RowAt}
+use Rattle.rows_children.specs.Tables.{ChildrenTold, BegunTold, row_by, RowAt}
 use Rattle.rows_children.proofs.Looks.{trees_more, child_begins, child_stands}
 
 -- ── How many trees begin ────────────────────────────────────────────────────────────────────────────────────
@@ -62,7 +62,7 @@ module _ {rows : List ℕ} {n : ℕ} {trees₀ trees : List ℕ} {i begun : ℕ}
           let q : i - 1 ≡ r = omega arith in
           ap (λ (j : ℕ). get_or (set trees (i - 1) b) j 0) (sym q) ∙ (get_or-set_same trees (i - 1) b 0 (omega (arith, v.same, v.bound)) ∙ (sym m ∙ ap (λ (j : ℕ). trees_in (drop j (first_rows text n rows))) q))
 
-  pub counting_done : i ≤ 0 → TreesTold rows n trees
+  pub counting_done : i ≤ 0 → BegunTold rows n trees
   counting_done h = record { told = λ text r k. v.told text r (omega arith) k }
 
 -- ── The children of every row ───────────────────────────────────────────────────────────────────────────────

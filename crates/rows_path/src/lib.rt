@@ -21,7 +21,7 @@ struct Passed {
     text: usize,
 }
 
-// The next `owed` trees from row `at` on. Beside rows_syntax_node's `rows_after` and `text_bytes`: over these two each row would be read twice.
+// The next `owed` trees from row `at` on. Beside rows_syntax_node's `rows_after` and `text_bytes`: over these two the rows would be walked twice.
 fn pass_trees(rows: &Rows, at: usize, owed: usize) -> Passed
     requires { (at ≤ rows.now.count) × (owed < 2 ^ 32) }
     ensures { Passes rows.now.words.now rows.now.count at owed result }

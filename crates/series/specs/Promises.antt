@@ -68,7 +68,7 @@ pub record Follows (h : Choices) (b : List ℕ) (l : Lent) (held : List ℕ) (wo
 
 -- where the run has ended, the call can be answered
 pub follow_answers : {h : Choices} {work : List (List ℕ)} {tree bookmarks b t s rows notes changed marks : List ℕ} {p : Result Ended Unplanned} → PerformsOn h work (lent_of tree bookmarks) b t s rows notes changed marks p → (starts : List ℕ)
-    → (too_short (lengths needed work) ≡ false → 4096 ≤ length starts) → ToAnswer h tree bookmarks b s rows notes changed marks starts p
+    → (too_short (lengths needed work) ≡ false → 12288 ≤ length starts) → ToAnswer h tree bookmarks b s rows notes changed marks starts p
 follow_answers {t = t} P starts q = record { leaves = λ d e. record { table = t; ends = P.ends d e; room = q (P.long d e) } }
 
 -- what is told, and then cleared, is what is promised

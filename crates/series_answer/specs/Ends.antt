@@ -94,7 +94,7 @@ module _ {h : Choices} {tree bookmarks b s rows notes changed marks starts : Lis
           many = M.long;
           long_old = omega (arith, T.formed.long);
           long_new = A.rows_within;
-          few = T.formed.lines.few;
+          few = omega (arith, T.formed.lines.few);
           few_new = A.few_rows;
         }
 

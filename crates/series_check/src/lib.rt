@@ -5,7 +5,6 @@
 ghost use Rattle.std.specs.Prelude.{◌≡◌, not, ◌+◌, ◌*◌, ◌^◌, ◌≤◌, ◌<◌, length, get_or, take};
 ghost use Rattle.std.proofs.Math.Seq.{paste};
 ghost use Rattle.definition.specs.Basics.{among};
-ghost use Rattle.rows_children.specs.Tables.{ChildrenTold};
 ghost use Rattle.read_spelling.specs.Spelling.{elements_at};
 ghost use Rattle.read_element_table.specs.Filling.{rows_from};
 ghost use Rattle.check_laws.specs.Check.{no_repeat};
@@ -73,11 +72,10 @@ fn repeats(bookmarks: &Bookmarks) -> bool
 
 // ── 21: paths ──
 
-// Whether the path of bookmark `i` finds an element of the tree with these rows.
-fn leads(rows: &Rows, children: &Children, bookmarks: &Bookmarks, i: usize) -> bool
-    requires told { ChildrenTold rows.now.words.now rows.now.count children.now.first.now children.now.rows.now }
-    requires i_in_bounds { i < bookmarks.now.count }
-    ensures { Leads (take (3 * rows.now.count) rows.now.words.now) (slot_at bookmarks.now.words.now i) result }
+// Whether the path of bookmark `i` finds an element of the tree whose rows these are.
+fn leads(children: &Children, bookmarks: &Bookmarks, i: usize) -> bool
+    requires { i < bookmarks.now.count }
+    ensures { Leads (take (3 * children.now.rows.count) children.now.rows.words.now) (slot_at bookmarks.now.words.now i) result }
 {
     let words = bookmarks.words;
     let at = slot_at(i);
@@ -87,15 +85,14 @@ fn leads(rows: &Rows, children: &Children, bookmarks: &Bookmarks, i: usize) -> b
     }
     let from = at + PATH;
     let to = from + n;
-    row_at(rows, children, &words[from..to]).is_some()
+    row_at(children, &words[from..to]).is_some()
 }
 
 // Whether every path does.
-fn all_lead(rows: &Rows, children: &Children, bookmarks: &Bookmarks) -> bool
-    requires { ChildrenTold rows.now.words.now rows.now.count children.now.first.now children.now.rows.now }
-    ensures { AllLead (take (3 * rows.now.count) rows.now.words.now) bookmarks.now.words.now bookmarks.now.count result }
+fn all_lead(children: &Children, bookmarks: &Bookmarks) -> bool
+    ensures { AllLead (take (3 * children.now.rows.count) children.now.rows.words.now) bookmarks.now.words.now bookmarks.now.count result }
 {
-    (0..bookmarks.count).all(|i| leads(rows, children, bookmarks, i))
+    (0..bookmarks.count).all(|i| leads(children, bookmarks, i))
 }
 
 // ── The memory ──
@@ -146,8 +143,12 @@ fn judge_memory(
         words: rows,
     };
     fill_children(&filled, roots, first, child);
-    let children = Children { first, rows: child };
-    if all_lead(&filled, &children, bookmarks) {
+    let children = Children {
+        rows: filled,
+        first,
+        child,
+    };
+    if all_lead(&children, bookmarks) {
         return Ok(());
     }
     Err(Refusal::Astray)

@@ -44,7 +44,7 @@ writing_start source e marks rows n path out m = record {
   told = λ s q z. refl;
 }
 
-module _ {source : List ℕ} {e : ℕ} {marks rows : List ℕ} {n : ℕ} {path out₀ out : List ℕ} {x mark j : ℕ} (v : Writing source e marks rows n path out₀ out x mark j) {first child trees : List ℕ} (t : Tables source e rows n first child trees)
+module _ {source : List ℕ} {e : ℕ} {marks rows : List ℕ} {n : ℕ} {path out₀ out : List ℕ} {x mark j : ℕ} (v : Writing source e marks rows n path out₀ out x mark j) {first child begun : List ℕ} (t : Tables source e rows n first child begun)
     (h : j < length path) {y : ℕ} (c : y ≡ get_or child (get_or first x 0 + get_or path j 0) 0)
   where
     row_next : (s : Stands source e marks rows n path) → y ≡ place (0 ∷ take (suc j) path) (top s.stood.trees)
@@ -55,7 +55,7 @@ module _ {source : List ℕ} {e : ℕ} {marks rows : List ℕ} {n : ℕ} {path o
     writing_row s = (marked s (suc j) y (row_next s)).0
 
     -- one more child number
-    pub writing_next : length path ≤ length out₀ → {here behind from r : ℕ} → (here ≡ get_or marks (y - 1) 0) × (here < 2 ^ 32) → behind ≡ get_or trees (mark + 1) 0 → from ≡ get_or trees here 0 → r ≡ behind - from
+    pub writing_next : length path ≤ length out₀ → {here behind from r : ℕ} → (here ≡ get_or marks (y - 1) 0) × (here < 2 ^ 32) → behind ≡ get_or begun (mark + 1) 0 → from ≡ get_or begun here 0 → r ≡ behind - from
         → Writing source e marks rows n path out₀ (set out j r) y here (j + 1)
     writing_next room {here} {behind} {from} {r} m a b d = record {
       bound = omega arith;
@@ -68,9 +68,9 @@ module _ {source : List ℕ} {e : ℕ} {marks rows : List ℕ} {n : ℕ} {path o
           let (k', l', p', is') = mark_now s.stood path s.end s.leads q z (suc j) (omega arith) in
           let was : mark ≡ place (0 ∷ take j q) s.stood.world.trees = omega (arith, v.stands s, (marked s j x (v.row s)).1, is, p, v.row s, ap (λ (i : ℕ). get_or marks i 0) (before s p)) in
           let now : here ≡ place (0 ∷ take (suc j) q) s.stood.world.trees = omega (arith, m.0, is', ap (λ (i : ℕ). get_or marks i 0) (behind_it s p')) in
-          let at : get_or trees (mark + 1) 0 ≡ get_or trees (suc (place (0 ∷ take j q) s.stood.world.trees)) 0 = let w : mark + 1 ≡ suc (place (0 ∷ take j q) s.stood.world.trees) = omega (arith, was) in ap (λ (i : ℕ). get_or trees i 0) w in
-          let to : get_or trees here 0 ≡ get_or trees (place (0 ∷ take (suc j) q) s.stood.world.trees) 0 = ap (λ (i : ℕ). get_or trees i 0) now in
-          let number : r ≡ get_or q j 0 = omega (arith, a, b, d, at, to, number_told s.stood path s.end s.leads q z j h t.begun) in
+          let at : get_or begun (mark + 1) 0 ≡ get_or begun (suc (place (0 ∷ take j q) s.stood.world.trees)) 0 = let w : mark + 1 ≡ suc (place (0 ∷ take j q) s.stood.world.trees) = omega (arith, was) in ap (λ (i : ℕ). get_or begun i 0) w in
+          let to : get_or begun here 0 ≡ get_or begun (place (0 ∷ take (suc j) q) s.stood.world.trees) 0 = ap (λ (i : ℕ). get_or begun i 0) now in
+          let number : r ≡ get_or q j 0 = omega (arith, a, b, d, at, to, number_told s.stood path s.end s.leads q z j h t.trees) in
           let long : length q ≡ length path = path_long s.stood path s.end s.leads q z in
           rw (add-one j) (take-suc-set out j r (omega (arith, v.same)) ∙ (ap (λ (p : Path). p ++ (r ∷ [])) (v.told s q z) ∙ (ap (λ (k : ℕ). take j q ++ (k ∷ [])) number ∙ sym (take-suc q j 0 (omega (arith, long))))));
     }

@@ -45,7 +45,7 @@ pub record LeftBy (trees : List (Tree ℕ)) (w : World) (source : List ℕ) (e :
   pub many : e ≤ length marks
   pub long_old : 3 * (e + 1) ≤ length source
   pub long_new : 3 * n ≤ length rows
-  pub few : e ≤ 2048
+  pub few : e < 2 ^ 12
   pub few_new : n ≤ 4097
 
 -- ── What a batch comes to ───────────────────────────────────────────────────────────────────────────────────

@@ -8,6 +8,7 @@ use Rattle.std.proofs.Math.Option.{Option, none, some}
 use native.Mathlib.Omega.{arith}
 use Rattle.std.proofs.Math.ListN.{length, get_or, take, length-map}
 use Rattle.std.proofs.Math.Seq.{length-take-le, take-suc}
+use Rattle.std.proofs.Props.{props}
 use Rattle.orders.specs.ListLaws.{map_some, bind_some}
 use Rattle.orders.specs.Tree.{Tree, Path, resolve}
 use Rattle.orders.proofs.TreeLaws.{resolve_append}
@@ -21,7 +22,7 @@ use Rattle.definition_account.proofs.Moving.{keeps_above, parts_same}
 use Rattle.rows_model.specs.Row.{rows_of, first_rows}
 use Rattle.rows_model.specs.Place.{place, mark_of}
 use Rattle.rows_model.proofs.Numbers.{element_row}
-use Rattle.rows_children.specs.Tables.{ChildrenTold, TreesTold}
+use Rattle.rows_children.specs.Tables.{ChildrenTold, children_prop, BegunTold, begun_prop}
 use Rattle.rows_children.proofs.Looks.{child_stands, number_stands}
 
 -- what a run leaves: the rows of the batch's e elements behind that of the node above all trees, n rows of the current trees, and where each element stands
@@ -39,13 +40,17 @@ pub record Stood (source : List ℕ) (e : ℕ) (marks rows : List ℕ) (n : ℕ)
   pub many : e ≤ length marks
   pub long_old : 3 * (e + 1) ≤ length source
   pub long_new : 3 * n ≤ length rows
-  pub few : e ≤ 2048
+  pub few : e < 2 ^ 12
   pub few_new : n ≤ 4097
 
 -- the tables of its rows: the children of the old ones, and the trees that begin from each of the new ones on
-pub record Tables (source : List ℕ) (e : ℕ) (rows : List ℕ) (n : ℕ) (first child trees : List ℕ) : Type 0 where
+pub record Tables (source : List ℕ) (e : ℕ) (rows : List ℕ) (n : ℕ) (first child begun : List ℕ) : Type 0 where
   pub children : ChildrenTold source (e + 1) first child
-  pub begun : TreesTold rows n trees
+  pub trees : BegunTold rows n begun
+
+-- there is at most one proof of it, so that it can be a field
+pub tables_prop : (source : List ℕ) (e : ℕ) (rows : List ℕ) (n : ℕ) (first child begun : List ℕ) → IsProp (Tables source e rows n first child begun)
+tables_prop source e rows n first child begun = hlevel (children_prop, begun_prop, props)
 
 module _ {source : List ℕ} {e : ℕ} {marks rows : List ℕ} {n : ℕ} (s : Stood source e marks rows n) (path : Path) (v : Tree ℕ) (leads : resolve (0 ∷ path) (top s.trees) ≡ some v) where
   T : Table
@@ -110,10 +115,10 @@ module _ {source : List ℕ} {e : ℕ} {marks rows : List ℕ} {n : ℕ} (s : St
     mark_now j h = let (k, a, b, c) = mark_at j in (k, a, b, c ∙ ap (mark_of s.world.trees) (moved_at j h))
 
     -- and what its number is now
-    pub number_told : (j : ℕ) → j < length path → {trees : List ℕ} → TreesTold rows n trees → get_or trees (suc (place (0 ∷ take j q) s.world.trees)) 0 ≡ get_or q j 0 + get_or trees (place (0 ∷ take (suc j) q) s.world.trees) 0
-    number_told j h {trees} v =
+    pub number_told : (j : ℕ) → j < length path → {begun : List ℕ} → BegunTold rows n begun → get_or begun (suc (place (0 ∷ take j q) s.world.trees)) 0 ≡ get_or q j 0 + get_or begun (place (0 ∷ take (suc j) q) s.world.trees) 0
+    number_told j h {begun} v =
         let i = get_or q j 0 in
         let p : Path = 0 ∷ take j q in
         let z : 0 ∷ take (suc j) q ≡ p ++ (i ∷ []) = ap {B = Path} (λ (p : Path). 0 ∷ p) (take-suc q j 0 (omega (arith, path_long))) in
         let (y, a) = new_at (suc j) (omega arith) in
-        number_stands s.new_text rows n now s.long_new s.new p i y (ap (λ (p : Path). resolve p now) (sym z) ∙ a) v ∙ ap (λ (p : Path). i + get_or trees (place p now) 0) (sym z)
+        number_stands s.new_text rows n now s.long_new s.new p i y (ap (λ (p : Path). resolve p now) (sym z) ∙ a) v ∙ ap (λ (p : Path). i + get_or begun (place p now) 0) (sym z)

@@ -1,6 +1,6 @@
 // Bookmarks moved by a run: a bookmark is an old element, and the element's mark says where it stands now.
 // Bounds of one number, an index of what is read and room in a lent slice stand as clauses: a value around each would be no plainer than its bound. What says that elements stand somewhere
-// (`Stands`, `Here`, `Moving`) names the definition's run, which is data, and so is a clause too; what tables tell (`Tables`) speaks of rows and tables together. They take the run's five words
+// (`Stands`, `Here`, `Moving`) names the definition's run, which is data, and so is a clause too. They take the run's five words
 // apart: their laws, of lists, are also those of words that no `RunEnd` holds.
 #![tactic(auto)]
 
@@ -9,7 +9,6 @@ ghost use Rattle.std.proofs.Math.Seq.{paste};
 ghost use Rattle.series_laws.specs.Follow.{kept};
 ghost use Rattle.series_laws.specs.Lent.{bookmark_in, bookmark_out};
 ghost use Rattle.series_check.specs.Slots.{slot_at};
-ghost use Rattle.series_move.specs.Standing.{Tables};
 ghost use Rattle.series_move.specs.Found.{Stands};
 ghost use Rattle.series_move.specs.Paths.{PathNow};
 ghost use Rattle.series_move.specs.Kept.{Here, Put};
@@ -17,7 +16,7 @@ ghost use Rattle.series_move.specs.Packing.{Moving, Packs, bookmarks_after};
 
 mod run_end;
 
-use rows_children::{Children, child_at, fill_children, fill_trees};
+use rows_children::{child_at, fill_begun, fill_children};
 use rows_syntax_node::Rows;
 pub use run_end::RunEnd;
 use run_end::Ways;
@@ -29,7 +28,6 @@ use words::{word, word_or_zero};
 // The path now of the element to which a path leads; false where it is gone. Down its old path each element has a row in the source and a mark; behind its parent as many more trees begin than
 // from it on as its number tells. A truth value, since the path goes to a lent slice: an option would hold nothing more.
 fn path_now(ways: &Ways, path: &[u32], out: &mut [u32]) -> bool
-    requires tables { Tables ways.now.run.source.now ways.now.run.elements ways.now.run.rows.words.now ways.now.run.rows.count ways.now.children.first.now ways.now.children.rows.now ways.now.trees.now }
     requires stands { Stands ways.now.run.source.now ways.now.run.elements ways.now.run.marks.now ways.now.run.rows.words.now ways.now.run.rows.count path.now }
     requires path_in_bounds { length path.now ≤ length out.old }
     ensures { PathNow ways.now.run.source.now ways.now.run.elements ways.now.run.marks.now ways.now.run.rows.words.now ways.now.run.rows.count path.now out.new result }
@@ -38,11 +36,11 @@ fn path_now(ways: &Ways, path: &[u32], out: &mut [u32]) -> bool
     let mut x = 1;
     let mut mark = word_or_zero(marks, 0);
     for (j, number) in path.iter().enumerate() {
-        x = child_at(&ways.children, x, *number as usize);
+        x = child_at(ways.first, ways.child, x, *number as usize);
         let here = word_or_zero(marks, x - 1);
-        // Below an element that is gone all marks are 0, and what is written is not read.
-        let behind = word_or_zero(ways.trees, mark + 1);
-        out[j] = behind.saturating_sub(word_or_zero(ways.trees, here)) as u32;
+        // By `word_or_zero`: below an element that is gone all marks are 0, and what is written is not read.
+        let behind = word_or_zero(ways.begun, mark + 1);
+        out[j] = behind.saturating_sub(word_or_zero(ways.begun, here)) as u32;
         mark = here;
     }
     mark != 0
@@ -64,7 +62,6 @@ fn put_bookmark(bookmarks: &mut [u32], to: usize, number: u32, path: &[u32])
 // The bookmark of slot `i` after a run: written to slot `to`, which is no later, or dropped. The slot for the next one. `path` is lent
 // for all bookmarks, as long as the longest path.
 fn move_bookmark(ways: &Ways, bookmarks: &mut [u32], i: usize, to: usize, path: &mut [u32]) -> usize
-    requires tables { Tables ways.now.run.source.now ways.now.run.elements ways.now.run.rows.words.now ways.now.run.rows.count ways.now.children.first.now ways.now.children.rows.now ways.now.trees.now }
     requires here { Here ways.now.run.source.now ways.now.run.elements ways.now.run.marks.now ways.now.run.rows.words.now ways.now.run.rows.count (slot_at bookmarks.old i) }
     requires i_in_bounds { (1 + 65 * (i + 1) ≤ length bookmarks.old) × (to ≤ i) × (i < 2 ^ 32) × (63 ≤ length path.old) }
     ensures { (h : Here ways.now.run.source.now ways.now.run.elements ways.now.run.marks.now ways.now.run.rows.words.now ways.now.run.rows.count (slot_at bookmarks.old i)) → Put bookmarks.old to (kept h.run.moves (bookmark_in (slot_at bookmarks.old i))) bookmarks.new result }
@@ -86,7 +83,6 @@ fn move_bookmark(ways: &Ways, bookmarks: &mut [u32], i: usize, to: usize, path: 
 // The `k` bookmarks after a run: the survivors in their order, in the first slots. How many they are. Counts, since the memory's format has one in its first word,
 // and fewer bookmarks leave the slots beyond theirs as they were.
 fn pack_bookmarks(ways: &Ways, bookmarks: &mut [u32], k: usize, path: &mut [u32]) -> usize
-    requires tables { Tables ways.now.run.source.now ways.now.run.elements ways.now.run.rows.words.now ways.now.run.rows.count ways.now.children.first.now ways.now.children.rows.now ways.now.trees.now }
     requires moving { Moving ways.now.run.source.now ways.now.run.elements ways.now.run.marks.now ways.now.run.rows.words.now ways.now.run.rows.count bookmarks.old k }
     requires k_in_bounds { (1 + 65 * k ≤ length bookmarks.old) × (k < 2 ^ 32) × (63 ≤ length path.old) }
     ensures { (result ≤ k) × ((v : Moving ways.now.run.source.now ways.now.run.elements ways.now.run.marks.now ways.now.run.rows.words.now ways.now.run.rows.count bookmarks.old k) → Packs v.run.moves bookmarks.old k bookmarks.new result) }
@@ -112,13 +108,14 @@ pub fn move_bookmarks(run: &RunEnd, bookmarks: &mut [u32], spare: &mut [u32])
     };
     let (roots, rest) = spare.split_at_mut(n);
     let (first, rest) = rest.split_at_mut(n);
-    let (child, trees) = rest.split_at_mut(n);
+    let (child, begun) = rest.split_at_mut(n);
     fill_children(&old, roots, first, child);
-    fill_trees(&run.rows, trees);
+    fill_begun(&run.rows, begun);
     let ways = Ways {
         run: *run,
-        children: Children { first, rows: child },
-        trees,
+        first,
+        child,
+        begun,
     };
     let mut path = [0u32; 63];
     let k = word(bookmarks, 0);

@@ -1,8 +1,8 @@
 // What a run leaves, to be read as one value.
 
 ghost use Rattle.std.specs.Prelude.{◌+◌, ◌*◌, ◌^◌, ◌≤◌, ◌<◌, length};
+ghost use Rattle.series_move.specs.Standing.{Tables, tables_prop};
 
-use rows_children::Children;
 use rows_syntax_node::Rows;
 
 // Where the elements of a batch stood, and where they stand. `elements` and `source` are no `Rows`: every clause speaks of elements, which would be a count less one, and
@@ -17,13 +17,15 @@ pub struct RunEnd<'a> {
     // The rows of the current trees.
     pub rows: Rows<'a>,
     pub ghost long: { 3 * (elements + 1) ≤ length source.now },
-    pub ghost few: { elements ≤ 2048 },
+    pub ghost few: { elements < 2 ^ 12 },
 }
 
-// The same with what its rows tell at once: where the children of the old elements stand, and how many trees begin from each of the new rows on.
+// The same with what its rows tell at once: where the children of the old elements begin, their rows, and how many trees begin from each of the new rows on.
 #[derive(Clone, Copy)]
 pub struct Ways<'a> {
     pub run: RunEnd<'a>,
-    pub children: Children<'a>,
-    pub trees: &'a [u32],
+    pub first: &'a [u32],
+    pub child: &'a [u32],
+    pub begun: &'a [u32],
+    pub ghost told: { Tables run.source.now run.elements run.rows.words.now run.rows.count first.now child.now begun.now } by { tables_prop run.source.now run.elements run.rows.words.now run.rows.count first.now child.now begun.now },
 }

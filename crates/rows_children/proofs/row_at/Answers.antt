@@ -18,7 +18,7 @@ returns-then-rows-at c =
     ]
 
 pub loop-step-preserved : goal.loop-step-preserved
-loop-step-preserved c = walking_next c.loop-step.invariant (search rules) c.loop-step-test.true (search rules) c.if-rows-at.false c.child_count.ensures c.if-child_count-i.false c.requires.told (c.child_at-at.ensures).0
+loop-step-preserved c = walking_next c.loop-step.invariant (search rules) c.loop-step-test.true (search rules) c.if-rows-at.false c.child_count.ensures c.if-child_count-i.false c.args.children.now.told (c.child_at-at.ensures).0
 
 pub returns : goal.returns
 returns c = search (walking_done, rules)

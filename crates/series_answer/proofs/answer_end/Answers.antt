@@ -31,10 +31,10 @@ returns-in_err-n c =
     rw (p.1, p.2) (ends_short c.requires _ (take_rest c.args.batch.now c.args.d.text) c.lacks_room.ensures c.if-lacks_room.false _ (let A = c.requires.ends.ends in cut_answered _ _ _ _ A.notes_within A.changed_within _ _ _ _ _ c.finish.ensures) _ c.in_err-n.was)
 
 pub invariant_of-run : goal.invariant_of-run
-invariant_of-run c = let T = c.requires.ends.tells in record { long = omega (arith, T.formed.long); few = T.formed.lines.few }
+invariant_of-run c = let T = c.requires.ends.tells in record { long = omega (arith, T.formed.long); few = omega (arith, T.formed.lines.few) }
 
 pub leave-requires : goal.leave-requires
-leave-requires c = record { leaving = ends_leaving c.requires _ (take_rest c.args.batch.now c.args.d.text) c.lacks_room.ensures c.if-lacks_room.false; spare_in_bounds = omega (arith, c.finish.auto.starts, c.requires.room) }
+leave-requires c = record { leaving = ends_leaving c.requires _ (take_rest c.args.batch.now c.args.d.text) c.lacks_room.ensures c.if-lacks_room.false; spare_in_bounds = omega (arith, c.finish.auto.starts, c.requires.room, c.requires.ends.tells.formed.lines.few, c.requires.ends.ends.few_rows) }
 
 pub returns : goal.returns
 returns c = ends_written c.requires _ (take_rest c.args.batch.now c.args.d.text) c.lacks_room.ensures c.if-lacks_room.false _ (let A = c.requires.ends.ends in cut_answered _ _ _ _ A.notes_within A.changed_within _ _ _ _ _ c.finish.ensures) _ c.in_ok-n.was c.leave.ensures

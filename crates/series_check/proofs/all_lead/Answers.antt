@@ -12,5 +12,5 @@ use Rattle.series_check.proofs.all_lead.Goals as goal
 pub returns : goal.returns
 returns c =
     let m = c.args.bookmarks.now in
-    let rows = c.args.rows.now in
+    let rows = c.args.children.now.rows in
     all_told (take (3 * rows.count) rows.words.now) m.words.now m.count (λ text t e. all_from_yields_List (λ (j : ℕ). not (lost t (slot_at m.words.now j))) _ _ _ c.all.ensures.ran (YieldsList-from_range 0 m.count m.count (search rules) (omega arith)) (λ x b q k. search (rules, tests)))

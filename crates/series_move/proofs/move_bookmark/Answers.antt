@@ -11,7 +11,7 @@ pub slice_bounds-path_now-end : goal.slice_bounds-path_now-end
 slice_bounds-path_now-end c = omega (arith, here_short _ _ c.slot_at-at.ensures c.word-k.ensures c.requires.here, c.slot_at-at.ensures, c.requires.i_in_bounds)
 
 pub path_now-requires : goal.path_now-requires
-path_now-requires c = record { tables = c.requires.tables; stands = here_stands _ _ c.slot_at-at.ensures c.word-k.ensures c.requires.here; path_in_bounds = omega (arith, here_short _ _ c.slot_at-at.ensures c.word-k.ensures c.requires.here, c.requires.i_in_bounds, length-take-le (c.slot_at-at.result + 2 + c.word-k.result - (c.slot_at-at.result + 2)) (drop (c.slot_at-at.result + 2) c.args.bookmarks.now) (omega (arith, here_short _ _ c.slot_at-at.ensures c.word-k.ensures c.requires.here, c.slot_at-at.ensures, c.requires.i_in_bounds, length-drop (c.slot_at-at.result + 2) c.args.bookmarks.now))) }
+path_now-requires c = record { stands = here_stands _ _ c.slot_at-at.ensures c.word-k.ensures c.requires.here; path_in_bounds = omega (arith, here_short _ _ c.slot_at-at.ensures c.word-k.ensures c.requires.here, c.requires.i_in_bounds, length-take-le (c.slot_at-at.result + 2 + c.word-k.result - (c.slot_at-at.result + 2)) (drop (c.slot_at-at.result + 2) c.args.bookmarks.now) (omega (arith, here_short _ _ c.slot_at-at.ensures c.word-k.ensures c.requires.here, c.slot_at-at.ensures, c.requires.i_in_bounds, length-drop (c.slot_at-at.result + 2) c.args.bookmarks.now))) }
 
 pub slice_bounds-put_bookmark-end : goal.slice_bounds-put_bookmark-end
 slice_bounds-put_bookmark-end c = omega (arith, here_short _ _ c.slot_at-at.ensures c.word-k.ensures c.requires.here, c.requires.i_in_bounds)

@@ -1,5 +1,0 @@
-use Rattle.rows_children.proofs.Turns.{Counting}
-use Rattle.rows_children.proofs.fill_trees.Given as goal
-
-abbrev pub invariant-loop-i : goal.invariant-loop-i
-invariant-loop-i l = Counting l.rows.words.now l.rows.count l.initial.trees l.trees l.i l.begun
