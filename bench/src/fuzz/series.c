@@ -1,4 +1,4 @@
-/* The calls on a series of edits: how many bytes of bookmarks, those, and a batch; where the flag OWN says so the memory's tree is the batch's first, or else it stands before the batch with its length. */
+/* The calls on a series of edits. The input: how many bytes of bookmarks, those; how many bytes of tree, those, if the tree is not to be the batch's; a batch. */
 #include <string.h>
 
 #include "fuzz.h"
@@ -12,22 +12,30 @@ static void bookmark(struct input *in, uint32_t *slot)
         slot[2 + i] = take_byte(in);
 }
 
-/* 0 the tree, 1 the bookmarks. Their slice ends with the last one; with APART it is a word shorter, and with MANY one more is stated than may be, and has room. */
-static void lay_out_memory(struct call *call, enum use use, struct input *in)
+/* With OWN the tree is the batch's first: but for one byte, where the number is not needed for the slice's length and is not 0. */
+static struct input tree_in(const struct head *head, struct input *in)
 {
     static uint8_t tree[SYNTAX_MOST_TREE];
+    if (!(head->flags & OWN))
+        return take(in, take_half(in));
+    struct input own = { tree, first_tree(*in, tree) };
+    if (head->number != 0 && !(head->flags & EXACT))
+        tree[head->number % own.left] ^= 1;
+    return own;
+}
+
+/* 0 the tree, 1 the bookmarks. With EXACT the tree's slice is that much longer than the tree. The other ends with the last bookmark; with APART it is a word shorter, and with MANY one more is stated than
+ * may be, and has room. */
+static void lay_out_memory(struct call *call, enum use use, struct input *in)
+{
     static uint32_t words[SYNTAX_BOOKMARK_WORDS + SYNTAX_SLOT];
     memset(words, call->fill, sizeof words);
     struct input told = take(in, take_byte(in));
     words[0] = 0;
     while (told.left != 0)
         bookmark(&told, words + 1 + SYNTAX_SLOT * words[0]++);
-    struct input given = { tree, 0 };
-    if (call->head.flags & OWN)
-        given.left = first_tree(*in, tree);
-    else
-        given = take(in, take_half(in));
-    lend_bytes(call, use, call->head.flags & EXACT ? given.left + call->head.number : SYNTAX_MOST_TREE, given);
+    struct input tree = tree_in(&call->head, in);
+    lend_bytes(call, use, call->head.flags & EXACT ? tree.left + call->head.number : SYNTAX_MOST_TREE, tree);
     words[0] = call->head.flags & MANY ? SYNTAX_MOST_BOOKMARKS + 1 : words[0];
     size_t length = 1 + SYNTAX_SLOT * words[0];
     lend_words(call, use, length - (call->head.flags & APART ? 1 : 0), (struct input){ (uint8_t *)words, 4 * length });
