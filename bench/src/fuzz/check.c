@@ -44,15 +44,15 @@ static int own(const struct head *head, struct input batch, struct input lists[L
     return 1;
 }
 
-/* A copy of a list, in which an item is another where the number tells one of this list. */
+/* A copy of a list, in which an item is another where the number tells one of this list; 0 tells none. */
 static struct input changed_in(const struct head *head, int list, struct input from)
 {
     static uint8_t copy[65536];
     size_t items = from.left / unit(list), at = items ? head->number / LISTS % items : 0;
-    if (head->number % LISTS != list || from.left > sizeof copy || !items)
+    if (head->number == 0 || head->number % LISTS != list || from.left > sizeof copy || !items)
         return from;
     memcpy(copy, from.at, from.left);
-    copy[at * unit(list)] ^= head->room % 256;
+    copy[at * unit(list)] = head->room % 256;
     return (struct input){ copy, from.left };
 }
 
