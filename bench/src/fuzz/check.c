@@ -1,4 +1,4 @@
-/* The checker: of a claim as its program reads it, or of the library's own output of a batch, in which one item is changed. */
+/* The checker: of a claim as its program reads it, or of the library's own output of a batch, in which one item is changed, or with an element more. */
 #include <string.h>
 
 #include "fuzz.h"
@@ -56,7 +56,19 @@ static struct input changed_in(const struct head *head, int list, struct input f
     return (struct input){ copy, from.left };
 }
 
-/* 0 to 8 the lists, 9 to 12 work. With APART the new numbers of pairs are one fewer than the old ones, and with MANY the new text is longer than any may be. */
+/* A copy of a list of words with one more. */
+static struct input one_more(struct input from, uint32_t word)
+{
+    static uint8_t copy[65536 + 4];
+    if (from.left > 65536)
+        return from;
+    memcpy(copy, from.at, from.left);
+    memcpy(copy + from.left, &word, 4);
+    return (struct input){ copy, from.left + 4 };
+}
+
+/* 0 to 8 the lists, 9 to 12 work. With MORE one more element is claimed to be changed, with APART the new numbers of pairs are one fewer than the old ones, and with MANY the new text is longer than any
+ * may be. */
 static void lay_out(struct call *call, struct input in)
 {
     const size_t needed[] = { SYNTAX_CLAIM_OLD, SYNTAX_CLAIM_NEW, SYNTAX_CLAIM_PARTNERS, SYNTAX_CLAIM_MARKS };
@@ -64,6 +76,8 @@ static void lay_out(struct call *call, struct input in)
     int ours = call->head.flags & OWN && own(&call->head, in, lists);
     if (!ours)
         claim_in(in, lists);
+    if (call->head.flags & MORE)
+        lists[CHANGED] = one_more(lists[CHANGED], call->head.room);
     for (int k = 0; k < LISTS; k++) {
         struct input list = ours ? changed_in(&call->head, k, lists[k]) : lists[k];
         size_t length = list.left / unit(k);

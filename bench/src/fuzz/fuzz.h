@@ -37,7 +37,7 @@ struct input take(struct input *in, size_t most);
 
 /* The first bytes of every input, behind the one that says which call it is. What the flags from OWN on say differs by call. */
 struct head { uint8_t choices; uint16_t number; uint8_t flags; uint16_t room; uint8_t short_work; };
-enum { HEAD = 8, ROOM = 1, OTHER_FILL = 2, OWN = 4, APART = 8, EXACT = 16, MANY = 32 };
+enum { HEAD = 8, ROOM = 1, OTHER_FILL = 2, OWN = 4, APART = 8, EXACT = 16, MORE = 16, MANY = 32 };
 
 /* What a call may do with a slice: read it, answer in it, leave something in it if it is not refused, or work in it. */
 enum use { READ, ANSWER, MEMORY, WORK };
