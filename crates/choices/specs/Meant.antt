@@ -1,11 +1,9 @@
 -- What the record of choices means: the definition's choices, and by what they are refused.
 -- Assumes nothing.
-use Rattle.std.specs.Prelude.{◌≡◌, Bool, ℕ, ◌≤◌, ◌<◌, ltb, Ok, Err}
+use Rattle.std.specs.Prelude.{◌≡◌, ◌≤◌, ◌<◌, Ok, Err}
 use Rattle.std.proofs.Math.Path.{refl}
-use Rattle.std.proofs.Common.{ap, arith}
-use Rattle.std.proofs.Math.Bool.{true, false}
 use borrow.Author.Tests.{lt-ltb, le-ltb}
-use Rattle.definition.specs.Basics.{Answer, refused, gives, ◌>>=◌, refuse}
+use Rattle.definition.specs.Basics.{◌>>=◌, refuse}
 use Rattle.definition.specs.Choices as definition
 use Rattle.refusals.specs.Numbers.{number, answered}
 use Rattle.refusals.specs.declared.Refusal.TheVariants.{Edge, Stronger}

@@ -1,24 +1,19 @@
 -- The sizes and the notes of what came in, and how large they are.
 -- Assumes nothing.
-use Rattle.std.specs.Prelude.{◌≡◌, refl, ℕ, ◌+◌, ◌-◌, ◌^◌, ◌≤◌, ◌<◌, length, take, drop, get_or}
+use Rattle.std.specs.Prelude.{◌≡◌, refl, ℕ, ◌+◌, ◌^◌, ◌≤◌, ◌<◌, length, take, drop}
 use Rattle.std.proofs.Common.{sym, ap, ◌∙◌, arith, length-append, length-take-le}
-use mathlib.Core.List.{List, [], ◌∷◌, ◌++◌, map, flat_map}
-use Rattle.std.proofs.Math.Option
-use Rattle.std.proofs.Math.Option.{Option, none, some}
+use mathlib.Core.List.{List, [], ◌∷◌, map, flat_map}
 use Rattle.std.proofs.lemmas.List.{length-map}
 use Rattle.orders.specs.Lists.{All}
-use Rattle.orders.specs.ListLaws.{some_inj, none_some, before, inside, after, zone?, zone_before, zone_inside, zone_after, All-map, All-over, All-pick}
+use Rattle.orders.specs.ListLaws.{All-map}
 use Rattle.definition.specs.Words.{words}
-use Rattle.definition_laws.specs.Basics.{All-append}
 use Rattle.words.specs.Bytes.{length_words}
 use Rattle.rows_model.specs.Row.{skip}
 use Rattle.rows_model.proofs.RowLaws.{skip_le}
-use Rattle.rows_model.specs.Place.{rows_after, subtree, in_run}
-use Rattle.run_model.specs.Store.{HeldNote, HeldChanged, with_row, Store, marked, end_row, Part, part_at, part_of, new_rows, placed_parts}
-use Rattle.run_annotations.specs.Notes.{notes_of}
+use Rattle.rows_model.specs.Place.{rows_after, subtree}
+use Rattle.run_model.specs.Store.{HeldNote, HeldChanged, Store, end_row, Part, part_at, new_rows}
 use Rattle.run_annotations.specs.Places.{part_rows}
-use Rattle.run_annotations.specs.Promises.{note_in}
-use Rattle.run_prepare.specs.Yields.{came_in, new_notes, part_sizes, part_in}
+use Rattle.run_prepare.specs.Yields.{came_in, part_sizes, part_in}
 use Rattle.run_prepare.specs.Promises.{Came, ElementsPrepared}
 
 -- ── Sizes ───────────────────────────────────────────────────────────────────────────────────────────────────
@@ -37,44 +32,6 @@ sizes_low (y ∷ new) =
 pub end_row_lem : (s : Store) (m : ℕ) → end_row s m ≡ m + length (part_at s m).rows
 unfolding part_at end_row rows_after subtree
 end_row_lem s m = ap (λ (i : ℕ). m + i) (sym (length-take-le (skip 1 (drop m s.rows)) (drop m s.rows) (skip_le 1 (drop m s.rows))))
-
--- a note in the rows p up to q is told below q - p
-in_run_low : (p q x y : ℕ) → in_run p q x ≡ some y → y < q - p
-unfolding in_run
-in_run_low p q x y h = elim (zone? x p q) [
-  | before a ↦ none_some (sym (zone_before x p q none (some (x - p)) none a) ∙ h)
-  | inside a b ↦ let e : x - p ≡ y = some_inj (sym (zone_inside x p q none (some (x - p)) none a b) ∙ h) in omega arith
-  | after a b ↦ none_some (sym (zone_after x p q none (some (x - p)) none a b) ∙ h)
-]
-
--- a part with notes at its own rows
-abbrev pub NotesWithin : Part → Type 0
-NotesWithin y = All (λ n. n.row < length y.rows) y.notes
-
-All-all : {X : Type 0} {P : X → Type 0} → ((x : X) → P x) → (l : List X) → All P l
-All-all h [] = tt
-All-all h (x ∷ l) = (h x, All-all h l)
-
-pub part_within : (s : Store) (m : ℕ) → NotesWithin (part_at s m)
-unfolding part_at with_row
-part_within s m = All-pick (note_in m (end_row s m)) (λ n. Unit {0}) (λ n. n.row < length (part_at s m).rows) one s.notes (All-all (λ n. tt) s.notes)
-  where
-    one : (n n' : HeldNote) → note_in m (end_row s m) n ≡ some n' → Unit {0} → n'.row < length (part_at s m).rows
-    one n n' e u = go (in_run m (end_row s m) n.row) refl e
-      where
-        go : (o : Option ℕ) → in_run m (end_row s m) n.row ≡ o → Option.map (with_row n) o ≡ some n' → n'.row < length (part_at s m).rows
-        go none g h = none_some h
-        go (some y) g h = let f : y ≡ n'.row = ap (λ (x : HeldNote). x.row) (some_inj h) in omega (arith, in_run_low m (end_row s m) n.row y g, end_row_lem s m)
-
--- The notes that come in are at the rows that come in.
-pub new_notes_low : (at : ℕ) (new : List Part) → All NotesWithin new → All (λ n. n.row < at + length (new_rows new)) (new_notes at new)
-unfolding new_notes new_rows placed_parts flat_map with_row
-new_notes_low at [] h = tt
-new_notes_low at (y ∷ new) h =
-    let e = length-append y.rows (new_rows new) in
-    All-append (λ n. n.row < at + length (y.rows ++ new_rows new)) (map (λ n. with_row n (at + n.row)) y.notes) (new_notes (at + length y.rows) new)
-    (All-over (λ n. with_row n (at + n.row)) (λ n. n.row < length y.rows) (λ n. n.row < at + length (y.rows ++ new_rows new)) (λ n b. omega arith) y.notes h.0)
-    (All-map (λ n b. omega arith) (new_notes (at + length y.rows) new) (new_notes_low (at + length y.rows) new h.1))
 
 -- The parts that come in stand at the rows that come in.
 pub parts_low : (at end : ℕ) (new : List Part) → at + length (new_rows new) ≤ end → All (λ x. x ≤ end) (part_rows at (part_sizes new))

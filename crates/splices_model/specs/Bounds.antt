@@ -1,6 +1,6 @@
 -- The words of a list of splices in bounds: what keeps every step within the slices.
 -- Assumes nothing.
-use Rattle.std.specs.Prelude.{◌≡◌, refl, List, ℕ, zero, suc, ◌+◌, ◌-◌, ◌*◌, ◌≤◌, ◌<◌, length, take, drop, get_or}
+use Rattle.std.specs.Prelude.{◌≡◌, refl, List, ℕ, zero, suc, ◌+◌, ◌*◌, ◌≤◌, ◌<◌, length, drop, get_or}
 use Rattle.std.proofs.Common.{inl, inr, arith, length-drop, length-take-le}
 use Rattle.orders.specs.ListLaws.{lt_or_le}
 use Rattle.splices_model.specs.Cuts.{part_at}
