@@ -1,6 +1,6 @@
 -- What the calls on a series promise: the answer, and what each lent slice holds then, from what was lent.
 -- Assumes nothing.
-use Rattle.std.specs.Prelude.{◌≡◌, refl, Result, Err, false, ℕ, ◌≤◌, ◌<◌, length, replicate}
+use Rattle.std.specs.Prelude.{◌≡◌, Result, Err, false, ℕ, ◌≤◌, ◌<◌, length, replicate}
 use Rattle.std.proofs.Common.{sym, ap, ◌∙◌, subst, lt-ltb, le-ltb}
 use mathlib.Core.List.{List, [], ◌∷◌, zip}
 use Rattle.definition.specs.Basics.{Answer, gives, ◌>>=◌, refuse, any}

@@ -27,7 +27,7 @@ use Rattle.refusals.specs.declared.Refusal.TheVariants.{ShortResult, Overlap as 
 use Rattle.edit_perform.specs.Stops.{Unplanned, Refused, Overlap}
 use Rattle.promises.specs.Promises as promises
 use Rattle.promises.specs.Promises.{applied}
-use Rattle.edit_perform.specs.Ending.{End, result_at, edit_ending}
+use Rattle.edit_perform.specs.Ending.{End}
 use Rattle.edit_perform.specs.declared.Ended.{Ended}
 use Rattle.series_laws.specs.Follow.{Step}
 use Rattle.series_laws.specs.Lent.{tree_bytes, fits, left_in}

@@ -1,6 +1,6 @@
 -- A bookmark's path now: down the old path each element has its mark, and behind its parent as many more trees begin than from it on as its number tells.
 -- Assumes nothing.
-use Rattle.std.specs.Prelude.{◌≡◌, refl, ℕ, zero, suc, ◌+◌, ◌-◌, ◌*◌, ◌^◌, ◌≤◌, ◌<◌, drop}
+use Rattle.std.specs.Prelude.{◌≡◌, ℕ, suc, ◌+◌, ◌*◌, ◌^◌, ◌≤◌, ◌<◌, drop}
 use Rattle.std.proofs.Math.Path.{sym, ap}
 use Rattle.std.proofs.Common.{◌∙◌, get_or-take, take-append-drop}
 use mathlib.Core.List.{List, [], ◌∷◌, ◌++◌, map, tail}

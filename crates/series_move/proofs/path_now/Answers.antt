@@ -1,5 +1,4 @@
 -- `path_now` meets its contract. The child numbers passed are written.
-use native.Mathlib.Omega.{arith}
 use mathlib.Core.Path.{refl}
 use Rattle.series_move.specs.Paths.{writing_start, writing_row, writing_next, writing_done}
 use Rattle.series_move.proofs.path_now.Goals as goal
