@@ -1,16 +1,15 @@
--- The numbers of bookmarks: the library's tests of their places are the definition's.
+-- The numbers of bookmarks: gathered side by side, and the library's test of them is the definition's.
 -- Assumes nothing.
 use Rattle.std.specs.List.{list_any, range_with_len}
-use mathlib.Core.Path.{◌≡◌, refl, sym, ap, ◌∙◌}
-use mathlib.Core.Bool.{Bool, true, false, not, ◌&&◌, ◌||◌}
-use mathlib.Core.List.{List, [], ◌∷◌, map}
-use Prim.Native.Nat.{ℕ, zero, suc, ◌+◌, ◌-◌, ◌^◌, ◌≤◌, ◌<◌}
-use native.Mathlib.Omega.{arith}
-use lib.Dec.{eqb}
-use lib.ListN.{get_or}
+use Rattle.std.specs.Prelude.{◌≡◌, refl, Bool, true, false, not, ◌&&◌, ◌||◌, eqb, List, [], ◌∷◌, ◌++◌, map, ℕ, zero, suc, ◌+◌, ◌-◌, ◌^◌, ◌≤◌, ◌<◌, length, get_or, set, take, drop}
+use Rattle.std.proofs.Common.{sym, ap, ◌∙◌, append_assoc, append-nil, add-one, arith, length-set, take_all, take-suc-set, eqb-true}
+use Rattle.std.proofs.Math.ListN.{drop_of_length-le}
+use Rattle.std.proofs.Math.Seq.{drop-cons}
 use Rattle.definition.specs.Basics.{any, among}
 use Rattle.check_laws.specs.Check.{no_repeat}
 use Rattle.series_check.specs.Slots.{slot_at, numbers_from, slots_none, slots_more}
+
+-- ── Gathered ────────────────────────────────────────────────────────────────────────────────────────────────
 
 module _ (b : List ℕ) (k : ℕ) where
   numbers_more : (i : ℕ) → i < k → numbers_from b k i ≡ get_or (slot_at b i) 0 0 ∷ numbers_from b k (i + 1)
@@ -21,30 +20,59 @@ module _ (b : List ℕ) (k : ℕ) where
   unfolding numbers_from
   numbers_none i h = ap (map (λ s. get_or s 0 0)) (slots_none b k i h)
 
-  -- the library's test of the places from i on is the definition's of the numbers
-  pub among_listed : (x i n : ℕ) → k - i ≡ n → list_any (λ j. eqb x (get_or (slot_at b j) 0 0)) (range_with_len i n) ≡ among (numbers_from b k i) x
-  unfolding among any
-  among_listed x i zero h = sym (ap (any (eqb x)) (numbers_none i (omega arith)))
-  among_listed x i (suc n) h = ap (λ (t : Bool). eqb x (get_or (slot_at b i) 0 0) || t) (among_listed x (i + 1) n (omega arith)) ∙ sym (ap (any (eqb x)) (numbers_more i (omega arith)))
+-- the first i of them stand
+pub record Gathering (b : List ℕ) (k : ℕ) (l : List ℕ) (i : ℕ) : Type 0 where
+  pub inside : i ≤ k
+  pub long : length l ≡ k
+  pub told : take i l ++ numbers_from b k i ≡ numbers_from b k 0
 
+pub gathering_start : (b : List ℕ) (k : ℕ) (l : List ℕ) → length l ≡ k → Gathering b k l 0
+gathering_start b k l h = record { inside = omega arith; long = h; told = refl }
+
+module _ {b : List ℕ} {k : ℕ} {l : List ℕ} {i : ℕ} (v : Gathering b k l i) where
+  pub gathering_next : i < length l → {x : ℕ} → (x ≡ get_or (slot_at b i) 0 0) × (x < 2 ^ 32) → Gathering b k (set l i x) (i + 1)
+  gathering_next h {x} e =
+      let more : numbers_from b k i ≡ x ∷ numbers_from b k (i + 1) = numbers_more b k i (omega (arith, v.long)) ∙ ap {B = List ℕ} (λ (y : ℕ). y ∷ numbers_from b k (i + 1)) (sym e.0) in
+      record {
+        inside = omega (arith, v.long);
+        long = length-set l i x ∙ v.long;
+        told = rw (add-one i) (ap (λ (p : List ℕ). p ++ numbers_from b k (suc i)) (take-suc-set l i x h) ∙ (append_assoc (take i l) (x ∷ []) (numbers_from b k (suc i)) ∙ (ap (λ (p : List ℕ). take i l ++ p) (sym (rw (add-one i) at more)) ∙ v.told)));
+      }
+
+  pub gathering_done : length l ≤ i → l ≡ numbers_from b k 0
+  gathering_done h = sym (append-nil l) ∙ (ap (λ (p : List ℕ). p ++ []) (sym (take_all i l h)) ∙ (ap (λ (p : List ℕ). take i l ++ p) (sym (numbers_none b k i (omega (arith, v.long)))) ∙ v.told))
+
+-- ── Tested ──────────────────────────────────────────────────────────────────────────────────────────────────
+
+either_way : (x y : ℕ) → eqb y x ≡ eqb x y
+either_way x y = go (eqb x y) refl
+  where
+    go : (t : Bool) → eqb x y ≡ t → eqb y x ≡ eqb x y
+    go true e = let z : x ≡ y = eqb-true x y e in rw z
+    go false e = last (eqb y x) refl
+      where
+        last : (s : Bool) → eqb y x ≡ s → eqb y x ≡ eqb x y
+        last true f = let z : y ≡ x = eqb-true y x f in rw z
+        last false f = f ∙ sym e
+
+-- the library's test of a list is the definition's
+pub contained : (x : ℕ) (l : List ℕ) → list_any (λ y. eqb y x) l ≡ among l x
+unfolding among any
+contained x [] = refl
+contained x (y ∷ l) = rw (either_way x y, contained x l)
+
+module _ (l : List ℕ) where
   -- whether the number at i stands again
   abbrev pub again : ℕ → Bool
-  again i = among (numbers_from b k (i + 1)) (get_or (slot_at b i) 0 0)
+  again i = among (drop (i + 1) l) (get_or l i 0)
 
-  pub repeat_listed : (i n : ℕ) → k - i ≡ n → list_any again (range_with_len i n) ≡ not (no_repeat (numbers_from b k i))
+  pub repeat_listed : (i n : ℕ) → length l - i ≡ n → list_any again (range_with_len i n) ≡ not (no_repeat (drop i l))
   unfolding no_repeat
-  repeat_listed i zero h = sym (ap (λ l. not (no_repeat l)) (numbers_none i (omega arith)))
+  repeat_listed i zero h = sym (ap (λ l. not (no_repeat l)) (drop_of_length-le l {i = i} (omega arith)))
   repeat_listed i (suc n) h =
-      ap (λ (t : Bool). again i || t) (repeat_listed (i + 1) n (omega arith))
-      ∙ (either (again i) (no_repeat (numbers_from b k (i + 1))) ∙ sym (ap (λ l. not (no_repeat l)) (numbers_more i (omega arith))))
+      let more : drop i l ≡ get_or l i 0 ∷ drop (i + 1) l = rw (add-one i) (drop-cons l i 0 (omega arith)) in
+      ap (λ (t : Bool). again i || t) (repeat_listed (i + 1) n (omega arith)) ∙ (either (again i) (no_repeat (drop (i + 1) l)) ∙ sym (ap (λ l. not (no_repeat l)) more))
     where
       either : (x y : Bool) → (x || not y) ≡ not (not x && y)
       either true y = refl
       either false y = refl
-
--- what the test of a place answers
-pub again_told : (b : List ℕ) (k i : ℕ) {x : ℕ} {r : Bool} → (x ≡ get_or (slot_at b i) 0 0) × (x < 2 ^ 32) → r ≡ among (numbers_from b k (i + 1)) x → r ≡ again b k i
-again_told b k i e f = f ∙ ap (among (numbers_from b k (i + 1))) e.0
-
-pub number_told : (b : List ℕ) (j : ℕ) (x : ℕ) {y : ℕ} {r : Bool} → (y ≡ get_or (slot_at b j) 0 0) × (y < 2 ^ 32) → r ≡ eqb x y → r ≡ eqb x (get_or (slot_at b j) 0 0)
-number_told b j x e f = f ∙ ap (eqb x) e.0

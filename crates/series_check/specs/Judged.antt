@@ -47,6 +47,10 @@ unfoldable pub judged : {A : Type 0} → Answer A → Answer (Unit {0})
 judged (refused k) = refused k
 judged (gives a) = gives tt
 
+-- 20, of k bookmarks
+unfoldable pub wrong_in : List ℕ → ℕ → Bool
+wrong_in marks k = wrong_numbers (map bookmark_in (slots k (drop 1 marks)))
+
 -- 5, 20 and 21, of a tree of n elements with b bytes of text, and of k bookmarks
 unfoldable pub remaining : List ℕ → ℕ → ℕ → List ℕ → ℕ → Answer (Unit {0})
 remaining t n b marks k = do
@@ -57,6 +61,29 @@ remaining t n b marks k = do
 
 abbrev pub Remains : List ℕ → ℕ → ℕ → List ℕ → ℕ → Result (Unit {0}) Refusal → Type 0
 Remains t n b marks k r = answered r ≡ remaining t n b marks k
+
+-- ── 20 ──────────────────────────────────────────────────────────────────────────────────────────────────────
+
+slots_many : (k : ℕ) (l : List ℕ) → length (slots k l) ≡ k
+unfolding slots
+slots_many zero l = refl
+slots_many (suc k) l = ap suc (slots_many k (drop slot_words l))
+
+module _ (marks : List ℕ) (k : ℕ) where
+  many : length (map bookmark_in (slots k (drop 1 marks))) ≡ k
+  many = length-map (slots k (drop 1 marks)) bookmark_in ∙ slots_many k (drop 1 marks)
+
+  pub wrong_many : most_bookmarks < k → true ≡ wrong_in marks k
+  unfolding wrong_in wrong_numbers
+  wrong_many e = sym (rw (many, lt-ltb most_bookmarks k e))
+
+  numbers_are : map (λ (b : Bookmark). b.0) (map bookmark_in (slots k (drop 1 marks))) ≡ numbers_from marks k 0
+  unfolding numbers_from bookmark_in
+  numbers_are = map-map (λ (b : Bookmark). b.0) bookmark_in (slots k (drop 1 marks)) ∙ ap (map (λ s. get_or s 0 0)) (sym (slots_all marks k))
+
+  pub wrong_twice : k ≤ most_bookmarks → {r : Bool} → r ≡ not (no_repeat (numbers_from marks k 0)) → r ≡ wrong_in marks k
+  unfolding wrong_in wrong_numbers
+  wrong_twice few e = e ∙ sym (rw (many, le-ltb most_bookmarks k few, numbers_are))
 
 -- ── 5 ───────────────────────────────────────────────────────────────────────────────────────────────────────
 
@@ -96,11 +123,6 @@ module _ (t : List ℕ) (n b : ℕ) (room : 8 + 8 * n + b ≤ length t) where
         go none z f = rw z
         go (some ts) z f = bool_absurd refl f
 
-    slots_many : (k : ℕ) (l : List ℕ) → length (slots k l) ≡ k
-    unfolding slots
-    slots_many zero l = refl
-    slots_many (suc k) l = ap suc (slots_many k (drop slot_words l))
-
     module _ (h : true ≡ accepts 1 b (elements_at t 8 (8 + 4 * n) n)) where
       spelt : (ts : List (Tree ℕ)) × (spelled (alone (tree_in n b t)) ≡ some ts)
       unfolding is_some
@@ -112,104 +134,92 @@ module _ (t : List ℕ) (n b : ℕ) (room : 8 + 8 * n + b ≤ length t) where
 
       -- ── 20 ──
 
-      wrong_20 : wrong_numbers (map bookmark_in (slots k (drop 1 marks))) ≡ true → Remains t n b marks k (Err Bookmarks)
-      unfolding remaining answered number or_refuse refuse ◌>>=◌
-      wrong_20 e = sym (rw (spelt.1, e))
+      pub remains_wrong : true ≡ wrong_in marks k → Remains t n b marks k (Err Bookmarks)
+      unfolding wrong_in remaining answered number or_refuse refuse ◌>>=◌
+      remains_wrong e = sym (rw (spelt.1, ← e))
 
-      pub remains_many : most_bookmarks < k → Remains t n b marks k (Err Bookmarks)
-      unfolding wrong_numbers
-      remains_many e = wrong_20 (rw (length-map (slots k (drop 1 marks)) bookmark_in, slots_many k (drop 1 marks), lt-ltb most_bookmarks k e))
+      -- ── 21 ──
 
-      numbers_are : map (λ (b : Bookmark). b.0) (map bookmark_in (slots k (drop 1 marks))) ≡ numbers_from marks k 0
-      unfolding numbers_from bookmark_in
-      numbers_are = map-map (λ (b : Bookmark). b.0) bookmark_in (slots k (drop 1 marks)) ∙ ap (map (λ s. get_or s 0 0)) (sym (slots_all marks k))
+      es_long : length (elements_at t 8 (8 + 4 * n) n) ≡ n
+      unfolding elements_in zip
+      es_long = ap length (sym elements_are) ∙ zipped (alone (tree_in n b t)).kinds (alone (tree_in n b t)).measures step ∙ (ap length kinds_are ∙ length_words n (drop 8 t))
+        where
+          zipped : (l m : List ℕ) → length l ≡ length m → length (zip l m) ≡ length l
+          zipped [] m e = refl
+          zipped (x ∷ l) [] e = absurd (omega arith)
+          zipped (x ∷ l) (y ∷ m) e = ap suc (zipped l m (omega arith))
 
-      module _ (few : k ≤ most_bookmarks) where
-        wrong_is : wrong_numbers (map bookmark_in (slots k (drop 1 marks))) ≡ not (no_repeat (numbers_from marks k 0))
-        unfolding wrong_numbers
-        wrong_is = rw (length-map (slots k (drop 1 marks)) bookmark_in, slots_many k (drop 1 marks), le-ltb most_bookmarks k few, numbers_are)
+      -- the tree is one
+      single : (r : Tree ℕ) × (spelt.0 ≡ r ∷ [])
+      unfolding alone
+      single = go spelt.0 refl (spelled_trees (alone (tree_in n b t)) spelt.0 spelt.1)
+        where
+          go : (ts : List (Tree ℕ)) → spelt.0 ≡ ts → length spelt.0 ≡ 1 → (r : Tree ℕ) × (spelt.0 ≡ r ∷ [])
+          go [] e l = absurd (omega (arith, ap length e))
+          go (r ∷ []) e l = (r, e)
+          go (r ∷ s ∷ ts) e l = absurd (omega (arith, ap length e))
 
-        pub remains_repeated : true ≡ not (no_repeat (numbers_from marks k 0)) → Remains t n b marks k (Err Bookmarks)
-        remains_repeated e = wrong_20 (wrong_is ∙ sym e)
+      -- 21 in one: a path that is too long, or finds no element
+      lost_is : (r : Tree ℕ) (ss : List (List ℕ)) → any (lost r) ss ≡ (any (astray (r ∷ [])) (map bookmark_in ss) || any beyond_slot ss)
+      unfolding any lost astray resolve bind list forest
+      lost_is r [] = refl
+      lost_is r (s ∷ ss) = ap (λ (x : Bool). (beyond_slot s || not (is_some (resolve (bookmark_in s).1 r))) || x) (lost_is r ss) ∙ shuffle (beyond_slot s) (not (is_some (resolve (bookmark_in s).1 r))) (any (astray (r ∷ [])) (map bookmark_in ss)) (any beyond_slot ss)
+        where
+          shuffle : (a b c d : Bool) → ((a || b) || (c || d)) ≡ ((b || c) || (a || d))
+          shuffle true true c d = refl
+          shuffle true false true d = refl
+          shuffle true false false d = refl
+          shuffle false true c d = refl
+          shuffle false false c d = refl
 
-        -- ── 21 ──
+      module _ (fine : false ≡ wrong_in marks k) (rows₀ rows part : List ℕ) (long : 3 * n ≤ length rows₀)
+          (filled : rows ≡ paste rows₀ 0 (rows_from 0 (elements_at t 8 (8 + 4 * n) n)) (3 * n)) (is : part ≡ take (3 * n) rows) where
+        part_is : part ≡ rows_from 0 (elements_at t 8 (8 + 4 * n) n)
+        part_is =
+            let s = rows_from 0 (elements_at t 8 (8 + 4 * n) n) in
+            let l : length s ≡ 3 * n = length_rows 0 (elements_at t 8 (8 + 4 * n) n) ∙ ap (λ (k : ℕ). 3 * k) es_long in
+            is ∙ (ap (take (3 * n)) (filled ∙ ap (λ (x : List ℕ). [] ++ x ++ drop (0 + 3 * n) rows₀) (take_all (3 * n) s (omega arith))) ∙ take_at s (drop (0 + 3 * n) rows₀) (3 * n) l)
 
-        es_long : length (elements_at t 8 (8 + 4 * n) n) ≡ n
-        unfolding elements_in zip
-        es_long = ap length (sym elements_are) ∙ zipped (alone (tree_in n b t)).kinds (alone (tree_in n b t)).measures step ∙ (ap length kinds_are ∙ length_words n (drop 8 t))
+        pub part_long : length part ≡ 3 * n
+        part_long = ap length part_is ∙ (length_rows 0 (elements_at t 8 (8 + 4 * n) n) ∙ ap (λ (k : ℕ). 3 * k) es_long)
+
+        told : (r : Tree ℕ) → spelt.0 ≡ r ∷ [] → triples (alone (tree_in n b t)).text part ≡ rows_of r
+        unfolding forest
+        told r e =
+            let S = spelled_spelt (alone (tree_in n b t)) spelt.0 spelt.1 in
+            ap (triples (alone (tree_in n b t)).text) (part_is ∙ ap (rows_from 0) (sym (S.elements ∙ elements_are)))
+            ∙ (ap (λ (x : List ℕ). triples x (rows_from 0 (flats (forest spelt.0)))) (sym S.text) ∙ (rows_told_lem (forest spelt.0) S.worded ∙ (ap (λ (ts : List (Tree ℕ)). rows_in (forest ts)) e ∙ append-nil (rows_of r))))
+
+        -- nothing given, or 21
+        abbrev led : Bool → Answer (Unit {0})
+        led x = cond x (gives tt) (refused 21)
+
+        fine_numbers : wrong_numbers (map bookmark_in (slots k (drop 1 marks))) ≡ false
+        unfolding wrong_in
+        fine_numbers = sym fine
+
+        pub remains_all : (x : Bool) → AllLead part marks k x → remaining t n b marks k ≡ led x
+        unfolding remaining or_refuse refuse ◌>>=◌
+        remains_all x l =
+            let (r, e) = single in
+            let q : x ≡ not (any (astray (r ∷ [])) (map bookmark_in (slots k (drop 1 marks))) || any beyond_slot (slots k (drop 1 marks))) = l (alone (tree_in n b t)).text r (told r e) ∙ ap not (ap (any (lost r)) (slots_all marks k) ∙ lost_is r (slots k (drop 1 marks))) in
+            rw (spelt.1, e, fine_numbers) (go (any (astray (r ∷ [])) (map bookmark_in (slots k (drop 1 marks)))) (any beyond_slot (slots k (drop 1 marks))) x q)
           where
-            zipped : (l m : List ℕ) → length l ≡ length m → length (zip l m) ≡ length l
-            zipped [] m e = refl
-            zipped (x ∷ l) [] e = absurd (omega arith)
-            zipped (x ∷ l) (y ∷ m) e = ap suc (zipped l m (omega arith))
+            go : (a c x : Bool) → x ≡ not (a || c) → (refuse 21 a >>= (λ _. refuse 21 c)) ≡ led x
+            go true c true e = bool_absurd refl (e ∙ refl)
+            go true c false e = refl
+            go false true true e = bool_absurd refl e
+            go false true false e = refl
+            go false false true e = refl
+            go false false false e = bool_absurd e refl
 
-        -- the tree is one
-        single : (r : Tree ℕ) × (spelt.0 ≡ r ∷ [])
-        unfolding alone
-        single = go spelt.0 refl (spelled_trees (alone (tree_in n b t)) spelt.0 spelt.1)
-          where
-            go : (ts : List (Tree ℕ)) → spelt.0 ≡ ts → length spelt.0 ≡ 1 → (r : Tree ℕ) × (spelt.0 ≡ r ∷ [])
-            go [] e l = absurd (omega (arith, ap length e))
-            go (r ∷ []) e l = (r, e)
-            go (r ∷ s ∷ ts) e l = absurd (omega (arith, ap length e))
+        pub remains_lead : {x : Bool} → AllLead part marks k x → x ≡ true → Remains t n b marks k (Ok tt)
+        unfolding answered
+        remains_lead {x} l e = sym (remains_all x l ∙ ap led e)
 
-        -- 21 in one: a path that is too long, or finds no element
-        lost_is : (r : Tree ℕ) (ss : List (List ℕ)) → any (lost r) ss ≡ (any (astray (r ∷ [])) (map bookmark_in ss) || any beyond_slot ss)
-        unfolding any lost astray resolve bind list forest
-        lost_is r [] = refl
-        lost_is r (s ∷ ss) = ap (λ (x : Bool). (beyond_slot s || not (is_some (resolve (bookmark_in s).1 r))) || x) (lost_is r ss) ∙ shuffle (beyond_slot s) (not (is_some (resolve (bookmark_in s).1 r))) (any (astray (r ∷ [])) (map bookmark_in ss)) (any beyond_slot ss)
-          where
-            shuffle : (a b c d : Bool) → ((a || b) || (c || d)) ≡ ((b || c) || (a || d))
-            shuffle true true c d = refl
-            shuffle true false true d = refl
-            shuffle true false false d = refl
-            shuffle false true c d = refl
-            shuffle false false c d = refl
-
-        module _ (fine : false ≡ not (no_repeat (numbers_from marks k 0))) (rows₀ rows part : List ℕ) (long : 3 * n ≤ length rows₀)
-            (filled : rows ≡ paste rows₀ 0 (rows_from 0 (elements_at t 8 (8 + 4 * n) n)) (3 * n)) (is : part ≡ take (3 * n) rows) where
-          part_is : part ≡ rows_from 0 (elements_at t 8 (8 + 4 * n) n)
-          part_is =
-              let s = rows_from 0 (elements_at t 8 (8 + 4 * n) n) in
-              let l : length s ≡ 3 * n = length_rows 0 (elements_at t 8 (8 + 4 * n) n) ∙ ap (λ (k : ℕ). 3 * k) es_long in
-              is ∙ (ap (take (3 * n)) (filled ∙ ap (λ (x : List ℕ). [] ++ x ++ drop (0 + 3 * n) rows₀) (take_all (3 * n) s (omega arith))) ∙ take_at s (drop (0 + 3 * n) rows₀) (3 * n) l)
-
-          pub part_long : length part ≡ 3 * n
-          part_long = ap length part_is ∙ (length_rows 0 (elements_at t 8 (8 + 4 * n) n) ∙ ap (λ (k : ℕ). 3 * k) es_long)
-
-          told : (r : Tree ℕ) → spelt.0 ≡ r ∷ [] → triples (alone (tree_in n b t)).text part ≡ rows_of r
-          unfolding forest
-          told r e =
-              let S = spelled_spelt (alone (tree_in n b t)) spelt.0 spelt.1 in
-              ap (triples (alone (tree_in n b t)).text) (part_is ∙ ap (rows_from 0) (sym (S.elements ∙ elements_are)))
-              ∙ (ap (λ (x : List ℕ). triples x (rows_from 0 (flats (forest spelt.0)))) (sym S.text) ∙ (rows_told_lem (forest spelt.0) S.worded ∙ (ap (λ (ts : List (Tree ℕ)). rows_in (forest ts)) e ∙ append-nil (rows_of r))))
-
-          -- nothing given, or 21
-          abbrev led : Bool → Answer (Unit {0})
-          led x = cond x (gives tt) (refused 21)
-
-          pub remains_all : (x : Bool) → AllLead part marks k x → remaining t n b marks k ≡ led x
-          unfolding remaining or_refuse refuse ◌>>=◌
-          remains_all x l =
-              let (r, e) = single in
-              let q : x ≡ not (any (astray (r ∷ [])) (map bookmark_in (slots k (drop 1 marks))) || any beyond_slot (slots k (drop 1 marks))) = l (alone (tree_in n b t)).text r (told r e) ∙ ap not (ap (any (lost r)) (slots_all marks k) ∙ lost_is r (slots k (drop 1 marks))) in
-              rw (spelt.1, e, wrong_is, ← fine) (go (any (astray (r ∷ [])) (map bookmark_in (slots k (drop 1 marks)))) (any beyond_slot (slots k (drop 1 marks))) x q)
-            where
-              go : (a c x : Bool) → x ≡ not (a || c) → (refuse 21 a >>= (λ _. refuse 21 c)) ≡ led x
-              go true c true e = bool_absurd refl (e ∙ refl)
-              go true c false e = refl
-              go false true true e = bool_absurd refl e
-              go false true false e = refl
-              go false false true e = refl
-              go false false false e = bool_absurd e refl
-
-          pub remains_lead : {x : Bool} → AllLead part marks k x → x ≡ true → Remains t n b marks k (Ok tt)
-          unfolding answered
-          remains_lead {x} l e = sym (remains_all x l ∙ ap led e)
-
-          pub remains_astray : {x : Bool} → AllLead part marks k x → x ≡ false → Remains t n b marks k (Err Astray)
-          unfolding answered number
-          remains_astray {x} l e = sym (remains_all x l ∙ ap led e)
+        pub remains_astray : {x : Bool} → AllLead part marks k x → x ≡ false → Remains t n b marks k (Err Astray)
+        unfolding answered number
+        remains_astray {x} l e = sym (remains_all x l ∙ ap led e)
 
 -- ── 3 and 4 ─────────────────────────────────────────────────────────────────────────────────────────────────
 

@@ -2,9 +2,9 @@
 // Bounds of one number, an index of what is read and room in a lent slice stand as clauses: a value around each would be no plainer than its bound.
 #![tactic(auto)]
 
-ghost use Rattle.std.specs.Prelude.{◌≡◌, not, ◌+◌, ◌*◌, ◌^◌, ◌≤◌, ◌<◌, length, get_or, take};
-ghost use Rattle.std.proofs.Math.Seq.{paste};
+ghost use Rattle.std.specs.Prelude.{◌≡◌, not, ◌+◌, ◌*◌, ◌^◌, ◌≤◌, ◌<◌, length, get_or, take, drop};
 ghost use Rattle.definition.specs.Basics.{among};
+ghost use Rattle.std.proofs.Math.Seq.{paste};
 ghost use Rattle.read_spelling.specs.Spelling.{elements_at};
 ghost use Rattle.read_element_table.specs.Filling.{rows_from};
 ghost use Rattle.check_laws.specs.Check.{no_repeat};
@@ -13,7 +13,7 @@ ghost use Rattle.series_check.specs.Slots.{slot_at, numbers_from};
 ghost use Rattle.series_check.specs.Leading.{Leads, AllLead};
 ghost use Rattle.series_check.specs.Rows.{text_sum};
 ghost use Rattle.refusals.specs.Numbers.{answered};
-ghost use Rattle.series_check.specs.Judged.{judged, Remains};
+ghost use Rattle.series_check.specs.Judged.{wrong_in, judged, Remains};
 
 mod bookmarks;
 
@@ -56,18 +56,43 @@ pub fn number_at(bookmarks: &[u32], i: usize) -> usize
     word(bookmarks, slot_at(i))
 }
 
-// Whether one of the bookmarks from `i` on has the number `x`.
-fn stands_again(bookmarks: &Bookmarks, i: usize, x: usize) -> bool
-    ensures { result ≡ among (numbers_from bookmarks.now.words.now bookmarks.now.count i) x }
+// The numbers side by side, as many as there are bookmarks: compared in their slots, each would be read from far away.
+fn gather_numbers(bookmarks: &Bookmarks, numbers: &mut [u32])
+    requires { length numbers.old ≡ bookmarks.now.count }
+    ensures { numbers.new ≡ numbers_from bookmarks.now.words.now bookmarks.now.count 0 }
 {
-    (i..bookmarks.count).any(|j| x == number_at(bookmarks.words, j))
+    for (i, number) in numbers.iter_mut().enumerate() {
+        *number = number_at(bookmarks.words, i) as u32;
+    }
+}
+
+// Whether the number at `i` stands again behind it.
+fn stands_again(numbers: &[u32], i: usize) -> bool
+    requires { i < length numbers.now }
+    ensures { result ≡ among (drop (i + 1) numbers.now) (get_or numbers.now i 0) }
+{
+    numbers[i + 1..].contains(&numbers[i])
 }
 
 // Whether a number is given twice.
-fn repeats(bookmarks: &Bookmarks) -> bool
-    ensures { result ≡ not (no_repeat (numbers_from bookmarks.now.words.now bookmarks.now.count 0)) }
+fn repeats(numbers: &[u32]) -> bool
+    ensures { result ≡ not (no_repeat numbers.now) }
 {
-    (0..bookmarks.count).any(|i| stands_again(bookmarks, i + 1, number_at(bookmarks.words, i)))
+    (0..numbers.len()).any(|i| stands_again(numbers, i))
+}
+
+// Whether there are too many bookmarks, or a number is given twice.
+fn wrong_numbers(bookmarks: &Bookmarks) -> bool
+    ensures { result ≡ wrong_in bookmarks.now.words.now bookmarks.now.count }
+{
+    let k = bookmarks.count;
+    if MOST_BOOKMARKS < k {
+        return true;
+    }
+    let mut numbers = [0u32; MOST_BOOKMARKS];
+    let gathered = &mut numbers[..k];
+    gather_numbers(bookmarks, gathered);
+    repeats(gathered)
 }
 
 // ── 21: paths ──
@@ -132,7 +157,7 @@ fn judge_memory(
     if !read_spelling::spells(&columns, 1, b) {
         return Err(Refusal::Spelling);
     }
-    if MOST_BOOKMARKS < bookmarks.count || repeats(bookmarks) {
+    if wrong_numbers(bookmarks) {
         return Err(Refusal::Bookmarks);
     }
     fill_rows(&columns, rows);
