@@ -23,10 +23,10 @@ use Rattle.orders.proofs.TreeLaws.{shift_before, shift_inside, shift_after}
 use Rattle.words.specs.Parts.{get_d_below, get_d_inside}
 use Rattle.rows_syntax_node.specs.Promises.{Spliced, Shifted}
 use Rattle.run_model.specs.Store.{HeldNote, with_row}
-use Rattle.run_annotations.specs.Notes.{note_of, notes_of, note_at, note_row, notes_same}
+use Rattle.run_annotations.specs.Notes.{note_of, notes_of, notes_in, note_at, note_row, notes_same}
 use Rattle.run_annotations.specs.Changed.{changed_in, Ruled, count_by}
 use Rattle.run_annotations.specs.Promises.{RowsMoved, moved_note, NotesMoved, RowsAdded}
-use Rattle.run_splice.specs.Promises.{SplicedMarks, NotesLeft, NotesSpliced, Recorded, ChangedSpliced}
+use Rattle.run_splice.specs.Promises.{SplicedMarks, NotesLeft, NotesAfter, NotesSpliced, Recorded, ChangedSpliced}
 
 -- ── Rows and marks ──────────────────────────────────────────────────────────────────────────────────────────
 
@@ -80,6 +80,19 @@ module _ (l : List ℕ) (p q : ℕ) (o : p ≤ q) where
 
   pub notes_counted : {r : ℕ} → r ≡ length (filter stays_at (range_with_len 0 (length l / 3))) → NotesLeft l p q r
   notes_counted e = record { count = λ m. e ∙ staying_from m (length l / 3) 0; most = omega (arith, e, length-filter stays_at (range_with_len 0 (length l / 3)), count_by-le-length stays_at (range_with_len 0 (length l / 3)), length-range_with_len 0 (length l / 3)) }
+
+  -- even all that are held are not too many
+  pub after_few : (come most : ℕ) → length l / 3 + come ≤ most → NotesAfter l p q come most (length l / 3 + come)
+  after_few come most h = record {
+    same = λ m.
+        let v = notes_counted refl in
+        let n : ℕ = length (pick (moved_note p q m) (notes_in l)) in
+        le-ltb most (length l / 3 + come) h ∙ sym (le-ltb most (n + come) (omega (arith, h, v.count m, v.most)));
+  }
+
+  -- those that stay are counted
+  pub after_counted : {left : ℕ} (come most : ℕ) → NotesLeft l p q left → NotesAfter l p q come most (left + come)
+  after_counted come most v = record { same = λ m. ap (λ (n : ℕ). ltb most (n + come)) (v.count m) }
 
 -- ── Notes moved, and notes behind them ──────────────────────────────────────────────────────────────────────
 

@@ -1,7 +1,7 @@
 -- What the functions promise, part by part. Text is not read, so that each promise holds for any.
 -- Assumes nothing.
 use Rattle.std.specs.Prelude as prelude
-use Rattle.std.specs.Prelude.{◌≡◌, List, ◌++◌, map, ℕ, ◌+◌, ◌-◌, ◌*◌, ◌/◌, ◌≤◌, ◌<◌, length, drop}
+use Rattle.std.specs.Prelude.{◌≡◌, List, ◌++◌, map, ℕ, ◌+◌, ◌-◌, ◌*◌, ◌/◌, ◌≤◌, ◌<◌, ltb, length, drop}
 use Rattle.orders.specs.Lists.{All, pick}
 use Rattle.rows_model.specs.Row.{first_rows, triples}
 use Rattle.rows_model.specs.Place.{splice_rows, moved_mark}
@@ -22,6 +22,10 @@ pub record SplicedMarks (rows : List ℕ) (n : ℕ) (marks : List ℕ) (parent p
 pub record NotesLeft (notes : List ℕ) (p q r : ℕ) : Type 0 where
   pub count : (m : ℕ) → r ≡ length (pick (moved_note p q m) (notes_in notes))
   pub most : r ≤ length notes / 3
+
+-- how many notes there will be with `come` more, told only as far as it is too many where there may be `most`
+pub record NotesAfter (notes : List ℕ) (p q come most r : ℕ) : Type 0 where
+  pub same : (m : ℕ) → ltb most r ≡ ltb most (length (pick (moved_note p q m) (notes_in notes)) + come)
 
 -- the notes moved, and behind them those that come in
 pub record NotesSpliced (l : List ℕ) (k p q m : ℕ) (incoming out : List ℕ) (r : ℕ) : Type 0 where

@@ -11,7 +11,7 @@ ghost use Rattle.run_annotations.specs.Notes.{notes_of};
 ghost use Rattle.run_annotations.specs.Changed.{changed_in, Ruled, count_by};
 ghost use Rattle.run_annotations.specs.Places.{part_rows};
 ghost use Rattle.run_annotations.specs.Promises.{moved_note};
-ghost use Rattle.run_splice.specs.Promises.{SplicedMarks, NotesLeft, NotesSpliced, Recorded, ChangedSpliced};
+ghost use Rattle.run_splice.specs.Promises.{SplicedMarks, NotesLeft, NotesAfter, NotesSpliced, Recorded, ChangedSpliced};
 
 use rows_syntax_node::{ROW_WORDS, shift_marks, splice_rows};
 use run_annotations::{NOTE_WORDS, Shift, add_changed, move_changed, move_notes};
@@ -53,13 +53,27 @@ fn stays(x: usize, p: usize, q: usize) -> bool
 }
 
 // How many of some notes are at none of the rows `p` up to `q`.
-pub fn notes_left(notes: &[u32], p: usize, q: usize) -> usize
+fn notes_left(notes: &[u32], p: usize, q: usize) -> usize
     requires { (length notes.now < 3 * 2 ^ 16) × (p ≤ q) }
     ensures { NotesLeft notes.now p q result }
 {
     (0..notes.len() / NOTE_WORDS)
         .filter(|i| stays(word(notes, NOTE_WORDS * *i), p, q))
         .count()
+}
+
+// How many notes there will be when the rows `p` up to `q` have given way and `incoming` more come in, as far as it matters where there may be `most`: if even all
+// that are held are not too many, none is counted.
+#[tactic(auto, using(crate::proofs::Turns::after_few, crate::proofs::Turns::after_counted))]
+pub fn notes_after(notes: &[u32], p: usize, q: usize, incoming: usize, most: usize) -> usize
+    requires { (length notes.now < 3 * 2 ^ 16) × (p ≤ q) × (incoming < 2 ^ 32) }
+    ensures { NotesAfter notes.now p q incoming most result }
+{
+    let all = notes.len() / NOTE_WORDS + incoming;
+    if all <= most {
+        return all;
+    }
+    notes_left(notes, p, q) + incoming
 }
 
 // The first `k` notes moved, and behind them those that come in. The new number of notes.

@@ -27,7 +27,7 @@ use Rattle.run_annotations.specs.Promises.{moved_note}
 use Rattle.run_tree_store.specs.Stored.{stored}
 use Rattle.run_tree_store.specs.declared.Gap.{Gap}
 use Rattle.run_tree_state.specs.Coming.{Coming}
-use Rattle.run_splice.specs.Promises.{NotesLeft}
+use Rattle.run_splice.specs.Promises.{NotesAfter}
 use Rattle.run_tree_state.specs.Store.{held_in, gap_told, Comes, Open, RoomFor, StoreSpliced}
 use Rattle.run_tree_state.specs.Sizes.{BytesBetween, size_by, rows_then, bytes_then, notes_then, large_then, StepSize}
 use Rattle.run_tree_state.specs.Applied.{executed_in, judged_store, Applied}
@@ -68,8 +68,12 @@ height_none {run} {o} v e text = go (ltb 64 (height (triples text run))) refl (s
 
 -- ── The answer ──────────────────────────────────────────────────────────────────────────────────────────────
 
+by_alike : {n n' b b' d d' : ℕ} (k k' : ℕ) → n ≡ n' → b ≡ b' → ltb 1024 k ≡ ltb 1024 k' → d ≡ d' → too_large_by n b k d ≡ too_large_by n' b' k' d'
+unfolding too_large_by
+by_alike k k' e f g h = rw (e, f, g, h)
+
 by_same : {n n' b b' k k' d d' : ℕ} → n ≡ n' → b ≡ b' → k ≡ k' → d ≡ d' → too_large_by n b k d ≡ too_large_by n' b' k' d'
-by_same e f g h = rw (e, f, g, h)
+by_same e f g h = by_alike _ _ e f (ap (λ (n : ℕ). ltb 1024 n) g) h
 
 too_deep : (n b k d : ℕ) → 64 < d → too_large_by n b k d ≡ true
 unfolding too_large_by
@@ -86,16 +90,16 @@ pub size_deep : (rows notes : List ℕ) (s : TreeState) (g : Gap) (run incoming 
 unfolding size_by large_then
 size_deep rows notes s g run incoming above v e f = record { answer = λ text. rw (f, too_deep (rows_then rows notes s g run incoming above) (bytes_then rows notes s g run incoming above text) (notes_then rows notes s g run incoming above) (above + min 65 (height (triples text run))) (omega (arith, height_none v e text))) }
 
-module _ (rows notes : List ℕ) (s : TreeState) (g : Gap) (run incoming : List ℕ) (above : ℕ) {lost left come deep : ℕ} {o : prelude.Option ℕ}
+module _ (rows notes : List ℕ) (s : TreeState) (g : Gap) (run incoming : List ℕ) (above : ℕ) {lost noted come deep : ℕ} {o : prelude.Option ℕ}
     (a : BytesBetween rows s.rows g.from g.to lost)
     (k : 3 * s.notes ≤ length notes)
-    (b : NotesLeft (take (3 * s.notes) notes) g.from g.to left)
+    (b : NotesAfter (take (3 * s.notes) notes) g.from g.to (length incoming / 3) 1024 noted)
     (d : Bytes run come)
     (e : Height run o)
     (h : o ≡ Some deep)
     (f : (s.bytes ≤ 16384) × ((text : List ℕ) → s.bytes ≡ bytes (first_rows text s.rows rows)))
     {t : Bool}
-    (j : t ≡ too_large_by (s.rows - (g.to - g.from) + length run / 3) (s.bytes + come - lost) (left + length incoming / 3) (above + deep)) where
+    (j : t ≡ too_large_by (s.rows - (g.to - g.from) + length run / 3) (s.bytes + come - lost) noted (above + deep)) where
   bytes_then_lem : (text : List ℕ) → s.bytes + come - lost ≡ bytes_then rows notes s g run incoming above text
   unfolding bytes_then
   bytes_then_lem text = omega (arith, f.1 text, d.sum text, a.sum text)
@@ -105,8 +109,8 @@ module _ (rows notes : List ℕ) (s : TreeState) (g : Gap) (run incoming : List 
   large_then_lem text =
       let z = height_some e h text in
       let y : deep ≡ min 65 (height (triples text run)) = omega arith in
-      let n : left ≡ length (pick (moved_note g.from g.to (length run / 3)) (notes_of s.notes notes)) = b.count (length run / 3) ∙ ap (λ (l : List HeldNote). length (pick (moved_note g.from g.to (length run / 3)) l)) (notes_part s.notes notes k) in
-      j ∙ by_same refl (bytes_then_lem text) (ap (λ (i : ℕ). i + length incoming / 3) n) (ap (λ (i : ℕ). above + i) y)
+      let n : ltb 1024 noted ≡ ltb 1024 (length (pick (moved_note g.from g.to (length run / 3)) (notes_of s.notes notes)) + length incoming / 3) = b.same (length run / 3) ∙ ap (λ (l : List HeldNote). ltb 1024 (length (pick (moved_note g.from g.to (length run / 3)) l) + length incoming / 3)) (notes_part s.notes notes k) in
+      j ∙ by_alike _ _ refl (bytes_then_lem text) n (ap (λ (i : ℕ). above + i) y)
 
   pub size_large : t ≡ true → StepSize rows notes s g run incoming above None
   unfolding size_by

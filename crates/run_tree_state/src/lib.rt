@@ -20,8 +20,8 @@ pub use parts::Parts;
 use refusals::Refusal;
 use rows_syntax_node::{ROW_WORDS, Rows, height, text_bytes};
 use run_annotations::{NOTE_WORDS, Shift};
-use run_splice::{notes_left, splice_changed, splice_notes};
-use run_tree_store::too_large;
+use run_splice::{notes_after, splice_changed, splice_notes};
+use run_tree_store::{MOST_NOTES, too_large};
 pub use site::Site;
 
 // ── All that is held ──
@@ -164,11 +164,12 @@ fn step_size(rows: &[u32], notes: &[u32], s: TreeState, site: &Site, parts: &Par
     };
     let end = NOTE_WORDS * s.notes;
     let lost = bytes_between(&held, gap.from, gap.to);
-    let left = notes_left(&notes[..end], gap.from, gap.to);
+    let coming = parts.notes.len() / NOTE_WORDS;
+    let noted = notes_after(&notes[..end], gap.from, gap.to, coming, MOST_NOTES);
     let bytes = s.bytes + text_bytes(parts.run) - lost;
     let n = s.rows - (gap.to - gap.from) + parts.run.len() / ROW_WORDS;
     let depth = site.above + height(parts.run)?;
-    if too_large(n, bytes, left + parts.notes.len() / NOTE_WORDS, depth) {
+    if too_large(n, bytes, noted, depth) {
         return None;
     }
     Some(bytes)

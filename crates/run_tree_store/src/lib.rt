@@ -175,10 +175,13 @@ pub fn find_gap(store: &TreeStore, operation: usize, x: usize, y: usize) -> Opti
 
 // ── Refusal 12 ──
 
+// The most notes that may be held.
+pub const MOST_NOTES: usize = 1024;
+
 // Whether a step makes too much, by the rows, text bytes and notes that there would be, and by the depth of what comes in.
 #[tactic(auto, unfolding(run_model::specs::Sums::too_large_by))]
 pub fn too_large(rows: usize, bytes: usize, notes: usize, depth: usize) -> bool
     ensures { result ≡ too_large_by rows bytes notes depth }
 {
-    4097 < rows || 16384 < bytes || 1024 < notes || 64 < depth
+    4097 < rows || 16384 < bytes || MOST_NOTES < notes || 64 < depth
 }
