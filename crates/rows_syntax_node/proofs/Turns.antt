@@ -3,6 +3,7 @@
 use Rattle.std.specs.List.{sum, sum_by, range_with_len}
 use Rattle.std.proofs.lemmas.List.Sums.{sum_by-cons}
 use mathlib.Core.Path.{◌≡◌, refl, sym, ap, ◌∙◌}
+use mathlib.Core.Logic.{inl, inr}
 use mathlib.Core.List.{List, [], ◌∷◌, ◌++◌, map, append-nil}
 use Rattle.std.specs.Prelude.{None, Some}
 use Prim.Native.Nat.{ℕ, zero, suc, ◌+◌, ◌-◌, ◌*◌, ◌/◌, ◌%◌, ◌^◌, ◌≤◌, ◌<◌, max}
@@ -10,19 +11,23 @@ use native.Mathlib.Omega.{arith}
 use native.Mathlib.Nat.{zero-add}
 use native.Mathlib.Numerals.{add-one}
 use borrow.Author.Tests.{lt-ltb, le-ltb}
-use lib.ListN.{length, get_or, set, take, drop, length-set, length-map, length-drop, drop_of_length-le}
-use lib.Seq.{get_or-set_same, get_or-set_other, paste, paste-suc, take-paste, drop-paste, take_all, length-take-le, get_or-take, take-set-lt, drop-set-lt, drop_at}
+use borrow.Rule.Slice.PartMut.{mid_of, post_of, put_mid}
+use lib.ListN.{length, get_or, set, take, drop, take-append-drop, length-set, length-map, length-drop, drop_of_length-le}
+use lib.Seq.{get_or-set_same, get_or-set_other, paste, paste-suc, take-paste, drop-paste, take_all, length-take-le, get_or-take, take-set-lt, drop-set-lt, drop_at, ext_get_or}
+use Rattle.std.proofs.lemmas.List.{set-get_or}
+use Rattle.orders.specs.Lists.{All}
 use Rattle.orders.specs.Tree.{modify}
-use Rattle.orders.specs.ListLaws.{take_modify, drop_modify_before, modify_left}
+use Rattle.orders.specs.ListLaws.{lt_or_le, map_take, map_drop, take_modify, drop_modify_before, modify_left}
 use Rattle.orders.proofs.TreeLaws.{shift_before, shift_inside, shift_after}
-use Rattle.definition_laws.specs.Basics.{up_from, up_at, up_long, get_d_map}
-use Rattle.words.specs.Parts.{spliced, get_d_above, length_spliced, take_spliced}
+use Rattle.definition_laws.specs.Basics.{All-drop, up_from, up_at, up_long, get_d_map}
+use Rattle.words.specs.Parts.{spliced, get_d_above, get_d_inside, length_spliced, take_spliced}
 use Rattle.rows_model.specs.Row.{Row, owes, text_length, row_in, first_rows, triples, skip, trees_from, trees_in, bytes, opened, height_in, height}
 use Rattle.rows_model.specs.Place.{rows_after, child_row, between, subtree, remeasure, splice_rows, moved_mark}
 use Rattle.rows_model.proofs.RowLaws.{skip_none, height_closed}
 use Rattle.rows_model.proofs.Marks.{marks_below}
 use Rattle.rows_model.proofs.Words.{rows_summed, node_row, token_owes, token_length, first_at, first_end, length_triples, triples_at, triples_end, triples_append, triples_take, triples_drop, triples_set, length_first, words_between}
-use Rattle.rows_syntax_node.specs.Promises.{Counted, Measured, After, ChildAt, TreesIn, TreesBetween, height_by, Height, Part, Appended, Spliced, Moved, Shifted}
+use Rattle.rows_syntax_node.specs.Promises.{Counted, Measured, After, ChildAt, TreesIn, TreesBetween, height_by, Height, Part, Appended, Spliced, Moved, Shifted, FirstMoved}
+use Rattle.rows_syntax_node.specs.Rising.{Rising, some_inside, get_moved, drop_rising, moved_rising}
 
 -- ── One row ─────────────────────────────────────────────────────────────────────────────────────────────────
 
@@ -116,6 +121,10 @@ module _ (p q m x : ℕ) (few : (p ≤ q) × (q < 2 ^ 16) × (m < 2 ^ 16) × (x 
   unfolding moved_mark
   mark_after h k = record { mark = rw (shift_after p q m x h k); small = omega arith }
 
+-- that all are moved tells that they are in bounds
+shifted_all : {marks : List ℕ} {p q m : ℕ} {l : List ℕ} → p ≤ q → l ≡ map (moved_mark p q m) marks → Shifted marks p q m l
+shifted_all {marks} {p} {q} {m} h e = record { moved = e; below = λ n z g a. rw e (marks_below n p q m z h g marks a) }
+
 -- the first i marks are moved
 pub record Shifting (marks : List ℕ) (p q m : ℕ) (l : List ℕ) (i : ℕ) : Type 0 where
   pub inside : i ≤ length marks
@@ -139,9 +148,73 @@ module _ {marks : List ℕ} {p q m : ℕ} {l : List ℕ} {i : ℕ} (v : Shifting
 
   pub shifting_done : p ≤ q → length l ≤ i → Shifted marks p q m l
   shifting_done h k =
-      let e : l ≡ map (moved_mark p q m) marks =
-      v.copied ∙ rw (zero-add i, take_all i (map (moved_mark p q m) marks) (omega (arith, v.long, length-map marks (moved_mark p q m))), drop_of_length-le marks {i = i} (omega (arith, v.long))) (append-nil (map (moved_mark p q m) marks)) in
-      record { moved = e; below = λ n z g a. rw e (marks_below n p q m z h g marks a) }
+      shifted_all h
+      (v.copied ∙ rw (zero-add i, take_all i (map (moved_mark p q m) marks) (omega (arith, v.long, length-map marks (moved_mark p q m))), drop_of_length-le marks {i = i} (omega (arith, v.long))) (append-nil (map (moved_mark p q m) marks)))
+
+-- ── Marks that rise ─────────────────────────────────────────────────────────────────────────────────────────
+
+module _ {marks : List ℕ} {p : ℕ} (low : (0 < p) × Rising marks) where
+  pub first_none : FirstMoved marks p 0
+  first_none = record { inside = omega arith; before = λ i h. absurd (omega arith) }
+
+  pub first_found : {target mark : ℕ} → (mark ≡ get_or marks target 0) × (mark < 2 ^ 32) → (mark ≡ 0 → ⊥) → mark ≤ p → FirstMoved marks p target
+  first_found {target} e z h =
+      let some : 0 < get_or marks target 0 = omega (arith, e.0) in
+      record {
+        inside = omega (arith, some_inside marks target some);
+        before = λ i k. elim (lt_or_le (get_or marks i 0) p) [ inl l ↦ l | inr l ↦ omega (arith, e.0, low.1.order i target k (omega (arith, low.0)) some) ];
+      }
+
+-- a mark that stays where as many rows come in as go
+mark_stays : (p q x : ℕ) → 0 < p → p ≤ q → (0 < x → q ≤ x) → moved_mark p q (q - p) x ≡ x
+unfolding moved_mark
+mark_stays p q zero z o h = rw (shift_before p q (q - p) 0 z)
+mark_stays p q (suc x) z o h = rw (shift_after p q (q - p) (suc x) (omega (arith, h (omega arith))) (h (omega arith))) (omega (arith, h (omega arith)))
+
+-- from a mark that stays on every mark stays
+pub forget_done : {marks : List ℕ} {p q : ℕ} {l : List ℕ} {i : ℕ} → Shifting marks p q (q - p) l i → (0 < p) × (p ≤ q) × (q < 2 ^ 16) × All (λ x. x < 2 ^ 16) marks × Rising marks → i < length l → q ≤ get_or l i 0 → Shifted marks p q (q - p) (set l i (get_or l i 0))
+forget_done {marks} {p} {q} {l} {i} v a h k =
+    let out : List ℕ = map (moved_mark p q (q - p)) marks in
+    let long : length out ≡ length marks = length-map marks (moved_mark p q (q - p)) in
+    let here : q ≤ get_or marks i 0 = omega (arith, unmoved v (omega (arith, v.long))) in
+    let later : (j : ℕ) → i ≤ j → 0 < get_or marks j 0 → q ≤ get_or marks j 0 = λ j b z. elim (lt_or_le i j) [ inl c ↦ omega (arith, a.4.order i j c (omega (arith, a.0, a.1)) z) | inr c ↦ let e : i ≡ j = omega arith in rw (← e) here ] in
+    rw (set-get_or l i 0) (shifted_all a.1 (ext_get_or 0 l out (omega (arith, v.long)) (λ j b. elim (lt_or_le j i) [
+      | inl c ↦ rw v.copied (get_d_inside marks 0 out i (omega (arith, v.inside)) (omega (arith, v.inside)) 0 j j c (sym (zero-add j)))
+      | inr c ↦ rw v.copied (get_d_above marks 0 out i (omega (arith, v.inside)) (omega (arith, v.inside)) 0 j (omega arith)) ∙ sym (get_moved p q (q - p) a.0 a.1 marks j ∙ mark_stays p q (get_or marks j 0) a.0 a.1 (later j c))
+    ])))
+
+-- marks below p stay
+front_stays : (p q m n : ℕ) (l : List ℕ) → ((i : ℕ) → i < n → get_or l i 0 < p) → map (moved_mark p q m) (take n l) ≡ take n l
+unfolding moved_mark
+front_stays p q m zero l h = refl
+front_stays p q m (suc n) [] h = refl
+front_stays p q m (suc n) (x ∷ l) h = rw (shift_before p q m x (h 0 (omega arith)), front_stays p q m n l (λ i k. h (suc i) (omega arith)))
+
+-- marks before the element `first` stay, and those from there on are moved
+module _ {marks : List ℕ} {p q m first : ℕ} (low : (0 < p) × (p ≤ q) × (q < 2 ^ 16) × (m < 2 ^ 16) × All (λ x. x < 2 ^ 16) marks × Rising marks) (v : FirstMoved marks p first) where
+  rest_long : length (drop first marks) ≤ length marks - first
+  rest_long = omega (arith, length-drop first marks)
+
+  rest_is : mid_of first (length marks - first) marks ≡ drop first marks
+  rest_is = take_all (length marks - first) (drop first marks) rest_long
+
+  pub asks_forget : (0 < p) × (p ≤ q) × (q < 2 ^ 16) × All (λ x. x < 2 ^ 16) (mid_of first (length marks - first) marks) × Rising (mid_of first (length marks - first) marks)
+  asks_forget = rw rest_is (low.0, low.1, low.2, All-drop (λ x. x < 2 ^ 16) first marks low.4, drop_rising first marks low.5)
+
+  pub asks_shift : (p ≤ q) × (q < 2 ^ 16) × (m < 2 ^ 16) × All (λ x. x < 2 ^ 16) (mid_of first (length marks - first) marks)
+  asks_shift = (low.1, low.2, low.3, asks_forget.3)
+
+  module _ {moved : List ℕ} {k : ℕ} (z : m ≡ k) (s : Shifted (mid_of first (length marks - first) marks) p q k moved) where
+    pub rising_shifted : Shifted marks p q m (put_mid first (length marks - first) marks moved)
+    rising_shifted =
+        let F : ℕ → ℕ = moved_mark p q m in
+        let a : map F (take first marks) ≡ take first marks = front_stays p q m first marks v.before in
+        let b : moved ≡ map F (drop first marks) = s.moved ∙ rw (rest_is, ← z) in
+        let e : post_of first (length marks - first) marks ≡ [] = drop_of_length-le (drop first marks) {i = length marks - first} rest_long in
+        shifted_all low.1 (sym (sym (take-append-drop first (map F marks)) ∙ rw (← map_take F first marks, ← map_drop F first marks, a, e, append-nil moved, b)))
+
+    pub rising_risen : Rising (put_mid first (length marks - first) marks moved)
+    rising_risen = rw rising_shifted.moved (moved_rising p q m low.0 low.1 marks low.5)
 
 -- ── A run ───────────────────────────────────────────────────────────────────────────────────────────────────
 

@@ -1,7 +1,7 @@
 -- What the functions on rows promise, part by part. `text` is the text of all: no function here reads it, so that each promise holds for any.
 -- Assumes nothing.
 use Rattle.std.specs.Prelude as prelude
-use Rattle.std.specs.Prelude.{◌≡◌, None, Some, cond, List, ◌++◌, map, ℕ, ◌+◌, ◌-◌, ◌*◌, ◌/◌, ◌^◌, ◌≤◌, ◌<◌, ltb, length, drop}
+use Rattle.std.specs.Prelude.{◌≡◌, None, Some, cond, List, ◌++◌, map, ℕ, ◌+◌, ◌-◌, ◌*◌, ◌/◌, ◌^◌, ◌≤◌, ◌<◌, ltb, length, get_or, drop}
 use Rattle.orders.specs.Lists.{All}
 use Rattle.rows_model.specs.Row.{row_in, first_rows, triples, owes, text_length, trees_in, bytes, height}
 use Rattle.rows_model.specs.Place.{rows_after, child_row, between, subtree, splice_rows, moved_mark}
@@ -77,3 +77,8 @@ pub record Moved (p q m x r : ℕ) : Type 0 where
 pub record Shifted (marks : List ℕ) (p q m : ℕ) (out : List ℕ) : Type 0 where
   pub moved : out ≡ map (moved_mark p q m) marks
   pub below : (n : ℕ) → 0 < p → q ≤ n → All (λ x. x < n) marks → All (λ x. x < n - (q - p) + m) out
+
+-- marks that lie before an element are below p, and so do not move where rows from p on give way
+pub record FirstMoved (marks : List ℕ) (p r : ℕ) : Type 0 where
+  pub inside : r ≤ length marks
+  pub before : (i : ℕ) → i < r → get_or marks i 0 < p

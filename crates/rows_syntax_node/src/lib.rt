@@ -6,12 +6,13 @@
 ghost use Rattle.std.specs.Prelude.{◌≡◌, ◌+◌, ◌-◌, ◌*◌, ◌%◌, ◌^◌, ◌≤◌, ◌<◌, length, get_or};
 ghost use Rattle.orders.specs.Lists.{All};
 ghost use Rattle.definition_laws.specs.Basics.{up_from};
-ghost use Rattle.rows_syntax_node.specs.Promises.{Counted, Measured, After, ChildAt, TreesIn, TreesBetween, Bytes, Height, Part, Appended, Spliced, Moved, Shifted};
+ghost use Rattle.rows_syntax_node.specs.Promises.{Counted, Measured, After, ChildAt, TreesIn, TreesBetween, Bytes, Height, Part, Appended, Spliced, Moved, Shifted, FirstMoved};
+ghost use Rattle.rows_syntax_node.specs.Rising.{Rising};
 
 mod rows;
 
 pub use rows::Rows;
-use words::{NODE_KIND, copy_in, splice_words, word};
+use words::{NODE_KIND, copy_in, splice_words, word, word_or_zero};
 
 // How many words a row has, and which they are: the kind word is the first, at `ROW_WORDS * i`.
 pub const ROW_WORDS: usize = 3;
@@ -221,5 +222,54 @@ pub fn shift_marks(marks: &mut [u32], p: usize, q: usize, m: usize)
     let count = m as u32;
     for mark in marks.iter_mut() {
         *mark = moved_word(*mark, from, to, count);
+    }
+}
+
+// ── Marks that rise with the element's number, but for those that are 0 ──
+
+// The element from which on marks may move where rows from `p` on give way: `target`, if its mark is among the rows up to `p`; marks before it are less.
+// A target past the end has no mark.
+#[tactic(auto, using(crate::proofs::Turns::first_none, crate::proofs::Turns::first_found))]
+fn first_moved(marks: &[u32], target: usize, p: usize) -> usize
+    requires { (0 < p) × Rising marks.now }
+    ensures { FirstMoved marks.now p result }
+{
+    let mark = word_or_zero(marks, target);
+    if mark == 0 {
+        return 0;
+    }
+    if p < mark {
+        return 0;
+    }
+    target
+}
+
+// The marks of elements that are gone, where as many rows come in as go: the others stay, and the first mark from `q` on ends the walk.
+fn forget_marks(marks: &mut [u32], p: usize, q: usize)
+    requires { (0 < p) × (p ≤ q) × (q < 2 ^ 16) × All (λ x. x < 2 ^ 16) marks.old × Rising marks.old }
+    ensures { Shifted marks.old p q (q - p) marks.new }
+{
+    let from = p as u32;
+    let to = q as u32;
+    for mark in marks.iter_mut() {
+        if to <= *mark {
+            return;
+        }
+        *mark = moved_word(*mark, from, to, to - from);
+    }
+}
+
+// As `shift_marks`, from the element `target` of the change on where it can be: any number may be told for it.
+pub fn shift_rising(marks: &mut [u32], target: usize, p: usize, q: usize, m: usize)
+    requires { (0 < p) × (p ≤ q) × (q < 2 ^ 16) × (m < 2 ^ 16) × All (λ x. x < 2 ^ 16) marks.old × Rising marks.old }
+    ensures shifted { Shifted marks.old p q m marks.new }
+    ensures risen { Rising marks.new }
+{
+    let first = first_moved(marks, target, p);
+    let moved = &mut marks[first..];
+    if m == q - p {
+        forget_marks(moved, p, q);
+    } else {
+        shift_marks(moved, p, q, m);
     }
 }
