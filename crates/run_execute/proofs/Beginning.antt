@@ -14,6 +14,7 @@ use Rattle.refusals.specs.declared.Refusal.{Refusal}
 use Rattle.run_model.specs.Store.{Store, store_steps}
 use Rattle.rows_model.specs.Row.{triples, first_rows, bytes}
 use Rattle.rows_syntax_node.specs.Promises.{Bytes}
+use Rattle.rows_syntax_node.specs.Rising.{up_rising}
 use Rattle.definition_laws.specs.Basics.{up_from}
 use Rattle.read_element_table.specs.View.{view}
 use Rattle.record_changes.specs.ChangeRowLaws.{row_at}
@@ -65,6 +66,7 @@ begins {n} rows source notes first {sum} {rows'} {marks'} {notes'} h s e f g =
       count = refl;
       none = refl;
       measured = λ text. s.sum text ∙ ap (λ (l : List ℕ). bytes (triples text l)) (ap (λ (m : ℕ). take m source) z ∙ sym copied);
+      risen = rw f (up_rising 1 n);
     }
 
 -- ── From there the run ──────────────────────────────────────────────────────────────────────────────────────
@@ -78,6 +80,7 @@ module _ {n : ℕ} {lines source first : List ℕ} (b : Begun n lines source fir
     long = omega (arith, w.count, b.formed.few);
     held = omega (arith, w.none);
     measured = w.measured;
+    risen = w.risen;
   }
 
   many : length marks ≡ n

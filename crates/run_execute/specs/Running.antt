@@ -16,6 +16,7 @@ use Rattle.record_changes.specs.ChangeRowLaws.{row_at}
 use Rattle.record_rewritten.specs.Stated.{plan_of}
 use Rattle.rows_model.specs.Row.{first_rows, bytes}
 use Rattle.rows_model.specs.Place.{mark_of}
+use Rattle.rows_syntax_node.specs.Rising.{Rising}
 use Rattle.run_tree_store.specs.Stored.{stored, stored_first}
 use Rattle.run_tree_state.specs.Store.{held_in}
 use Rattle.run_tree_state.specs.Applied.{executed_in}
@@ -53,6 +54,7 @@ pub record Began (n : ℕ) (source first rows marks notes : List ℕ) (s : TreeS
   pub count : s.rows ≡ n + 1
   pub none : s.changed ≡ 0
   pub measured : (text : List ℕ) → s.bytes ≡ bytes (first_rows text s.rows rows)
+  pub risen : Rising marks
 
 -- the whole run
 pub record Ran (n : ℕ) (lines source first listed changes running rows marks notes changed : List ℕ) (r : Result TreeState Refusal) : Type 0 where
@@ -87,4 +89,5 @@ standing_next {lines} {source} {first} {listed} {c} {s} {t} {rows} {marks} {note
       long = omega (arith, g.few);
       held = omega (arith, g.most);
       measured = g.measured;
+      risen = g.risen;
     }

@@ -237,5 +237,5 @@ module _ {lines source first : List ℕ} {s : TreeState} {rows marks notes chang
             (above_row (length marks) lines source L R (held_in text s rows marks notes changed) above v.begun.formed u.kept.stated.target ea)
             recorded_is
             news_are);
-        grown = λ t q. subst (λ (m : ℕ). Grown s m rows' t) (counted_is (length (words_in list)) ∙ ap (λ (l : List ℕ). cond (records T (plan_of L R)) (length l) 0) (sym news_are)) (y.grown t q);
+        grown = λ t q. subst (λ (m : ℕ). Grown s m rows' marks' t) (counted_is (length (words_in list)) ∙ ap (λ (l : List ℕ). cond (records T (plan_of L R)) (length l) 0) (sym news_are)) (y.grown t q);
       }

@@ -108,5 +108,5 @@ module _ {s : TreeState} {rows marks notes changed : List ℕ} {g : Gap} {record
           answer = λ text.
               let z = (q.parts text [] (changed_in s.changed changed)).came p.rows p.notes refl in
               w.answer text (yields_in s rows marks notes changed source first text (words count rest)) (record { told = z.rows; each = sizes_told count rest q text [] (changed_in s.changed changed); noted = notes_part p.notes incoming (omega (arith, z.few_notes)) ∙ z.notes });
-          grown = λ t q. record { place = w.place t q; measured = w.measured t q; few = w.few t q; most = subst (λ (k : ℕ). t.changed ≤ s.changed + count_by recorded k) n (w.most t q) };
+          grown = λ t q. record { place = w.place t q; measured = w.measured t q; few = w.few t q; risen = w.risen t q; most = subst (λ (k : ℕ). t.changed ≤ s.changed + count_by recorded k) n (w.most t q) };
         }

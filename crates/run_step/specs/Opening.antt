@@ -132,6 +132,7 @@ module _ {n : ℕ} {lines source first : List ℕ} {s : TreeState} {rows marks n
           order = inside.order;
           high = omega (arith, inside.high, rows_size);
           marked = marks_below;
+          risen = v.risen;
           node = subst (λ (x : ℕ). 2147483648 ≤ get_or rows (3 * x) 0) p is_node;
           lost = subst (λ (x : ℕ). g.lost ≤ get_or rows (3 * x + 1) 0) p (omega (arith, many, run.within, ap (λ (x : model.Gap). x.lost) y));
           gained = subst (λ (x : ℕ). get_or rows (3 * x + 1) 0 + gain < 2 ^ 32) p (omega (arith, many, rows_few, rows_size, bound, children_few run.children));

@@ -31,6 +31,7 @@ use Rattle.rows_model.proofs.RowLaws.{size_below}
 use Rattle.rows_model.specs.Place.{mark_of}
 use Rattle.rows_model.proofs.Words.{rows_many}
 use Rattle.rows_model.proofs.Numbers.{element_row}
+use Rattle.rows_syntax_node.specs.Rising.{Rising}
 use Rattle.run_model.specs.Store.{held_note, Store, store, store_step}
 use Rattle.run_model.proofs.Step.{Kept, step_store, step_kept}
 use Rattle.run_model.proofs.Spliced.{store_same}
@@ -152,3 +153,4 @@ pub record Standing (n : ℕ) (lines source first : List ℕ) (s : TreeState) (r
   pub long : 3 * s.rows ≤ length rows
   pub held : s.changed ≤ length changed
   pub measured : (text : List ℕ) → s.bytes ≡ bytes (first_rows text s.rows rows)
+  pub risen : Rising marks

@@ -8,6 +8,7 @@ use Rattle.definition.specs.Running.{news, records}
 use Rattle.definition_laws.specs.Right.{Right}
 use Rattle.refusals.specs.declared.Refusal.{Refusal}
 use Rattle.rows_model.specs.Row.{first_rows, bytes}
+use Rattle.rows_syntax_node.specs.Rising.{Rising}
 use Rattle.run_model.specs.Store.{Part, part_of, spliced_store, store_step}
 use Rattle.read_element_table.specs.View.{view}
 use Rattle.record_rewritten.specs.Stated.{change_of, plan_of}
@@ -32,12 +33,13 @@ pub record SiteFound (rows : List ℕ) (n : ℕ) (lines marks : List ℕ) (c : C
   pub deep : (z : Site) → r ≡ Some z → AboveBy lines c.operation c.target z.above
   pub records : (z : Site) → r ≡ Some z → z.recorded ≡ records_by c
 
--- how much is held after a step that is done: the root stands where it stood, with its text bytes, no more rows than line 12 takes, and at most `gain` changed elements more
-pub record Grown (s : TreeState) (gain : ℕ) (rows' : List ℕ) (t : TreeState) : Type 0 where
+-- how much is held after a step that is done: the root stands where it stood, with its text bytes, no more rows than line 12 takes, at most `gain` changed elements more, and marks that rise
+pub record Grown (s : TreeState) (gain : ℕ) (rows' marks' : List ℕ) (t : TreeState) : Type 0 where
   pub place : t.root ≡ s.root
   pub measured : (text : List ℕ) → t.bytes ≡ bytes (first_rows text t.rows rows')
   pub few : t.rows ≤ 4097
   pub most : t.changed ≤ s.changed + gain
+  pub risen : Rising marks'
 
 -- what the listed elements l yield
 unfoldable pub yields_in : TreeState → List ℕ → List ℕ → List ℕ → List ℕ → List ℕ → List ℕ → List ℕ → List ℕ → List Part
@@ -48,7 +50,7 @@ pub record SteppedAt (s : TreeState) (rows marks notes changed source first : Li
   pub answer : (text : List ℕ)
       → executed_in text rows' marks' notes' changed' r
       ≡ judged_store above (yields_in s rows marks notes changed source first text l) (spliced_store (gap_told g) (yields_in s rows marks notes changed source first text l) (meant recorded) (held_in text s rows marks notes changed))
-  pub grown : (t : TreeState) → r ≡ Ok t → Grown s (count_by recorded (length l)) rows' t
+  pub grown : (t : TreeState) → r ≡ Ok t → Grown s (count_by recorded (length l)) rows' marks' t
 
 -- ── One performed change ────────────────────────────────────────────────────────────────────────────────────
 
@@ -67,4 +69,4 @@ lists_in T listed r = cond (records T (plan_of listed r)) (length (news (change_
 pub record Stepped (lines source first listed : List ℕ) (c : ChangeRow) (s : TreeState) (rows marks notes changed rows' marks' notes' changed' : List ℕ) (r : Result TreeState Refusal) : Type 0 where
   pub answer : (text : List ℕ)
       → executed_in text rows' marks' notes' changed' r ≡ store_step (view (length marks) lines source) (stored_first text (length marks) source (notes_in first) []) (held_in text s rows marks notes changed) (plan_of listed c)
-  pub grown : (t : TreeState) → r ≡ Ok t → Grown s (lists_in (view (length marks) lines source) listed c) rows' t
+  pub grown : (t : TreeState) → r ≡ Ok t → Grown s (lists_in (view (length marks) lines source) listed c) rows' marks' t

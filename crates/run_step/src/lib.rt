@@ -35,10 +35,12 @@ fn change_site(store: &TreeStore, changes: &[u32], k: usize) -> Option<Site>
     let gap = change_gap(store, changes, k)?;
     let above = depth_above(store.table, changes, k);
     let recorded = recorded_by(changes, k);
+    let target = field(changes, k, record_changes::TARGET);
     Some(Site {
         gap,
         above,
         recorded,
+        target,
     })
 }
 

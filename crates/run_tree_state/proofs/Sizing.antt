@@ -184,6 +184,7 @@ module _ {s : TreeState} {rows marks notes changed : List ℕ} {g : Gap} {record
       place = λ t q. let z : ◌≡◌ {A = ℕ} 0 1 = cc in absurd (omega arith);
       most = λ t q. let z : ◌≡◌ {A = ℕ} 0 1 = cc in absurd (omega arith);
       few = λ t q. let z : ◌≡◌ {A = ℕ} 0 1 = cc in absurd (omega arith);
+      risen = λ t q. let z : ◌≡◌ {A = ℕ} 0 1 = cc in absurd (omega arith);
     }
 
     pub apply_done : {b : ℕ} {rows' marks' notes' changed' : List ℕ} {t : TreeState} → r ≡ Some b
@@ -200,4 +201,5 @@ module _ {s : TreeState} {rows marks notes changed : List ℕ} {g : Gap} {record
       place = λ t' q. let z : t ≡ t' = cc in rw (← z) u.place;
       most = λ t' q. let z : t ≡ t' = cc in rw (← z) u.most;
       few = λ t' q. let z : t ≡ t' = cc in rw (← z) (omega (arith, u.count, (small_then e).0));
+      risen = λ t' q. u.risen;
     }

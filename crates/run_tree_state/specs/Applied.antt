@@ -6,6 +6,7 @@ use Rattle.definition.specs.Basics.{Answer, refused, gives, ◌>>=◌, refuse}
 use Rattle.refusals.specs.Numbers.{number}
 use Rattle.refusals.specs.declared.Refusal.{Refusal}
 use Rattle.rows_model.specs.Row.{first_rows, bytes}
+use Rattle.rows_syntax_node.specs.Rising.{Rising}
 use Rattle.run_model.specs.Store.{Store, Part, spliced_store, store_too_large}
 use Rattle.run_annotations.specs.Changed.{count_by}
 use Rattle.run_tree_store.specs.declared.Gap.{Gap}
@@ -30,3 +31,4 @@ pub record Applied (s : TreeState) (rows marks notes changed : List ℕ) (g : Ga
   pub place : (t : TreeState) → r ≡ Ok t → t.root ≡ s.root
   pub most : (t : TreeState) → r ≡ Ok t → t.changed ≤ s.changed + count_by recorded (length sizes)
   pub few : (t : TreeState) → r ≡ Ok t → t.rows ≤ 4097
+  pub risen : (t : TreeState) → r ≡ Ok t → Rising marks'

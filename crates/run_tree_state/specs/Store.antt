@@ -6,6 +6,7 @@ use mathlib.Core.List.{List, map, flat_map}
 use Rattle.orders.specs.Lists.{All, pick, meant}
 use Rattle.rows_model.specs.Row.{triples, first_rows, bytes}
 use Rattle.rows_model.specs.Place.{splice_rows}
+use Rattle.rows_syntax_node.specs.Rising.{Rising}
 use Rattle.run_model.specs.Store as model
 use Rattle.run_model.specs.Store.{Store, with_row, Part, new_rows, placed_parts, spliced_store}
 use Rattle.run_annotations.specs.Notes.{notes_of, notes_in}
@@ -37,6 +38,7 @@ pub record Open (s : TreeState) (rows marks notes changed : List ℕ) (g : Gap) 
   pub order : g.from ≤ g.to
   pub high : g.to ≤ s.rows
   pub marked : All (λ m. m < s.rows) marks
+  pub risen : Rising marks
   pub node : 2147483648 ≤ get_or rows (3 * g.parent) 0
   pub lost : g.lost ≤ get_or rows (3 * g.parent + 1) 0
   pub gained : get_or rows (3 * g.parent + 1) 0 + gain < 2 ^ 32
@@ -62,3 +64,4 @@ pub record StoreSpliced (s : TreeState) (rows marks notes changed : List ℕ) (g
   pub place : r.root ≡ s.root
   pub most : r.changed ≤ s.changed + count_by recorded (length sizes)
   pub count : r.rows ≡ s.rows - (g.to - g.from) + length run / 3
+  pub risen : Rising marks'
