@@ -212,7 +212,7 @@ fn moved_word(x: u32, p: u32, q: u32, m: u32) -> u32
     x + m - (q - p)
 }
 
-// The same for every mark. All is in words, so that the loop becomes vector code; no value as run_annotations' `Shift`, since these two functions alone would take it here.
+// The same for every mark. All is in words, so that the loop becomes vector code; no value as run_annotations' `Shift`, since the functions on marks alone would take it here.
 pub fn shift_marks(marks: &mut [u32], p: usize, q: usize, m: usize)
     requires { (p ≤ q) × (q < 2 ^ 16) × (m < 2 ^ 16) × All (λ x. x < 2 ^ 16) marks.old }
     ensures { Shifted marks.old p q m marks.new }
@@ -225,7 +225,7 @@ pub fn shift_marks(marks: &mut [u32], p: usize, q: usize, m: usize)
     }
 }
 
-// ── Marks that rise with the element's number, but for those that are 0 ──
+// ── Marks that rise with the element's number, but for those that are 0: so do a run's, as elements keep their order ──
 
 // The element from which on marks may move where rows from `p` on give way: `target`, if its mark is among the rows up to `p`; marks before it are less.
 // A target past the end has no mark.
@@ -244,7 +244,7 @@ fn first_moved(marks: &[u32], target: usize, p: usize) -> usize
     target
 }
 
-// The marks of elements that are gone, where as many rows come in as go: the others stay, and the first mark from `q` on ends the walk.
+// Where as many rows come in as go, only the marks of elements that are gone change: the first mark from `q` on ends the walk.
 fn forget_marks(marks: &mut [u32], p: usize, q: usize)
     requires { (0 < p) × (p ≤ q) × (q < 2 ^ 16) × All (λ x. x < 2 ^ 16) marks.old × Rising marks.old }
     ensures { Shifted marks.old p q (q - p) marks.new }
@@ -259,7 +259,7 @@ fn forget_marks(marks: &mut [u32], p: usize, q: usize)
     }
 }
 
-// As `shift_marks`, from the element `target` of the change on where it can be: any number may be told for it.
+// The same as `shift_marks`, on marks that rise: the walk begins at the element `target` if it can. That is a hint, and any number will do.
 pub fn shift_rising(marks: &mut [u32], target: usize, p: usize, q: usize, m: usize)
     requires { (0 < p) × (p ≤ q) × (q < 2 ^ 16) × (m < 2 ^ 16) × All (λ x. x < 2 ^ 16) marks.old × Rising marks.old }
     ensures shifted { Shifted marks.old p q m marks.new }

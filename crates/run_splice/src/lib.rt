@@ -19,8 +19,8 @@ use words::{copy_in, word};
 
 // ── Rows and marks ──
 
-// Rust: TreeState::splice, of the tree and its edits. The rows `p` up to `q`, `lost` children of the node at row `parent`, give way to a run of `gain`
-// trees, and every mark moves with them: where the Rust replays all edits on a path, a mark says at once where its element stands. The new number of rows.
+// A splice of a list: the rows `p` up to `q`, `lost` children of the node at row `parent`, give way to a run of `gain` trees, and every mark moves with them. The new
+// number of rows. A list's marks are in any order; a run's rise, so that run_tree_state moves them itself (`shift_rising`).
 // The gap stays four numbers, since a splice list has one of its own (splices_step::Gap).
 pub fn splice(
     rows: &mut [u32],

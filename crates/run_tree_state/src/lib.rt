@@ -37,8 +37,8 @@ pub struct TreeState {
     pub changed: usize,
 }
 
-// The splice, by value: the rows of the gap give way to the parts, with the notes that come in; what is held then has `bytes` text bytes. Where the Rust replays all edits
-// on a path, a mark says at once where its element stands. Not by run_splice's `splice`, since a run's marks rise.
+// The splice, by value: the rows of the gap give way to the parts, with the notes that come in; what is held then has `bytes` text bytes.
+// Where the Rust replays all edits on a path, a mark says at once where its element stands.
 fn splice_store(
     s: TreeState,
     rows: &mut [u32],
