@@ -250,12 +250,12 @@ fn forget_marks(marks: &mut [u32], p: usize, q: usize)
     ensures { Shifted marks.old p q (q - p) marks.new }
 {
     let from = p as u32;
-    let to = q as u32;
+    let end = q as u32;
     for mark in marks.iter_mut() {
-        if to <= *mark {
+        if end <= *mark {
             return;
         }
-        *mark = moved_word(*mark, from, to, to - from);
+        *mark = moved_word(*mark, from, end, end - from);
     }
 }
 

@@ -3,8 +3,8 @@ use Rattle.rows_syntax_node.proofs.Turns.{shifting_next, shifting_done, forget_d
 use borrow.Author.Rules.{rules}
 use Rattle.rows_syntax_node.proofs.forget_marks.Goals as goal
 
-pub returns-then-to-mark : goal.returns-then-to-mark
-returns-then-to-mark c = search (forget_done, rules)
+pub returns-then-end-mark : goal.returns-then-end-mark
+returns-then-end-mark c = search (forget_done, rules)
 
 pub loop-mark-preserved : goal.loop-mark-preserved
 loop-mark-preserved c = search (shifting_next, rules)
