@@ -2,9 +2,7 @@
 -- Assumes nothing.
 use mathlib.Core.Path.{◌≡◌, refl, sym, ap, ◌∙◌}
 use mathlib.Core.List.{List, [], ◌++◌, map, flat_map, append-nil}
-use Rattle.std.specs.Prelude.{Option as Found, None, Some, unwrap_or}
-use Rattle.std.specs.Slice.{IsGetRangeResult}
-use Rattle.std.proofs.Common.{Bor, ◌⊎◌, inl, inr}
+use Rattle.std.proofs.Common.{◌⊎◌, inl, inr}
 use Rattle.std.specs.List.{sum, range_with_len}
 use Rattle.std.proofs.lemmas.List.Concat.{length-flat_map}
 use Rattle.std.proofs.lemmas.List.Edits.{paste_all}
@@ -14,19 +12,21 @@ use native.Mathlib.Nat.{zero-add, add-zero, sub_self}
 use native.Mathlib.Numerals.{add-one}
 use lib.ListN.{length, get_or, set, take, drop, length-set, length-map, length-append, length-take, length-drop, take-append-drop, drop_of_length-le}
 use lib.Seq.{paste, paste-zero, paste-suc, length-paste, length-take-le, get_or-drop, drop-drop, drop_at, take_at, take-length}
-use borrow.Author.Tests.{lt-ltb, le-leb, lt-leb}
+use borrow.Author.Tests.{lt-ltb, lt-leb}
 use Rattle.definition.specs.Words.{bytes as bytes_of, written}
 use Rattle.orders.specs.ListLaws.{lt_or_le}
 use Rattle.definition_laws.specs.Basics.{get_d_map}
 use Rattle.words.proofs.Turns.{Writing, writing_next}
-use Rattle.rows_model.specs.Row.{Row, nod, kind, measure, own, text_length, row_in, triples, bytes}
+use Rattle.rows_model.specs.Row.{Row, nod, kind, measure, own, row_at, row_in, triples, bytes}
 use Rattle.words.specs.Bytes.{length_written}
 use Rattle.words.specs.Parts.{paste_on, paste_swap}
 use Rattle.rows_model.proofs.RowLaws.{bytes_append}
-use Rattle.rows_model.proofs.Words.{rows_summed, kind_word, measure_word, node_row, token_length, length_triples, triples_at, triples_end}
+use Rattle.rows_model.proofs.Words.{rows_summed, kind_word, measure_word, node_row, length_triples, triples_at, triples_end, token_row}
 use Rattle.rows_syntax_node.specs.Promises.{Measured}
 use Rattle.finish_model.specs.Finished.{starts}
 use Rattle.finish_model.proofs.Numbers.{starts_at}
+use Rattle.finish_arrays.specs.declared.Run.{Run}
+use Rattle.finish_arrays.specs.Runs.{run_over, StandsAt, Grown}
 use Rattle.finish_arrays.specs.Starts.{Starts, length_starts, starts_listed}
 use Rattle.finish_arrays.specs.Sweep.{elements_over, Swept, row_each}
 use Rattle.finish_arrays.specs.TextSizes.{bytes_any, own_few}
@@ -188,35 +188,21 @@ module _ {tree d : List ℕ} {at measures : ℕ} {l : List ℕ} {reads i : ℕ} 
 
 -- ── The text ────────────────────────────────────────────────────────────────────────────────────────────────
 
-module _ (tree text : List ℕ) (i : ℕ) {o m : ℕ} (a : o ≡ get_or tree (3 * i + 2) 0) (f : Measured tree i m) where
-  own_node : 2147483648 ≤ get_or tree (3 * i) 0 → [] ≡ own (row_in text tree i)
-  own_node h = sym (ap own (node_row text _ _ _ h))
-
-  module _ (h : get_or tree (3 * i) 0 < 2147483648) where
-    long : m ≡ get_or tree (3 * i + 1) 0
-    long = f.own text ∙ token_length text _ _ _ h
-
-    own_token : o + m ≤ length text → take (o + m - o) (drop o text) ≡ own (row_in text tree i)
-    own_token l =
-        let z : o + m - o ≡ m = omega arith in
-        rw (z, ← a, ← long, lt-ltb (get_or tree (3 * i) 0) 2147483648 h, le-leb (o + m) (length text) l)
-
-    own_outside : length text < o + m → [] ≡ own (row_in text tree i)
-    own_outside l = rw (← a, ← long, lt-ltb (get_or tree (3 * i) 0) 2147483648 h, lt-leb (o + m) (length text) l)
-
-  -- the library's part of the text, which is empty for a node, and nothing where it has none there
-  pub own_part : (r : Found (Bor (List ℕ))) (z : Bor (List ℕ)) {q : Bor (List ℕ)} → z.now ≡ [] → IsGetRangeResult text o (o + m) r → q ≡ unwrap_or r z → q.now ≡ own (row_in text tree i)
-  own_part None z y p u = ap (λ (x : Bor (List ℕ)). x.now) u ∙ (y ∙ go (lt_or_le (get_or tree (3 * i) 0) 2147483648) p.0)
+module _ (text : List ℕ) (k m o : ℕ) where
+  -- own text, if there is any, stands where the words say
+  stands : (length (own (row_at text k m o)) ≡ 0 → ⊥) → StandsAt text (own (row_at text k m o)) o
+  stands z = go (lt_or_le k 2147483648) (lt_or_le (length text) (o + m))
     where
-      go : (get_or tree (3 * i) 0 < 2147483648) ⊎ (2147483648 ≤ get_or tree (3 * i) 0) → (o + m < o) ⊎ (length text < o + m) → [] ≡ own (row_in text tree i)
-      go (inr h) w = own_node h
-      go (inl h) (inl w) = absurd (omega arith)
-      go (inl h) (inr w) = own_outside h w
-  own_part (Some x) z y p u = ap (λ (x : Bor (List ℕ)). x.now) u ∙ (p.0.2 ∙ go (lt_or_le (get_or tree (3 * i) 0) 2147483648))
-    where
-      go : (get_or tree (3 * i) 0 < 2147483648) ⊎ (2147483648 ≤ get_or tree (3 * i) 0) → take (o + m - o) (drop o text) ≡ own (row_in text tree i)
-      go (inl h) = own_token h p.0.1
-      go (inr h) = let z : o + m - o ≡ 0 = omega (arith, f.own text ∙ ap text_length (node_row text _ _ _ h)) in rw z (own_node h)
+      go : (k < 2147483648) ⊎ (2147483648 ≤ k) → (length text < o + m) ⊎ (o + m ≤ length text) → StandsAt text (own (row_at text k m o)) o
+      go (inr h) w = absurd (z (ap (λ r. length (own r)) (node_row text k m o h)))
+      go (inl h) (inl w) = absurd (z (rw (lt-ltb k 2147483648 h, lt-leb (o + m) (length text) w) refl))
+      go (inl h) (inr w) =
+          let e : own (row_at text k m o) ≡ take m (drop o text) = ap own (token_row text k m o h w) in
+          let n : length (own (row_at text k m o)) ≡ m = ap length e ∙ length-take-le m (drop o text) (omega (arith, length-drop o text)) in
+          record { inside = omega (arith, n); is = rw n e }
+
+pub own_stands : (tree text : List ℕ) (i : ℕ) {o len : ℕ} → len ≡ length (own (row_in text tree i)) → (len ≡ 0 → ⊥) → o ≡ get_or tree (3 * i + 2) 0 → StandsAt text (own (row_in text tree i)) o
+own_stands tree text i e z a = rw a (stands text _ _ _ (λ y. z (e ∙ y)))
 
 module _ (tree text : List ℕ) where
   -- how long the own text of row i is
@@ -239,7 +225,7 @@ pub record Texting (tree text d : List ℕ) (at : ℕ) (l : List ℕ) (to i : �
   pub left : drop (to - at) (flat_map own (triples text tree)) ≡ flat_map own (drop i (triples text tree))
   pub copied : l ≡ paste d at (flat_map own (triples text tree)) (to - at)
 
-pub texting : (tree text d : List ℕ) (at : ℕ) → Texting tree text d at d at 0
+texting : (tree text d : List ℕ) (at : ℕ) → Texting tree text d at d at 0
 texting tree text d at = record {
   inside = omega arith;
   long = refl;
@@ -261,10 +247,10 @@ module _ {tree text d : List ℕ} {at : ℕ} {l : List ℕ} {to i : ℕ} (v : Te
         sym (length-drop (to - at) (flat_map own (triples text tree))) ∙ (ap length next_left ∙ length-append s (flat_map own (drop (suc i) (triples text tree)))) in
         omega (arith, v.high)
 
-    pub texting_room : to + length s ≤ length l
+    texting_room : to + length s ≤ length l
     texting_room = omega (arith, fits, v.low, v.long)
 
-    pub texting_next : {l' : List ℕ} → length l' ≡ length l → l' ≡ paste l to s (length s) → Texting tree text d at l' (to + length s) (i + 1)
+    texting_next : {l' : List ℕ} → length l' ≡ length l → l' ≡ paste l to s (length s) → Texting tree text d at l' (to + length s) (i + 1)
     texting_next m q =
         let n : to + length s - at ≡ (to - at) + length s = omega (arith, v.low) in
         let rest = flat_map own (drop (suc i) (triples text tree)) in
@@ -281,10 +267,43 @@ module _ {tree text d : List ℕ} {at : ℕ} {l : List ℕ} {to i : ℕ} (v : Te
               (take-length s ∙ sym (ap (take (length s)) next_left ∙ take_at s rest (length s) refl)));
         }
 
-  pub texting_done : length tree / 3 ≤ i → l ≡ paste d at (flat_map own (triples text tree)) (length (flat_map own (triples text tree)))
+  texting_done : length tree / 3 ≤ i → l ≡ paste d at (flat_map own (triples text tree)) (length (flat_map own (triples text tree)))
   unfolding flat_map
   texting_done h =
       let a : drop (to - at) (flat_map own (triples text tree)) ≡ [] = v.left ∙ rw (triples_end text i tree (omega arith)) in
       let b : length (flat_map own (triples text tree)) - (to - at) ≡ 0 = sym (length-drop (to - at) (flat_map own (triples text tree))) ∙ ap length a in
       let n : length (flat_map own (triples text tree)) ≡ to - at = omega (arith, v.high) in
       rw n v.copied
+
+-- once the run is copied, l is d with the text of the first i rows
+pub record Pending (tree text d : List ℕ) (at : ℕ) (l : List ℕ) (r : Run) (i : ℕ) : Type 0 where
+  pub there : r.from + r.len ≤ length text
+  pub room : r.to + r.len ≤ length l
+  pub long : length l ≡ length d
+  pub written : Texting tree text d at (run_over text r l) (r.to + r.len) i
+
+pub pending : (tree text d : List ℕ) (at : ℕ) → at ≤ length d → Pending tree text d at d (record { to = at; from = 0; len = 0 }) 0
+unfolding run_over
+pending tree text d at h = record {
+  there = omega arith;
+  room = omega arith;
+  long = refl;
+  written = rw (← paste-zero d at text, add-zero at) (texting tree text d at);
+}
+
+module _ {tree text d : List ℕ} {at : ℕ} {l : List ℕ} {r : Run} {i : ℕ} (v : Pending tree text d at l r i) where
+  pub pending_next : {l' : List ℕ} {q : Run} → i < length tree / 3 → at + length (flat_map own (triples text tree)) ≤ length d → length l' ≡ length l → Grown text (own (row_in text tree i)) l r l' q → Pending tree text d at l' q (i + 1)
+  pending_next {l'} {q} h k m g =
+      let s = own (row_in text tree i) in
+      let e : length (run_over text q l') ≡ length (run_over text r l) =
+      ap length g.copied ∙ length-paste (run_over text r l) (r.to + r.len) s (length s) (texting_room v.written h k refl) (omega arith) in
+      let w = texting_next v.written h k refl e g.copied in
+      record {
+        there = g.there;
+        room = omega (arith, g.place, m, v.long, v.written.long, texting_room v.written h k refl);
+        long = m ∙ v.long;
+        written = rw g.place w;
+      }
+
+  pub pending_done : {l' : List ℕ} → length tree / 3 ≤ i → l' ≡ run_over text r l → l' ≡ paste d at (flat_map own (triples text tree)) (length (flat_map own (triples text tree)))
+  pending_done h q = q ∙ texting_done v.written h

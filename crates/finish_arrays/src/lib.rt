@@ -10,6 +10,7 @@ ghost use mathlib.Core.List.{flat_map, ◌∷◌, []};
 ghost use Rattle.std.proofs.Math.Seq.{paste};
 ghost use Rattle.definition.specs.Words.{bytes as bytes_of, written};
 ghost use Rattle.rows_model.specs.Row.{own, bytes, row_in, triples};
+ghost use Rattle.finish_arrays.specs.Runs.{run_over, Grown};
 ghost use Rattle.finish_arrays.specs.Starts.{Starts};
 ghost use Rattle.finish_arrays.specs.Sweep.{Swept};
 
@@ -81,14 +82,16 @@ pub fn write_sizes(
     words::write_words(b, 0, &six);
 }
 
-// The own text of the element at row `i`, which is as long as its row says: a node has none.
-fn own_text<'a>(tree: &[u32], i: usize, text: &'a [u8]) -> &'a [u8]
+// The length of the own text of the element at row `i`: a node has none, nor has a token whose text is not all there.
+fn own_length(tree: &[u32], i: usize, text: &[u8]) -> usize
     requires { 3 * i + 2 < length tree.now }
-    ensures { result.now ≡ own (row_in text.now tree.now i) }
+    ensures { result ≡ length (own (row_in text.now tree.now i)) }
 {
-    let from = words::word(tree, ROW_WORDS * i + TEXT);
-    let to = from + text_length(tree, i);
-    text.get(from..to).unwrap_or(&[])
+    let len = text_length(tree, i);
+    if len == 0 || text.len() < words::word(tree, ROW_WORDS * i + TEXT) + len {
+        return 0;
+    }
+    len
 }
 
 // The length of the text of a tree.
@@ -97,8 +100,49 @@ pub fn text_size(tree: &[u32], text: &[u8]) -> usize
     ensures { (result ≡ length (flat_map own (triples text.now tree.now))) × (result < 2 ^ 32) }
 {
     (0..tree.len() / ROW_WORDS)
-        .map(|i| own_text(tree, i, text).len())
+        .map(|i| own_length(tree, i, text))
         .sum()
+}
+
+// Text that is still to be copied: `len` bytes of the text of all, from `from` on, to the place `to`. Tokens mostly stand one behind another in that text, and one
+// copy of many bytes costs less than many copies of a few.
+#[derive(Clone, Copy)]
+struct Run {
+    to: usize,
+    from: usize,
+    len: usize,
+}
+
+// The run is copied.
+fn copy_run(b: &mut [u8], run: Run, text: &[u8])
+    requires { (run.from + run.len ≤ length text.now) × (run.to + run.len ≤ length b.old) }
+    ensures { b.new ≡ run_over text.now run b.old }
+{
+    words::copy_in(b, run.to, &text[run.from..run.from + run.len]);
+}
+
+// The own text of the element at row `i` joins the run where it starts at its end; else the run is copied, and another begins.
+fn add_own(b: &mut [u8], run: Run, tree: &[u32], i: usize, text: &[u8]) -> Run
+    requires { (run.from + run.len ≤ length text.now) × (run.to + run.len ≤ length b.old) × (3 * i + 2 < length tree.now) }
+    ensures { Grown text.now (own (row_in text.now tree.now i)) b.old run b.new result }
+{
+    let len = own_length(tree, i, text);
+    if len == 0 {
+        return run;
+    }
+    let start = words::word(tree, ROW_WORDS * i + TEXT);
+    if start == run.from + run.len {
+        return Run {
+            len: run.len + len,
+            ..run
+        };
+    }
+    copy_run(b, run, text);
+    Run {
+        to: run.to + run.len,
+        from: start,
+        len,
+    }
 }
 
 // The text of a tree is written at `at`.
@@ -106,10 +150,13 @@ pub fn write_text(b: &mut [u8], at: usize, tree: &[u32], text: &[u8])
     requires { (at + length (flat_map own (triples text.now tree.now)) ≤ length b.old) × (length tree.now < 3 * 2 ^ 16) }
     ensures { b.new ≡ paste b.old at (flat_map own (triples text.now tree.now)) (length (flat_map own (triples text.now tree.now))) }
 {
-    let mut to = at;
+    let mut run = Run {
+        to: at,
+        from: 0,
+        len: 0,
+    };
     for i in 0..tree.len() / ROW_WORDS {
-        let part = own_text(tree, i, text);
-        words::copy_in(b, to, part);
-        to += part.len();
+        run = add_own(b, run, tree, i, text);
     }
+    copy_run(b, run, text);
 }
