@@ -4,13 +4,14 @@ use mathlib.Core.Path.{◌≡◌, refl, sym, ap, ◌∙◌}
 use mathlib.Core.Bool.{Bool, true, false, ◌&&◌}
 use mathlib.Core.List.{List, [], ◌∷◌}
 use Prim.Native.Nat.{ℕ, suc, ◌+◌, ◌-◌, ◌*◌, ◌^◌, ◌≤◌, ◌<◌}
+use native.Mathlib.Nat.{add-zero}
 use native.Mathlib.Omega.{arith}
 use lib.Dec.{eqb}
 use lib.ListN.{length, get_or, set, drop, replicate, length-set}
 use Rattle.definition.specs.Words.{word}
 use Rattle.read_spelling.specs.Spelling.{elements_at, children_of, length_of, stands, fills, accepts}
-use Rattle.read_spelling.specs.SpellingLaws.{fills_close, stands_shallow, fills_open, fills_short, fills_long, fills_end}
-use Rattle.read_spelling.specs.Stack.{stack, stack_none, length_stack, stack_top, stack_push, elements_from, elements_all, elements_none, elements_more}
+use Rattle.read_spelling.specs.SpellingLaws.{children_token, children_node, length_token, length_node, fills_close, stands_shallow, fills_open, fills_short, fills_long, fills_end}
+use Rattle.read_spelling.specs.Stack.{stack, stack_none, length_stack, stack_top, stack_put, stack_push, elements_from, elements_all, elements_none, elements_more}
 
 module _ (b : List ℕ) (kinds measures n trees bytes : ℕ) where
   -- after i elements the machine has this stack and this sum
@@ -64,16 +65,31 @@ module _ {b : List ℕ} {kinds measures n trees bytes : ℕ} {left : List ℕ} {
       pub reading_wrong : {r : Bool} → r ≡ stands k d → r ≡ false → false ≡ accepts trees bytes (elements_at b kinds measures n)
       reading_wrong {r} e q = let w : stands k d ≡ false = sym e ∙ q in sym (turn ∙ rw w)
 
-      -- it is opened
-      pub reading_open : {r : Bool} {c l : ℕ} → r ≡ stands k d → r ≡ true → c ≡ children_of k m → l ≡ length_of k m → l ≤ m → m < 2 ^ 32
-          → Reading b kinds measures n trees bytes (set (set left (d - 1) (get_or left (d - 1) 0 - 1)) d c) (d + 1) (sum + l) (i + 1)
-      reading_open {r} {c} {l} e q ec el h₁ h₂ =
-          let w : stands k d ≡ true = sym e ∙ q in
-          let s = stands_shallow k d w in
-          record {
-            inside = omega arith;
-            long = simp length-set v.long;
-            low = omega arith;
-            small = omega (arith, v.small);
-            verdict = turn ∙ rw (w, ← ec, ← el, stack_push 0 left d (get_or left (d - 1) 0 - 1) c h (omega (arith, v.long)));
-          }
+      module _ {r : Bool} (e : r ≡ stands k d) (q : r ≡ true) where
+        deep : d ≤ 64
+        deep = let w : stands k d ≡ true = sym e ∙ q in stands_shallow k d w
+
+        taken : accepts trees bytes (elements_at b kinds measures n) ≡ fills bytes (children_of k m ∷ (get_or left (d - 1) 0 - 1) ∷ stack 0 left (d - 1)) (sum + length_of k m) (elements_from b kinds measures n (i + 1))
+        taken = let w : stands k d ≡ true = sym e ∙ q in turn ∙ rw w
+
+        -- a token is opened and closed
+        pub reading_token : k < 0x8000_0000 → m < 2 ^ 32 → Reading b kinds measures n trees bytes (set left (d - 1) (get_or left (d - 1) 0 - 1)) d (sum + m) (i + 1)
+        reading_token t s =
+            record {
+              inside = omega arith;
+              long = simp length-set v.long;
+              low = omega (arith, deep);
+              small = omega (arith, v.small);
+              verdict = taken ∙ rw (children_token k m t, length_token k m t, stack_put 0 left d (get_or left (d - 1) 0 - 1) h (omega (arith, v.long, v.low))) (fills_close bytes _ (sum + m) _);
+            }
+
+        -- a node is opened
+        pub reading_node : 0x8000_0000 ≤ k → Reading b kinds measures n trees bytes (set (set left (d - 1) (get_or left (d - 1) 0 - 1)) d m) (d + 1) sum (i + 1)
+        reading_node t =
+            record {
+              inside = omega arith;
+              long = simp length-set v.long;
+              low = omega (arith, deep);
+              small = omega (arith, v.small);
+              verdict = taken ∙ rw (children_node k m t, length_node k m t, add-zero sum, stack_push 0 left d (get_or left (d - 1) 0 - 1) m h (omega (arith, v.long, deep)));
+            }

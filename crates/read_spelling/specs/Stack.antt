@@ -4,7 +4,7 @@ use Rattle.std.specs.Prelude.{◌≡◌, length, get_or, drop}
 use Rattle.std.proofs.Math.Path.{refl, ap}
 use mathlib.Core.List.{List, [], ◌∷◌, zip}
 use Prim.Native.Nat.{ℕ, zero, suc, ◌+◌, ◌-◌, ◌*◌, ◌≤◌, ◌<◌}
-use Rattle.std.proofs.Common.{add-one, get_or-set_other}
+use Rattle.std.proofs.Common.{◌∙◌, add-one, get_or-set_other}
 use native.Mathlib.Omega.{arith}
 use Rattle.std.proofs.Math.ListN.{set, length-set}
 use Rattle.std.proofs.Math.Seq.{get_or-set_same, drop-drop}
@@ -38,12 +38,48 @@ module _ {A : Type 0} (z : A) where
   stack_top l zero h = absurd (omega arith)
   stack_top l (suc d) h = let e : suc d - 1 ≡ d = omega arith in rw e
 
-  -- the top replaced, and one more put on it
+  -- the top replaced
+  pub stack_put : (l : List A) (d : ℕ) (x : A) → 0 < d → d ≤ length l → stack (set l (d - 1) x) d ≡ x ∷ stack l (d - 1)
+  stack_put l d x h k = rw (stack_top (set l (d - 1) x) d h, get_or-set_same l (d - 1) x z (omega arith), stack_set l (d - 1) (d - 1) x (omega arith))
+
+  -- and one more put on it
   pub stack_push : (l : List A) (d : ℕ) (x y : A) → 0 < d → d < length l → stack (set (set l (d - 1) x) d y) (d + 1) ≡ y ∷ x ∷ stack l (d - 1)
   unfolding stack
   stack_push l d x y h k =
       let l' : List A = set l (d - 1) x in
-      rw (add-one d, get_or-set_same l' d y z (simp length-set k), stack_set l' d d y (omega arith), stack_top l' d h, get_or-set_same l (d - 1) x z (omega arith), stack_set l (d - 1) (d - 1) x (omega arith))
+      rw (add-one d, get_or-set_same l' d y z (simp length-set k), stack_set l' d d y (omega arith), stack_put l d x h (omega arith))
+
+  -- ── The same with its top held apart ──
+
+  -- x on top of elements d - 1 to 1 of the array, if it is d high
+  unfoldable pub held : List A → A → ℕ → List A
+  held l x zero = []
+  held l x (suc d) = x ∷ held l (get_or l d z) d
+
+  pub held_none : (l : List A) (x : A) (d : ℕ) → d ≤ 0 → held l x d ≡ []
+  unfolding held
+  held_none l x d h = let e : d ≡ 0 = omega arith in rw e
+
+  pub length_held : (l : List A) (x : A) (d : ℕ) → length (held l x d) ≡ d
+  unfolding held
+  length_held l x zero = refl
+  length_held l x (suc d) = ap suc (length_held l (get_or l d z) d)
+
+  pub held_top : (l : List A) (x : A) (d : ℕ) → 0 < d → held l x d ≡ x ∷ held l (get_or l (d - 1) z) (d - 1)
+  unfolding held
+  held_top l x zero h = absurd (omega arith)
+  held_top l x (suc d) h = let e : suc d - 1 ≡ d = omega arith in rw e
+
+  -- what is stored above it
+  held_set : (l : List A) (x : A) (d i : ℕ) (y : A) → d ≤ i → held (set l i y) x d ≡ held l x d
+  unfolding held
+  held_set l x zero i y h = refl
+  held_set l x (suc d) i y h = ap (λ s. x ∷ s) (ap (λ w. held (set l i y) w d) (get_or-set_other l i d y z (λ e. omega arith)) ∙ held_set l (get_or l d z) d i y (omega arith))
+
+  -- one more put on it
+  pub held_push : (l : List A) (x y : A) (d : ℕ) → d < length l → held (set l d y) x (d + 1) ≡ x ∷ held l y d
+  unfolding held
+  held_push l x y d h = rw (add-one d) (ap (λ s. x ∷ s) (ap (λ w. held (set l d y) w d) (get_or-set_same l d y z h) ∙ held_set l y d d y (omega arith)))
 
 -- ── The elements that are left ──────────────────────────────────────────────────────────────────────────────
 
