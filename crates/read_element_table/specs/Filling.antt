@@ -1,5 +1,5 @@
--- The element table and the rows of a batch, as one walk of its elements writes them: an element's row is written when it is opened,
--- its text end and the element after its subtree when it is closed.
+-- The element table and the rows of a batch, as one walk of its elements writes them: an element's row is written when it is opened, as that
+-- of an element without children, its text end and the element after its subtree anew when it is closed.
 -- Assumes nothing.
 use Rattle.std.specs.Prelude.{◌≡◌, true, List, [], ◌∷◌, ◌++◌, ℕ, zero, suc, ◌+◌, ◌*◌, ◌≤◌, length, set}
 use Rattle.std.proofs.Math.Seq.{paste}
@@ -47,7 +47,7 @@ entered (x ∷ s) i o at t words e rest =
           (o + length_of e.0 e.1)
           (if_root s 0 at + length_of e.0 e.1)
           (if_root s x.next t)
-          (words ++ (o ∷ x.owner ∷ x.next ∷ (length s + 1) ∷ if_root s 0 at ∷ if_root s 0 at ∷ i ∷ if_root s x.next t ∷ []))
+          (words ++ (o ∷ x.owner ∷ x.next ∷ (length s + 1) ∷ if_root s 0 at ∷ (if_root s 0 at + length_of e.0 e.1) ∷ (i + 1) ∷ if_root s x.next t ∷ []))
     ]
 
 -- the words of the table after the elements that are left

@@ -24,7 +24,7 @@ module _ (x : Open) (s : List Open) (i o at t : ℕ) (w : List ℕ) where
   pub table_open : (l k m : ℕ) (es : List (ℕ × ℕ)) → x.left ≡ suc l
       → table_from (x ∷ s) i o at t w ((k, m) ∷ es)
       ≡ table_from (open_of (children_of k m) (i + 1) 0 ∷ open_of l x.owner (x.next + 1) ∷ s) (i + 1) (o + length_of k m) (if_root s 0 at + length_of k m) (if_root s x.next t)
-      (w ++ (o ∷ x.owner ∷ x.next ∷ (length s + 1) ∷ if_root s 0 at ∷ if_root s 0 at ∷ i ∷ if_root s x.next t ∷ [])) es
+      (w ++ (o ∷ x.owner ∷ x.next ∷ (length s + 1) ∷ if_root s 0 at ∷ (if_root s 0 at + length_of k m) ∷ (i + 1) ∷ if_root s x.next t ∷ [])) es
   unfolding table_from
   table_open l k m es h = rw h (rw (h, entered))
 
@@ -85,7 +85,7 @@ set_behind [] l n j v h = let e : n + j ≡ j = omega arith in rw e
 set_behind (x ∷ w) l n j v h = let e : n + j ≡ suc (length w + j) = omega arith in rw e (ap (λ z. x ∷ z) (set_behind w l (length w) j v refl))
 
 -- the words of an element that is closed
-ended_at : (w r : List ℕ) (e o p c d s x y t end after : ℕ) → length w ≡ 8 * e → ended (e + 1) end after (w ++ (o ∷ p ∷ c ∷ d ∷ s ∷ x ∷ y ∷ t ∷ r)) ≡ w ++ (o ∷ p ∷ c ∷ d ∷ s ∷ end ∷ after ∷ t ∷ r)
+pub ended_at : (w r : List ℕ) (e o p c d s x y t end after : ℕ) → length w ≡ 8 * e → ended (e + 1) end after (w ++ (o ∷ p ∷ c ∷ d ∷ s ∷ x ∷ y ∷ t ∷ r)) ≡ w ++ (o ∷ p ∷ c ∷ d ∷ s ∷ end ∷ after ∷ t ∷ r)
 unfolding ended
 ended_at w r e o p c d s x y t end after h =
     rw (add-one e, set_behind w (o ∷ p ∷ c ∷ d ∷ s ∷ x ∷ y ∷ t ∷ r) (8 * e) 5 end h) (set_behind w (o ∷ p ∷ c ∷ d ∷ s ∷ end ∷ y ∷ t ∷ r) (8 * e) 6 after h)
@@ -101,7 +101,7 @@ walk_one : (k m : ℕ) (kids : List (ℕ × ℕ)) (below : List ℕ) (l p c : �
     → table_from (open_of (suc l) p c ∷ s) i o at t w ((k, m) ∷ kids ++ r)
     ≡ table_from (open_of l p (c + 1) ∷ s) i' o' at' u (w ++ (o ∷ p ∷ c ∷ d ∷ a ∷ at' ∷ i' ∷ u ∷ below)) r
 walk_one k m kids below l p c s i o at t w r n d a u c' i' o' at' hw hd ha hu hn ih =
-    let row : List ℕ = o ∷ p ∷ c ∷ d ∷ a ∷ a ∷ i ∷ u ∷ [] in
+    let row : List ℕ = o ∷ p ∷ c ∷ d ∷ a ∷ (a + n) ∷ (i + 1) ∷ u ∷ [] in
     let x : Open = open_of (suc l) p c in
     let y : Open = open_of l p (c + 1) in
     let z : Open = open_of 0 (i + 1) c' in
@@ -109,7 +109,7 @@ walk_one k m kids below l p c s i o at t w r n d a u c' i' o' at' hw hd ha hu hn
     table_open x s i o at t w l k m (kids ++ r) refl
     ∙ rw (← hd, ← ha, ← hu, ← hn) (ih (w ++ row) hw'
     ∙ (table_close z (y ∷ s) i' o' at' u ((w ++ row) ++ below) r refl
-    ∙ rw (append_assoc w row below, ended_at w below i o p c d a a i u at' i' hw)))
+    ∙ rw (append_assoc w row below, ended_at w below i o p c d a (a + n) (i + 1) u at' i' hw)))
 
 mutual
   unfolding list elements text words_of length_of children_of flats preorders if_root

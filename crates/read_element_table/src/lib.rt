@@ -95,40 +95,44 @@ fn close(table: &mut [u32], owner: usize, end: usize, after: usize)
 }
 
 // The words of all elements in the table, and their rows behind the first row of the source. Each turn closes the innermost open element, if all its
-// children have come, or opens the next one; closing gives its words 5 and 6, which hold `s` and `i` till then. So it is a `while`: a `for` over elements
-// would need a second loop inside. Beside `spells`: read_spelling says why.
+// children have come, or enters the next one. It is entered with words 5 and 6 of an element without children: a token is closed by that, a node gets them
+// anew as it is closed. The innermost open element is held in `x`, those around it on the stack. So it is a `while`: a `for` over elements would need a
+// second loop inside. Beside `spells`: read_spelling says why.
 fn fill_elements(columns: &Columns, trees: usize, table: &mut [u32], source: &mut [u32])
     requires in_bounds { (columns.now.count ≤ 2048) × (8 * columns.now.count ≤ length table.old) × (3 * (columns.now.count + 1) ≤ length source.old) }
     requires accepted { Accepted trees (elements_of columns.now) }
     ensures table_after { table.new ≡ paste table.old 0 (table_of trees (elements_of columns.now)) (8 * columns.now.count) }
     ensures source_after { source.new ≡ paste source.old 3 (rows_from 0 (elements_of columns.now)) (3 * columns.now.count) }
 {
-    let mut stack = [Open::new(trees, 0); 65];
+    let mut x = Open::new(trees, 0);
+    let mut stack = [x; 65];
     let mut d: usize = 1;
     let mut o: usize = 0;
     let mut at: usize = 0;
     let mut tree: usize = 0;
     let mut i: usize = 0;
     while 0 < d {
-        let top = d - 1;
-        let x = stack[top];
         if x.left == 0 {
             close(table, x.owner, at, i);
-            d = top;
+            d -= 1;
+            x = stack[d];
         } else {
             let (k, m) = columns.get(i);
-            let s = if_root(d, 0, at);
-            let t = if_root(d, x.next, tree);
-            words::store(table, WORDS * i, &[o, x.owner, x.next, d, s, s, i, t]);
-            words::store(source, ROW_WORDS * (i + 1), &[k, m, o]);
-            stack[top] = x.passed();
-            stack[d] = Open::new(read_spelling::children_of(k, m), i + 1);
             let len = read_spelling::length_of(k, m);
-            d += 1;
-            o += len;
-            at = s + len;
-            tree = t;
+            let e = WORDS * i;
+            at = if_root(d, 0, at);
+            tree = if_root(d, x.next, tree);
             i += 1;
+            words::store(table, e, &[o, x.owner, x.next, d, at, at + len, i, tree]);
+            words::store(source, ROW_WORDS * i, &[k, m, o]);
+            o += len;
+            at += len;
+            x = x.passed();
+            if NODE_KIND <= k {
+                stack[d] = x;
+                x = Open::new(m, i);
+                d += 1;
+            }
         }
     }
 }
