@@ -63,7 +63,7 @@ module _ (end after i : ℕ) (l : List ℕ) where
   drop_ended (suc e) h = rw (drop-set-lt (8 * i) (set l (8 * e + 5) end) (8 * e + 6) after (omega arith), drop-set-lt (8 * i) l (8 * e + 5) end (omega arith))
 
 module _ (b : List ℕ) (kinds measures n trees : ℕ) where
-  -- i elements are written, and those on the stack are not closed yet
+  -- i elements are written, and those on the stack, the innermost of them x, are not closed yet
   pub record Writing (table₀ source₀ table source : List ℕ) (open' : List Open) (x : Open) (d o at tree i : ℕ) : Type 0 where
     pub inside : i ≤ n
     pub long : length open' ≡ 65

@@ -50,8 +50,9 @@ pub fn stands(kind: usize, depth: usize) -> bool
 }
 
 // Line 5: whether elements spell `trees` trees with `bytes` bytes of text. Each turn closes the innermost open element, if all its children have come,
-// or opens the next one; a token has none, and is closed at once. So it is a `while`: a `for` over elements would need a second loop inside. `fill_elements` (read_element_table) and
-// `read_tree` (check_table) walk so too, each with another stack: one walk would take what they do at each turn as closures that write, each with its own contract.
+// or opens the next one; a token has none, and is closed at once. So it is a `while`: a `for` over elements would need a second loop inside.
+// `fill_elements` (read_element_table) and `read_tree` (check_table) walk so too, each with another stack: one walk would take what they do at each turn as
+// closures that write, each with its own contract.
 pub fn spells(columns: &Columns, trees: usize, bytes: usize) -> bool
     ensures { result ≡ accepts trees bytes (elements_of columns.now) }
 {
