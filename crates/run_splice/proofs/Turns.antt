@@ -22,6 +22,7 @@ use Rattle.orders.specs.Tree.{shift}
 use Rattle.orders.proofs.TreeLaws.{shift_before, shift_inside, shift_after}
 use Rattle.words.specs.Parts.{get_d_below, get_d_inside}
 use Rattle.rows_syntax_node.specs.Promises.{Spliced, Shifted}
+use Rattle.rows_syntax_node.specs.Rising.{Rising}
 use Rattle.run_model.specs.Store.{HeldNote, with_row}
 use Rattle.run_annotations.specs.Notes.{note_of, notes_of, notes_in, note_at, note_row, notes_same}
 use Rattle.run_annotations.specs.Changed.{changed_in, Ruled, count_by}
@@ -34,13 +35,14 @@ pub all_small : (n : ℕ) (l : List ℕ) → n < 2 ^ 16 → All (λ m. m < n) l 
 all_small n l h a = All-map (λ x k. omega arith) l a
 
 pub spliced_marks : (rows : List ℕ) (n : ℕ) (marks : List ℕ) (parent p q lost : ℕ) (run : List ℕ) (gain : ℕ) (out marked : List ℕ) (r : ℕ) → parent < p → q ≤ n → All (λ m. m < n) marks
-    → Shifted marks p q (length run / 3) marked → Spliced rows n parent p q lost run gain out r → SplicedMarks rows n marks parent p q lost run gain out marked r
-spliced_marks rows n marks parent p q lost run gain out marked r h k a s t = record {
+    → Shifted marks p q (length run / 3) marked → Rising marked → Spliced rows n parent p q lost run gain out r → SplicedMarks rows n marks parent p q lost run gain out marked r
+spliced_marks rows n marks parent p q lost run gain out marked r h k a s i t = record {
   told = t.told;
   count = t.count;
   beyond = t.beyond;
   moved = s.moved;
   below = rw t.count (s.below n (omega arith) k a);
+  risen = i;
 }
 
 -- ── Notes that stay ─────────────────────────────────────────────────────────────────────────────────────────

@@ -5,18 +5,20 @@ use Rattle.std.specs.Prelude.{◌≡◌, List, ◌++◌, map, ℕ, ◌+◌, ◌-
 use Rattle.orders.specs.Lists.{All, pick}
 use Rattle.rows_model.specs.Row.{first_rows, triples}
 use Rattle.rows_model.specs.Place.{splice_rows, moved_mark}
+use Rattle.rows_syntax_node.specs.Rising.{Rising}
 use Rattle.run_annotations.specs.Notes.{notes_of, notes_in}
 use Rattle.run_annotations.specs.Changed.{changed_in, count_by, put_by}
 use Rattle.run_annotations.specs.Places.{part_rows}
 use Rattle.run_annotations.specs.Promises.{moved_note, moved_changed}
 
--- the rows p up to q give way to a run, and every mark moves; r rows then
+-- the rows p up to q give way to a run, and every mark moves; r rows then, and the marks rise
 pub record SplicedMarks (rows : List ℕ) (n : ℕ) (marks : List ℕ) (parent p q lost : ℕ) (run : List ℕ) (gain : ℕ) (out marked : List ℕ) (r : ℕ) : Type 0 where
   pub told : (text : List ℕ) → first_rows text r out ≡ splice_rows (first_rows text n rows) parent p q lost (triples text run) gain
   pub count : r ≡ n - (q - p) + length run / 3
   pub beyond : drop (3 * r) out ≡ drop (3 * r) rows
   pub moved : marked ≡ map (moved_mark p q (length run / 3)) marks
   pub below : All (λ x. x < r) marked
+  pub risen : Rising marked
 
 -- the number of notes that stay, whatever comes in
 pub record NotesLeft (notes : List ℕ) (p q r : ℕ) : Type 0 where

@@ -11,21 +11,24 @@ ghost use Rattle.run_annotations.specs.Notes.{notes_of};
 ghost use Rattle.run_annotations.specs.Changed.{changed_in, Ruled, count_by};
 ghost use Rattle.run_annotations.specs.Places.{part_rows};
 ghost use Rattle.run_annotations.specs.Promises.{moved_note};
+ghost use Rattle.rows_syntax_node.specs.Rising.{Rising};
 ghost use Rattle.run_splice.specs.Promises.{SplicedMarks, NotesLeft, NotesAfter, NotesSpliced, Recorded, ChangedSpliced};
 
-use rows_syntax_node::{ROW_WORDS, shift_marks, splice_rows};
+use rows_syntax_node::{ROW_WORDS, shift_rising, splice_rows};
 use run_annotations::{NOTE_WORDS, Shift, add_changed, move_changed, move_notes};
 use words::{copy_in, word};
 
 // ── Rows and marks ──
 
-// A splice of a list: the rows `p` up to `q`, `lost` children of the node at row `parent`, give way to a run of `gain` trees, and every mark moves with them. The new
-// number of rows. A list's marks are in any order; a run's rise, so that run_tree_state moves them itself (`shift_rising`).
+// Rust: TreeState::splice, of the tree and its edits. The rows `p` up to `q`, `lost` children of the node at row `parent`, give way to a run of `gain`
+// trees, and every mark moves with them: where the Rust replays all edits on a path, a mark says at once where its element stands. No mark before that of the element
+// `target` moves; nothing is asked of that number. The new number of rows.
 // The gap stays four numbers, since a splice list has one of its own (splices_step::Gap).
 pub fn splice(
     rows: &mut [u32],
     n: usize,
     marks: &mut [u32],
+    target: usize,
     parent: usize,
     p: usize,
     q: usize,
@@ -35,11 +38,12 @@ pub fn splice(
 ) -> usize
     requires n_in_bounds { (3 * n ≤ length rows.old) × (n < 2 ^ 16) × (parent < p) × (p ≤ q) × (q ≤ n) × All (λ m. m < n) marks.old }
     requires run_len { (length run.now % 3 ≡ 0) × (length run.now < 3 * 2 ^ 16) × (3 * (n - (q - p)) + length run.now ≤ length rows.old) }
+    requires risen { Rising marks.old }
     requires bound { (2147483648 ≤ get_or rows.old (3 * parent) 0) × (lost ≤ get_or rows.old (3 * parent + 1) 0) × (get_or rows.old (3 * parent + 1) 0 + gain < 2 ^ 32) }
     ensures { SplicedMarks rows.old n marks.old parent p q lost run.now gain rows.new marks.new result }
 {
     let m = run.len() / ROW_WORDS;
-    shift_marks(marks, p, q, m);
+    shift_rising(marks, target, p, q, m);
     splice_rows(rows, n, parent, p, q, lost, run, gain)
 }
 

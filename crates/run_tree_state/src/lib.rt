@@ -18,7 +18,7 @@ mod site;
 
 pub use parts::Parts;
 use refusals::Refusal;
-use rows_syntax_node::{ROW_WORDS, Rows, height, shift_rising, splice_rows, text_bytes};
+use rows_syntax_node::{ROW_WORDS, Rows, height, text_bytes};
 use run_annotations::{NOTE_WORDS, Shift};
 use run_splice::{notes_after, splice_changed, splice_notes};
 use run_tree_store::{MOST_NOTES, too_large};
@@ -38,7 +38,6 @@ pub struct TreeState {
 }
 
 // The splice, by value: the rows of the gap give way to the parts, with the notes that come in; what is held then has `bytes` text bytes.
-// Where the Rust replays all edits on a path, a mark says at once where its element stands.
 fn splice_store(
     s: TreeState,
     rows: &mut [u32],
@@ -60,9 +59,17 @@ fn splice_store(
         count: parts.run.len() / ROW_WORDS,
     };
     let gain = parts.sizes.len();
-    shift_rising(marks, site.target, gap.from, gap.to, shift.count);
-    let r = splice_rows(
-        rows, s.rows, gap.parent, gap.from, gap.to, gap.lost, parts.run, gain,
+    let r = run_splice::splice(
+        rows,
+        s.rows,
+        marks,
+        site.target,
+        gap.parent,
+        gap.from,
+        gap.to,
+        gap.lost,
+        parts.run,
+        gain,
     );
     let k = splice_notes(notes, s.notes, &shift, parts.notes);
     let l = splice_changed(changed, s.changed, &shift, site.recorded, parts.sizes);

@@ -12,6 +12,7 @@ use borrow.Rule.Slice.PartMut.{mid_of, post_of, put_mid, mid_len, Post-is}
 use Rattle.orders.specs.Lists.{All}
 use Rattle.orders.specs.Tree.{Tree}
 use Rattle.orders.specs.Splices.{Splice, begin, one_go, AllApart}
+use Rattle.rows_syntax_node.specs.Rising.{Rising, up_rising}
 use Rattle.rows_model.specs.Row.{rows_of}
 use Rattle.rows_model.specs.Place.{size}
 use Rattle.rows_model.proofs.Words.{rows_many}
@@ -48,6 +49,7 @@ pub record Going (rows₀ : List ℕ) (n₀ : ℕ) (marks₀ splices prepared : 
   pub few : n ≤ n₀ + rows_to splices k
   pub beyond : drop (3 * (n₀ + rows_to splices c)) rows ≡ drop (3 * (n₀ + rows_to splices c)) rows₀
   pub below : All (λ x. x < n) marks
+  pub risen : Rising marks
   pub law : (text : List ℕ) (old : Tree ℕ) (D : List (Splice ℕ)) → Holds text old (begin old) rows₀ n₀ marks₀ → Told text old splices prepared k D → AllApart old D → Holds text old (state_of old D) rows n marks
 
 none_told : (text : List ℕ) (old : Tree ℕ) (splices prepared : List ℕ) (D : List (Splice ℕ)) → Told text old splices prepared 0 D → state_of old D ≡ begin old
@@ -55,14 +57,15 @@ unfolding cuts_to state_of
 none_told text old splices prepared [] t = refl
 none_told text old splices prepared (s ∷ D) t = let z : ◌≡◌ {A = ℕ} 0 1 = cc t.cuts in absurd (omega arith)
 
-pub going_start : (rows : List ℕ) (n : ℕ) (marks splices prepared : List ℕ) (c : ℕ) → All (λ x. x < n) marks → Going rows n marks splices prepared c rows n marks 0
-going_start rows n marks splices prepared c a = record {
+pub going_start : (rows : List ℕ) (n : ℕ) (marks splices prepared : List ℕ) (c : ℕ) → All (λ x. x < n) marks → Rising marks → Going rows n marks splices prepared c rows n marks 0
+going_start rows n marks splices prepared c a x = record {
   inside = omega arith;
   long = refl;
   many = refl;
   few = omega arith;
   beyond = refl;
   below = a;
+  risen = x;
   law = λ text old D h t w. rw (none_told text old splices prepared D t) h;
 }
 
@@ -75,6 +78,7 @@ module _ {rows₀ : List ℕ} {n₀ : ℕ} {marks₀ s p : List ℕ} {c : ℕ} {
     few = omega (arith, v.few, w.few, rows_to_more s k);
     beyond = drop_more (3 * r) (3 * (n₀ + rows_to s c)) out rows (omega (arith, v.few, w.few, rows_to_more s k, rows_to_mono s c (suc k) h)) w.beyond ∙ v.beyond;
     below = w.below;
+    risen = w.risen;
     law = λ text old D b t a. one_more text old s p k rows n marks out r marked (λ D' t' a'. v.law text old D' b t' a') (λ now z run d t' f'. w.step text old now z run d t' f') D t a;
   })
 
@@ -123,6 +127,9 @@ up_from_below a (suc n) m h = (omega arith, up_from_below (suc a) n m (omega ari
 
 pub numbered_below : (n : ℕ) {l : List ℕ} → l ≡ up_from 0 n → All (λ x. x < n) l
 numbered_below n e = rw e (up_from_below 0 n n (omega arith))
+
+pub numbered_rising : (n : ℕ) {l : List ℕ} → l ≡ up_from 0 n → Rising l
+numbered_rising n e = rw e (up_rising 0 n)
 
 pub numbered_few : (n : ℕ) (l : List ℕ) → l ≡ up_from 0 n → n < 2 ^ 16 → length l < 2 ^ 16
 numbered_few n l e h = omega (arith, ap length e, up_long 0 n)

@@ -7,6 +7,7 @@
 ghost use Rattle.std.specs.Prelude.{◌≡◌, ◌+◌, ◌*◌, ◌^◌, ◌≤◌, ◌<◌, length, take};
 ghost use Rattle.orders.specs.Lists.{All};
 ghost use Rattle.splices_list.specs.Plain.{plain_word, plain};
+ghost use Rattle.rows_syntax_node.specs.Rising.{Rising};
 ghost use Rattle.splices_list.specs.Promises.{Listed, Good, ListedAll, Tidied, Spliced};
 ghost use Rattle.splices_model.specs.Bounds.{BoundedAll, rows_to};
 ghost use Rattle.splices_model.specs.SpliceList.{filled};
@@ -21,6 +22,7 @@ use words::NODE_KIND;
 // a proof is told nothing.
 fn splice_each(rows: &mut [u32], n: usize, marks: &mut [u32], list: &SpliceList) -> usize
     requires room { (3 * n + 3 * rows_to list.now.splices.words.now list.now.splices.count ≤ length rows.old) × (n + rows_to list.now.splices.words.now list.now.splices.count < 2 ^ 16) }
+    requires risen { Rising marks.old }
     requires marks_below { (length marks.old < 2 ^ 16) × All (λ m. m < n) marks.old }
     requires in_bounds { BoundedAll (length marks.old) list.now.splices.words.now list.now.prepared.now list.now.splices.count }
     ensures { Listed rows.old n marks.old list.now.splices.words.now list.now.prepared.now list.now.splices.count rows.new marks.new result }

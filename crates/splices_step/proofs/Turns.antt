@@ -15,6 +15,7 @@ use Rattle.orders.specs.ListLaws.{both_true, bool_absurd}
 use Rattle.orders.specs.Tree.{Tree, node, list, Run}
 use Rattle.orders.specs.Splices.{Splice, State}
 use Rattle.rows_syntax_node.specs.Promises.{TreesIn, After, ChildAt}
+use Rattle.rows_syntax_node.specs.Rising.{Rising}
 use Rattle.rows_model.specs.Place.{place}
 use Rattle.rows_model.proofs.RowLaws.{children_few}
 use Rattle.rows_model.proofs.PlaceLaws.{place_bound}
@@ -149,6 +150,7 @@ module _ (s p : List ℕ) (i : ℕ) {run : List ℕ} (bound : 3 * get_or s (6 * 
         few = omega (arith, y.count, part_long s p i bound);
         beyond = y.beyond;
         below = y.below;
+        risen = y.risen;
       }
 
 -- ── A splice that cannot be done ────────────────────────────────────────────────────────────────────────────
@@ -166,10 +168,11 @@ module _ (rows : List ℕ) (n : ℕ) (marks s p : List ℕ) (i : ℕ) (g : Gap) 
       let m : ℕ = get_or rows (3 * place run.parent now.tree + 1) 0 in
       rw (e, le-leb 2147483648 (get_or rows (3 * place run.parent now.tree) 0) v.0, le-leb g.lost m (omega (arith, lost_trees d w.sited z run f t, v.2, f.has.within))) (lt-ltb (m + g.gain) (2 ^ 32) (omega (arith, v.2, w.few)))
 
-  pub unstepped : {b : Bool} → b ≡ takes_by rows g.parent g.lost g.gain → b ≡ false → All (λ m. m < n) marks → Stepped rows n marks s p i rows marks n
-  unstepped e q a = record {
+  pub unstepped : {b : Bool} → b ≡ takes_by rows g.parent g.lost g.gain → b ≡ false → All (λ m. m < n) marks → Rising marks → Stepped rows n marks s p i rows marks n
+  unstepped e q a x = record {
     step = λ text old now z run d t f. bool_absurd (takes_always text old now z run d t f) (sym e ∙ q);
     few = omega arith;
     beyond = refl;
     below = a;
+    risen = x;
   }

@@ -5,6 +5,7 @@ use Rattle.orders.specs.Lists.{All, total}
 use Rattle.orders.specs.Tree.{Tree, Run}
 use Rattle.orders.specs.Splices.{Splice, State, perform}
 use Rattle.rows_model.specs.Row.{triples, trees_in}
+use Rattle.rows_syntax_node.specs.Rising.{Rising}
 use Rattle.splices_model.specs.Cuts.{part_at, gain, loss, left_cut, start_cut, cut_at, cuts_to, Holds, Told}
 use Rattle.splices_model.specs.Step.{Sited, Due}
 use Rattle.splices_step.specs.declared.Gap.{Gap}
@@ -54,10 +55,11 @@ pub record GapAt (rows : List ℕ) (n : ℕ) (marks splices prepared : List ℕ)
 unfoldable pub takes_by : List ℕ → ℕ → ℕ → ℕ → Bool
 takes_by rows parent lost gained = leb 2147483648 (get_or rows (3 * parent) 0) && (leb lost (get_or rows (3 * parent + 1) 0) && ltb (get_or rows (3 * parent + 1) 0 + gained) (2 ^ 32))
 
--- splice i done, those before it being done: where rows and marks hold a state of the law, they hold the law's next; r rows then
+-- splice i done, those before it being done: where rows and marks hold a state of the law, they hold the law's next; r rows then, and the marks rise
 pub record Stepped (rows : List ℕ) (n : ℕ) (marks splices prepared : List ℕ) (i : ℕ) (out marked : List ℕ) (r : ℕ) : Type 0 where
   pub step : (text : List ℕ) (old : Tree ℕ) (now : State ℕ) (s : Splice ℕ) (run : Run)
       → Holds text old now rows n marks → Told text old splices prepared (suc i) (s ∷ now.done) → Due now s run → Holds text old (perform s now) out r marked
   pub few : r ≤ n + get_or splices (6 * i + 5) 0
   pub beyond : drop (3 * r) out ≡ drop (3 * r) rows
   pub below : All (λ x. x < r) marked
+  pub risen : Rising marked

@@ -9,6 +9,7 @@
 
 ghost use Rattle.std.specs.Prelude.{◌≡◌, true, ℕ, ◌+◌, ◌*◌, ◌^◌, ◌≤◌, ◌<◌, length, get_or};
 ghost use Rattle.orders.specs.Lists.{All};
+ghost use Rattle.rows_syntax_node.specs.Rising.{Rising};
 ghost use Rattle.splices_step.specs.Promises.{left_run, left_at, TreesOf, Deletes, Shifted, Started, GapAt, takes_by, Stepped};
 ghost use Rattle.splices_model.specs.Bounds.{BoundedTo};
 ghost use Rattle.splices_model.specs.Reading.{Stocked};
@@ -147,6 +148,7 @@ fn splice_at(
     gap: Gap,
 ) -> usize
     requires i_in_bounds { (3 * n + 3 * get_or list.now.splices.words.now (6 * i + 5) 0 ≤ length rows.old) × (n < 2 ^ 16) × All (λ m. m < n) marks.old }
+    requires risen { Rising marks.old }
     requires stocked { (i < list.now.splices.count) × Stocked list.now.splices.words.now list.now.prepared.now i }
     requires gap_at { GapAt rows.old n marks.old list.now.splices.words.now list.now.prepared.now i gap × (takes_by rows.old gap.parent gap.lost gap.gain ≡ true) }
     ensures { Stepped rows.old n marks.old list.now.splices.words.now list.now.prepared.now i rows.new marks.new result }
@@ -155,6 +157,7 @@ fn splice_at(
         rows,
         n,
         marks,
+        list.splices.get(i).parent,
         gap.parent,
         gap.from,
         gap.to,
@@ -173,6 +176,7 @@ pub fn splice_once(
     i: usize,
 ) -> usize
     requires room { (3 * n + 3 * get_or list.now.splices.words.now (6 * i + 5) 0 ≤ length rows.old) × (n < 2 ^ 16) }
+    requires risen { Rising marks.old }
     requires marks_below { (length marks.old < 2 ^ 16) × All (λ m. m < n) marks.old }
     requires i_in_bounds { (i < list.now.splices.count) × BoundedTo (length marks.old) list.now.splices.words.now list.now.prepared.now i }
     ensures { Stepped rows.old n marks.old list.now.splices.words.now list.now.prepared.now i rows.new marks.new result }

@@ -10,7 +10,7 @@ pub splice_once-m-requires : goal.splice_once-m-requires
 splice_once-m-requires c =
     let v = c.loop-k.invariant in
     let h = c.loop-k-test.true in
-    record { room = search (going_room, going_small, rules); marks_below = search rules; i_in_bounds = (h, going_bounds v c.requires.room.0 h c.requires.in_bounds) }
+    record { room = search (going_room, going_small, rules); risen = v.risen; marks_below = search rules; i_in_bounds = (h, going_bounds v c.requires.room.0 h c.requires.in_bounds) }
 
 pub loop-k-preserved : goal.loop-k-preserved
 loop-k-preserved c = search (going_next, rules)

@@ -12,7 +12,7 @@ splice-requires c =
     let t = c.requires.gap_at.1 in
     let w = c.requires.gap_at.0 in
     let f : 3 * c.args.n ≤ length c.args.rows.now = omega (arith, c.requires.i_in_bounds.0) in
-    record { n_in_bounds = (f, c.requires.i_in_bounds.1, w.low, w.order, w.high, c.requires.i_in_bounds.2); run_len = search rules; bound = (takes_node _ _ _ _ t, takes_lost _ _ _ _ t, takes_gained _ _ _ _ t) }
+    record { n_in_bounds = (f, c.requires.i_in_bounds.1, w.low, w.order, w.high, c.requires.i_in_bounds.2); run_len = search rules; risen = c.requires.risen; bound = (takes_node _ _ _ _ t, takes_lost _ _ _ _ t, takes_gained _ _ _ _ t) }
 
 pub returns : goal.returns
 returns c = search (stepped, rules)
