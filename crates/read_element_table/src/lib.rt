@@ -118,11 +118,11 @@ fn fill_elements(columns: &Columns, trees: usize, table: &mut [u32], source: &mu
             x = stack[d];
         } else {
             let (k, m) = columns.get(i);
-            let len = read_spelling::length_of(k, m);
             let e = WORDS * i;
             at = if_root(d, 0, at);
             tree = if_root(d, x.next, tree);
             i += 1;
+            let len = read_spelling::length_of(k, m);
             words::store(table, e, &[o, x.owner, x.next, d, at, at + len, i, tree]);
             words::store(source, ROW_WORDS * i, &[k, m, o]);
             o += len;
