@@ -1,66 +1,12 @@
-//! Fires damaged and random batches at the static library:   fire [COUNT [SEED]]   fire --exact COUNT [SEED]
+//! Damaged and random batches for `edit` and `find_element`.
 //!
-//! Each call gets buffers full of a pattern between guard words, work slices of the lengths needed, longer or too short, and a result of any length.
-//! Checked after each: no guard is changed, the batch is unchanged, the answer is one that its length tells or a refusal from 1 to 13 or 16 to 18, every work
-//! slice is zeros, the result beyond the answer (or all of it, if refused) still holds the pattern; and, by a second call with another pattern, that
-//! the answer depends on the batch alone. First come all prefixes and single-byte changes of the seeds (the example batches), then COUNT batches:
-//! recorded cases with some words changed, parts of two joined, and random bytes.
-//!
-//! `--exact` gives every buffer an allocation of its own and no guards, for valgrind to see a read or a write beside it.
-
-use std::{env, fs, path::PathBuf};
+//! Work slices are of the lengths needed, longer or too short, and a result is of any length. Beside what main.rs says, each batch gets the same answer by two calls,
+//! and `find_element` is refused as `edit` is. First come all prefixes and single-byte changes of examples, then random batches: recorded cases with some words changed,
+//! parts of two joined, and random bytes.
 
 use syntax_edit::{Answer, Choices, MOST_ANSWER, raw};
 
-const GUARD: usize = 64;
-
-/// Random numbers (SplitMix64).
-struct Random(u64);
-
-impl Random {
-    fn next(&mut self) -> u64 {
-        self.0 = self.0.wrapping_add(0x9e37_79b9_7f4a_7c15);
-        let mut x = self.0;
-        x = (x ^ (x >> 30)).wrapping_mul(0xbf58_476d_1ce4_e5b9);
-        x = (x ^ (x >> 27)).wrapping_mul(0x94d0_49bb_1331_11eb);
-        x ^ (x >> 31)
-    }
-
-    fn below(&mut self, most: usize) -> usize {
-        (self.next() % most.max(1) as u64) as usize
-    }
-
-    fn one_in(&mut self, n: usize) -> bool {
-        self.below(n) == 0
-    }
-}
-
-/// A buffer between guards, all of it filled with a pattern.
-struct Buffer<T> {
-    memory: Vec<T>,
-    guard: usize,
-    pattern: T,
-}
-
-impl<T: Copy + PartialEq> Buffer<T> {
-    fn new(length: usize, guard: usize, pattern: T) -> Self {
-        Buffer { memory: vec![pattern; length + 2 * guard], guard, pattern }
-    }
-
-    fn lent(&mut self) -> &mut [T] {
-        let end = self.memory.len() - self.guard;
-        &mut self.memory[self.guard..end]
-    }
-
-    fn held(&self) -> &[T] {
-        &self.memory[self.guard..self.memory.len() - self.guard]
-    }
-
-    fn guards_stand(&self) -> bool {
-        let (front, back) = (&self.memory[..self.guard], &self.memory[self.memory.len() - self.guard..]);
-        front.iter().chain(back).all(|&it| it == self.pattern)
-    }
-}
+use crate::lend::{Buffer, Random, all};
 
 /// What a call did, for the table at the end: 0 accepted, else the refusal.
 struct Fire {
@@ -103,14 +49,14 @@ impl Fire {
         assert!(input.held() == batch && input.guards_stand(), "the batch is changed");
         assert!(result.guards_stand(), "a byte beside the result is written");
         assert!(work.iter().all(Buffer::guards_stand), "a word beside a work slice is written");
-        assert!(work.iter().all(|it| it.held().iter().all(|&it| it == 0)), "a work slice is not zeros");
+        assert!(work.iter().all(|it| all(it.held(), 0)), "a work slice is not zeros");
         assert!((-18..=MOST_ANSWER as i64).contains(&answer) && answer != 0, "no answer: {answer}");
         assert_eq!(choices.edge > 1, answer == -17, "a wrong edge rule, and it alone, is refused by 17");
         assert_eq!(choices.edge <= 1 && choices.stronger > 1, answer == -18, "a wrong choice, and it alone, is refused by 18");
         assert_eq!(short && choices.edge.max(choices.stronger) <= 1, answer == -1, "a short work slice, and it alone, is refused by 1");
         let length = usize::try_from(answer).unwrap_or(0);
         assert!(length <= room, "the answer is longer than the result");
-        assert!(result.held()[length..].iter().all(|&it| it == pattern as u8), "the result is written beyond the answer");
+        assert!(result.untouched(length), "the result is written beyond the answer");
         if answer < 0 {
             return Err(-answer);
         }
@@ -126,7 +72,7 @@ impl Fire {
         let answer = raw::find_element(choices, input.held(), number, work.each_mut().map(Buffer::lent));
         assert!(input.held() == batch && input.guards_stand(), "the batch is changed");
         assert!(work.iter().all(Buffer::guards_stand), "a word beside a work slice is written");
-        assert!(work.iter().all(|it| it.held().iter().all(|&it| it == 0)), "a work slice is not zeros");
+        assert!(work.iter().all(|it| all(it.held(), 0)), "a work slice is not zeros");
         assert!(answer == raw::NONE || (-18..=4_095).contains(&answer), "no answer: {answer}");
         answer
     }
@@ -218,56 +164,13 @@ impl Fire {
     }
 }
 
-/// Bytes that are read from the front.
-struct Reader<'a>(&'a [u8]);
-
-impl<'a> Reader<'a> {
-    fn part(&mut self, length: usize) -> &'a [u8] {
-        let (part, rest) = self.0.split_at(length);
-        self.0 = rest;
-        part
-    }
-
-    fn word(&mut self) -> usize {
-        u32::from_le_bytes(self.part(4).try_into().expect("four bytes")) as usize
-    }
-}
-
-/// The batches of the recorded cases (oracle/README.md), of at least 28 bytes and at most `most`.
-fn recorded(data: &[u8], most: usize) -> Vec<Vec<u8>> {
-    let mut cases = Reader(data);
-    let mut batches = Vec::new();
-    for _ in 0..cases.word() {
-        (cases.word(), cases.word());
-        let length = cases.word();
-        batches.push(cases.part(length).to_vec());
-        cases.word();
-        let result = cases.word();
-        cases.part(result);
-        let finds = cases.word();
-        cases.part(8 * finds);
-    }
-    batches.retain(|it| (28..=most).contains(&it.len()));
-    batches
-}
-
-fn main() {
-    let mut words = env::args().skip(1).collect::<Vec<_>>();
-    let exact = words.first().is_some_and(|it| it == "--exact");
-    words.drain(..usize::from(exact));
-    let number = |place: usize, otherwise: u64| words.get(place).map_or(otherwise, |it| it.parse().expect("a number"));
-    let (count, seed) = (number(0, 100_000), number(1, 1));
-    let root = PathBuf::from(concat!(env!("CARGO_MANIFEST_DIR"), "/../.."));
-    let read = |path: &str| fs::read(root.join(path)).expect(path);
-    let cases = recorded(&read("crates/replay/stdin"), if exact { 1_000 } else { 65_536 });
-    let mut fire = Fire { random: Random(seed), guard: if exact { 0 } else { GUARD }, told: [0; 19], calls: 0 };
-    let seeds = ["examples/printed_case.batch", "examples/dosing.batch", "examples/overlap.batch"];
-    for path in &seeds[..if exact { 1 } else { 3 }] {
-        fire.damage(&read(path));
-    }
-    println!("{} calls on prefixes and single-byte changes of {} batches", fire.calls, if exact { 1 } else { 3 });
+/// All prefixes and single-byte changes of the examples, then this many random batches.
+pub fn fire(examples: &[Vec<u8>], cases: &[Vec<u8>], count: u64, seed: u64, guard: usize) {
+    let mut fire = Fire { random: Random(seed), guard, told: [0; 19], calls: 0 };
+    examples.iter().for_each(|it| fire.damage(it));
+    println!("{} calls on prefixes and single-byte changes of {} batches", fire.calls, examples.len());
     for _ in 0..count {
-        let batch = fire.random_batch(&cases);
+        let batch = fire.random_batch(cases);
         fire.one(&batch);
     }
     println!("{count} random batches of seed {seed}; by answer, a short work slice and a short result among them:");
