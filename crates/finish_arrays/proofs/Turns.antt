@@ -25,8 +25,8 @@ use Rattle.rows_model.proofs.Words.{rows_summed, kind_word, measure_word, node_r
 use Rattle.rows_syntax_node.specs.Promises.{Measured}
 use Rattle.finish_model.specs.Finished.{starts}
 use Rattle.finish_model.proofs.Numbers.{starts_at}
-use Rattle.finish_arrays.specs.declared.Run.{Run}
-use Rattle.finish_arrays.specs.Runs.{run_over, StandsAt, Grown}
+use Rattle.finish_arrays.specs.declared.Stretch.{Stretch}
+use Rattle.finish_arrays.specs.Stretches.{stretch_over, StandsAt, Added}
 use Rattle.finish_arrays.specs.Starts.{Starts, length_starts, starts_listed}
 use Rattle.finish_arrays.specs.Sweep.{elements_over, Swept, row_each}
 use Rattle.finish_arrays.specs.TextSizes.{bytes_any, own_few}
@@ -275,15 +275,15 @@ module _ {tree text d : List ℕ} {at : ℕ} {l : List ℕ} {to i : ℕ} (v : Te
       let n : length (flat_map own (triples text tree)) ≡ to - at = omega (arith, v.high) in
       rw n v.copied
 
--- once the run is copied, l is d with the text of the first i rows
-pub record Pending (tree text d : List ℕ) (at : ℕ) (l : List ℕ) (r : Run) (i : ℕ) : Type 0 where
+-- once the stretch is copied, l is d with the text of the first i rows
+pub record Pending (tree text d : List ℕ) (at : ℕ) (l : List ℕ) (r : Stretch) (i : ℕ) : Type 0 where
   pub there : r.from + r.len ≤ length text
   pub room : r.to + r.len ≤ length l
   pub long : length l ≡ length d
-  pub written : Texting tree text d at (run_over text r l) (r.to + r.len) i
+  pub written : Texting tree text d at (stretch_over text r l) (r.to + r.len) i
 
 pub pending : (tree text d : List ℕ) (at : ℕ) → at ≤ length d → Pending tree text d at d (record { to = at; from = 0; len = 0 }) 0
-unfolding run_over
+unfolding stretch_over
 pending tree text d at h = record {
   there = omega arith;
   room = omega arith;
@@ -291,12 +291,12 @@ pending tree text d at h = record {
   written = rw (← paste-zero d at text, add-zero at) (texting tree text d at);
 }
 
-module _ {tree text d : List ℕ} {at : ℕ} {l : List ℕ} {r : Run} {i : ℕ} (v : Pending tree text d at l r i) where
-  pub pending_next : {l' : List ℕ} {q : Run} → i < length tree / 3 → at + length (flat_map own (triples text tree)) ≤ length d → length l' ≡ length l → Grown text (own (row_in text tree i)) l r l' q → Pending tree text d at l' q (i + 1)
+module _ {tree text d : List ℕ} {at : ℕ} {l : List ℕ} {r : Stretch} {i : ℕ} (v : Pending tree text d at l r i) where
+  pub pending_next : {l' : List ℕ} {q : Stretch} → i < length tree / 3 → at + length (flat_map own (triples text tree)) ≤ length d → length l' ≡ length l → Added text (own (row_in text tree i)) l r l' q → Pending tree text d at l' q (i + 1)
   pending_next {l'} {q} h k m g =
       let s = own (row_in text tree i) in
-      let e : length (run_over text q l') ≡ length (run_over text r l) =
-      ap length g.copied ∙ length-paste (run_over text r l) (r.to + r.len) s (length s) (texting_room v.written h k refl) (omega arith) in
+      let e : length (stretch_over text q l') ≡ length (stretch_over text r l) =
+      ap length g.copied ∙ length-paste (stretch_over text r l) (r.to + r.len) s (length s) (texting_room v.written h k refl) (omega arith) in
       let w = texting_next v.written h k refl e g.copied in
       record {
         there = g.there;
@@ -305,5 +305,5 @@ module _ {tree text d : List ℕ} {at : ℕ} {l : List ℕ} {r : Run} {i : ℕ} 
         written = rw g.place w;
       }
 
-  pub pending_done : {l' : List ℕ} → length tree / 3 ≤ i → l' ≡ run_over text r l → l' ≡ paste d at (flat_map own (triples text tree)) (length (flat_map own (triples text tree)))
+  pub pending_done : {l' : List ℕ} → length tree / 3 ≤ i → l' ≡ stretch_over text r l → l' ≡ paste d at (flat_map own (triples text tree)) (length (flat_map own (triples text tree)))
   pending_done h q = q ∙ texting_done v.written h

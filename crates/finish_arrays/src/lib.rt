@@ -10,7 +10,7 @@ ghost use mathlib.Core.List.{flat_map, ◌∷◌, []};
 ghost use Rattle.std.proofs.Math.Seq.{paste};
 ghost use Rattle.definition.specs.Words.{bytes as bytes_of, written};
 ghost use Rattle.rows_model.specs.Row.{own, bytes, row_in, triples};
-ghost use Rattle.finish_arrays.specs.Runs.{run_over, Grown};
+ghost use Rattle.finish_arrays.specs.Stretches.{stretch_over, Added};
 ghost use Rattle.finish_arrays.specs.Starts.{Starts};
 ghost use Rattle.finish_arrays.specs.Sweep.{Swept};
 
@@ -107,39 +107,44 @@ pub fn text_size(tree: &[u32], text: &[u8]) -> usize
 // Text that is still to be copied: `len` bytes of the text of all, from `from` on, to the place `to`. Tokens mostly stand one behind another in that text, and one
 // copy of many bytes costs less than many copies of a few.
 #[derive(Clone, Copy)]
-struct Run {
+struct Stretch {
     to: usize,
     from: usize,
     len: usize,
 }
 
-// The run is copied.
-fn copy_run(b: &mut [u8], run: Run, text: &[u8])
-    requires { (run.from + run.len ≤ length text.now) × (run.to + run.len ≤ length b.old) }
-    ensures { b.new ≡ run_over text.now run b.old }
+// The stretch is copied.
+fn copy_stretch(b: &mut [u8], stretch: Stretch, text: &[u8])
+    requires { (stretch.from + stretch.len ≤ length text.now) × (stretch.to + stretch.len ≤ length b.old) }
+    ensures { b.new ≡ stretch_over text.now stretch b.old }
 {
-    words::copy_in(b, run.to, &text[run.from..run.from + run.len]);
+    words::copy_in(
+        b,
+        stretch.to,
+        &text[stretch.from..stretch.from + stretch.len],
+    );
 }
 
-// The own text of the element at row `i` joins the run where it starts at its end; else the run is copied, and another begins.
-fn add_own(b: &mut [u8], run: Run, tree: &[u32], i: usize, text: &[u8]) -> Run
-    requires { (run.from + run.len ≤ length text.now) × (run.to + run.len ≤ length b.old) × (3 * i + 2 < length tree.now) }
-    ensures { Grown text.now (own (row_in text.now tree.now i)) b.old run b.new result }
+// The own text of the element at row `i` joins the stretch if it starts where the stretch ends; else the stretch is copied, and another begins with it. Where there is
+// none the stretch stays.
+fn add_own(b: &mut [u8], stretch: Stretch, tree: &[u32], i: usize, text: &[u8]) -> Stretch
+    requires { (stretch.from + stretch.len ≤ length text.now) × (stretch.to + stretch.len ≤ length b.old) × (3 * i + 2 < length tree.now) }
+    ensures { Added text.now (own (row_in text.now tree.now i)) b.old stretch b.new result }
 {
     let len = own_length(tree, i, text);
     if len == 0 {
-        return run;
+        return stretch;
     }
     let start = words::word(tree, ROW_WORDS * i + TEXT);
-    if start == run.from + run.len {
-        return Run {
-            len: run.len + len,
-            ..run
+    if start == stretch.from + stretch.len {
+        return Stretch {
+            len: stretch.len + len,
+            ..stretch
         };
     }
-    copy_run(b, run, text);
-    Run {
-        to: run.to + run.len,
+    copy_stretch(b, stretch, text);
+    Stretch {
+        to: stretch.to + stretch.len,
         from: start,
         len,
     }
@@ -150,13 +155,13 @@ pub fn write_text(b: &mut [u8], at: usize, tree: &[u32], text: &[u8])
     requires { (at + length (flat_map own (triples text.now tree.now)) ≤ length b.old) × (length tree.now < 3 * 2 ^ 16) }
     ensures { b.new ≡ paste b.old at (flat_map own (triples text.now tree.now)) (length (flat_map own (triples text.now tree.now))) }
 {
-    let mut run = Run {
+    let mut stretch = Stretch {
         to: at,
         from: 0,
         len: 0,
     };
     for i in 0..tree.len() / ROW_WORDS {
-        run = add_own(b, run, tree, i, text);
+        stretch = add_own(b, stretch, tree, i, text);
     }
-    copy_run(b, run, text);
+    copy_stretch(b, stretch, text);
 }

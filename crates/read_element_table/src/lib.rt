@@ -95,9 +95,9 @@ fn close(table: &mut [u32], owner: usize, end: usize, after: usize)
 }
 
 // The words of all elements in the table, and their rows behind the first row of the source. Each turn closes the innermost open element, if all its
-// children have come, or enters the next one. It is entered with words 5 and 6 of an element without children: a token is closed by that, a node gets them
-// anew as it is closed. The innermost open element is held in `x`, those around it on the stack. So it is a `while`: a `for` over elements would need a
-// second loop inside. Beside `spells`: read_spelling says why.
+// children have come, or enters the next one. So it is a `while`: a `for` over elements would need a second loop inside. Beside `spells`: read_spelling says
+// why. An element is entered with words 5 and 6 of one without children: a token is closed by that, a node gets them anew as it is closed. The innermost
+// open element is held in `x`, those around it on the stack.
 fn fill_elements(columns: &Columns, trees: usize, table: &mut [u32], source: &mut [u32])
     requires in_bounds { (columns.now.count ≤ 2048) × (8 * columns.now.count ≤ length table.old) × (3 * (columns.now.count + 1) ≤ length source.old) }
     requires accepted { Accepted trees (elements_of columns.now) }

@@ -42,7 +42,7 @@ module _ {A : Type 0} (z : A) where
   pub stack_put : (l : List A) (d : ℕ) (x : A) → 0 < d → d ≤ length l → stack (set l (d - 1) x) d ≡ x ∷ stack l (d - 1)
   stack_put l d x h k = rw (stack_top (set l (d - 1) x) d h, get_or-set_same l (d - 1) x z (omega arith), stack_set l (d - 1) (d - 1) x (omega arith))
 
-  -- and one more put on it
+  -- the top replaced, and one more put on it
   pub stack_push : (l : List A) (d : ℕ) (x y : A) → 0 < d → d < length l → stack (set (set l (d - 1) x) d y) (d + 1) ≡ y ∷ x ∷ stack l (d - 1)
   unfolding stack
   stack_push l d x y h k =

@@ -227,8 +227,8 @@ pub fn shift_marks(marks: &mut [u32], p: usize, q: usize, m: usize)
 
 // ── Marks that rise with the element's number, but for those that are 0: so do a run's, as elements keep their order ──
 
-// The element from which on marks may move where rows from `p` on give way: `target`, if its mark is among the rows up to `p`; marks before it are less.
-// A target past the end has no mark.
+// The element from which on marks may move where rows from `p` on give way: `target`, if its mark is among the rows up to `p`, since marks before it are less; else the
+// first. A target past the end has no mark.
 #[tactic(auto, using(crate::proofs::Turns::first_none, crate::proofs::Turns::first_found))]
 fn first_moved(marks: &[u32], target: usize, p: usize) -> usize
     requires { (0 < p) × Rising marks.now }

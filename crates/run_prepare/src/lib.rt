@@ -12,7 +12,7 @@ ghost use Rattle.run_prepare.specs.Promises.{NotesAlong, ElementPrepared, Elemen
 mod stores;
 
 use rows_syntax_node::{ROW_WORDS, append_rows};
-use run_tree_store::{prepared_rows, row_of};
+use run_tree_store::{MOST_NOTES, prepared_rows, row_of};
 pub use stores::Stores;
 use words::read_word;
 
@@ -37,9 +37,17 @@ fn element_notes(
     ensures { NotesAlong stores.now.trees.marks.now stores.now.first.now (notes_in stores.now.notes.now) e size at incoming.old c incoming.new result }
 {
     let Some(m) = row_of(stores.trees.marks, e) else {
-        return run_annotations::notes_in(stores.first, e + 1, e + 1 + size, at, incoming, c, 1024);
+        return run_annotations::notes_in(
+            stores.first,
+            e + 1,
+            e + 1 + size,
+            at,
+            incoming,
+            c,
+            MOST_NOTES,
+        );
     };
-    run_annotations::notes_in(stores.notes, m, m + size, at, incoming, c, 1024)
+    run_annotations::notes_in(stores.notes, m, m + size, at, incoming, c, MOST_NOTES)
 }
 
 // Rust: TreeStore::prepare_element. What element `e` yields goes behind the rows and notes that have come in; prepared row 0 comes to stand at the row `at`.

@@ -21,8 +21,8 @@ use words::{copy_in, word};
 // ── Rows and marks ──
 
 // Rust: TreeState::splice, of the tree and its edits. The rows `p` up to `q`, `lost` children of the node at row `parent`, give way to a run of `gain`
-// trees, and every mark moves with them: where the Rust replays all edits on a path, a mark says at once where its element stands. No mark before that of the element
-// `target` moves; nothing is asked of that number. The new number of rows.
+// trees, and every mark moves with them: where the Rust replays all edits on a path, a mark says at once where its element stands. The walk over the marks begins at
+// the element `target` where that one's mark tells that none before it moves: a hint, of which nothing is asked. The new number of rows.
 // The gap stays four numbers, since a splice list has one of its own (splices_step::Gap).
 pub fn splice(
     rows: &mut [u32],

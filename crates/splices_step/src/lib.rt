@@ -137,7 +137,7 @@ fn takes(rows: &Rows, parent: usize, lost: usize, gain: usize) -> bool
     NODE_KIND <= word(rows.words, ROW_WORDS * parent) && lost <= m && m + gain < 0x1_0000_0000
 }
 
-// Splice `i` of the list is done where it goes. The new number of rows. Here, below and in `splices_list` `n` stands beside the rows, which are lent room that grows
+// Splice `i` of the list is done where it goes. No mark before the parent's moves, which the list tells by its row in the old tree. The new number of rows. Here, below and in `splices_list` `n` stands beside the rows, which are lent room that grows
 // in place.
 fn splice_at(
     rows: &mut [u32],

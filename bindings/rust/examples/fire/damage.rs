@@ -15,9 +15,9 @@ pub enum Damage {
     Bit,
     /// A slice ends earlier.
     Prefix,
-    /// A slice is a few items longer or shorter than it was, or longer than any may be.
+    /// A slice is a few items longer or shorter than it was, or as long as no list or text may be.
     Length,
-    /// A work slice is too short.
+    /// A work slice is shorter than it was, mostly too short.
     Work,
     /// The result is shorter, mostly too short.
     Room,

@@ -222,7 +222,7 @@ pub fn claim(call: &Call, seeds: &mut Seeds) -> Input {
     seeds.input(call, vec![old.text, new.text], vec![old.kinds, old.measures, new.kinds, new.measures, olds, news, changed])
 }
 
-/// For a series: a batch, its first tree with some bookmarks, and now and then room behind these.
+/// For a series: a batch, its first tree in the longest slice, with some bookmarks, behind which there is room now and then.
 fn memory(call: &Call, seeds: &mut Seeds) -> Input {
     let batch = seeds.spelled();
     let tree = Tree::first(&Lists::of(&batch));

@@ -1,4 +1,4 @@
--- `write_text` meets its contract. The text of the rows passed is written, once the run is copied.
+-- `write_text` meets its contract. The text of the rows passed is written, once the stretch is copied.
 use borrow.Author.Rules.{rules}
 use native.Mathlib.Omega.{arith}
 use Rattle.finish_arrays.proofs.Turns.{pending, pending_next, pending_done}
