@@ -16,7 +16,7 @@ use Rattle.definition.specs.Batch.{Batch}
 use Rattle.definition.specs.Refusals.{wrong_mapping}
 use Rattle.read_element_table.specs.View.{view}
 use Rattle.read_spelling.specs.Spelling.{accepts}
-use Rattle.read_element_table.specs.Filling.{Accepted, Filled}
+use Rattle.read_element_table.specs.Filling.{Filled}
 use Rattle.read_element_table.specs.Wellformed.{Wellformed}
 use Rattle.read_element_table.specs.Told.{length_view}
 use Rattle.read_layout.specs.Layout.{Within, within, laid, arrays_at}
@@ -62,9 +62,6 @@ module _ (b : List ℕ) (l : Layout) (t : Bool) (et : t ≡ accepts l.sizes.tree
   pub wrong_elements : (t₀ s₀ t₁ s₁ : List ℕ) → laid b ≡ gives l → t ≡ false → Judged b t₀ s₀ t₁ s₁ (Err Spelling)
   unfolding number
   wrong_elements t₀ s₀ t₁ s₁ q p = judged_refused b t₀ s₀ t₁ s₁ Spelling (refused_5 b l q (sym et ∙ p))
-
-  pub may_fill : Within b l → t ≡ true → Accepted l.sizes.trees (elements_by l b)
-  may_fill w p = record { bytes = l.sizes.text; few = w.limits.text; accepted = sym et ∙ p }
 
   module _ (q : laid b ≡ gives l) (p : t ≡ true) (t₀ s₀ t₁ s₁ : List ℕ) (f : Filled l.sizes.trees l.sizes.elements (elements_by l b) t₀ s₀ t₁ s₁) where
     pub may_judge : Within b l → 16384 ≤ length t₀ → 6147 ≤ length s₀ → Wellformed l.sizes.elements t₁ s₁

@@ -53,10 +53,9 @@ fn judge(batch: &Batch, table: &mut [u32], source: &mut [u32]) -> Result<Layout,
         measures: l.measures,
         count,
     };
-    if !read_spelling::spells(&columns, l.sizes.trees, l.sizes.text) {
+    if !read_element_table::fill(&columns, l.sizes.trees, l.sizes.text, table, source) {
         return Err(Refusal::Spelling);
     }
-    read_element_table::fill(&columns, l.sizes.trees, table, source);
     let elements = Elements {
         count,
         table,

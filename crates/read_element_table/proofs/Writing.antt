@@ -1,23 +1,22 @@
 -- The loop of `fill_elements`: its invariant, that it holds at the start and after a turn, and what it says at the end.
 -- Assumes nothing.
 use mathlib.Core.Path.{◌≡◌, refl, sym, ap, ◌∙◌}
-use mathlib.Core.Bool.{Bool, true, false, cond, ◌&&◌}
+use mathlib.Core.Bool.{Bool, true, false, cond, ◌&&◌, and-false}
 use mathlib.Core.List.{List, [], ◌∷◌, ◌++◌, map}
-use mathlib.Core.Logic.{◌⊎◌, inl, inr}
 use Prim.Native.Nat.{ℕ, zero, suc, ◌+◌, ◌-◌, ◌*◌, ◌≤◌, ◌<◌}
 use native.Mathlib.Nat.{zero-add}
 use native.Mathlib.Omega.{arith}
-use borrow.Author.Tests.{ne_eqb}
-use lib.Dec.{eqb}
+use borrow.Author.Tests.{ne_eqb, leb-true, leb-false}
+use lib.Dec.{eqb, leb}
 use lib.ListN.{length, get_or, set, take, drop, replicate, length-set, length-map, take-append-drop, length-drop}
 use lib.Seq.{length-take-le, paste, paste-zero, take-paste, drop-paste, drop-drop, take-take, take-set-lt, drop-set-lt}
-use Rattle.orders.specs.ListLaws.{lt_or_le, bool_absurd, both_true}
+use Rattle.orders.specs.ListLaws.{bool_absurd, both_true}
 use Rattle.definition.specs.Words.{word}
 use Rattle.words.specs.Parts.{paste_on, paste_paste}
 use Rattle.read_element_table.specs.declared.Open.{Open}
 use Rattle.read_spelling.specs.Spelling.{elements_at, children_of, length_of, stands, fills, accepts}
-use Rattle.read_spelling.specs.SpellingLaws.{children_token, children_node, stands_shallow, fills_close, fills_open, fills_short, fills_long, fills_over}
-use Rattle.read_element_table.specs.Filling.{Accepted, open_of, ended, if_root, table_from, table_of, rows_from, source_of}
+use Rattle.read_spelling.specs.SpellingLaws.{children_token, children_node, stands_shallow, fills_close, fills_open, fills_short, fills_long, fills_over, fills_end}
+use Rattle.read_element_table.specs.Filling.{open_of, ended, if_root, table_from, table_of, rows_from, source_of}
 use Rattle.read_element_table.specs.FillingLaws.{table_close, table_open, table_end, ended_at}
 use Rattle.read_spelling.specs.Stack.{held, held_none, length_held, held_top, held_push, elements_from, elements_all, elements_none, elements_more}
 
@@ -62,13 +61,13 @@ module _ (end after i : ℕ) (l : List ℕ) where
   drop_ended zero h = refl
   drop_ended (suc e) h = rw (drop-set-lt (8 * i) (set l (8 * e + 5) end) (8 * e + 6) after (omega arith), drop-set-lt (8 * i) l (8 * e + 5) end (omega arith))
 
-module _ (b : List ℕ) (kinds measures n trees : ℕ) where
+module _ (b : List ℕ) (kinds measures n trees bytes : ℕ) where
   -- i elements are written, and those on the stack, the innermost of them x, are not closed yet
   pub record Writing (table₀ source₀ table source : List ℕ) (open' : List Open) (x : Open) (d o at tree i : ℕ) : Type 0 where
     pub inside : i ≤ n
     pub long : length open' ≡ 65
     pub low : d ≤ 65
-    pub few : o ≤ 16384
+    pub few : o ≤ bytes
     pub starts : at ≤ o
     pub number : tree ≤ i
     pub owner : x.owner ≤ i
@@ -77,9 +76,7 @@ module _ (b : List ℕ) (kinds measures n trees : ℕ) where
     pub nexts : (j : ℕ) → (get_or open' j shut).next ≤ i
     pub table_long : length table ≡ length table₀
     pub source_long : length source ≡ length source₀
-    pub bytes : ℕ
-    pub bound : bytes ≤ 16384
-    pub verdict : fills bytes (counts (held shut open' x d)) o (elements_from b kinds measures n i) ≡ true
+    pub verdict : accepts trees bytes (elements_at b kinds measures n) ≡ fills bytes (counts (held shut open' x d)) o (elements_from b kinds measures n i)
     pub walked : table_from (held shut open' x d) i o at tree (take (8 * i) table) (elements_from b kinds measures n i) ≡ table_of trees (elements_from b kinds measures n 0)
     pub beyond : drop (8 * i) table ≡ drop (8 * i) table₀
     pub rows_left : drop (3 * i) (rows_from 0 (elements_from b kinds measures n 0)) ≡ rows_from o (elements_from b kinds measures n i)
@@ -90,9 +87,9 @@ module _ (b : List ℕ) (kinds measures n trees : ℕ) where
   same f x n (suc m) zero h k = k
   same f x n (suc m) (suc j) h k = same f x n m j h k
 
-  pub writing_start : {table source : List ℕ} {x : Open} → Accepted trees (elements_at b kinds measures n) → x ≡ open_of trees 0 0 → Writing table source table source (replicate 65 x) x 1 0 0 0 0
+  pub writing_start : {table source : List ℕ} {x : Open} → x ≡ open_of trees 0 0 → Writing table source table source (replicate 65 x) x 1 0 0 0 0
   unfolding held accepts table_of
-  writing_start {table} {source} {x} a e =
+  writing_start {table} {source} {x} e =
       let z : x.owner ≤ 0 = rw e (omega arith) in
       let y : x.next ≤ 0 = rw e (omega arith) in
       record {
@@ -108,23 +105,21 @@ module _ (b : List ℕ) (kinds measures n trees : ℕ) where
         nexts = λ j. same (λ f. f.next) x 0 65 j (omega arith) y;
         table_long = refl;
         source_long = refl;
-        bytes = a.bytes;
-        bound = a.few;
-        verdict = rw e (ap (fills a.bytes (trees ∷ []) 0) (elements_all b kinds measures n) ∙ a.accepted);
+        verdict = rw e (ap (fills bytes (trees ∷ []) 0) (sym (elements_all b kinds measures n)));
         walked = rw e;
         beyond = refl;
         rows_left = refl;
         rows = paste-zero source 3 (rows_from 0 (elements_from b kinds measures n 0));
       }
 
-module _ {b : List ℕ} {kinds measures n trees : ℕ} {table₀ source₀ table source : List ℕ} {open' : List Open} {x : Open} {d o at tree i : ℕ} (v : Writing b kinds measures n trees table₀ source₀ table source open' x d o at tree i) where
+module _ {b : List ℕ} {kinds measures n trees bytes : ℕ} {table₀ source₀ table source : List ℕ} {open' : List Open} {x : Open} {d o at tree i : ℕ} (v : Writing b kinds measures n trees bytes table₀ source₀ table source open' x d o at tree i) where
   -- an element to which no child is to come is closed
   pub writing_close : {table' : List ℕ} → 0 < d → x.left ≡ 0 → length table' ≡ length table → table' ≡ ended x.owner at i table
-      → Writing b kinds measures n trees table₀ source₀ table' source open' (get_or open' (d - 1) shut) (d - 1) o at tree i
+      → Writing b kinds measures n trees bytes table₀ source₀ table' source open' (get_or open' (d - 1) shut) (d - 1) o at tree i
   writing_close {table'} h e l q =
       let s : List Open = held shut open' (get_or open' (d - 1) shut) (d - 1) in
       let es : List (ℕ × ℕ) = elements_from b kinds measures n i in
-      let f : fills v.bytes (counts (held shut open' x d)) o es ≡ fills v.bytes (counts s) o es = rw (held_top shut open' x d h, e) (fills_close v.bytes (counts s) o es) in
+      let f : fills bytes (counts (held shut open' x d)) o es ≡ fills bytes (counts s) o es = rw (held_top shut open' x d h, e) (fills_close bytes (counts s) o es) in
       let g : table_from (held shut open' x d) i o at tree (take (8 * i) table) es ≡ table_from s i o at tree (take (8 * i) table') es = rw (held_top shut open' x d h, q, take_ended at i i table x.owner (v.owner)) (table_close x s i o at tree (take (8 * i) table) es e) in
       record {
         inside = v.inside;
@@ -139,9 +134,7 @@ module _ {b : List ℕ} {kinds measures n trees : ℕ} {table₀ source₀ table
         nexts = v.nexts;
         table_long = l ∙ v.table_long;
         source_long = v.source_long;
-        bytes = v.bytes;
-        bound = v.bound;
-        verdict = sym f ∙ v.verdict;
+        verdict = v.verdict ∙ f;
         walked = sym g ∙ v.walked;
         beyond = rw q (drop_ended at i i table x.owner v.owner ∙ v.beyond);
         rows_left = v.rows_left;
@@ -152,24 +145,28 @@ module _ {b : List ℕ} {kinds measures n trees : ℕ} {table₀ source₀ table
   over : d ≤ 0 → held shut open' x d ≡ []
   over h = held_none shut open' x d h
 
-  pub writing_all : d ≤ 0 → i ≡ n
-  writing_all h = go (lt_or_le i n)
-    where
-      go : (i < n) ⊎ (n ≤ i) → i ≡ n
-      go (inl q) = bool_absurd (sym (rw (over h, elements_more b kinds measures n i q) (fills_long v.bytes o _ _)) ∙ v.verdict) refl
-      go (inr q) = omega (arith, v.inside)
+  -- elements that are left are too many
+  pub writing_long : d ≤ 0 → i < n → false ≡ accepts trees bytes (elements_at b kinds measures n)
+  writing_long h q = sym (v.verdict ∙ rw (over h, elements_more b kinds measures n i q) (fills_long bytes o _ _))
 
-  module _ (h : d ≤ 0) where
+  -- all are written: the text must be as long as it should be
+  pub writing_end : d ≤ 0 → n ≤ i → eqb o bytes ≡ accepts trees bytes (elements_at b kinds measures n)
+  writing_end h q = sym (v.verdict ∙ rw (over h, elements_none b kinds measures n i q) (fills_end bytes o))
+
+  module _ (h : d ≤ 0) (q : n ≤ i) where
+    all : i ≡ n
+    all = omega (arith, v.inside)
+
     pub writing_table : table ≡ paste table₀ 0 (table_of trees (elements_at b kinds measures n)) (8 * n)
     writing_table =
         let w : List ℕ = take (8 * i) table in
         let es : List (ℕ × ℕ) = elements_from b kinds measures n 0 in
-        let all : w ≡ table_of trees es = sym (rw (over h, elements_none b kinds measures n i (omega (arith, writing_all h))) (table_end i o at tree w)) ∙ v.walked in
-        let e : table ≡ paste table₀ 0 (table_of trees es) (8 * i) = rw (← all, take-take (8 * i) (8 * i) table (omega arith), zero-add (8 * i), ← v.beyond) (sym (take-append-drop (8 * i) table)) in
-        e ∙ (ap (λ m. paste table₀ 0 (table_of trees es) (8 * m)) (writing_all h) ∙ rw (elements_all b kinds measures n))
+        let whole : w ≡ table_of trees es = sym (rw (over h, elements_none b kinds measures n i q) (table_end i o at tree w)) ∙ v.walked in
+        let e : table ≡ paste table₀ 0 (table_of trees es) (8 * i) = rw (← whole, take-take (8 * i) (8 * i) table (omega arith), zero-add (8 * i), ← v.beyond) (sym (take-append-drop (8 * i) table)) in
+        e ∙ (ap (λ m. paste table₀ 0 (table_of trees es) (8 * m)) all ∙ rw (elements_all b kinds measures n))
 
     pub writing_rows : source ≡ paste source₀ 3 (rows_from 0 (elements_at b kinds measures n)) (3 * n)
-    writing_rows = v.rows ∙ (ap (λ m. paste source₀ 3 (rows_from 0 (elements_from b kinds measures n 0)) (3 * m)) (writing_all h) ∙ rw (elements_all b kinds measures n))
+    writing_rows = v.rows ∙ (ap (λ m. paste source₀ 3 (rows_from 0 (elements_from b kinds measures n 0)) (3 * m)) all ∙ rw (elements_all b kinds measures n))
 
   -- where the text of the next element starts in its own tree, and that tree's number
   pub writing_start_of : {s : ℕ} → s ≡ cond (eqb d 1) 0 at → s ≤ o
@@ -198,153 +195,155 @@ module _ {b : List ℕ} {kinds measures n trees : ℕ} {table₀ source₀ table
     unfolding below l
     top = rw (held_top shut open' x d h) (ap (λ y. y ∷ counts below) some_left)
 
-    pub writing_more : i < n
-    writing_more = go (lt_or_le i n)
-      where
-        go : (i < n) ⊎ (n ≤ i) → i < n
-        go (inl q) = q
-        go (inr q) = bool_absurd (sym (rw (top, elements_none b kinds measures n i q) (fills_short v.bytes l (counts below) o)) ∙ v.verdict) refl
+    -- none is left
+    pub writing_short : n ≤ i → false ≡ accepts trees bytes (elements_at b kinds measures n)
+    writing_short q = sym (v.verdict ∙ rw (top, elements_none b kinds measures n i q) (fills_short bytes l (counts below) o))
 
     -- the words of its row
     row : ℕ → ℕ → ℕ → List ℕ
     row s end t = o ∷ x.owner ∷ x.next ∷ d ∷ s ∷ end ∷ (i + 1) ∷ t ∷ []
 
-    module _ {table' : List ℕ} (s end t : ℕ) (ht : 8 * n ≤ length table₀) (qt : table' ≡ paste table (8 * i) (row s end t) 8) where
-      front : take (8 * (i + 1)) table' ≡ take (8 * i) table ++ row s end t
-      unfolding row
-      front =
-          let q = writing_more in
-          let e₈ : 8 * (i + 1) ≡ 8 * i + 8 = omega arith in
-          rw (qt, e₈) (take-paste table (8 * i) (row s end t) 8 (omega (arith, v.table_long)) (omega arith))
+    -- an element is left
+    module _ (q : i < n) where
+      module _ {table' : List ℕ} (s end t : ℕ) (ht : 8 * n ≤ length table₀) (qt : table' ≡ paste table (8 * i) (row s end t) 8) where
+        front : take (8 * (i + 1)) table' ≡ take (8 * i) table ++ row s end t
+        unfolding row
+        front =
+            let e₈ : 8 * (i + 1) ≡ 8 * i + 8 = omega arith in
+            rw (qt, e₈) (take-paste table (8 * i) (row s end t) 8 (omega (arith, v.table_long)) (omega arith))
 
-      back : drop (8 * (i + 1)) table' ≡ drop (8 * (i + 1)) table₀
-      unfolding row
-      back =
-          let q = writing_more in
-          let e₈ : 8 * (i + 1) ≡ 8 * i + 8 = omega arith in
-          rw (qt, e₈) (drop-paste table (8 * i) (row s end t) 8 (omega (arith, v.table_long)) (omega arith) ∙ rw (← drop-drop 8 (8 * i) table, ← drop-drop 8 (8 * i) table₀, v.beyond))
+        back : drop (8 * (i + 1)) table' ≡ drop (8 * (i + 1)) table₀
+        unfolding row
+        back =
+            let e₈ : 8 * (i + 1) ≡ 8 * i + 8 = omega arith in
+            rw (qt, e₈) (drop-paste table (8 * i) (row s end t) 8 (omega (arith, v.table_long)) (omega arith) ∙ rw (← drop-drop 8 (8 * i) table, ← drop-drop 8 (8 * i) table₀, v.beyond))
 
-    module _ {k m : ℕ} (ek : k ≡ word (drop (kinds + 4 * i) b)) (em : m ≡ word (drop (measures + 4 * i) b)) where
-      turn : (stands k d && fills v.bytes (children_of k m ∷ l ∷ counts below) (o + length_of k m) (elements_from b kinds measures n (i + 1))) ≡ true
-      unfolding below
-      turn =
-          let e : suc (length (counts below)) ≡ d = omega (arith, length-map below (λ y. y.left), length_held shut open' (get_or open' (d - 1) shut) (d - 1)) in
-          sym (rw (top, elements_more b kinds measures n i writing_more, ← ek, ← em) (fills_open v.bytes l (counts below) o k m _ d e)) ∙ v.verdict
+      module _ {k m : ℕ} (ek : k ≡ word (drop (kinds + 4 * i) b)) (em : m ≡ word (drop (measures + 4 * i) b)) where
+        turn : accepts trees bytes (elements_at b kinds measures n) ≡ (stands k d && fills bytes (children_of k m ∷ l ∷ counts below) (o + length_of k m) (elements_from b kinds measures n (i + 1)))
+        unfolding below
+        turn =
+            let e : suc (length (counts below)) ≡ d = omega (arith, length-map below (λ y. y.left), length_held shut open' (get_or open' (d - 1) shut) (d - 1)) in
+            v.verdict ∙ rw (top, elements_more b kinds measures n i q, ← ek, ← em) (fills_open bytes l (counts below) o k m _ d e)
 
-      -- it is no deeper than 64, and its text is there
-      pub writing_shallow : d ≤ 64
-      writing_shallow = stands_shallow k d (both_true (stands k d) _ turn).0
+        walked' : (s t : ℕ) (w : List ℕ) → s ≡ cond (eqb d 1) 0 at → t ≡ cond (eqb d 1) x.next tree
+            → table_from (held shut open' x d) i o at tree w (elements_from b kinds measures n i)
+            ≡ table_from (open_of (children_of k m) (i + 1) 0 ∷ open_of l x.owner (x.next + 1) ∷ below) (i + 1) (o + length_of k m) (s + length_of k m) t (w ++ row s (s + length_of k m) t) (elements_from b kinds measures n (i + 1))
+        unfolding below row
+        walked' s t w es et =
+            let z : Open = get_or open' (d - 1) shut in
+            let e : length below + 1 ≡ d = omega (arith, length_held shut open' z (d - 1)) in
+            let f : if_root below 0 at ≡ s = root_first open' z d 0 at h ∙ sym es in
+            let g : if_root below x.next tree ≡ t = root_first open' z d x.next tree h ∙ sym et in
+            rw (held_top shut open' x d h, elements_more b kinds measures n i q, ← ek, ← em) (table_open x below i o at tree w l k m _ some_left ∙ rw (e, f, g))
 
-      pub writing_text : o + length_of k m ≤ 16384
-      writing_text = go (lt_or_le v.bytes (o + length_of k m))
-        where
-          go : (v.bytes < o + length_of k m) ⊎ (o + length_of k m ≤ v.bytes) → o + length_of k m ≤ 16384
-          go (inl q) = bool_absurd (sym (fills_over v.bytes (elements_from b kinds measures n (i + 1)) (children_of k m ∷ l ∷ counts below) (o + length_of k m) q) ∙ (both_true (stands k d) _ turn).1) refl
-          go (inr q) = omega (arith, v.bound)
+        rows_next : drop (3 * i) (rows_from 0 (elements_from b kinds measures n 0)) ≡ k ∷ m ∷ o ∷ rows_from (o + length_of k m) (elements_from b kinds measures n (i + 1))
+        unfolding rows_from
+        rows_next = v.rows_left ∙ rw (elements_more b kinds measures n i q, ← ek, ← em)
 
-      filled : fills v.bytes (children_of k m ∷ l ∷ counts below) (o + length_of k m) (elements_from b kinds measures n (i + 1)) ≡ true
-      filled = (both_true (stands k d) _ turn).1
+        rows_left' : drop (3 * (i + 1)) r ≡ rows_from (o + length_of k m) (elements_from b kinds measures n (i + 1))
+        unfolding r
+        rows_left' = let e₃ : 3 * (i + 1) ≡ 3 * i + 3 = omega arith in rw (e₃, ← drop-drop 3 (3 * i) r, rows_next)
 
-      walked' : (s t : ℕ) (w : List ℕ) → s ≡ cond (eqb d 1) 0 at → t ≡ cond (eqb d 1) x.next tree
-          → table_from (held shut open' x d) i o at tree w (elements_from b kinds measures n i)
-          ≡ table_from (open_of (children_of k m) (i + 1) 0 ∷ open_of l x.owner (x.next + 1) ∷ below) (i + 1) (o + length_of k m) (s + length_of k m) t (w ++ row s (s + length_of k m) t) (elements_from b kinds measures n (i + 1))
-      unfolding below row
-      walked' s t w es et =
-          let z : Open = get_or open' (d - 1) shut in
-          let e : length below + 1 ≡ d = omega (arith, length_held shut open' z (d - 1)) in
-          let f : if_root below 0 at ≡ s = root_first open' z d 0 at h ∙ sym es in
-          let g : if_root below x.next tree ≡ t = root_first open' z d x.next tree h ∙ sym et in
-          rw (held_top shut open' x d h, elements_more b kinds measures n i writing_more, ← ek, ← em) (table_open x below i o at tree w l k m _ some_left ∙ rw (e, f, g))
+        rows' : {source' : List ℕ} → 3 * (n + 1) ≤ length source₀ → source' ≡ paste source (3 * (i + 1)) (k ∷ m ∷ o ∷ []) 3 → source' ≡ paste source₀ 3 r (3 * (i + 1))
+        unfolding r
+        rows' hs qs =
+            let lr : 3 * i ≤ length r = omega (arith, length-drop (3 * i) r, ap length rows_next) in
+            rw (qs, v.rows) (paste_on source₀ 3 r (3 * i) (k ∷ m ∷ o ∷ []) 3 (3 * (i + 1)) (3 * (i + 1)) (omega arith) (omega arith) (omega arith) lr (rw rows_next))
 
-      rows_next : drop (3 * i) (rows_from 0 (elements_from b kinds measures n 0)) ≡ k ∷ m ∷ o ∷ rows_from (o + length_of k m) (elements_from b kinds measures n (i + 1))
-      unfolding rows_from
-      rows_next = v.rows_left ∙ rw (elements_more b kinds measures n i writing_more, ← ek, ← em)
+        module _ {entered : Bool} (ee : entered ≡ (stands k d && leb (length_of k m) (bytes - o))) where
+          -- it may not be entered
+          pub writing_wrong : entered ≡ false → false ≡ accepts trees bytes (elements_at b kinds measures n)
+          writing_wrong z = sym (turn ∙ go (stands k d) (leb (length_of k m) (bytes - o)) refl refl (sym ee ∙ z))
+            where
+              go : (a c : Bool) → stands k d ≡ a → leb (length_of k m) (bytes - o) ≡ c → (a && c) ≡ false → (stands k d && fills bytes (children_of k m ∷ l ∷ counts below) (o + length_of k m) (elements_from b kinds measures n (i + 1))) ≡ false
+              go false c ea ec p = rw ea
+              go true false ea ec p =
+                  let over : bytes - o < length_of k m = leb-false (length_of k m) (bytes - o) ec in
+                  rw (fills_over bytes (elements_from b kinds measures n (i + 1)) (children_of k m ∷ l ∷ counts below) (o + length_of k m) (omega (arith, v.few))) (and-false (stands k d))
+              go true true ea ec p = bool_absurd refl p
 
-      rows_left' : drop (3 * (i + 1)) r ≡ rows_from (o + length_of k m) (elements_from b kinds measures n (i + 1))
-      unfolding r
-      rows_left' = let e₃ : 3 * (i + 1) ≡ 3 * i + 3 = omega arith in rw (e₃, ← drop-drop 3 (3 * i) r, rows_next)
+          -- it may be: it is no deeper than 64, and its text is there
+          module _ (z : entered ≡ true) where
+            both : (stands k d ≡ true) × (leb (length_of k m) (bytes - o) ≡ true)
+            both = both_true (stands k d) (leb (length_of k m) (bytes - o)) (sym ee ∙ z)
 
-      rows' : {source' : List ℕ} → 3 * (n + 1) ≤ length source₀ → source' ≡ paste source (3 * (i + 1)) (k ∷ m ∷ o ∷ []) 3 → source' ≡ paste source₀ 3 r (3 * (i + 1))
-      unfolding r
-      rows' hs qs =
-          let q = writing_more in
-          let lr : 3 * i ≤ length r = omega (arith, length-drop (3 * i) r, ap length rows_next) in
-          rw (qs, v.rows) (paste_on source₀ 3 r (3 * i) (k ∷ m ∷ o ∷ []) 3 (3 * (i + 1)) (3 * (i + 1)) (omega arith) (omega arith) (omega arith) lr (rw rows_next))
+            pub writing_shallow : d ≤ 64
+            writing_shallow = stands_shallow k d both.0
 
-      -- the next element is written
-      module _ {s t y : ℕ} {table' source' : List ℕ} {f : Open} (es : s ≡ cond (eqb d 1) 0 at) (et : t ≡ cond (eqb d 1) x.next tree) (ey : y ≡ length_of k m)
-          (lt : length table' ≡ length table) (qt : table' ≡ paste table (8 * i) (o ∷ x.owner ∷ x.next ∷ d ∷ s ∷ (s + y) ∷ (i + 1) ∷ t ∷ []) 8)
-          (ls : length source' ≡ length source) (qs : source' ≡ paste source (3 * (i + 1)) (k ∷ m ∷ o ∷ []) 3)
-          (ef : f ≡ open_of (x.left - 1) x.owner (x.next + 1)) (ht : 8 * n ≤ length table₀) (hs : 3 * (n + 1) ≤ length source₀) where
-        -- a token is opened and closed
-        pub writing_token : k < 0x8000_0000 → Writing b kinds measures n trees table₀ source₀ table' source' open' f d (o + y) (s + y) t (i + 1)
-        unfolding below l row r
-        writing_token z =
-            let q = writing_more in
-            let cs = elements_from b kinds measures n (i + 1) in
-            let w : List ℕ = take (8 * i) table in
-            let p : Open = open_of l x.owner (x.next + 1) in
-            let c₀ = children_token k m z in
-            let n₀ : ℕ = length_of k m in
-            let tx = writing_text in
-            let lw : length w ≡ 8 * i = length-take-le (8 * i) table (omega (arith, v.table_long)) in
-            let put : held shut open' f d ≡ p ∷ below = rw (← ef) (held_top shut open' f d h) in
-            let full : fills v.bytes (0 ∷ l ∷ counts below) (o + n₀) cs ≡ true = rw c₀ at filled in
-            let closed : table_from (held shut open' x d) i o at tree w (elements_from b kinds measures n i) ≡ table_from (p ∷ below) (i + 1) (o + n₀) (s + n₀) t (w ++ row s (s + n₀) t) cs =
-            walked' s t w es et ∙ rw c₀ (table_close (open_of 0 (i + 1) 0) (p ∷ below) (i + 1) (o + n₀) (s + n₀) t (w ++ row s (s + n₀) t) cs refl ∙ rw (ended_at w [] i o x.owner x.next d s (s + n₀) (i + 1) t (s + n₀) (i + 1) lw)) in
-            record {
-              inside = omega arith;
-              long = v.long;
-              low = v.low;
-              few = omega arith;
-              starts = omega (arith, writing_start_of es);
-              number = omega (arith, writing_tree_of et);
-              owner = rw ef (omega (arith, v.owner));
-              next = rw ef (omega (arith, v.next));
-              owners = λ j. omega (arith, v.owners j);
-              nexts = λ j. omega (arith, v.nexts j);
-              table_long = lt ∙ v.table_long;
-              source_long = ls ∙ v.source_long;
-              bytes = v.bytes;
-              bound = v.bound;
-              verdict = rw (put, ey) (sym (fills_close v.bytes (l ∷ counts below) (o + n₀) cs) ∙ full);
-              walked = rw (put, front s (s + y) t ht qt, ey) (sym closed ∙ v.walked);
-              beyond = back s (s + y) t ht qt;
-              rows_left = rows_left' ∙ rw ey;
-              rows = rows' hs qs;
-            }
+            pub writing_text : o + length_of k m ≤ bytes
+            writing_text = omega (arith, leb-true (length_of k m) (bytes - o) both.1, v.few)
 
-        -- a node is opened
-        pub writing_node : {g : Open} → 0x8000_0000 ≤ k → g ≡ open_of m (i + 1) 0 → Writing b kinds measures n trees table₀ source₀ table' source' (set open' d f) g (d + 1) (o + y) (s + y) t (i + 1)
-        unfolding below l row r
-        writing_node {g} z eg =
-            let q = writing_more in
-            let sh = writing_shallow in
-            let tx = writing_text in
-            let c₀ = children_node k m z in
-            let push : held shut (set open' d f) g (d + 1) ≡ open_of m (i + 1) 0 ∷ open_of l x.owner (x.next + 1) ∷ below =
-            rw (← ef, ← eg) (held_push shut open' g f d (omega (arith, v.long)) ∙ ap (λ z. g ∷ z) (held_top shut open' f d h)) in
-            record {
-              inside = omega arith;
-              long = simp length-set v.long;
-              low = omega arith;
-              few = omega arith;
-              starts = omega (arith, writing_start_of es);
-              number = omega (arith, writing_tree_of et);
-              owner = rw eg (omega arith);
-              next = rw eg (omega arith);
-              owners = bounded (λ z. z.owner) open' d f (i + 1) (λ j. omega (arith, v.owners j)) (rw ef (omega (arith, v.owner)));
-              nexts = bounded (λ z. z.next) open' d f (i + 1) (λ j. omega (arith, v.nexts j)) (rw ef (omega (arith, v.next)));
-              table_long = lt ∙ v.table_long;
-              source_long = ls ∙ v.source_long;
-              bytes = v.bytes;
-              bound = v.bound;
-              verdict = rw (push, ey) (rw c₀ at filled);
-              walked = rw (push, front s (s + y) t ht qt, ey) (sym (walked' s t (take (8 * i) table) es et ∙ rw c₀) ∙ v.walked);
-              beyond = back s (s + y) t ht qt;
-              rows_left = rows_left' ∙ rw ey;
-              rows = rows' hs qs;
-            }
+            filled : accepts trees bytes (elements_at b kinds measures n) ≡ fills bytes (children_of k m ∷ l ∷ counts below) (o + length_of k m) (elements_from b kinds measures n (i + 1))
+            filled = turn ∙ rw both.0
+
+            -- the next element is written
+            module _ {s t y : ℕ} {table' source' : List ℕ} {f : Open} (es : s ≡ cond (eqb d 1) 0 at) (et : t ≡ cond (eqb d 1) x.next tree) (ey : y ≡ length_of k m)
+                (lt : length table' ≡ length table) (qt : table' ≡ paste table (8 * i) (o ∷ x.owner ∷ x.next ∷ d ∷ s ∷ (s + y) ∷ (i + 1) ∷ t ∷ []) 8)
+                (ls : length source' ≡ length source) (qs : source' ≡ paste source (3 * (i + 1)) (k ∷ m ∷ o ∷ []) 3)
+                (ef : f ≡ open_of (x.left - 1) x.owner (x.next + 1)) (ht : 8 * n ≤ length table₀) (hs : 3 * (n + 1) ≤ length source₀) where
+              -- a token is opened and closed
+              pub writing_token : k < 0x8000_0000 → Writing b kinds measures n trees bytes table₀ source₀ table' source' open' f d (o + y) (s + y) t (i + 1)
+              unfolding below l row r
+              writing_token z =
+                  let cs = elements_from b kinds measures n (i + 1) in
+                  let w : List ℕ = take (8 * i) table in
+                  let p : Open = open_of l x.owner (x.next + 1) in
+                  let c₀ = children_token k m z in
+                  let n₀ : ℕ = length_of k m in
+                  let tx = writing_text in
+                  let lw : length w ≡ 8 * i = length-take-le (8 * i) table (omega (arith, v.table_long)) in
+                  let put : held shut open' f d ≡ p ∷ below = rw (← ef) (held_top shut open' f d h) in
+                  let full : accepts trees bytes (elements_at b kinds measures n) ≡ fills bytes (0 ∷ l ∷ counts below) (o + n₀) cs = rw c₀ at filled in
+                  let closed : table_from (held shut open' x d) i o at tree w (elements_from b kinds measures n i) ≡ table_from (p ∷ below) (i + 1) (o + n₀) (s + n₀) t (w ++ row s (s + n₀) t) cs =
+                  walked' s t w es et ∙ rw c₀ (table_close (open_of 0 (i + 1) 0) (p ∷ below) (i + 1) (o + n₀) (s + n₀) t (w ++ row s (s + n₀) t) cs refl ∙ rw (ended_at w [] i o x.owner x.next d s (s + n₀) (i + 1) t (s + n₀) (i + 1) lw)) in
+                  record {
+                    inside = omega arith;
+                    long = v.long;
+                    low = v.low;
+                    few = omega arith;
+                    starts = omega (arith, writing_start_of es);
+                    number = omega (arith, writing_tree_of et);
+                    owner = rw ef (omega (arith, v.owner));
+                    next = rw ef (omega (arith, v.next));
+                    owners = λ j. omega (arith, v.owners j);
+                    nexts = λ j. omega (arith, v.nexts j);
+                    table_long = lt ∙ v.table_long;
+                    source_long = ls ∙ v.source_long;
+                    verdict = rw (put, ey) (full ∙ fills_close bytes (l ∷ counts below) (o + n₀) cs);
+                    walked = rw (put, front s (s + y) t ht qt, ey) (sym closed ∙ v.walked);
+                    beyond = back s (s + y) t ht qt;
+                    rows_left = rows_left' ∙ rw ey;
+                    rows = rows' hs qs;
+                  }
+
+              -- a node is opened
+              pub writing_node : {g : Open} → 0x8000_0000 ≤ k → g ≡ open_of m (i + 1) 0 → Writing b kinds measures n trees bytes table₀ source₀ table' source' (set open' d f) g (d + 1) (o + y) (s + y) t (i + 1)
+              unfolding below l row r
+              writing_node {g} z eg =
+                  let sh = writing_shallow in
+                  let tx = writing_text in
+                  let c₀ = children_node k m z in
+                  let push : held shut (set open' d f) g (d + 1) ≡ open_of m (i + 1) 0 ∷ open_of l x.owner (x.next + 1) ∷ below =
+                  rw (← ef, ← eg) (held_push shut open' g f d (omega (arith, v.long)) ∙ ap (λ z. g ∷ z) (held_top shut open' f d h)) in
+                  record {
+                    inside = omega arith;
+                    long = simp length-set v.long;
+                    low = omega arith;
+                    few = omega arith;
+                    starts = omega (arith, writing_start_of es);
+                    number = omega (arith, writing_tree_of et);
+                    owner = rw eg (omega arith);
+                    next = rw eg (omega arith);
+                    owners = bounded (λ z. z.owner) open' d f (i + 1) (λ j. omega (arith, v.owners j)) (rw ef (omega (arith, v.owner)));
+                    nexts = bounded (λ z. z.next) open' d f (i + 1) (λ j. omega (arith, v.nexts j)) (rw ef (omega (arith, v.next)));
+                    table_long = lt ∙ v.table_long;
+                    source_long = ls ∙ v.source_long;
+                    verdict = rw (push, ey) (rw c₀ at filled);
+                    walked = rw (push, front s (s + y) t ht qt, ey) (sym (walked' s t (take (8 * i) table) es et ∙ rw c₀) ∙ v.walked);
+                    beyond = back s (s + y) t ht qt;
+                    rows_left = rows_left' ∙ rw ey;
+                    rows = rows' hs qs;
+                  }
 
 -- the rows behind the first one
 pub rows_behind : (trees n : ℕ) (es : List (ℕ × ℕ)) (source₀ source₁ source₂ : List ℕ) → 3 * (n + 1) ≤ length source₀ → source₁ ≡ paste source₀ 0 (2147483648 ∷ trees ∷ 0 ∷ []) 3 → source₂ ≡ paste source₁ 3 (rows_from 0 es) (3 * n)

@@ -1,16 +1,10 @@
 -- The element table and the rows of a batch, as one walk of its elements writes them: an element's row is written when it is opened, as that
 -- of an element without children, its text end and the element after its subtree anew when it is closed.
 -- Assumes nothing.
-use Rattle.std.specs.Prelude.{◌≡◌, true, List, [], ◌∷◌, ◌++◌, ℕ, zero, suc, ◌+◌, ◌*◌, ◌≤◌, length, set}
+use Rattle.std.specs.Prelude.{◌≡◌, List, [], ◌∷◌, ◌++◌, ℕ, zero, suc, ◌+◌, ◌*◌, length, set}
 use Rattle.std.proofs.Math.Seq.{paste}
-use Rattle.read_spelling.specs.Spelling.{children_of, length_of, accepts}
+use Rattle.read_spelling.specs.Spelling.{children_of, length_of}
 use Rattle.read_element_table.specs.declared.Open.{Open}
-
--- line 5 accepts the elements, with some length of text
-pub record Accepted (trees : ℕ) (es : List (ℕ × ℕ)) : Type 0 where
-  pub bytes : ℕ
-  pub few : bytes ≤ 16384
-  pub accepted : accepts trees bytes es ≡ true
 
 abbrev pub open_of : ℕ → ℕ → ℕ → Open
 open_of left owner next = record { left = left; owner = owner; next = next }

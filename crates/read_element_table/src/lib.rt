@@ -2,12 +2,13 @@
 // Bounds of one number, an index of what is read and room in a lent slice stand as clauses: a value around each would be no plainer than its bound.
 #![tactic(auto)]
 
-ghost use Rattle.std.specs.Prelude.{◌≡◌, cond, suc, ◌+◌, ◌*◌, ◌^◌, ◌≤◌, ◌<◌, eqb, length, get_or};
+ghost use Rattle.std.specs.Prelude.{◌≡◌, true, cond, suc, ◌&&◌, ◌+◌, ◌*◌, ◌^◌, ◌≤◌, ◌<◌, eqb, leb, length, get_or};
 ghost use Rattle.std.proofs.Math.Seq.{paste};
 ghost use Rattle.definition.specs.Elements.{is_node};
 ghost use Rattle.read_spelling.specs.Held.{elements_of};
+ghost use Rattle.read_spelling.specs.Spelling.{accepts, length_of, stands};
 ghost use Rattle.read_element_table.specs.Told.{child_count};
-ghost use Rattle.read_element_table.specs.Filling.{Accepted, Filled, ended, table_of, rows_from};
+ghost use Rattle.read_element_table.specs.Filling.{Filled, ended, table_of, rows_from};
 
 mod elements;
 
@@ -94,15 +95,28 @@ fn close(table: &mut [u32], owner: usize, end: usize, after: usize)
     }
 }
 
-// The words of all elements in the table, and their rows behind the first row of the source. Each turn closes the innermost open element, if all its
-// children have come, or enters the next one. So it is a `while`: a `for` over elements would need a second loop inside. Beside `spells`: read_spelling says
-// why. An element is entered with words 5 and 6 of one without children: a token is closed by that, a node gets them anew as it is closed. The innermost
-// open element is held in `x`, those around it on the stack.
-fn fill_elements(columns: &Columns, trees: usize, table: &mut [u32], source: &mut [u32])
-    requires in_bounds { (columns.now.count ≤ 2048) × (8 * columns.now.count ≤ length table.old) × (3 * (columns.now.count + 1) ≤ length source.old) }
-    requires accepted { Accepted trees (elements_of columns.now) }
-    ensures table_after { table.new ≡ paste table.old 0 (table_of trees (elements_of columns.now)) (8 * columns.now.count) }
-    ensures source_after { source.new ≡ paste source.old 3 (rows_from 0 (elements_of columns.now)) (3 * columns.now.count) }
+// Whether an element with this kind word and measure may be entered: it may stand at this depth, and there is room for its text.
+fn may_enter(kind: usize, measure: usize, depth: usize, room: usize) -> bool
+    ensures { result ≡ (stands kind depth && leb (length_of kind measure) room) }
+{
+    read_spelling::stands(kind, depth) && read_spelling::length_of(kind, measure) <= room
+}
+
+// Line 5, and in the same walk the words of all elements in the table, and their rows behind the first row of the source. Each turn closes the innermost open
+// element, if all its children have come, or enters the next one. So it is a `while`: a `for` over elements would need a second loop inside. Beside
+// `spells`, which writes nothing: read_spelling says why. An element is entered with words 5 and 6 of one without children: a token is closed by that, a node
+// gets them anew as it is closed. The innermost open element is held in `x`, those around it on the stack. Where line 5 refuses, what has been written is left.
+fn fill_elements(
+    columns: &Columns,
+    trees: usize,
+    bytes: usize,
+    table: &mut [u32],
+    source: &mut [u32],
+) -> bool
+    requires in_bounds { (columns.now.count ≤ 2048) × (8 * columns.now.count ≤ length table.old) × (3 * (columns.now.count + 1) ≤ length source.old) × (bytes < 2 ^ 32) }
+    ensures spelled { result ≡ accepts trees bytes (elements_of columns.now) }
+    ensures table_after { result ≡ true → table.new ≡ paste table.old 0 (table_of trees (elements_of columns.now)) (8 * columns.now.count) }
+    ensures source_after { result ≡ true → source.new ≡ paste source.old 3 (rows_from 0 (elements_of columns.now)) (3 * columns.now.count) }
 {
     let mut x = Open::new(trees, 0);
     let mut stack = [x; 65];
@@ -117,7 +131,13 @@ fn fill_elements(columns: &Columns, trees: usize, table: &mut [u32], source: &mu
             d -= 1;
             x = stack[d];
         } else {
+            if columns.count <= i {
+                return false;
+            }
             let (k, m) = columns.get(i);
+            if !may_enter(k, m, d, bytes - o) {
+                return false;
+            }
             let e = WORDS * i;
             at = if_root(d, 0, at);
             tree = if_root(d, x.next, tree);
@@ -135,16 +155,27 @@ fn fill_elements(columns: &Columns, trees: usize, table: &mut [u32], source: &mu
             }
         }
     }
+    if i < columns.count {
+        return false;
+    }
+    o == bytes
 }
 
-// The element table and the rows of elements that line 5 accepts, with the row of the node above all trees.
-pub fn fill(columns: &Columns, trees: usize, table: &mut [u32], source: &mut [u32])
-    requires in_bounds { (columns.now.count ≤ 2048) × (8 * columns.now.count ≤ length table.old) × (3 * (columns.now.count + 1) ≤ length source.old) × (trees ≤ 16) }
-    requires accepted { Accepted trees (elements_of columns.now) }
-    ensures { Filled trees columns.now.count (elements_of columns.now) table.old source.old table.new source.new }
+// Line 5: whether the elements spell `trees` trees with `bytes` bytes of text. If so the element table and the rows are filled, with the row of the node above
+// all trees.
+pub fn fill(
+    columns: &Columns,
+    trees: usize,
+    bytes: usize,
+    table: &mut [u32],
+    source: &mut [u32],
+) -> bool
+    requires in_bounds { (columns.now.count ≤ 2048) × (8 * columns.now.count ≤ length table.old) × (3 * (columns.now.count + 1) ≤ length source.old) × (trees ≤ 16) × (bytes < 2 ^ 32) }
+    ensures spelled { result ≡ accepts trees bytes (elements_of columns.now) }
+    ensures filled { result ≡ true → Filled trees columns.now.count (elements_of columns.now) table.old source.old table.new source.new }
 {
     words::store(source, 0, &[NODE_KIND, trees, 0]);
-    fill_elements(columns, trees, table, source);
+    fill_elements(columns, trees, bytes, table, source)
 }
 
 // ── What is read of it: by its slice alone, since each asks for one element's words, which is less than `Elements` has ──

@@ -45,8 +45,7 @@ fn tables(rt: &impl Print) -> io::Result<()> {
     let columns = columns(&KINDS_AND_MEASURES);
     let mut table = [7u32; 41];
     let mut source = [7u32; 19];
-    if read_spelling::spells(&columns, 2, 3) {
-        read_element_table::fill(&columns, 2, &mut table, &mut source);
+    if read_element_table::fill(&columns, 2, 3, &mut table, &mut source) {
         print_words(rt, &table)?;
         print_words(rt, &source)?;
     }
