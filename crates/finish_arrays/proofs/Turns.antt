@@ -1,37 +1,52 @@
 -- The loops: for each its invariant, that it holds at the start, after a turn, and what it says at the end.
 -- Assumes nothing.
 use mathlib.Core.Path.{◌≡◌, refl, sym, ap, ◌∙◌}
-use mathlib.Core.List.{List, [], ◌++◌, map, flat_map, append-nil}
+use mathlib.Core.List.{List, [], ◌∷◌, ◌++◌, map, flat_map, append_assoc}
 use Rattle.std.proofs.Common.{◌⊎◌, inl, inr}
 use Rattle.std.specs.List.{sum, range_with_len}
 use Rattle.std.proofs.lemmas.List.Concat.{length-flat_map}
-use Rattle.std.proofs.lemmas.List.Edits.{paste_all}
-use Prim.Native.Nat.{ℕ, suc, ◌+◌, ◌-◌, ◌*◌, ◌/◌, ◌^◌, ◌≤◌, ◌<◌}
+use Prim.Native.Nat.{ℕ, zero, suc, ◌+◌, ◌-◌, ◌*◌, ◌/◌, ◌^◌, ◌≤◌, ◌<◌}
 use native.Mathlib.Omega.{arith}
 use native.Mathlib.Nat.{zero-add, add-zero, sub_self}
 use native.Mathlib.Numerals.{add-one}
-use lib.ListN.{length, get_or, set, take, drop, length-set, length-map, length-append, length-take, length-drop, take-append-drop, drop_of_length-le}
-use lib.Seq.{paste, paste-zero, paste-suc, length-paste, length-take-le, get_or-drop, drop-drop, drop_at, take_at, take-length}
+use lib.ListN.{length, get_or, set, take, drop, length-set, length-map, length-append, length-drop, take-append-drop}
+use lib.Seq.{paste, paste-zero, paste-suc, length-paste, length-take-le, get_or-drop, drop-drop, drop_at, drop-append-le, take_at, take-take, take-length, set-get_or}
 use borrow.Author.Tests.{lt-ltb, lt-leb}
 use Rattle.definition.specs.Words.{bytes as bytes_of, written}
 use Rattle.orders.specs.ListLaws.{lt_or_le}
-use Rattle.definition_laws.specs.Basics.{get_d_map}
+use Rattle.definition_laws.specs.Basics.{get_d_map, flat_map_append}
 use Rattle.words.proofs.Turns.{Writing, writing_next}
-use Rattle.rows_model.specs.Row.{Row, nod, kind, measure, own, row_at, row_in, triples, bytes}
+use Rattle.rows_model.specs.Row.{Row, nod, kind, measure, own, row_at, row_in, text_length, triples, bytes}
 use Rattle.words.specs.Bytes.{length_written}
 use Rattle.words.specs.Parts.{paste_on, paste_swap}
 use Rattle.rows_model.proofs.RowLaws.{bytes_append}
-use Rattle.rows_model.proofs.Words.{rows_summed, kind_word, measure_word, node_row, length_triples, triples_at, triples_end, token_row}
-use Rattle.rows_syntax_node.specs.Promises.{Measured}
+use Rattle.rows_model.proofs.Words.{rows_summed, kind_word, measure_word, node_row, length_triples, triples_at, triples_end, triples_take, token_row}
+use Rattle.rows_syntax_node.specs.Promises.{Counted, Measured, After}
+use Rattle.rows_syntax_node.proofs.Turns.{Owing, owing_start, owing_next, owing_out, owing_done}
 use Rattle.finish_model.specs.Finished.{starts}
 use Rattle.finish_model.proofs.Numbers.{starts_at}
 use Rattle.finish_arrays.specs.declared.Stretch.{Stretch}
 use Rattle.finish_arrays.specs.Stretches.{stretch_over, StandsAt, Added}
 use Rattle.finish_arrays.specs.Starts.{Starts, length_starts, starts_listed}
+use Rattle.finish_arrays.specs.Scanned.{Scanned}
 use Rattle.finish_arrays.specs.Sweep.{elements_over, Swept, row_each}
 use Rattle.finish_arrays.specs.TextSizes.{bytes_any, own_few}
 
--- ── Text starts ─────────────────────────────────────────────────────────────────────────────────────────────
+-- ── How long the text is ────────────────────────────────────────────────────────────────────────────────────
+
+module _ (tree text : List ℕ) where
+  -- how long the own text of row i is
+  abbrev pub part_at : ℕ → ℕ
+  part_at i = length (own (row_in text tree i))
+
+  pub text_summed : sum (map part_at (range_with_len 0 (length tree / 3))) ≡ length (flat_map own (triples text tree))
+  unfolding flat_map
+  text_summed = rows_summed text (λ r. length (own r)) tree 0 (length tree / 3) (omega arith) ∙ sym (length-flat_map own (triples text tree))
+
+  pub text_few : bytes (triples [] tree) < 2 ^ 32 → length (flat_map own (triples text tree)) < 2 ^ 32
+  text_few b = omega (arith, own_few (triples text tree), bytes_any text [] tree)
+
+-- ── The walk over a tree ────────────────────────────────────────────────────────────────────────────────────
 
 -- the text of the first i rows is summed
 pub record Summing (run : List ℕ) (sum i : ℕ) : Type 0 where
@@ -50,21 +65,21 @@ summing_next {run} {sum} {i} v h c =
       rest = λ text. rw (add-one i) (v.rest text ∙ rw (triples_at text i run h) (omega (arith, c.own text)));
     }
 
--- l, as long as the tree has rows, is d with the starts of the first i rows at its front; their text is `sum` long
-pub record Starting (tree d l : List ℕ) (sum i : ℕ) : Type 0 where
-  pub summing : Summing tree sum i
-  pub whole : length d ≡ length tree / 3
-  pub low : sum ≤ bytes (triples [] tree)
+-- l, as long as the run has rows, is d with the starts of the first i rows at its front; their text is `sum` long
+pub record Starting (run d l : List ℕ) (sum i : ℕ) : Type 0 where
+  pub summing : Summing run sum i
+  pub whole : length d ≡ length run / 3
+  pub low : sum ≤ bytes (triples [] run)
   pub long : length l ≡ length d
-  pub filled : (text : List ℕ) → l ≡ paste d 0 (starts 0 (triples text tree)) i
+  pub filled : (text : List ℕ) → l ≡ paste d 0 (starts 0 (triples text run)) i
 
-pub starting : (tree out : List ℕ) → length tree ≤ 3 * length out → Starting tree (take (length tree / 3) out) (take (length tree / 3) out) 0 0
-starting tree out h =
-    let d : List ℕ = take (length tree / 3) out in
-    record { summing = summing_start tree; whole = length-take-le (length tree / 3) out (omega arith); low = omega arith; long = refl; filled = λ text. paste-zero d 0 (starts 0 (triples text tree)) }
+starting : (run out : List ℕ) → length run ≤ 3 * length out → Starting run (take (length run / 3) out) (take (length run / 3) out) 0 0
+starting run out h =
+    let d : List ℕ = take (length run / 3) out in
+    record { summing = summing_start run; whole = length-take-le (length run / 3) out (omega arith); low = omega arith; long = refl; filled = λ text. paste-zero d 0 (starts 0 (triples text run)) }
 
-module _ {tree d l : List ℕ} {sum i : ℕ} (v : Starting tree d l sum i) where
-  pub starting_next : {r : ℕ} → i < length d → Measured tree i r → Starting tree d (set l i sum) (sum + r) (i + 1)
+module _ {run d l : List ℕ} {sum i : ℕ} (v : Starting run d l sum i) where
+  starting_next : {r : ℕ} → i < length d → Measured run i r → Starting run d (set l i sum) (sum + r) (i + 1)
   starting_next h m =
       let next = summing_next v.summing (omega (arith, v.whole)) m in
       record {
@@ -75,28 +90,84 @@ module _ {tree d l : List ℕ} {sum i : ℕ} (v : Starting tree d l sum i) where
         filled = λ text. rw (add-one i) (go text);
       }
     where
-      go : (text : List ℕ) → set l i sum ≡ paste d 0 (starts 0 (triples text tree)) (suc i)
+      go : (text : List ℕ) → set l i sum ≡ paste d 0 (starts 0 (triples text run)) (suc i)
       go text =
-          let rs = triples text tree in
-          let n : length rs ≡ length tree / 3 = length_triples text tree in
+          let rs = triples text run in
+          let n : length rs ≡ length run / 3 = length_triples text run in
           let s : bytes rs ≡ bytes (take i rs) + bytes (drop i rs) = ap bytes (sym (take-append-drop i rs)) ∙ bytes_append (take i rs) (drop i rs) in
           let e : sum ≡ get_or (starts 0 rs) i 0 = sym (starts_at rs 0 i (omega (arith, v.whole)) ∙ omega (arith, v.summing.rest text)) in
           rw (v.filled text, e) (ap (λ n. set (paste d 0 (starts 0 rs) i) n (get_or (starts 0 rs) i 0)) (sym (zero-add i)) ∙ paste-suc d 0 (starts 0 rs) i 0 (omega arith) (omega (arith, v.whole, length_starts 0 rs)))
 
--- what is written over the front of a list, and the rest
-front_over : (d s : List ℕ) (n : ℕ) → n ≡ length s → paste (take n d) 0 s n ++ drop n d ≡ paste d 0 s n
-front_over d s n e =
-    let z : drop (0 + n) (take n d) ≡ [] = drop_of_length-le (take n d) (omega (arith, length-take n d)) in
-    rw (paste_all (take n d) 0 s n e, z, append-nil s, paste_all d 0 s n e, zero-add n)
+-- the front of a list written over, and the rest
+front_over : (d s : List ℕ) (n i : ℕ) → i ≤ length (take n d) → paste (take n d) 0 s i ++ drop n d ≡ paste d 0 s i
+front_over d s n i h =
+    rw (zero-add i) (append_assoc (take i s) (drop i (take n d)) (drop n d) ∙ ap (λ l. take i s ++ l) (sym (drop-append-le i (take n d) (drop n d) h) ∙ ap (drop i) (take-append-drop n d)))
 
-pub starting_done : {tree out l : List ℕ} {sum i : ℕ} → Starting tree (take (length tree / 3) out) l sum i → length (take (length tree / 3) out) ≤ i → length tree ≤ 3 * length out → Starts tree out (l ++ drop (length tree / 3) out)
-starting_done {tree} {out} {l} {sum} {i} v h k = starts_listed tree out (omega arith) go
+starts_take : (i s : ℕ) (rs : List Row) → starts s (take i rs) ≡ take i (starts s rs)
+unfolding starts
+starts_take zero s rs = refl
+starts_take (suc i) s [] = refl
+starts_take (suc i) s (r ∷ rs) = ap {B = List ℕ} (λ l. s ∷ l) (starts_take i (s + text_length r) rs)
+
+-- the starts of the run's first tree, which ends before row i
+starting_done : {run out l : List ℕ} {sum i : ℕ} → Starting run (take (length run / 3) out) l sum i → length run ≤ 3 * length out → Starts (take (3 * i) run) out (l ++ drop (length run / 3) out)
+starting_done {run} {out} {l} {sum} {i} v h = starts_listed (take (3 * i) run) out (omega (arith, long, v.whole, v.summing.inside)) go
   where
-    go : (text : List ℕ) → l ++ drop (length tree / 3) out ≡ paste out 0 (starts 0 (triples text tree)) (length tree / 3)
+    long : length (take (3 * i) run) ≡ 3 * i
+    long = length-take-le (3 * i) run v.summing.inside
+
+    go : (text : List ℕ) → l ++ drop (length run / 3) out ≡ paste out 0 (starts 0 (triples text (take (3 * i) run))) (length (take (3 * i) run) / 3)
     go text =
-        let S : List ℕ = starts 0 (triples text tree) in
-        let e : i ≡ length tree / 3 = omega (arith, v.whole, v.summing.inside) in
-        rw (v.filled text, e) (front_over out S (length tree / 3) (sym (length_starts 0 (triples text tree) ∙ length_triples text tree)))
+        let S : List ℕ = starts 0 (triples text run) in
+        let e : length (take (3 * i) run) / 3 ≡ i = omega (arith, long) in
+        let f : starts 0 (triples text (take (3 * i) run)) ≡ take i S = ap (starts 0) (triples_take text i run) ∙ starts_take i 0 (triples text run) in
+        rw (v.filled text, e, f, take-take i i S (omega arith)) (front_over out S (length run / 3) i (omega (arith, v.whole, v.summing.inside)))
+
+-- of the run's first tree `owed` elements are still owed at row i; where the text of the rows before it starts stands at the front of l, and `size` bytes of it are there
+pub record Scanning (run text d l : List ℕ) (owed sum size i : ℕ) : Type 0 where
+  pub starting : Starting run d l sum i
+  pub owing : Owing run (length run / 3) 0 1 i owed
+  pub rest : length (flat_map own (triples text run)) ≡ size + length (flat_map own (drop i (triples text run)))
+
+pub scanning : (run text out : List ℕ) → length run ≤ 3 * length out → Scanning run text (take (length run / 3) out) (take (length run / 3) out) 1 0 0 0
+scanning run text out h = record { starting = starting run out h; owing = owing_start run (length run / 3) 0 1 (omega arith) (omega arith); rest = omega arith }
+
+module _ {run text d l : List ℕ} {owed sum size i : ℕ} (v : Scanning run text d l owed sum size i) where
+  -- the text of row i, and of those behind it
+  own_rest : i < length d → length (flat_map own (triples text run)) ≡ size + (length (own (row_in text run i)) + length (flat_map own (drop (suc i) (triples text run))))
+  unfolding flat_map
+  own_rest h = v.rest ∙ rw (triples_at text i run (omega (arith, v.starting.whole)), length-append (own (row_in text run i)) (flat_map own (drop (suc i) (triples text run))))
+
+  pub scanning_room : {k : ℕ} → bytes (triples [] run) < 2 ^ 32 → i < length d → k ≡ length (own (row_in text run i)) → size + k < 2 ^ 32
+  scanning_room b h e = omega (arith, own_rest h, text_few run text b)
+
+  pub scanning_next : {k m r : ℕ} → i < length d → (owed ≡ 0 → ⊥) → Counted run i m → Measured run i r → k ≡ length (own (row_in text run i)) → Scanning run text d (set l i sum) (owed - 1 + m) (sum + r) (size + k) (i + 1)
+  scanning_next h z c m e =
+      record {
+        starting = starting_next v.starting h m;
+        owing = owing_next v.owing (omega arith) (omega (arith, v.starting.whole)) z c;
+        rest = rw (add-one i, e) (own_rest h ∙ omega arith);
+      }
+
+  scanned : {out : List ℕ} {n : ℕ} → d ≡ take (length run / 3) out → length run ≤ 3 * length out → bytes (triples [] run) < 2 ^ 32 → n ≡ i → After run (length run / 3) 0 1 n → Scanned run text out (l ++ drop (length run / 3) out) (record { rows = n; size = size })
+  scanned {out} {n} e h b f a =
+      let rs = triples text run in
+      let split : length (flat_map own rs) ≡ length (flat_map own (take i rs)) + length (flat_map own (drop i rs)) =
+      ap (λ l. length (flat_map own l)) (sym (take-append-drop i rs)) ∙ (ap length (flat_map_append own (take i rs) (drop i rs)) ∙ length-append (flat_map own (take i rs)) (flat_map own (drop i rs))) in
+      record {
+        rows = a;
+        starts = rw f (starting_done {sum = sum} (rw (← e) v.starting) h);
+        size = rw (f, triples_take text i run) (omega (arith, v.rest, split));
+        small = omega (arith, v.rest, text_few run text b);
+      }
+
+module _ {run text out l : List ℕ} {owed sum size i : ℕ} (v : Scanning run text (take (length run / 3) out) l owed sum size i) (h : length run ≤ 3 * length out) (b : bytes (triples [] run) < 2 ^ 32) where
+  -- nothing is owed: the word at hand stays
+  pub scanning_done : owed ≡ 0 → Scanned run text out (set l i (get_or l i 0) ++ drop (length run / 3) out) (record { rows = i; size = size })
+  scanning_done z = rw (set-get_or l i 0) (scanned v refl h b refl (owing_done v.owing (omega arith) z))
+
+  pub scanning_out : length (take (length run / 3) out) ≤ i → Scanned run text out (l ++ drop (length run / 3) out) (record { rows = length run / 3; size = size })
+  scanning_out k = scanned v refl h b (omega (arith, v.starting.whole, v.starting.summing.inside)) (owing_out v.owing (omega arith) (omega (arith, v.starting.whole)))
 
 -- ── Kinds and measures ──────────────────────────────────────────────────────────────────────────────────────
 
@@ -203,18 +274,6 @@ module _ (text : List ℕ) (k m o : ℕ) where
 
 pub own_stands : (tree text : List ℕ) (i : ℕ) {o len : ℕ} → len ≡ length (own (row_in text tree i)) → (len ≡ 0 → ⊥) → o ≡ get_or tree (3 * i + 2) 0 → StandsAt text (own (row_in text tree i)) o
 own_stands tree text i e z a = rw a (stands text _ _ _ (λ y. z (e ∙ y)))
-
-module _ (tree text : List ℕ) where
-  -- how long the own text of row i is
-  abbrev pub part_at : ℕ → ℕ
-  part_at i = length (own (row_in text tree i))
-
-  pub text_summed : sum (map part_at (range_with_len 0 (length tree / 3))) ≡ length (flat_map own (triples text tree))
-  unfolding flat_map
-  text_summed = rows_summed text (λ r. length (own r)) tree 0 (length tree / 3) (omega arith) ∙ sym (length-flat_map own (triples text tree))
-
-  pub text_few : bytes (triples [] tree) < 2 ^ 32 → length (flat_map own (triples text tree)) < 2 ^ 32
-  text_few b = omega (arith, own_few (triples text tree), bytes_any text [] tree)
 
 -- l is d with the text of the first i rows written from `at` up to `to`
 pub record Texting (tree text d : List ℕ) (at : ℕ) (l : List ℕ) (to i : ℕ) : Type 0 where

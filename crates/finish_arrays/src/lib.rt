@@ -11,25 +11,43 @@ ghost use Rattle.std.proofs.Math.Seq.{paste};
 ghost use Rattle.definition.specs.Words.{bytes as bytes_of, written};
 ghost use Rattle.rows_model.specs.Row.{own, bytes, row_in, triples};
 ghost use Rattle.finish_arrays.specs.Stretches.{stretch_over, Added};
-ghost use Rattle.finish_arrays.specs.Starts.{Starts};
+ghost use Rattle.finish_arrays.specs.Scanned.{Scanned};
 ghost use Rattle.finish_arrays.specs.Sweep.{Swept};
 
 mod tally;
 
-use rows_syntax_node::{MEASURE, ROW_WORDS, TEXT, text_length};
+use rows_syntax_node::{MEASURE, ROW_WORDS, TEXT, child_count, text_length};
 pub use tally::Tally;
 
-// Where the text of each row of a tree starts: what resolving its path would give, of all rows in one pass. A row is read by its number, as the readers of rows take
-// it: over `chunks_exact` each would be told that row 0 is meant. So it is in the two loops below, which write at a place that moves on.
-pub fn fill_starts(tree: &[u32], out: &mut [u32])
-    requires { (length tree.now ≤ 3 * length out.old) × (length tree.now < 3 * 2 ^ 16) × (bytes (triples [] tree.now) < 2 ^ 32) }
-    ensures { Starts tree.now out.old out.new }
+// What one walk over a tree finds: how many rows it has, and how long its text is.
+#[derive(Clone, Copy)]
+pub struct Extent {
+    pub rows: usize,
+    pub size: usize,
+}
+
+// Where the text of each row of a tree starts: what resolving its path would give, of all rows in one pass. The tree's root is the first row of `run`, and it ends where
+// no element is owed: each row is one owed less, and a node's row owes its children. So its end and the length of its text are found on the way, and not by walks of
+// their own. A row is read by its number, as the readers of rows take it: over `chunks_exact` each would be told that row 0 is meant. So it is in the two loops below,
+// which write at a place that moves on.
+pub fn scan_tree(run: &[u32], text: &[u8], out: &mut [u32]) -> Extent
+    requires { (length run.now ≤ 3 * length out.old) × (length run.now < 3 * 2 ^ 16) × (bytes (triples [] run.now) < 2 ^ 32) }
+    ensures { Scanned run.now text.now out.old out.new result }
 {
+    let rows = run.len() / ROW_WORDS;
+    let mut owed: usize = 1;
     let mut sum = 0;
-    for (i, start) in out[..tree.len() / ROW_WORDS].iter_mut().enumerate() {
+    let mut size = 0;
+    for (i, start) in out[..rows].iter_mut().enumerate() {
+        if owed == 0 {
+            return Extent { rows: i, size };
+        }
         *start = sum as u32;
-        sum += text_length(tree, i);
+        owed = owed - 1 + child_count(run, i);
+        sum += text_length(run, i);
+        size += own_length(run, i, text);
     }
+    Extent { rows, size }
 }
 
 // A row is read: its kind word is written at `kinds`, its measure at `measures`.

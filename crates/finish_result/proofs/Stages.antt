@@ -7,19 +7,23 @@ use native.Mathlib.Nat.{zero-add}
 use native.Mathlib.Numerals.{add-one}
 use native.Mathlib.Omega.{arith}
 use lib.ListN.{length, take, drop, length-drop}
-use lib.Seq.{paste, take-paste, take_all, length-take-le, get_or-take}
-use Rattle.rows_model.specs.Row.{Row, own, bytes, triples, first_rows}
-use Rattle.rows_model.specs.Place.{subtree}
-use Rattle.rows_model.proofs.Words.{length_triples}
-use Rattle.rows_syntax_node.specs.Promises.{Part}
+use lib.Seq.{paste, take-paste, take-take, take_all, length-take-le, get_or-take}
+use Rattle.rows_model.specs.Row.{Row, own, bytes, skip, triples, first_rows}
+use Rattle.rows_model.specs.Place.{rows_after, between, subtree}
+use Rattle.rows_model.proofs.Words.{length_triples, length_first, triples_take, words_between}
+use Rattle.rows_syntax_node.specs.Promises.{After, Part}
+use Rattle.rows_syntax_node.proofs.Turns.{part_made}
 use Rattle.run_model.specs.Store.{HeldNote, HeldChanged}
 use Rattle.run_annotations.specs.Promises.{note_in}
 use Rattle.run_annotations.specs.Changed.{changed_of, changed_in}
 use Rattle.run_annotations.specs.Notes.{notes_of, notes_same}
 use Rattle.run_tree_store.specs.Stored.{stored}
 use Rattle.finish_model.specs.Finished.{first_tree, starts, result_of}
+use Rattle.finish_arrays.specs.declared.Extent.{Extent}
 use Rattle.finish_arrays.specs.Starts.{Starts, length_starts}
+use Rattle.finish_arrays.specs.Scanned.{Scanned}
 use Rattle.finish_arrays.specs.NewTree.{tree_bytes}
+use Rattle.finish_arrays.specs.TextSizes.{bytes_part}
 use Rattle.finish_sort.specs.Keys.{element_in}
 use Rattle.finish_sort.specs.Counted.{Counts}
 use Rattle.finish_sort.specs.Sorted.{ChangedSorted, NotesSorted}
@@ -61,19 +65,59 @@ module _ {rows : List ℕ} {n : ℕ} {tree : List ℕ} (p : Part rows n 1 tree) 
       let m : length S ≡ length tree / 3 = length_starts 0 (triples text tree) ∙ length_triples text tree in
       ap (take (length tree / 3)) e ∙ (ap (λ i. take i (paste d 0 S (length tree / 3))) (sym (zero-add (length tree / 3))) ∙ (take-paste d 0 S (length tree / 3) (omega arith) (omega arith) ∙ take_all (length tree / 3) S (omega arith)))
 
-  module _ (d text starts₀ : List ℕ) (notes : List HeldNote) (changed : List HeldChanged) (discarded climbs : ℕ) where
-    pub finish_answered : {starts' out : List ℕ} {a : Result ℕ Refusal} → length tree ≤ 3 * length starts₀ → Starts tree starts₀ starts'
-        → Answered d (result_in discarded climbs (triples text tree) (changed_by (take (length tree / 3) starts') (length tree / 3) changed) (notes_by (take (length tree / 3) starts') (length tree / 3) notes)) out a
-        → (marks : List ℕ) → Answered d (result_of discarded climbs (stored text n rows marks notes changed)) out a
-    unfolding stored first_tree
-    finish_answered {starts'} {out} {a} h f w marks =
-        let T : List Row = triples text tree in
-        let e : take (length tree / 3) starts' ≡ starts 0 T = starts_listed text starts₀ starts' h (f.listed text) in
-        let m : length tree / 3 ≡ length T = sym (length_triples text tree) in
-        let t : T ≡ subtree (first_rows text n rows) 1 = p.told text in
-        let g : result_of discarded climbs (stored text n rows marks notes changed) ≡ result_in discarded climbs T (changed_by (starts 0 T) (length T) changed) (notes_by (starts 0 T) (length T) notes) =
-        result_in_lem discarded climbs (stored text n rows marks notes changed) ∙ rw (← t) in
-        rw (g, ← e, ← m) w
+  -- r rows, of which the starts are listed
+  whole_answered : (d text starts₀ : List ℕ) (notes : List HeldNote) (changed : List HeldChanged) (discarded climbs : ℕ) {r : ℕ} {starts' out : List ℕ} {a : Result ℕ Refusal} → length tree ≡ 3 * r → r ≤ length starts₀ → Starts tree starts₀ starts'
+      → Answered d (result_in discarded climbs (triples text tree) (changed_by (take r starts') (length tree / 3) changed) (notes_by (take r starts') (length tree / 3) notes)) out a
+      → (marks : List ℕ) → Answered d (result_of discarded climbs (stored text n rows marks notes changed)) out a
+  unfolding stored first_tree
+  whole_answered d text starts₀ notes changed discarded climbs {r} {starts'} k h f w marks =
+      let T : List Row = triples text tree in
+      let z : length tree / 3 ≡ r = omega arith in
+      let e : take r starts' ≡ starts 0 T = ap (λ n. take n starts') (sym z) ∙ starts_listed text starts₀ starts' (omega arith) (f.listed text) in
+      let m : length tree / 3 ≡ length T = sym (length_triples text tree) in
+      let t : T ≡ subtree (first_rows text n rows) 1 = p.told text in
+      let g : result_of discarded climbs (stored text n rows marks notes changed) ≡ result_in discarded climbs T (changed_by (starts 0 T) (length T) changed) (notes_by (starts 0 T) (length T) notes) =
+      result_in_lem discarded climbs (stored text n rows marks notes changed) ∙ rw (← t) in
+      rw (g, ← e, ← m) w
+
+-- the rows behind the root of all, of which tree 0 is the first tree
+module _ (rows : List ℕ) (n : ℕ) {run : List ℕ} (long : 3 * n ≤ length rows) (few : n < 2 ^ 16) (some : 1 ≤ n) (e : run ≡ take (3 * n - 3 * 1) (drop (3 * 1) rows)) where
+  length_run : length run ≡ 3 * n - 3
+  length_run = ap length e ∙ length-take-le (3 * n - 3 * 1) (drop (3 * 1) rows) (omega (arith, length-drop (3 * 1) rows))
+
+  -- its rows
+  run_told : (text : List ℕ) → triples text run ≡ take (n - 1) (drop 1 (first_rows text n rows))
+  unfolding between
+  run_told text = ap (triples text) e ∙ words_between text n rows 1 n some (omega arith)
+
+  -- the walk may begin
+  pub run_scans : (d : List ℕ) → n ≤ length d + 1 → bytes (first_rows [] n rows) < 2 ^ 32 → (length run ≤ 3 * length d) × (length run < 3 * 2 ^ 16) × (bytes (triples [] run) < 2 ^ 32)
+  run_scans d room light = (omega (arith, length_run), omega (arith, length_run), omega (arith, ap bytes (run_told []), bytes_part 1 (n - 1) (first_rows [] n rows)))
+
+  -- the tree that the walk finds is tree 0
+  scanned_part : {r : ℕ} → After run (length run / 3) 0 1 r → Part rows n 1 (take (3 * r) run)
+  unfolding rows_after
+  scanned_part {r} v = part_made rows (take (3 * r) run) n 1 (1 + r) (long, few, some) (record { row = row; low = omega arith; high = omega (arith, v.high, length_run) }) told
+    where
+      row : (text : List ℕ) → 1 + r ≡ 1 + skip 1 (drop 1 (first_rows text n rows))
+      row text =
+          let rs = drop 1 (first_rows text n rows) in
+          let whole : take (length run / 3) (triples text run) ≡ triples text run = take_all (length run / 3) (triples text run) (omega (arith, length_triples text run)) in
+          let all : take (n - 1) rs ≡ rs = take_all (n - 1) rs (omega (arith, length-drop 1 (first_rows text n rows), length_first text n rows long)) in
+          let here : first_rows text (length run / 3) run ≡ rs = triples_take text (length run / 3) run ∙ (whole ∙ (run_told text ∙ all)) in
+          omega (arith, v.row text, ap (skip 1) here)
+
+      told : take (3 * r) run ≡ take (3 * (1 + r) - 3 * 1) (drop (3 * 1) rows)
+      told =
+          let z : 3 * (1 + r) - 3 * 1 ≡ 3 * r = omega arith in
+          rw z (ap (take (3 * r)) e ∙ take-take (3 * r) (3 * n - 3 * 1) (drop (3 * 1) rows) (omega (arith, v.high, length_run)))
+
+  pub finish_answered : (d starts₀ : List ℕ) (notes : List HeldNote) (changed : List HeldChanged) (discarded climbs : ℕ) {text starts' out : List ℕ} {x : Extent} {a : Result ℕ Refusal} → n ≤ length starts₀ + 1 → Scanned run text starts₀ starts' x
+      → Answered d (result_in discarded climbs (triples text (take (3 * x.rows) run)) (changed_by (take x.rows starts') (length (take (3 * x.rows) run) / 3) changed) (notes_by (take x.rows starts') (length (take (3 * x.rows) run) / 3) notes)) out a
+      → (marks : List ℕ) → Answered d (result_of discarded climbs (stored text n rows marks notes changed)) out a
+  finish_answered d starts₀ notes changed discarded climbs {text} {x = x} room v w marks =
+      let high : 3 * x.rows ≤ length run = omega (arith, v.rows.high) in
+      whole_answered (scanned_part v.rows) d text starts₀ notes changed discarded climbs (length-take-le (3 * x.rows) run high) (omega (arith, length_run)) v.starts w marks
 
 -- ── How many bytes ──────────────────────────────────────────────────────────────────────────────────────────
 

@@ -1,6 +1,6 @@
 // The result from what the run leaves: changed elements and notes in order, refusal 13, and the bytes.
 // Bounds of one number and room in a lent slice stand as clauses: a value around each would be no plainer than its bound.
-// That a tree's text can be counted stands in clauses, as finish_arrays says.
+// The length of a tree's text is handed on beside its rows, once it is counted: that it is this length stands in clauses.
 // Each `write_*` is told the place in the whole result where its arrays begin, and not their part of it: the promise is of all the bytes, one `paste` over another.
 #![tactic(auto)]
 
@@ -8,7 +8,7 @@ ghost use Rattle.std.specs.Prelude.{◌≡◌, ℕ, ◌+◌, ◌*◌, ◌/◌, �
 ghost use mathlib.Core.List.{List, flat_map, ◌∷◌, []};
 ghost use Rattle.std.proofs.Math.Seq.{paste};
 ghost use Rattle.definition.specs.Words.{written};
-ghost use Rattle.rows_model.specs.Row.{own, bytes, triples};
+ghost use Rattle.rows_model.specs.Row.{own, triples};
 ghost use Rattle.run_annotations.specs.Changed.{changed_in};
 ghost use Rattle.run_annotations.specs.Notes.{notes_of};
 ghost use Rattle.run_tree_store.specs.Stored.{stored};
@@ -18,8 +18,8 @@ ghost use Rattle.finish_result.specs.Arrays.{note_column, element_column, rule_c
 ghost use Rattle.finish_result.specs.InTree.{result_in, changed_by, notes_by};
 ghost use Rattle.finish_result.specs.Weighed.{Weighs};
 
-use finish_arrays::{Tally, fill_starts, text_size, write_elements, write_sizes, write_text};
-use finish_model::{Left, first_tree};
+use finish_arrays::{Tally, scan_tree, text_size, write_elements, write_sizes, write_text};
+use finish_model::{Left, ROOT, first_tree};
 use finish_sort::{count_changed, count_notes, sort_changed, sort_notes};
 use refusals::Refusal;
 use rows_syntax_node::ROW_WORDS;
@@ -88,19 +88,21 @@ fn bytes_of(n: usize, size: usize, changed: usize, notes: usize) -> usize
     24 + 8 * n + 8 * changed + 8 * notes + size
 }
 
-// The result as bytes, from the rows of the new tree, its changed elements and its notes in order; their length. Where the buffer is too short nothing is written.
-pub fn write_result(
+// The result as bytes, from the rows of the new tree, the length of its text, its changed elements and its notes in order; their length. Where the buffer is too short
+// nothing is written.
+fn write_result(
     tree: &[u32],
     text: &[u8],
+    size: usize,
     changed: &[u32],
     notes: &[u32],
     tally: &Tally,
     res: &mut [u8],
 ) -> Result<usize, Refusal>
-    requires { (length tree.now < 3 * 2 ^ 16) × (bytes (triples [] tree.now) < 2 ^ 32) × (length changed.now < 2 ^ 32) × (length notes.now < 2 ^ 32) }
+    requires few { (length tree.now < 3 * 2 ^ 16) × (length changed.now < 2 ^ 32) × (length notes.now < 2 ^ 32) }
+    requires size_value { (size ≡ length (flat_map own (triples text.now tree.now))) × (size < 2 ^ 32) }
     ensures { Answered res.old (told_result tally.now.discarded tally.now.climbs tree.now text.now changed.now notes.now) res.new result }
 {
-    let size = text_size(tree, text);
     let n = tree.len() / ROW_WORDS;
     let m = notes.len() / NOTE_WORDS;
     let total = bytes_of(n, size, changed.len(), m);
@@ -115,23 +117,33 @@ pub fn write_result(
 // ── From what the run leaves ──
 // Notes and changed elements are no part of `Left`: finishing sorts them in place while the rows are read. Nor is the text: it is the batch's.
 
-// The changed elements and the notes of the new tree in order, then the result as bytes; `starts` says where each element's text starts.
+// The changed elements and the notes of the new tree in order, then the result as bytes; `starts` says where each element's text starts, `size` how long the text is.
 fn finish_tree(
     tree: &[u32],
     starts: &[u32],
+    size: usize,
     notes: &mut [u32],
     changed: &mut [u32],
     text: &[u8],
     tally: &Tally,
     res: &mut [u8],
 ) -> Result<usize, Refusal>
-    requires { (length tree.now < 3 * 2 ^ 16) × (bytes (triples [] tree.now) < 2 ^ 32) × (length notes.old < 3 * 2 ^ 16) × (length changed.old < 2 ^ 16) }
+    requires few { (length tree.now < 3 * 2 ^ 16) × (length notes.old < 3 * 2 ^ 16) × (length changed.old < 2 ^ 16) }
+    requires size_value { (size ≡ length (flat_map own (triples text.now tree.now))) × (size < 2 ^ 32) }
     ensures { Answered res.old (result_in tally.now.discarded tally.now.climbs (triples text.now tree.now) (changed_by starts.now (length tree.now / 3) (changed_in (length changed.old) changed.old)) (notes_by starts.now (length tree.now / 3) (notes_of (length notes.old / 3) notes.old))) res.new result }
 {
     let end = tree.len() / ROW_WORDS + 1;
     let from = sort_changed(changed, end, starts);
     let first = NOTE_WORDS * sort_notes(notes, end, starts);
-    write_result(tree, text, &changed[from..], &notes[first..], tally, res)
+    write_result(
+        tree,
+        text,
+        size,
+        &changed[from..],
+        &notes[first..],
+        tally,
+        res,
+    )
 }
 
 // The result as bytes, from what the run leaves: the rows of all trees, just its notes and its changed elements by their rows; their length, or 13.
@@ -148,10 +160,19 @@ pub fn finish(
     requires few { (length notes.old < 3 * 2 ^ 16) × (length changed.old < 2 ^ 16) }
     ensures { (marks : List ℕ) → Answered res.old (result_of tally.now.discarded tally.now.climbs (stored text.now left.now.rows.count left.now.rows.words.now marks (notes_of (length notes.old / 3) notes.old) (changed_in (length changed.old) changed.old))) res.new result }
 {
-    let tree = first_tree(&left.rows);
-    fill_starts(tree, starts);
-    let m = tree.len() / ROW_WORDS;
-    finish_tree(tree, &starts[..m], notes, changed, text, tally, res)
+    // Where tree 0 ends is found on the walk: over `first_tree` it would be looked for first, a walk of its own.
+    let run = left.rows.between(ROOT, left.rows.count);
+    let extent = scan_tree(run, text, starts);
+    finish_tree(
+        &run[..ROW_WORDS * extent.rows],
+        &starts[..extent.rows],
+        extent.size,
+        notes,
+        changed,
+        text,
+        tally,
+        res,
+    )
 }
 
 // How many bytes the result has, from what the run leaves: told before anything is sorted or written.
