@@ -3,7 +3,7 @@
 use Rattle.std.specs.Prelude.{◌≡◌, Result, Ok, List, map, ℕ, ◌+◌, ◌*◌, ◌≤◌, ◌<◌}
 use Rattle.std.proofs.Math.Path.{refl, ap, subst}
 use Rattle.std.proofs.Common.{◌∙◌, arith}
-use Rattle.std.proofs.Math.ListN.{length, drop}
+use Rattle.std.proofs.Math.ListN.{length, take, drop, length-drop}
 use Rattle.orders.specs.Lists.{All}
 use Rattle.orders.specs.Tree.{node, forest}
 use Rattle.definition.specs.Basics.{gives}
@@ -13,7 +13,10 @@ use Rattle.definition.specs.Running.{begin}
 use Rattle.definition.specs.Answers.{Plan, plan, at_first}
 use Rattle.definition_laws.specs.Accepted.{Known, accepts}
 use Rattle.definition_laws.specs.Plans.{Planning, checked, plan_known}
-use Rattle.read_element_table.specs.Filled.{Tells, filled_tells}
+use Rattle.rows_model.specs.Row.{bytes}
+use Rattle.rows_model.proofs.RowLaws.{bytes_trees}
+use Rattle.finish_arrays.specs.TextSizes.{bytes_any}
+use Rattle.read_element_table.specs.Filled.{Tells, spelled_spelt, filled_tells}
 use Rattle.read_layout.specs.Layout.{arrays_at}
 use Rattle.read_layout.specs.declared.Layout.{Layout}
 use Rattle.read_batch.specs.Accepting.{Parts, accepted_parts}
@@ -22,6 +25,7 @@ use Rattle.read_batch.specs.Leaving.{Leaves, Judged}
 use Rattle.run_prepare.specs.Parts.{notes_in}
 use Rattle.run_model.specs.Store.{held_note, store}
 use Rattle.run_execute.specs.Standing.{Begun}
+use Rattle.run_execute.specs.Running.{Measured}
 
 -- lines 2 to 7 accept the batch b: its layout is l, and the words t and s tell of its elements
 pub record LaidOut (b : List ℕ) (l : Layout) (t s : List ℕ) : Type 0 where
@@ -46,6 +50,24 @@ module _ {b : List ℕ} {l : Layout} {t₀ s₀ t s : List ℕ} (v : Leaves b l 
   pub tells : 8 * l.sizes.elements ≤ length t₀ → 3 * (l.sizes.elements + 1) ≤ length s₀ → Tells (arrays_at l b) v.what.trees l.sizes.elements t s
   unfolding arrays_at
   tells lt ls = filled_tells (arrays_at l b) b l.kinds l.measures l.sizes.elements refl refl parts.trees v.filled v.within.limits.elements lt ls
+
+  -- the batch states how long the text of its trees' rows is
+  pub measured : 16384 ≤ length t₀ → 6147 ≤ length s₀ → Measured l.sizes.elements s l.sizes.text
+  unfolding arrays_at
+  measured lt ls text =
+      let few = v.within.limits.elements in
+      let ts = v.what.trees in
+      let w = tells (omega (arith, few)) (omega (arith, few)) in
+      let spells = spelled_spelt (arrays_at l b) ts parts.trees in
+      omega (
+        arith,
+        v.within.text,
+        length-drop l.text b,
+        ap length spells.text,
+        bytes_trees (forest ts),
+        ap bytes w.rows_told_lem,
+        bytes_any text (drop l.text b) (take (3 * (l.sizes.elements + 1)) s),
+      )
 
   module _ (h : Choices) (p : Plan) (e : plan h v.what ≡ gives p) where
     pub planned : Planning v.what p

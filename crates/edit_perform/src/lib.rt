@@ -95,6 +95,7 @@ fn run_plan(
         incoming,
         &task,
         &plan.running[..runs],
+        s.text,
     )?;
     Ok(Ended {
         text: l.text,

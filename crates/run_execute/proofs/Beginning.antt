@@ -13,7 +13,6 @@ use Rattle.orders.specs.Lists.{All}
 use Rattle.refusals.specs.declared.Refusal.{Refusal}
 use Rattle.run_model.specs.Store.{Store, store_steps}
 use Rattle.rows_model.specs.Row.{triples, first_rows, bytes}
-use Rattle.rows_syntax_node.specs.Promises.{Bytes}
 use Rattle.rows_syntax_node.specs.Rising.{up_rising}
 use Rattle.definition_laws.specs.Basics.{up_from}
 use Rattle.read_element_table.specs.View.{view}
@@ -26,7 +25,7 @@ use Rattle.run_tree_state.specs.declared.TreeState.{TreeState}
 use Rattle.run_step.specs.Standing.{Begun, Now, now_first, Standing}
 use Rattle.run_step.specs.Stepping.{Performs}
 use Rattle.run_prepare.specs.Parts.{notes_in, words_in}
-use Rattle.run_execute.specs.Running.{plans_in, lists_all, RanSteps, Began, Ran, marks_many}
+use Rattle.run_execute.specs.Running.{plans_in, lists_all, RanSteps, Measured, Began, Ran, marks_many}
 
 -- ── What is held ────────────────────────────────────────────────────────────────────────────────────────────
 
@@ -46,7 +45,7 @@ notes_front : (k m : ℕ) (w v : List ℕ) → 3 * k ≤ m → take m w ≡ take
 notes_front k m w v h e = notes_same w v k (λ j b. sym (get_or-take m w j 0 (omega arith)) ∙ (ap (λ (l : List ℕ). get_or l j 0) e ∙ get_or-take m v j 0 (omega arith)))
 
 pub begins : {n : ℕ} (rows source notes first : List ℕ) {sum : ℕ} {rows' marks' notes' : List ℕ} → 3 * n + 3 ≤ length source
-    → Bytes (take (3 * (n + 1) - 0) (drop 0 source)) sum
+    → Measured n source sum
     → rows' ≡ paste rows 0 (take (3 * (n + 1) - 0) (drop 0 source)) (length (take (3 * (n + 1) - 0) (drop 0 source)))
     → marks' ≡ up_from 1 n
     → notes' ≡ paste notes 0 first (length first)
@@ -54,7 +53,6 @@ pub begins : {n : ℕ} (rows source notes first : List ℕ) {sum : ℕ} {rows' m
 unfolding stored stored_first changed_in
 begins {n} rows source notes first {sum} {rows'} {marks'} {notes'} h s e f g =
     let copied : take (3 * (n + 1)) rows' ≡ take (3 * (n + 1)) source = part_copied rows source (3 * (n + 1)) (omega arith) e in
-    let z : 3 * (n + 1) - 0 ≡ 3 * (n + 1) = omega arith in
     record {
       told = λ text changed i. record {
         rows = (ap (triples text) copied ∙ ap (λ (m : ℕ). first_rows text m source) (add-one n)) i;
@@ -65,7 +63,7 @@ begins {n} rows source notes first {sum} {rows'} {marks'} {notes'} h s e f g =
       place = refl;
       count = refl;
       none = refl;
-      measured = λ text. s.sum text ∙ ap (λ (l : List ℕ). bytes (triples text l)) (ap (λ (m : ℕ). take m source) z ∙ sym copied);
+      measured = λ text. s text ∙ ap (λ (l : List ℕ). bytes (triples text l)) (sym copied);
       risen = rw f (up_rising 1 n);
     }
 
