@@ -34,7 +34,7 @@ use Rattle.plan_edit.specs.declared.Unplanned.TheVariants.{Refused, Overlap}
 use Rattle.run_tree_state.specs.declared.TreeState.{TreeState}
 use Rattle.run_execute.specs.Standing.{Begun}
 use Rattle.run_execute.specs.Stepping.{Performs as RowPerforms}
-use Rattle.run_execute.specs.Running.{lists_all, Measured, Ran}
+use Rattle.run_execute.specs.Running.{lists_all, TextLength, Ran}
 use Rattle.edit_perform.specs.Ending.{ending}
 use Rattle.edit_perform.specs.First.{before, nothing_wrong}
 use Rattle.edit_perform.specs.Beginning.{LaidOut, tells, measured}
@@ -102,8 +102,8 @@ module _ {h : definition.Choices} {b : List ℕ} {l : Layout} {t s changes runni
   pub may_begin : 6147 ≤ length s → 768 ≤ length first → Begun n t s settled
   may_begin ls lf = subst (λ (k : ℕ). Begun k t s settled) (sym q) (begins L.leaves P.made L.long L.long_rows ls lf)
 
-  pub may_measure : Measured n s l.sizes.text
-  may_measure = subst (λ (k : ℕ). Measured k s l.sizes.text) (sym q) (measured L.leaves L.long L.long_rows)
+  pub may_measure : TextLength n s l.sizes.text
+  may_measure = subst (λ (k : ℕ). TextLength k s l.sizes.text) (sym q) (measured L.leaves L.long L.long_rows)
 
   pub may_list : (length part ≤ 4096) × All (λ e. e < n) (words_in part)
   may_list =

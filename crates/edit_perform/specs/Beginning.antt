@@ -25,7 +25,7 @@ use Rattle.read_batch.specs.Leaving.{Leaves, Judged}
 use Rattle.run_prepare.specs.Parts.{notes_in}
 use Rattle.run_model.specs.Store.{held_note, store}
 use Rattle.run_execute.specs.Standing.{Begun}
-use Rattle.run_execute.specs.Running.{Measured}
+use Rattle.run_execute.specs.Running.{TextLength}
 
 -- lines 2 to 7 accept the batch b: its layout is l, and the words t and s tell of its elements
 pub record LaidOut (b : List ℕ) (l : Layout) (t s : List ℕ) : Type 0 where
@@ -52,7 +52,7 @@ module _ {b : List ℕ} {l : Layout} {t₀ s₀ t s : List ℕ} (v : Leaves b l 
   tells lt ls = filled_tells (arrays_at l b) b l.kinds l.measures l.sizes.elements refl refl parts.trees v.filled v.within.limits.elements lt ls
 
   -- the batch states how long the text of its trees' rows is
-  pub measured : 16384 ≤ length t₀ → 6147 ≤ length s₀ → Measured l.sizes.elements s l.sizes.text
+  pub measured : 16384 ≤ length t₀ → 6147 ≤ length s₀ → TextLength l.sizes.elements s l.sizes.text
   unfolding arrays_at
   measured lt ls text =
       let few = v.within.limits.elements in

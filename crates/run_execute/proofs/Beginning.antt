@@ -25,7 +25,7 @@ use Rattle.run_tree_state.specs.declared.TreeState.{TreeState}
 use Rattle.run_step.specs.Standing.{Begun, Now, now_first, Standing}
 use Rattle.run_step.specs.Stepping.{Performs}
 use Rattle.run_prepare.specs.Parts.{notes_in, words_in}
-use Rattle.run_execute.specs.Running.{plans_in, lists_all, RanSteps, Measured, Began, Ran, marks_many}
+use Rattle.run_execute.specs.Running.{plans_in, lists_all, RanSteps, TextLength, Began, Ran, marks_many}
 
 -- ── What is held ────────────────────────────────────────────────────────────────────────────────────────────
 
@@ -45,7 +45,7 @@ notes_front : (k m : ℕ) (w v : List ℕ) → 3 * k ≤ m → take m w ≡ take
 notes_front k m w v h e = notes_same w v k (λ j b. sym (get_or-take m w j 0 (omega arith)) ∙ (ap (λ (l : List ℕ). get_or l j 0) e ∙ get_or-take m v j 0 (omega arith)))
 
 pub begins : {n : ℕ} (rows source notes first : List ℕ) {sum : ℕ} {rows' marks' notes' : List ℕ} → 3 * n + 3 ≤ length source
-    → Measured n source sum
+    → TextLength n source sum
     → rows' ≡ paste rows 0 (take (3 * (n + 1) - 0) (drop 0 source)) (length (take (3 * (n + 1) - 0) (drop 0 source)))
     → marks' ≡ up_from 1 n
     → notes' ≡ paste notes 0 first (length first)

@@ -11,7 +11,7 @@ ghost use Rattle.record_changes.specs.ChangeRowLaws.{row_at};
 ghost use Rattle.run_step.specs.Standing.{Begun, Lent, Standing};
 ghost use Rattle.run_step.specs.Stepping.{Performs};
 ghost use Rattle.run_prepare.specs.Parts.{words_in};
-ghost use Rattle.run_execute.specs.Running.{lists_all, RanSteps, Measured, Began, Ran};
+ghost use Rattle.run_execute.specs.Running.{lists_all, RanSteps, TextLength, Began, Ran};
 
 use refusals::Refusal;
 use rows_syntax_node::{ROW_WORDS, number_from};
@@ -35,7 +35,7 @@ fn begin(
 ) -> TreeState
     requires marks_len_bound { (length marks.old ≤ 2048) × (3 * length marks.old + 3 ≤ length source.now) × (3 * length marks.old + 3 ≤ length rows.old) }
     requires first_in_bounds { length first.now ≤ length notes.old }
-    requires measured { Measured (length marks.old) source.now bytes }
+    requires text_length { TextLength (length marks.old) source.now bytes }
     ensures { Began (length marks.old) source.now first.now rows.new marks.new notes.new result }
 {
     let n = marks.len() + 1;
@@ -107,7 +107,7 @@ pub fn execute(
     bytes: usize,
 ) -> Result<TreeState, Refusal>
     requires begun { Begun (length marks.old) task.now.table.now task.now.source.now task.now.first.now }
-    requires measured { Measured (length marks.old) task.now.source.now bytes }
+    requires text_length { TextLength (length marks.old) task.now.source.now bytes }
     requires in_bounds { Lent rows.old notes.old prepared.old sizes.old incoming.old }
     requires listed_low { All (λ e. e < length marks.old) (words_in task.now.listed.now) }
     requires all { All (λ k. Performs (length marks.old) (view (length marks.old) task.now.table.now task.now.source.now) (words_in task.now.listed.now) (row_at task.now.changes.now k)) running.now }
