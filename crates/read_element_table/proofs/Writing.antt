@@ -1,21 +1,23 @@
 -- The loop of `fill_elements`: its invariant, that it holds at the start and after a turn, and what it says at the end.
 -- Assumes nothing.
 use mathlib.Core.Path.{◌≡◌, refl, sym, ap, ◌∙◌}
-use mathlib.Core.Bool.{Bool, true, false, cond, ◌&&◌, and-false}
+use mathlib.Core.Bool.{Bool, true, false, cond, not, ◌&&◌, ◌||◌}
+use mathlib.Core.Logic.{◌⊎◌, inl, inr}
 use mathlib.Core.List.{List, [], ◌∷◌, ◌++◌, map}
 use Prim.Native.Nat.{ℕ, zero, suc, ◌+◌, ◌-◌, ◌*◌, ◌≤◌, ◌<◌}
-use native.Mathlib.Nat.{zero-add}
+use native.Mathlib.Nat.{zero-add, add-zero}
 use native.Mathlib.Omega.{arith}
-use borrow.Author.Tests.{ne_eqb, leb-true, leb-false}
-use lib.Dec.{eqb, leb}
+use borrow.Author.Tests.{ne_eqb, lt-leb, ltb-true}
+use lib.Dec.{eqb, leb, ltb}
 use lib.ListN.{length, get_or, set, take, drop, replicate, length-set, length-map, take-append-drop, length-drop}
 use lib.Seq.{length-take-le, paste, paste-zero, take-paste, drop-paste, drop-drop, take-take, take-set-lt, drop-set-lt}
-use Rattle.orders.specs.ListLaws.{bool_absurd, both_true}
+use Rattle.orders.specs.ListLaws.{lt_or_le, both_true}
 use Rattle.definition.specs.Words.{word}
+use Rattle.definition.specs.Elements.{is_node, malformed}
 use Rattle.words.specs.Parts.{paste_on, paste_paste}
 use Rattle.read_element_table.specs.declared.Open.{Open}
 use Rattle.read_spelling.specs.Spelling.{elements_at, children_of, length_of, stands, fills, accepts}
-use Rattle.read_spelling.specs.SpellingLaws.{children_token, children_node, stands_shallow, fills_close, fills_open, fills_short, fills_long, fills_over, fills_end}
+use Rattle.read_spelling.specs.SpellingLaws.{children_token, children_node, length_token, length_node, stands_shallow, fills_close, fills_open, fills_short, fills_long, fills_over, fills_end}
 use Rattle.read_element_table.specs.Filling.{open_of, ended, if_root, table_from, table_of, rows_from, source_of}
 use Rattle.read_element_table.specs.FillingLaws.{table_close, table_open, table_end, ended_at}
 use Rattle.read_spelling.specs.Stack.{held, held_none, length_held, held_top, held_push, elements_from, elements_all, elements_none, elements_more}
@@ -40,6 +42,13 @@ root_first l z (suc (suc d)) x y h =
 cond_le : (t : Bool) (x y n : ℕ) → x ≤ n → y ≤ n → cond t x y ≤ n
 cond_le true x y n h k = h
 cond_le false x y n h k = k
+
+-- a token that may stand there is no root
+no_root : (k d : ℕ) → stands k d ≡ true → k < 0x8000_0000 → 1 < d
+unfolding stands is_node
+no_root k d z h =
+    let deep : (leb 0x8000_0000 k || ltb 1 d) ≡ true = (both_true (leb d 64) _ (both_true (not (malformed k)) _ z).1).1 in
+    ltb-true 1 d (rw (lt-leb 0x8000_0000 k h) at deep)
 
 -- a bound on all that an array holds, after a store
 bounded : (f : Open → ℕ) (l : List Open) (i : ℕ) (x : Open) (n : ℕ) → ((j : ℕ) → f (get_or l j shut) ≤ n) → f x ≤ n → (j : ℕ) → f (get_or (set l i x) j shut) ≤ n
@@ -146,8 +155,10 @@ module _ {b : List ℕ} {kinds measures n trees bytes : ℕ} {table₀ source₀
   over h = held_none shut open' x d h
 
   -- elements that are left are too many
-  pub writing_long : d ≤ 0 → i < n → false ≡ accepts trees bytes (elements_at b kinds measures n)
-  writing_long h q = sym (v.verdict ∙ rw (over h, elements_more b kinds measures n i q) (fills_long bytes o _ _))
+  pub writing_long : d ≤ 0 → (i ≡ n → ⊥) → eqb i n ≡ accepts trees bytes (elements_at b kinds measures n)
+  writing_long h ne =
+      let q : i < n = omega (arith, v.inside) in
+      ne_eqb i n ne ∙ sym (v.verdict ∙ rw (over h, elements_more b kinds measures n i q) (fills_long bytes o _ _))
 
   -- all are written: the text must be as long as it should be
   pub writing_end : d ≤ 0 → n ≤ i → eqb o bytes ≡ accepts trees bytes (elements_at b kinds measures n)
@@ -250,47 +261,37 @@ module _ {b : List ℕ} {kinds measures n trees bytes : ℕ} {table₀ source₀
             let lr : 3 * i ≤ length r = omega (arith, length-drop (3 * i) r, ap length rows_next) in
             rw (qs, v.rows) (paste_on source₀ 3 r (3 * i) (k ∷ m ∷ o ∷ []) 3 (3 * (i + 1)) (3 * (i + 1)) (omega arith) (omega arith) (omega arith) lr (rw rows_next))
 
-        module _ {entered : Bool} (ee : entered ≡ (stands k d && leb (length_of k m) (bytes - o))) where
-          -- it may not be entered
-          pub writing_wrong : entered ≡ false → false ≡ accepts trees bytes (elements_at b kinds measures n)
-          writing_wrong z = sym (turn ∙ go (stands k d) (leb (length_of k m) (bytes - o)) refl refl (sym ee ∙ z))
-            where
-              go : (a c : Bool) → stands k d ≡ a → leb (length_of k m) (bytes - o) ≡ c → (a && c) ≡ false → (stands k d && fills bytes (children_of k m ∷ l ∷ counts below) (o + length_of k m) (elements_from b kinds measures n (i + 1))) ≡ false
-              go false c ea ec p = rw ea
-              go true false ea ec p =
-                  let over : bytes - o < length_of k m = leb-false (length_of k m) (bytes - o) ec in
-                  rw (fills_over bytes (elements_from b kinds measures n (i + 1)) (children_of k m ∷ l ∷ counts below) (o + length_of k m) (omega (arith, v.few))) (and-false (stands k d))
-              go true true ea ec p = bool_absurd refl p
+        -- it may not stand there
+        pub writing_wrong : stands k d ≡ false → false ≡ accepts trees bytes (elements_at b kinds measures n)
+        writing_wrong z = sym (turn ∙ rw z)
 
-          -- it may be: it is no deeper than 64, and its text is there
-          module _ (z : entered ≡ true) where
-            both : (stands k d ≡ true) × (leb (length_of k m) (bytes - o) ≡ true)
-            both = both_true (stands k d) (leb (length_of k m) (bytes - o)) (sym ee ∙ z)
+        -- it may: it is no deeper than 64, and no root if it is a token
+        module _ (z : stands k d ≡ true) where
+          pub writing_shallow : d ≤ 64
+          writing_shallow = stands_shallow k d z
 
-            pub writing_shallow : d ≤ 64
-            writing_shallow = stands_shallow k d both.0
+          filled : accepts trees bytes (elements_at b kinds measures n) ≡ fills bytes (children_of k m ∷ l ∷ counts below) (o + length_of k m) (elements_from b kinds measures n (i + 1))
+          filled = turn ∙ rw z
 
-            pub writing_text : o + length_of k m ≤ bytes
-            writing_text = omega (arith, leb-true (length_of k m) (bytes - o) both.1, v.few)
+          -- there is no room for its text
+          pub writing_over : k < 0x8000_0000 → bytes - o < m → false ≡ accepts trees bytes (elements_at b kinds measures n)
+          writing_over t p = sym (filled ∙ fills_over bytes (elements_from b kinds measures n (i + 1)) (children_of k m ∷ l ∷ counts below) (o + length_of k m) (omega (arith, length_token k m t)))
 
-            filled : accepts trees bytes (elements_at b kinds measures n) ≡ fills bytes (children_of k m ∷ l ∷ counts below) (o + length_of k m) (elements_from b kinds measures n (i + 1))
-            filled = turn ∙ rw both.0
-
+          module _ (tx : o + length_of k m ≤ bytes) where
             -- the next element is written
             module _ {s t y : ℕ} {table' source' : List ℕ} {f : Open} (es : s ≡ cond (eqb d 1) 0 at) (et : t ≡ cond (eqb d 1) x.next tree) (ey : y ≡ length_of k m)
                 (lt : length table' ≡ length table) (qt : table' ≡ paste table (8 * i) (o ∷ x.owner ∷ x.next ∷ d ∷ s ∷ (s + y) ∷ (i + 1) ∷ t ∷ []) 8)
                 (ls : length source' ≡ length source) (qs : source' ≡ paste source (3 * (i + 1)) (k ∷ m ∷ o ∷ []) 3)
                 (ef : f ≡ open_of (x.left - 1) x.owner (x.next + 1)) (ht : 8 * n ≤ length table₀) (hs : 3 * (n + 1) ≤ length source₀) where
               -- a token is opened and closed
-              pub writing_token : k < 0x8000_0000 → Writing b kinds measures n trees bytes table₀ source₀ table' source' open' f d (o + y) (s + y) t (i + 1)
+              entered_token : k < 0x8000_0000 → Writing b kinds measures n trees bytes table₀ source₀ table' source' open' f d (o + y) (s + y) t (i + 1)
               unfolding below l row r
-              writing_token z =
+              entered_token z =
                   let cs = elements_from b kinds measures n (i + 1) in
                   let w : List ℕ = take (8 * i) table in
                   let p : Open = open_of l x.owner (x.next + 1) in
                   let c₀ = children_token k m z in
                   let n₀ : ℕ = length_of k m in
-                  let tx = writing_text in
                   let lw : length w ≡ 8 * i = length-take-le (8 * i) table (omega (arith, v.table_long)) in
                   let put : held shut open' f d ≡ p ∷ below = rw (← ef) (held_top shut open' f d h) in
                   let full : accepts trees bytes (elements_at b kinds measures n) ≡ fills bytes (0 ∷ l ∷ counts below) (o + n₀) cs = rw c₀ at filled in
@@ -317,11 +318,10 @@ module _ {b : List ℕ} {kinds measures n trees bytes : ℕ} {table₀ source₀
                   }
 
               -- a node is opened
-              pub writing_node : {g : Open} → 0x8000_0000 ≤ k → g ≡ open_of m (i + 1) 0 → Writing b kinds measures n trees bytes table₀ source₀ table' source' (set open' d f) g (d + 1) (o + y) (s + y) t (i + 1)
+              entered_node : {g : Open} → 0x8000_0000 ≤ k → g ≡ open_of m (i + 1) 0 → Writing b kinds measures n trees bytes table₀ source₀ table' source' (set open' d f) g (d + 1) (o + y) (s + y) t (i + 1)
               unfolding below l row r
-              writing_node {g} z eg =
+              entered_node {g} z eg =
                   let sh = writing_shallow in
-                  let tx = writing_text in
                   let c₀ = children_node k m z in
                   let push : held shut (set open' d f) g (d + 1) ≡ open_of m (i + 1) 0 ∷ open_of l x.owner (x.next + 1) ∷ below =
                   rw (← ef, ← eg) (held_push shut open' g f d (omega (arith, v.long)) ∙ ap (λ z. g ∷ z) (held_top shut open' f d h)) in
@@ -344,6 +344,32 @@ module _ {b : List ℕ} {kinds measures n trees bytes : ℕ} {table₀ source₀
                     rows_left = rows_left' ∙ rw ey;
                     rows = rows' hs qs;
                   }
+
+          module _ {table' source' : List ℕ} {f : Open} (ls : length source' ≡ length source) (qs : source' ≡ paste source (3 * (i + 1)) (k ∷ m ∷ o ∷ []) 3)
+              (lt : length table' ≡ length table) (ef : f ≡ open_of (x.left - 1) x.owner (x.next + 1)) (ht : 8 * n ≤ length table₀) (hs : 3 * (n + 1) ≤ length source₀) where
+            -- a token is opened and closed
+            pub writing_token : k < 0x8000_0000 → m ≤ bytes - o → table' ≡ paste table (8 * i) (o ∷ x.owner ∷ x.next ∷ d ∷ at ∷ (at + m) ∷ (i + 1) ∷ tree ∷ []) 8
+                → Writing b kinds measures n trees bytes table₀ source₀ table' source' open' f d (o + m) (at + m) tree (i + 1)
+            writing_token y room qt =
+                let own = length_token k m y in
+                let deep : eqb d 1 ≡ false = ne_eqb d 1 (λ e. omega (arith, no_root k d z y)) in
+                entered_token (omega (arith, own, v.few)) (rw deep) (rw deep) (sym own) lt qt ls qs ef ht hs y
+
+            -- a node is opened
+            pub writing_node : {s t : ℕ} {g : Open} → s ≡ cond (eqb d 1) 0 at → t ≡ cond (eqb d 1) x.next tree → 0x8000_0000 ≤ k → g ≡ open_of m (i + 1) 0
+                → table' ≡ paste table (8 * i) (o ∷ x.owner ∷ x.next ∷ d ∷ s ∷ s ∷ (i + 1) ∷ t ∷ []) 8
+                → Writing b kinds measures n trees bytes table₀ source₀ table' source' (set open' d f) g (d + 1) o s t (i + 1)
+            writing_node {s} {t} es et y eg qt =
+                let own = length_node k m y in
+                rw (add-zero o, add-zero s) at (entered_node (omega (arith, own, v.few)) es et (sym own) lt (rw (add-zero s) qt) ls qs ef ht hs y eg)
+
+  -- none is left, or it may not stand there
+  pub writing_refused : 0 < d → (x.left ≡ 0 → ⊥) → (i < n → stands (word (drop (kinds + 4 * i) b)) d ≡ false) → false ≡ accepts trees bytes (elements_at b kinds measures n)
+  writing_refused h ne f = go (lt_or_le i n)
+    where
+      go : (i < n) ⊎ (n ≤ i) → false ≡ accepts trees bytes (elements_at b kinds measures n)
+      go (inl q) = writing_wrong h ne q {k = word (drop (kinds + 4 * i) b)} {m = word (drop (measures + 4 * i) b)} refl refl (f q)
+      go (inr q) = writing_short h ne q
 
 -- the rows behind the first one
 pub rows_behind : (trees n : ℕ) (es : List (ℕ × ℕ)) (source₀ source₁ source₂ : List ℕ) → 3 * (n + 1) ≤ length source₀ → source₁ ≡ paste source₀ 0 (2147483648 ∷ trees ∷ 0 ∷ []) 3 → source₂ ≡ paste source₁ 3 (rows_from 0 es) (3 * n)

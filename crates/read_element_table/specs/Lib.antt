@@ -2,6 +2,7 @@
 --     View          what the words tell, as the definition's table
 --     Wellformed    what a batch that is accepted guarantees of the words
 --     Told          what the view says of an element, word by word
+--     Next          what the next element tells, where there is one and it may stand
 --     Filling       the table and the rows, as one walk of the elements writes them
 --     FillingLaws   the walk writes the words that the trees have
 --     ViewLaws      those words tell the definition's table
@@ -13,6 +14,7 @@
 pub mod View
 pub mod Wellformed
 pub mod Told
+pub mod Next
 pub mod Filling
 pub mod FillingLaws
 pub mod ViewLaws

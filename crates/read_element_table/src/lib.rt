@@ -1,13 +1,14 @@
-// The element table: see specs/View.antt for what its words tell.
+// Line 5 and the element table: see specs/View.antt for what its words tell.
 // Bounds of one number, an index of what is read and room in a lent slice stand as clauses: a value around each would be no plainer than its bound.
 #![tactic(auto)]
 
-ghost use Rattle.std.specs.Prelude.{◌≡◌, true, cond, suc, ◌&&◌, ◌+◌, ◌*◌, ◌^◌, ◌≤◌, ◌<◌, eqb, leb, length, get_or};
+ghost use Rattle.std.specs.Prelude.{◌≡◌, true, cond, suc, ◌+◌, ◌*◌, ◌^◌, ◌≤◌, ◌<◌, eqb, length, get_or};
 ghost use Rattle.std.proofs.Math.Seq.{paste};
 ghost use Rattle.definition.specs.Elements.{is_node};
 ghost use Rattle.read_spelling.specs.Held.{elements_of};
-ghost use Rattle.read_spelling.specs.Spelling.{accepts, length_of, stands};
+ghost use Rattle.read_spelling.specs.Spelling.{accepts};
 ghost use Rattle.read_element_table.specs.Told.{child_count};
+ghost use Rattle.read_element_table.specs.Next.{Next};
 ghost use Rattle.read_element_table.specs.Filling.{Filled, ended, table_of, rows_from};
 
 mod elements;
@@ -95,17 +96,25 @@ fn close(table: &mut [u32], owner: usize, end: usize, after: usize)
     }
 }
 
-// Whether an element with this kind word and measure may be entered: it may stand at this depth, and there is room for its text.
-fn may_enter(kind: usize, measure: usize, depth: usize, room: usize) -> bool
-    ensures { result ≡ (stands kind depth && leb (length_of kind measure) room) }
+// The kind word and the measure of element `i`, if there is one and it may stand at this depth.
+fn next_element(columns: &Columns, i: usize, depth: usize) -> Option<(usize, usize)>
+    ensures { Next columns.now i depth result }
 {
-    read_spelling::stands(kind, depth) && read_spelling::length_of(kind, measure) <= room
+    if columns.count <= i {
+        return None;
+    }
+    let (kind, measure) = columns.get(i);
+    if !read_spelling::stands(kind, depth) {
+        return None;
+    }
+    Some((kind, measure))
 }
 
 // Line 5, and in the same walk the words of all elements in the table, and their rows behind the first row of the source. Each turn closes the innermost open
 // element, if all its children have come, or enters the next one. So it is a `while`: a `for` over elements would need a second loop inside. Beside
 // `spells`, which writes nothing: read_spelling says why. An element is entered with words 5 and 6 of one without children: a token is closed by that, a node
-// gets them anew as it is closed. The innermost open element is held in `x`, those around it on the stack. Where line 5 refuses, what has been written is left.
+// gets them anew as it is closed. Most elements are tokens: they have a branch of their own, which asks no more than a token needs. The innermost open element
+// is held in `x`, those around it on the stack. Where line 5 refuses, what has been written is left.
 fn fill_elements(
     columns: &Columns,
     trees: usize,
@@ -131,34 +140,31 @@ fn fill_elements(
             d -= 1;
             x = stack[d];
         } else {
-            if columns.count <= i {
+            let Some((k, m)) = next_element(columns, i, d) else {
                 return false;
-            }
-            let (k, m) = columns.get(i);
-            if !may_enter(k, m, d, bytes - o) {
-                return false;
-            }
+            };
             let e = WORDS * i;
-            at = if_root(d, 0, at);
-            tree = if_root(d, x.next, tree);
             i += 1;
-            let len = read_spelling::length_of(k, m);
-            words::store(table, e, &[o, x.owner, x.next, d, at, at + len, i, tree]);
             words::store(source, ROW_WORDS * i, &[k, m, o]);
-            o += len;
-            at += len;
-            x = x.passed();
-            if NODE_KIND <= k {
-                stack[d] = x;
+            if k < NODE_KIND {
+                if bytes - o < m {
+                    return false;
+                }
+                words::store(table, e, &[o, x.owner, x.next, d, at, at + m, i, tree]);
+                o += m;
+                at += m;
+                x = x.passed();
+            } else {
+                at = if_root(d, 0, at);
+                tree = if_root(d, x.next, tree);
+                words::store(table, e, &[o, x.owner, x.next, d, at, at, i, tree]);
+                stack[d] = x.passed();
                 x = Open::new(m, i);
                 d += 1;
             }
         }
     }
-    if i < columns.count {
-        return false;
-    }
-    o == bytes
+    i == columns.count && o == bytes
 }
 
 // Line 5: whether the elements spell `trees` trees with `bytes` bytes of text. If so the element table and the rows are filled, with the row of the node above

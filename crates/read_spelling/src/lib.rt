@@ -1,4 +1,4 @@
-// Line 5: whether the elements of a batch spell trees.
+// Line 5 by itself, and what it asks of one element. A batch is judged as its table is filled (read_element_table).
 #![tactic(auto)]
 
 ghost use Rattle.std.specs.Prelude.{◌≡◌, ◌≤◌};

@@ -1,7 +1,7 @@
 // Line 5 and the element table on document 01's printed case: tree 0 is a node of the tokens "a" and "b", tree 1 a node of the token "c".
 #![tactic(auto)]
 
-ghost use Rattle.std.specs.Prelude.{◌≡◌};
+ghost use Rattle.std.specs.Prelude.{◌≡◌, ◌^◌, ◌≤◌, ◌<◌};
 
 use program_input::print_words;
 use read_spelling::Columns;
@@ -25,8 +25,13 @@ fn columns(bytes: &[u8; 40]) -> Columns<'_>
 }
 
 // Whether the elements spell so many trees with so many bytes of text.
-fn print_answer(rt: &impl Print, trees: usize, bytes: usize) -> io::Result<()> {
-    if read_spelling::spells(&columns(&KINDS_AND_MEASURES), trees, bytes) {
+fn print_answer(rt: &impl Print, trees: usize, bytes: usize) -> io::Result<()>
+    requires { (trees ≤ 16) × (bytes < 2 ^ 32) }
+{
+    let columns = columns(&KINDS_AND_MEASURES);
+    let mut table = [0u32; 40];
+    let mut source = [0u32; 18];
+    if read_element_table::fill(&columns, trees, bytes, &mut table, &mut source) {
         println!(rt; "spelled")
     } else {
         println!(rt; "refused")
