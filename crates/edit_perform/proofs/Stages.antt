@@ -37,7 +37,7 @@ use Rattle.run_execute.specs.Stepping.{Performs as RowPerforms}
 use Rattle.run_execute.specs.Running.{lists_all, TextLength, Ran}
 use Rattle.edit_perform.specs.Ending.{ending}
 use Rattle.edit_perform.specs.First.{before, nothing_wrong}
-use Rattle.edit_perform.specs.Beginning.{LaidOut, tells, measured}
+use Rattle.edit_perform.specs.Beginning.{LaidOut, tells, text_stated}
 use Rattle.edit_perform.specs.AtEnd.{AtEnd, Told, Overlapped, Performs}
 use Rattle.edit_perform.specs.Performing.{begins, all_perform, room_recorded, all_elements, run_refused, run_ended, run_marked, run_recounted}
 use Rattle.edit_perform.specs.Accounting.{not_accepted, overlapping, not_planned}
@@ -102,8 +102,8 @@ module _ {h : definition.Choices} {b : List ℕ} {l : Layout} {t s changes runni
   pub may_begin : 6147 ≤ length s → 768 ≤ length first → Begun n t s settled
   may_begin ls lf = subst (λ (k : ℕ). Begun k t s settled) (sym q) (begins L.leaves P.made L.long L.long_rows ls lf)
 
-  pub may_measure : TextLength n s l.sizes.text
-  may_measure = subst (λ (k : ℕ). TextLength k s l.sizes.text) (sym q) (measured L.leaves L.long L.long_rows)
+  pub may_state : TextLength n s l.sizes.text
+  may_state = subst (λ (k : ℕ). TextLength k s l.sizes.text) (sym q) (text_stated L.leaves L.long L.long_rows)
 
   pub may_list : (length part ≤ 4096) × All (λ e. e < n) (words_in part)
   may_list =

@@ -52,9 +52,9 @@ module _ {b : List ℕ} {l : Layout} {t₀ s₀ t s : List ℕ} (v : Leaves b l 
   tells lt ls = filled_tells (arrays_at l b) b l.kinds l.measures l.sizes.elements refl refl parts.trees v.filled v.within.limits.elements lt ls
 
   -- the batch states how long the text of its trees' rows is
-  pub measured : 16384 ≤ length t₀ → 6147 ≤ length s₀ → TextLength l.sizes.elements s l.sizes.text
+  pub text_stated : 16384 ≤ length t₀ → 6147 ≤ length s₀ → TextLength l.sizes.elements s l.sizes.text
   unfolding arrays_at
-  measured lt ls text =
+  text_stated lt ls text =
       let few = v.within.limits.elements in
       let ts = v.what.trees in
       let w = tells (omega (arith, few)) (omega (arith, few)) in

@@ -19,17 +19,17 @@ mod tally;
 use rows_syntax_node::{MEASURE, ROW_WORDS, TEXT, child_count, text_length};
 pub use tally::Tally;
 
-// What one walk over a tree finds: how many rows it has, and how long its text is.
+// What one walk over a tree finds: how many rows it has, and how long its text is, the text that is there (`own`).
 #[derive(Clone, Copy)]
 pub struct Extent {
     pub rows: usize,
     pub size: usize,
 }
 
-// Where the text of each row of a tree starts: what resolving its path would give, of all rows in one pass. The tree's root is the first row of `run`, and it ends where
-// no element is owed: each row is one owed less, and a node's row owes its children. So its end and the length of its text are found on the way, and not by walks of
-// their own. A row is read by its number, as the readers of rows take it: over `chunks_exact` each would be told that row 0 is meant. So it is in the two loops below,
-// which write at a place that moves on.
+// The first tree of `run`: where the text of each of its rows starts is written to `out` (what resolving its path would give); how many rows it has and how long its
+// text is, is answered. It ends where no element is owed: a row takes one, a node's row adds its children. So no walk of its own finds its end or its length. A row is
+// read by its number, as the readers of rows take it: over `chunks_exact` each would be told that row 0 is meant. So it is in the two loops below, which write at a
+// place that moves on.
 pub fn scan_tree(run: &[u32], text: &[u8], out: &mut [u32]) -> Extent
     requires { (length run.now ≤ 3 * length out.old) × (length run.now < 3 * 2 ^ 16) × (bytes (triples [] run.now) < 2 ^ 32) }
     ensures { Scanned run.now text.now out.old out.new result }

@@ -80,44 +80,44 @@ module _ {rows : List ℕ} {n : ℕ} {tree : List ℕ} (p : Part rows n 1 tree) 
       result_in_lem discarded climbs (stored text n rows marks notes changed) ∙ rw (← t) in
       rw (g, ← e, ← m) w
 
--- the rows behind the root of all, of which tree 0 is the first tree
-module _ (rows : List ℕ) (n : ℕ) {run : List ℕ} (long : 3 * n ≤ length rows) (few : n < 2 ^ 16) (some : 1 ≤ n) (e : run ≡ take (3 * n - 3 * 1) (drop (3 * 1) rows)) where
-  length_run : length run ≡ 3 * n - 3
-  length_run = ap length e ∙ length-take-le (3 * n - 3 * 1) (drop (3 * 1) rows) (omega (arith, length-drop (3 * 1) rows))
+-- the rows of all trees, of which tree 0 is the first
+module _ (rows : List ℕ) (n : ℕ) {trees : List ℕ} (long : 3 * n ≤ length rows) (few : n < 2 ^ 16) (some : 1 ≤ n) (e : trees ≡ take (3 * n - 3 * 1) (drop (3 * 1) rows)) where
+  length_trees : length trees ≡ 3 * n - 3
+  length_trees = ap length e ∙ length-take-le (3 * n - 3 * 1) (drop (3 * 1) rows) (omega (arith, length-drop (3 * 1) rows))
 
-  -- its rows
-  run_told : (text : List ℕ) → triples text run ≡ take (n - 1) (drop 1 (first_rows text n rows))
+  -- read as rows, they are all but the root of all
+  trees_told : (text : List ℕ) → triples text trees ≡ take (n - 1) (drop 1 (first_rows text n rows))
   unfolding between
-  run_told text = ap (triples text) e ∙ words_between text n rows 1 n some (omega arith)
+  trees_told text = ap (triples text) e ∙ words_between text n rows 1 n some (omega arith)
 
   -- the walk may begin
-  pub run_scans : (d : List ℕ) → n ≤ length d + 1 → bytes (first_rows [] n rows) < 2 ^ 32 → (length run ≤ 3 * length d) × (length run < 3 * 2 ^ 16) × (bytes (triples [] run) < 2 ^ 32)
-  run_scans d room light = (omega (arith, length_run), omega (arith, length_run), omega (arith, ap bytes (run_told []), bytes_part 1 (n - 1) (first_rows [] n rows)))
+  pub may_scan : (d : List ℕ) → n ≤ length d + 1 → bytes (first_rows [] n rows) < 2 ^ 32 → (length trees ≤ 3 * length d) × (length trees < 3 * 2 ^ 16) × (bytes (triples [] trees) < 2 ^ 32)
+  may_scan d room light = (omega (arith, length_trees), omega (arith, length_trees), omega (arith, ap bytes (trees_told []), bytes_part 1 (n - 1) (first_rows [] n rows)))
 
   -- the tree that the walk finds is tree 0
-  scanned_part : {r : ℕ} → After run (length run / 3) 0 1 r → Part rows n 1 (take (3 * r) run)
+  scanned_part : {r : ℕ} → After trees (length trees / 3) 0 1 r → Part rows n 1 (take (3 * r) trees)
   unfolding rows_after
-  scanned_part {r} v = part_made rows (take (3 * r) run) n 1 (1 + r) (long, few, some) (record { row = row; low = omega arith; high = omega (arith, v.high, length_run) }) told
+  scanned_part {r} v = part_made rows (take (3 * r) trees) n 1 (1 + r) (long, few, some) (record { row = row; low = omega arith; high = omega (arith, v.high, length_trees) }) told
     where
       row : (text : List ℕ) → 1 + r ≡ 1 + skip 1 (drop 1 (first_rows text n rows))
       row text =
           let rs = drop 1 (first_rows text n rows) in
-          let whole : take (length run / 3) (triples text run) ≡ triples text run = take_all (length run / 3) (triples text run) (omega (arith, length_triples text run)) in
+          let whole : take (length trees / 3) (triples text trees) ≡ triples text trees = take_all (length trees / 3) (triples text trees) (omega (arith, length_triples text trees)) in
           let all : take (n - 1) rs ≡ rs = take_all (n - 1) rs (omega (arith, length-drop 1 (first_rows text n rows), length_first text n rows long)) in
-          let here : first_rows text (length run / 3) run ≡ rs = triples_take text (length run / 3) run ∙ (whole ∙ (run_told text ∙ all)) in
+          let here : first_rows text (length trees / 3) trees ≡ rs = triples_take text (length trees / 3) trees ∙ (whole ∙ (trees_told text ∙ all)) in
           omega (arith, v.row text, ap (skip 1) here)
 
-      told : take (3 * r) run ≡ take (3 * (1 + r) - 3 * 1) (drop (3 * 1) rows)
+      told : take (3 * r) trees ≡ take (3 * (1 + r) - 3 * 1) (drop (3 * 1) rows)
       told =
           let z : 3 * (1 + r) - 3 * 1 ≡ 3 * r = omega arith in
-          rw z (ap (take (3 * r)) e ∙ take-take (3 * r) (3 * n - 3 * 1) (drop (3 * 1) rows) (omega (arith, v.high, length_run)))
+          rw z (ap (take (3 * r)) e ∙ take-take (3 * r) (3 * n - 3 * 1) (drop (3 * 1) rows) (omega (arith, v.high, length_trees)))
 
-  pub finish_answered : (d starts₀ : List ℕ) (notes : List HeldNote) (changed : List HeldChanged) (discarded climbs : ℕ) {text starts' out : List ℕ} {x : Extent} {a : Result ℕ Refusal} → n ≤ length starts₀ + 1 → Scanned run text starts₀ starts' x
-      → Answered d (result_in discarded climbs (triples text (take (3 * x.rows) run)) (changed_by (take x.rows starts') (length (take (3 * x.rows) run) / 3) changed) (notes_by (take x.rows starts') (length (take (3 * x.rows) run) / 3) notes)) out a
+  pub finish_answered : (d starts₀ : List ℕ) (notes : List HeldNote) (changed : List HeldChanged) (discarded climbs : ℕ) {text starts' out : List ℕ} {x : Extent} {a : Result ℕ Refusal} → n ≤ length starts₀ + 1 → Scanned trees text starts₀ starts' x
+      → Answered d (result_in discarded climbs (triples text (take (3 * x.rows) trees)) (changed_by (take x.rows starts') (length (take (3 * x.rows) trees) / 3) changed) (notes_by (take x.rows starts') (length (take (3 * x.rows) trees) / 3) notes)) out a
       → (marks : List ℕ) → Answered d (result_of discarded climbs (stored text n rows marks notes changed)) out a
   finish_answered d starts₀ notes changed discarded climbs {text} {x = x} room v w marks =
-      let high : 3 * x.rows ≤ length run = omega (arith, v.rows.high) in
-      whole_answered (scanned_part v.rows) d text starts₀ notes changed discarded climbs (length-take-le (3 * x.rows) run high) (omega (arith, length_run)) v.starts w marks
+      let high : 3 * x.rows ≤ length trees = omega (arith, v.rows.high) in
+      whole_answered (scanned_part v.rows) d text starts₀ notes changed discarded climbs (length-take-le (3 * x.rows) trees high) (omega (arith, length_trees)) v.starts w marks
 
 -- ── How many bytes ──────────────────────────────────────────────────────────────────────────────────────────
 

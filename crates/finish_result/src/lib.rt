@@ -161,10 +161,10 @@ pub fn finish(
     ensures { (marks : List ℕ) → Answered res.old (result_of tally.now.discarded tally.now.climbs (stored text.now left.now.rows.count left.now.rows.words.now marks (notes_of (length notes.old / 3) notes.old) (changed_in (length changed.old) changed.old))) res.new result }
 {
     // Where tree 0 ends is found on the walk: over `first_tree` it would be looked for first, a walk of its own.
-    let run = left.rows.between(ROOT, left.rows.count);
-    let extent = scan_tree(run, text, starts);
+    let trees = left.rows.between(ROOT, left.rows.count);
+    let extent = scan_tree(trees, text, starts);
     finish_tree(
-        &run[..ROW_WORDS * extent.rows],
+        &trees[..ROW_WORDS * extent.rows],
         &starts[..extent.rows],
         extent.size,
         notes,

@@ -47,7 +47,7 @@ pub record RanSteps (lines source first listed changes running : List ℕ) (s : 
       ≡ store_steps (view (length marks) lines source) (stored_first text (length marks) source (notes_in first) []) (held_in text s rows marks notes changed) (plans_in listed changes running)
   pub standing : (t : TreeState) → r ≡ Ok t → Standing (length marks) lines source first t rows' marks' notes' changed'
 
--- the text of the first rows, those of n elements and of the node above them all, is k bytes long
+-- the text of the first rows, those of n elements and of the node above them all, is k bytes long, whatever the text of all
 abbrev pub TextLength : ℕ → List ℕ → ℕ → Type 0
 TextLength n source k = (text : List ℕ) → k ≡ bytes (first_rows text (n + 1) source)
 

@@ -3,7 +3,7 @@ use mathlib.Core.Path.{sym, ◌∙◌}
 use native.Mathlib.Omega.{arith}
 use lib.Seq.{length-take-le}
 use Rattle.std.proofs.lemmas.Result.{err_from_is_err_and}
-use Rattle.edit_perform.proofs.Stages.{list_within, runs_within, may_begin, may_measure, may_list, may_run, may_record, steps_refused, steps_ended}
+use Rattle.edit_perform.proofs.Stages.{list_within, runs_within, may_begin, may_state, may_list, may_run, may_record, steps_refused, steps_ended}
 use Rattle.edit_perform.proofs.run_plan.Goals as goal
 
 pub overflow_mul-settled : goal.overflow_mul-settled
@@ -31,7 +31,7 @@ pub slice_bounds-execute-end-2 : goal.slice_bounds-execute-end-2
 slice_bounds-execute-end-2 c = let v = c.requires in sym (length-take-le _ _ (runs_within v.laid_out v.planning _ (v.marks_len.0 ∙ c.args.accepted.now.counted) v.in_bounds.1))
 
 pub execute-requires : goal.execute-requires
-execute-requires c = let v = c.requires in let r = v.in_bounds in let w = v.marks_len in record { begun = may_begin v.laid_out v.planning _ (v.marks_len.0 ∙ c.args.accepted.now.counted) r.0 r.2; text_length = may_measure v.laid_out v.planning _ (v.marks_len.0 ∙ c.args.accepted.now.counted); in_bounds = (w.4, w.1, w.5, omega arith, w.2); listed_low = (may_list v.laid_out v.planning _ (v.marks_len.0 ∙ c.args.accepted.now.counted)).1; all = may_run v.laid_out v.planning _ (v.marks_len.0 ∙ c.args.accepted.now.counted); running_in_bounds = may_record v.laid_out v.planning _ (v.marks_len.0 ∙ c.args.accepted.now.counted) _ w.3 }
+execute-requires c = let v = c.requires in let r = v.in_bounds in let w = v.marks_len in record { begun = may_begin v.laid_out v.planning _ (v.marks_len.0 ∙ c.args.accepted.now.counted) r.0 r.2; text_length = may_state v.laid_out v.planning _ (v.marks_len.0 ∙ c.args.accepted.now.counted); in_bounds = (w.4, w.1, w.5, omega arith, w.2); listed_low = (may_list v.laid_out v.planning _ (v.marks_len.0 ∙ c.args.accepted.now.counted)).1; all = may_run v.laid_out v.planning _ (v.marks_len.0 ∙ c.args.accepted.now.counted); running_in_bounds = may_record v.laid_out v.planning _ (v.marks_len.0 ∙ c.args.accepted.now.counted) _ w.3 }
 
 pub returns-in_err-t : goal.returns-in_err-t
 returns-in_err-t c =
