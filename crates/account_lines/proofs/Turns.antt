@@ -4,11 +4,12 @@ use Rattle.std.specs.Prelude.{Result, Ok, Err}
 use mathlib.Core.Path.{◌≡◌, refl, sym, ap, ◌∙◌}
 use mathlib.Core.List.{List, [], ◌∷◌, ◌++◌, flat_map, append-nil, append_assoc}
 use Prim.Native.Nat.{ℕ, suc, ◌+◌, ◌-◌, ◌*◌, ◌≤◌, ◌<◌}
+use native.Mathlib.Nat.{zero-add}
 use native.Mathlib.Numerals.{add-one}
 use native.Mathlib.Omega.{arith}
 use borrow.Author.Tests.{lt-ltb, le-ltb, ne_eqb}
 use lib.ListN.{length, get_or, take, drop, length-append, drop_of_length-le}
-use lib.Seq.{paste-zero, drop-cons}
+use lib.Seq.{paste, paste-zero, take-length, drop-cons}
 use Rattle.definition.specs.Basics.{refused, refuse, numbered, ◌>>=◌}
 use Rattle.definition.specs.Printed.{ascii, digits, decimal, line}
 use Rattle.definition.specs.Account.{Said, planned, withdrawn, after, fate_line, said_line, said_lines, overlap_line, in_room, tell}
@@ -123,9 +124,9 @@ module _ (draft held : List ℕ) where
   unfolding in_room refuse outcome written left_in answered number ◌>>=◌
   draft_13 s = rw (lt-ltb (length held) (length draft) s) (record { answer = refl; result = refl })
 
-  pub draft_given : {holds : List ℕ} → length draft ≤ length held → holds ≡ draft ++ drop (length draft) held → Tells (tell_in (length held) draft) held (Ok (Bytes (length draft))) holds
+  pub draft_given : {holds : List ℕ} → length draft ≤ length held → holds ≡ paste held 0 draft (length draft) → Tells (tell_in (length held) draft) held (Ok (Bytes (length draft))) holds
   unfolding in_room refuse outcome written left_in answered number ◌>>=◌
-  draft_given s e = rw (le-ltb (length held) (length draft) s) (record { answer = refl; result = e })
+  draft_given s e = rw (le-ltb (length held) (length draft) s) (record { answer = refl; result = e ∙ rw (take-length draft, zero-add (length draft)) refl })
 
 -- what stands at the front of the draft is the text
 pub text_handed : {d s l : List ℕ} {n : ℕ} {held holds : List ℕ} {r : Result Told Refusal} → Put d 0 s l n → length l ≡ length d → Tells (tell_in (length held) (take n l)) held r holds

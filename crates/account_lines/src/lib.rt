@@ -70,7 +70,7 @@ fn hand_out(draft: &[u8], res: &mut [u8]) -> Result<Told, Refusal>
     if res.len() < n {
         return Err(Refusal::ShortResult);
     }
-    res[..n].copy_from_slice(draft);
+    words::copy_in(res, 0, draft);
     Ok(Told::Bytes(n))
 }
 

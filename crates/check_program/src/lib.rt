@@ -145,5 +145,5 @@ pub fn serve<R: Read, W: Write>(from: &mut R, to: &mut W) -> io::Result<()>
 
 // The whole program, on standard input and output. Which bytes the operating system gives, and how many of those printed it takes, is not promised.
 pub fn run<R: Input + Print>(rt: &R) -> io::Result<()> {
-    program_input::run(&Checking, rt)
+    serve(&mut rt.reader(), &mut io::writer(rt))
 }

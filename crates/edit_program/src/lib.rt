@@ -89,5 +89,5 @@ pub fn serve<R: Read, W: Write>(choices: Choices, from: &mut R, to: &mut W) -> i
 // The whole program, on standard input and output. Which bytes the operating system gives, and how many of those printed it takes, is not promised.
 pub fn run<R: Env + Input + Print>(rt: &R) -> io::Result<()> {
     let choices = program_choices::choices(rt);
-    program_input::run(&Editing { choices }, rt)
+    serve(choices, &mut rt.reader(), &mut io::writer(rt))
 }

@@ -18,13 +18,13 @@ use Rattle.load_draws.specs.Called.{call_of, Called}
 -- ── A call ──────────────────────────────────────────────────────────────────────────────────────────────────
 
 -- two elements at most, in two places
-pub listed_in : (o t r : ℕ) (l : List ℕ) (p q : Option ℕ) (x y : ℕ) → length l ≤ 2 → p ≡ slice_get l 0 → q ≡ slice_get l (length l - 1) → x ≡ unwrap_or p 0 → y ≡ unwrap_or q 0
+pub listed_in : (o t r : ℕ) (l : List ℕ) (p : Option ℕ) (x y : ℕ) → length l ≤ 2 → p ≡ slice_get l 0 → x ≡ unwrap_or p 0 → y ≡ get_or l 1 0
     → Called (record { operation = o; target = t; rule = r; count = length l; first = x; second = y }) (call r o t l)
 unfolding call_of
-listed_in o t r [] p q x y h e f g k = record { call = refl; few = omega arith }
-listed_in o t r (a ∷ []) p q x y h e f g k = record { call = rw (g, e) refl; few = omega arith }
-listed_in o t r (a ∷ b ∷ []) p q x y h e f g k = record { call = rw (g, e, k, f) refl; few = omega arith }
-listed_in o t r (a ∷ b ∷ c ∷ l) p q x y h e f g k = absurd (omega arith)
+listed_in o t r [] p x y h e g k = record { call = refl; few = omega arith }
+listed_in o t r (a ∷ []) p x y h e g k = record { call = rw (g, e) refl; few = omega arith }
+listed_in o t r (a ∷ b ∷ []) p x y h e g k = record { call = rw (g, e, k) refl; few = omega arith }
+listed_in o t r (a ∷ b ∷ c ∷ l) p x y h e g k = absurd (omega arith)
 
 -- ── Calls 0, 1 and 2 ────────────────────────────────────────────────────────────────────────────────────────
 

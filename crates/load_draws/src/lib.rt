@@ -127,7 +127,7 @@ fn other_drawn(place: u32) -> u32
     donor(place / 4096)
 }
 
-// A call that lists these elements. Where it lists one, that stands in both places.
+// A call that lists these elements; a place that none stands in holds 0.
 fn listing(rule: u32, operation: u32, target: u32, listed: &[u32]) -> DrawnCall
     requires { length listed.now ≤ 2 }
     ensures { Called result (call rule operation target listed.now) }
@@ -138,7 +138,7 @@ fn listing(rule: u32, operation: u32, target: u32, listed: &[u32]) -> DrawnCall
         rule,
         count: listed.len() as u32,
         first: listed.first().copied().unwrap_or(0),
-        second: listed.last().copied().unwrap_or(0),
+        second: listed.get(1).copied().unwrap_or(0),
     }
 }
 

@@ -137,16 +137,6 @@ pub fn serve<const IN: usize, const OUT: usize, P: Program<IN, OUT>, R: Read, W:
     ended
 }
 
-// A whole program, on standard input and output. Which bytes the operating system gives, and how many of those printed it takes, is not promised.
-pub fn run<const IN: usize, const OUT: usize, P: Program<IN, OUT>, H: Input + Print>(
-    program: &P,
-    rt: &H,
-) -> io::Result<()>
-    requires { (IN < 2 ^ 63) × (OUT < 2 ^ 63) }
-{
-    serve(program, &mut rt.reader(), &mut io::writer(rt))
-}
-
 // Reads argument `i` into the front of `buf`. One that is missing or longer is read as an empty one.
 pub fn read_argument(rt: &impl Env, i: usize, buf: &mut [u8]) -> usize
     ensures { IsPrefixLen result buf.new }

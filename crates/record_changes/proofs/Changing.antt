@@ -3,7 +3,7 @@
 use mathlib.Core.Bool.{Bool, true, false}
 use mathlib.Core.List.{List, [], ◌∷◌, head_d}
 use mathlib.Core.Path.{◌≡◌, refl, ◌∙◌}
-use Prim.Native.Nat.{ℕ, zero, suc, ◌+◌, ◌-◌, ◌*◌, ◌≤◌, ◌<◌}
+use Prim.Native.Nat.{ℕ, zero, suc, ◌+◌, ◌-◌, ◌*◌, ◌^◌, ◌≤◌, ◌<◌}
 use native.Mathlib.Omega.{arith}
 use lib.ListN.{get_or}
 use lib.Dec.{eqb}
@@ -11,7 +11,7 @@ use borrow.Author.Tests.{eq-eqb, ne_eqb}
 use Rattle.definition.specs.Elements.{is_node}
 use Rattle.read_element_table.specs.View.{view}
 use Rattle.read_element_table.specs.Wellformed.{Wellformed}
-use Rattle.record_changes.specs.Numbers.{numbers_of, as_change, run_asked, change_asked, change_by}
+use Rattle.record_changes.specs.Numbers.{numbers_of, place_operation, region_number, as_change, run_asked, change_asked, change_by}
 use Rattle.record_changes.specs.Spots.{spot_of, Named, spot_in, insertion_in, run_in, above_word, region_by, region_under, spot_insert, spot_replace, spot_delete, spot_many, spot_run}
 use Rattle.record_changes.specs.declared.Place.{Place}
 use Rattle.record_changes.specs.declared.Place.TheVariants.{FirstChild, After}
@@ -21,6 +21,7 @@ use Rattle.record_changes.specs.declared.Listed.{Listed}
 use Rattle.record_changes.specs.declared.Change.{Change}
 use Rattle.record_changes.specs.declared.Change.TheVariants.{Insert, Replace, Delete, ReplaceWithMany, ReplaceAll}
 use Rattle.record_changes.specs.declared.Spot.{Spot}
+use Rattle.read_calls.specs.Operations.{operation_number}
 
 -- ── The change that a call asks for ─────────────────────────────────────────────────────────────────────────
 
@@ -55,6 +56,19 @@ asked_run op x at k y j h f g =
     let e : op ≡ 4 → ⊥ = omega arith in
     rw (ne_eqb op 0 a, ne_eqb op 1 b, ne_eqb op 2 c, ne_eqb op 3 d, ne_eqb op 4 e, ← f) g
 
+-- ── Its operation and rank are words ────────────────────────────────────────────────────────────────────────
+
+place_low : (p : Place) → operation_number (place_operation p) < 2 ^ 32
+place_low FirstChild = omega arith
+place_low After = omega arith
+
+pub numbers_low : (c : Change) → ((numbers_of c).operation < 2 ^ 32) × ((numbers_of c).rank < 2 ^ 32)
+numbers_low (Insert p x l) = (place_low p, omega arith)
+numbers_low (Replace x at) = (omega arith, omega arith)
+numbers_low (Delete x at) = (omega arith, omega arith)
+numbers_low (ReplaceWithMany x l) = (omega arith, omega arith)
+numbers_low (ReplaceAll x y l) = (omega arith, omega arith)
+
 -- ── What planning needs ─────────────────────────────────────────────────────────────────────────────────────
 
 module _ (w : List ℕ) (x v : ℕ) (t : Bool) (e : v ≡ get_or w (8 * x + 3) 0) (f : t ≡ eqb (get_or w (8 * x + 1) 0) 0) where
@@ -84,8 +98,14 @@ module _ (s : List ℕ) (y : ℕ) (t : Bool) (f : t ≡ is_node (get_or s (3 * s
   unfolding region_under
   under_token q = rw (← f, q)
 
-pub spot_made : (w : List ℕ) (x a y b d : ℕ) (r : Region) (t f u : ℕ) → t ≡ get_or w (8 * x + 7) 0 → f ≡ get_or w (8 * x + a) 0 → u ≡ get_or w (8 * y + b) 0 → ◌≡◌ {A = Spot} (record { tree = t; from = f; to = u; depth = d; region = r }) (spot_in w x a y b d r)
+pub spot_made : (w : List ℕ) (x a y b d : ℕ) (r : Region) (t f u : ℕ) → t ≡ get_or w (8 * x + 7) 0 → f ≡ get_or w (8 * x + a) 0 → u ≡ get_or w (8 * y + b) 0 → ◌≡◌ {A = Spot} (record { tree = t; from = f; to = u; depth = d; region = region_number r }) (spot_in w x a y b d r)
 spot_made w x a y b d r t f u e g h = rw (e, g, h)
+
+-- its region is a word
+pub region_low : (r : Region) → region_number r < 2 ^ 32
+region_low None = omega arith
+region_low Discarding = omega arith
+region_low NodeByNode = omega arith
 
 -- of an insertion and of a run
 pub insertion_first : (w : List ℕ) {p : Place} (x : ℕ) {d : ℕ} {r : Spot} → p ≡ FirstChild → d ≡ get_or w (8 * x + 3) 0 → r ≡ spot_in w x 4 x 4 d None → r ≡ insertion_in w p x
@@ -94,8 +114,8 @@ insertion_first w x e f g = rw (e, ← f) g
 pub insertion_after : (w : List ℕ) {p : Place} (x : ℕ) {d : ℕ} {r : Spot} → p ≡ After → d ≡ above_word w x → r ≡ spot_in w x 5 x 5 d None → r ≡ insertion_in w p x
 insertion_after w x e f g = rw (e, ← f) g
 
-pub run_at : (w : List ℕ) (x y : ℕ) {d : ℕ} {q : Region} {r : Spot} → d ≡ above_word w x → r ≡ spot_in w x 4 y 5 d q → r ≡ run_in w x y q
-run_at w x y f g = rw (← f) g
+pub run_at : (w : List ℕ) (x y : ℕ) (q : Region) {d : ℕ} {r : Spot} → d ≡ above_word w x → r ≡ spot_in w x 4 y 5 d q → r ≡ run_in w x y q
+run_at w x y q f g = rw (← f) g
 
 -- ── What a change names stands in the table ─────────────────────────────────────────────────────────────────
 

@@ -47,23 +47,25 @@ fate_number Discarded = 2
 
 -- the operation of each case, target, run's end (else the target), where the elements that go in stand and how many they are, and rank
 abbrev pub numbers_of : Change → Numbers
-numbers_of (Insert p x l) = record { operation = place_operation p; target = x; end = x; list = l.at; count = l.count; rank = InsertRank }
-numbers_of (Replace x at) = record { operation = ReplaceOne; target = x; end = x; list = at; count = 1; rank = ReplaceRank }
-numbers_of (Delete x at) = record { operation = DeleteOne; target = x; end = x; list = at; count = 0; rank = ReplaceRank }
-numbers_of (ReplaceWithMany x l) = record { operation = ReplaceMany; target = x; end = x; list = l.at; count = l.count; rank = ReplaceRank }
-numbers_of (ReplaceAll x y l) = record { operation = ReplaceRun; target = x; end = y; list = l.at; count = l.count; rank = RunRank }
+numbers_of (Insert p x l) = record { operation = operation_number (place_operation p); target = x; end = x; list = l.at; count = l.count; rank = rank_number InsertRank }
+numbers_of (Replace x at) = record { operation = operation_number ReplaceOne; target = x; end = x; list = at; count = 1; rank = rank_number ReplaceRank }
+numbers_of (Delete x at) = record { operation = operation_number DeleteOne; target = x; end = x; list = at; count = 0; rank = rank_number ReplaceRank }
+numbers_of (ReplaceWithMany x l) = record { operation = operation_number ReplaceMany; target = x; end = x; list = l.at; count = l.count; rank = rank_number ReplaceRank }
+numbers_of (ReplaceAll x y l) = record { operation = operation_number ReplaceRun; target = x; end = y; list = l.at; count = l.count; rank = rank_number RunRank }
 
 -- each number fits a word
 pub record NumbersFit (m : Numbers) : Type 0 where
+  pub operation : m.operation < 2 ^ 32
   pub target : m.target < 2 ^ 32
   pub end : m.end < 2 ^ 32
   pub list : m.list < 2 ^ 32
   pub count : m.count < 2 ^ 32
+  pub rank : m.rank < 2 ^ 32
 
 -- the row of a change by its numbers, what planning needs and its rule number, before its fate is known
 unfoldable pub row_with : Numbers → Spot → ℕ → ChangeRow
 row_with m s n = record {
-  operation = operation_number m.operation;
+  operation = m.operation;
   target = m.target;
   end = m.end;
   list = m.list;
@@ -72,8 +74,8 @@ row_with m s n = record {
   from = s.from;
   to = s.to;
   depth = s.depth;
-  rank = rank_number m.rank;
-  region = region_number s.region;
+  rank = m.rank;
+  region = s.region;
   fate = 0;
   owner = 0;
   rule = n;

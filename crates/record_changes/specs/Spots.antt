@@ -11,9 +11,8 @@ use Rattle.definition.specs.Planning.{target, from, to, above, parent_depth, add
 use Rattle.read_element_table.specs.View.{view, row_at, field}
 use Rattle.read_element_table.specs.Wellformed.{Wellformed}
 use Rattle.read_element_table.specs.Told.{row_view, root_told, depth_told, tree_told, node_told}
-use Rattle.read_calls.specs.Operations.{operation_number}
 use Rattle.record_changes.specs.ChangeRow.{ChangeRow, region_of}
-use Rattle.record_changes.specs.Numbers.{place_of, numbers_of, rank_number, region_number, row_with}
+use Rattle.record_changes.specs.Numbers.{place_of, numbers_of, region_number, row_with}
 use Rattle.record_changes.specs.declared.Place.{Place}
 use Rattle.record_changes.specs.declared.Place.TheVariants.{FirstChild, After}
 use Rattle.record_changes.specs.declared.Region.{Region}
@@ -37,12 +36,12 @@ region_numbered T c = go (node_by_node T c) (adds_region T c)
 
 -- what planning needs of a change
 unfoldable pub spot_of : Table → Change → Spot
-spot_of T c = record { tree = tree T (target c); from = from T c; to = to T c; depth = parent_depth T c; region = region_told T c }
+spot_of T c = record { tree = tree T (target c); from = from T c; to = to T c; depth = parent_depth T c; region = region_number (region_told T c) }
 
 -- the row of a change by its numbers, the rest told as the definition has it
 unfoldable pub row_told : Numbers → Table → Change → ℕ → ChangeRow
 row_told m T c n = record {
-  operation = operation_number m.operation;
+  operation = m.operation;
   target = m.target;
   end = m.end;
   list = m.list;
@@ -51,7 +50,7 @@ row_told m T c n = record {
   from = from T c;
   to = to T c;
   depth = parent_depth T c;
-  rank = rank_number m.rank;
+  rank = m.rank;
   region = region_of T c;
   fate = 0;
   owner = 0;
@@ -68,6 +67,7 @@ pub record SpotFits (s : Spot) : Type 0 where
   pub from : s.from < 2 ^ 32
   pub to : s.to < 2 ^ 32
   pub depth : s.depth < 2 ^ 32
+  pub region : s.region < 2 ^ 32
 
 -- the target and the run's end are elements
 pub record Named (n : ℕ) (c : code.Change) : Type 0 where
@@ -78,7 +78,7 @@ pub record Named (n : ℕ) (c : code.Change) : Type 0 where
 
 -- in the tree of x, from word a of x to word b of y
 abbrev pub spot_in : List ℕ → ℕ → ℕ → ℕ → ℕ → ℕ → Region → Spot
-spot_in w x a y b d r = record { tree = get_or w (8 * x + 7) 0; from = get_or w (8 * x + a) 0; to = get_or w (8 * y + b) 0; depth = d; region = r }
+spot_in w x a y b d r = record { tree = get_or w (8 * x + 7) 0; from = get_or w (8 * x + a) 0; to = get_or w (8 * y + b) 0; depth = d; region = region_number r }
 
 -- the depth of the parent; of a root, its own
 unfoldable pub above_word : List ℕ → ℕ → ℕ

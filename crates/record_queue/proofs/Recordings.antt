@@ -20,10 +20,10 @@ use Rattle.definition.specs.Elements.{Table}
 use Rattle.definition.specs.Refusals.{Call, call_of, operation_of, count_of, rule_of}
 use Rattle.orders.specs.Lists.{All}
 use Rattle.definition.specs.Recording.{change}
-use Rattle.read_calls.specs.Operations.{operation_number}
 use Rattle.read_calls.proofs.Own.{own_taken}
 use Rattle.record_changes.specs.Numbers.{numbers_of, as_change, run_asked, change_asked, row_with, NumbersFit}
 use Rattle.record_changes.specs.Spots.{spot_of, Named}
+use Rattle.record_changes.proofs.Changing.{numbers_low}
 use Rattle.record_queue.specs.Recorded.{news_at, asked_at, all_asked}
 use Rattle.read_element_table.specs.Wellformed.{Wellformed}
 use Rattle.words.specs.List.{words_of, length_of}
@@ -209,12 +209,12 @@ module _ (L : List ℕ) (r : ChangeRow) (start count : ℕ) (w : List ℕ) (h : 
 
 -- the row of a change by its numbers
 module _ (L : List ℕ) (m : Numbers) (s : Spot) (n start count : ℕ) (w : List ℕ) (h : start ≤ count) (l : 14 * count + 14 ≤ length w) where
-  pub record_added : (w' : List ℕ) → unwrap_or None count ≡ start + place (meets_by (operation_number m.operation) m.target) (drop start (rows_of count w)) → w' ≡ paste w (14 * count) (row_words (row_with m s n)) 14
+  pub record_added : (w' : List ℕ) → unwrap_or None count ≡ start + place (meets_by m.operation m.target) (drop start (rows_of count w)) → w' ≡ paste w (14 * count) (row_words (row_with m s n)) 14
       → Put L (row_with m s n) start count w (count + 1) w'
   unfolding row_with
   record_added w' e p = put_added L (row_with m s n) start count w h count e w' refl l p
 
-  module _ (k : ℕ) (e : unwrap_or (Some k) count ≡ start + place (meets_by (operation_number m.operation) m.target) (drop start (rows_of count w))) (b : k < count) (t : Bool) (f : t ≡ idle_by L (operation_number m.operation) m.list (row_at w k)) where
+  module _ (k : ℕ) (e : unwrap_or (Some k) count ≡ start + place (meets_by m.operation m.target) (drop start (rows_of count w))) (b : k < count) (t : Bool) (f : t ≡ idle_by L m.operation m.list (row_at w k)) where
     pub record_stays : t ≡ true → Put L (row_with m s n) start count w count w
     unfolding row_with
     record_stays q = put_stays L (row_with m s n) start count w h k e b l t f q
@@ -255,12 +255,12 @@ module _ (op x at k y : ℕ) where
   asked_fits : (m : Numbers) (c : Change) → c ≡ change_asked op x at k y → m ≡ numbers_of c → x < 2 ^ 32 → y < 2 ^ 32 → at < 2 ^ 31 → k < 2 ^ 32 → NumbersFit m
   asked_fits m c e f h j a b =
       rw (f, e)
-      (cases (λ c. NumbersFit (numbers_of c)) (λ p. record { target = h; end = h; list = omega arith; count = b })
-      (record { target = h; end = h; list = omega arith; count = omega arith })
-      (record { target = h; end = h; list = omega arith; count = omega arith })
-      (record { target = h; end = h; list = omega arith; count = b })
-      (record { target = h; end = h; list = omega arith; count = omega arith })
-      (record { target = h; end = j; list = omega arith; count = omega arith }))
+      (cases (λ c. NumbersFit (numbers_of c)) (λ p. record { operation = (numbers_low (Insert p x (record { at = at; count = k }))).0; target = h; end = h; list = omega arith; count = b; rank = omega arith })
+      (record { operation = omega arith; target = h; end = h; list = omega arith; count = omega arith; rank = omega arith })
+      (record { operation = omega arith; target = h; end = h; list = omega arith; count = omega arith; rank = omega arith })
+      (record { operation = omega arith; target = h; end = h; list = omega arith; count = b; rank = omega arith })
+      (record { operation = omega arith; target = h; end = h; list = omega arith; count = omega arith; rank = omega arith })
+      (record { operation = omega arith; target = h; end = j; list = omega arith; count = omega arith; rank = omega arith }))
 
 module _ {n : ℕ} (l : WordList) {at x : ℕ} (F : CallFits n (words_of l) at x) {y : ℕ} (e : y ≡ head_d (words_of l) 0) where
   pub first_below : y < n

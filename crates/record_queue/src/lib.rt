@@ -8,7 +8,6 @@ ghost use mathlib.Core.List.{zip};
 ghost use Rattle.words.specs.List.{words_of};
 ghost use Rattle.definition.specs.Refusals.{count_of, call_of};
 ghost use Rattle.read_element_table.specs.Held.{view_of};
-ghost use Rattle.read_calls.specs.Operations.{operation_number};
 ghost use Rattle.record_changes.specs.ChangeRow.{rows_of};
 ghost use Rattle.record_changes.specs.ChangeRowLaws.{row_at};
 ghost use Rattle.record_changes.specs.Numbers.{row_with, NumbersFit};
@@ -63,11 +62,11 @@ fn single_place(rows: &[u32], q: Queue, target: usize) -> Option<usize>
 
 // The place of the first row of the present editor that a change of this operation and target meets.
 #[tactic(auto, using(crate::proofs::Recordings::place_neither, crate::proofs::Recordings::place_single))]
-fn place_of(rows: &[u32], q: Queue, operation: Operation, target: usize) -> Option<usize>
+fn place_of(rows: &[u32], q: Queue, operation: usize, target: usize) -> Option<usize>
     requires { (q.start ≤ q.count) × (q.count ≤ 256) × (14 * q.count ≤ length rows.now) }
-    ensures { (unwrap_or result q.count ≡ q.start + place (meets_by (operation_number operation) target) (drop q.start (rows_of q.count rows.now))) × IfSome result (λ k. k < q.count) }
+    ensures { (unwrap_or result q.count ≡ q.start + place (meets_by operation target) (drop q.start (rows_of q.count rows.now))) × IfSome result (λ k. k < q.count) }
 {
-    if !is_single(operation as usize) {
+    if !is_single(operation) {
         return None;
     }
     single_place(rows, q, target)
@@ -76,9 +75,9 @@ fn place_of(rows: &[u32], q: Queue, operation: Operation, target: usize) -> Opti
 // Whether a later change of this operation, whose first element stands at `at` in the batch's list, has no effect on the row at place `k`, which it meets: a
 // delete stays, and so does a replacement by the same element.
 #[tactic(auto, using(crate::proofs::Recordings::idle_delete, crate::proofs::Recordings::idle_others, crate::proofs::Recordings::idle_deleting, crate::proofs::Recordings::idle_same))]
-fn is_idle(listed: &WordList, rows: &[u32], k: usize, operation: Operation, at: usize) -> bool
+fn is_idle(listed: &WordList, rows: &[u32], k: usize, operation: usize, at: usize) -> bool
     requires { (14 * k + 14 ≤ length rows.now) × (k < 2 ^ 32) }
-    ensures { result ≡ idle_by (words_of listed.now) (operation_number operation) at (row_at rows.now k) }
+    ensures { result ≡ idle_by (words_of listed.now) operation at (row_at rows.now k) }
 {
     let earlier = words::word(rows, WORDS * k);
     if earlier == Operation::Delete as usize {
@@ -87,7 +86,7 @@ fn is_idle(listed: &WordList, rows: &[u32], k: usize, operation: Operation, at: 
     if earlier != Operation::Replace as usize {
         return false;
     }
-    if operation != Operation::Replace {
+    if operation != Operation::Replace as usize {
         return false;
     }
     listed.get(words::word(rows, WORDS * k + LIST)) == listed.get(at)

@@ -14,6 +14,7 @@ use Rattle.record_changes.specs.ChangeRow.{ChangeRow, row_words, row_of}
 use Rattle.record_changes.specs.ChangeRowLaws.{row_at}
 use Rattle.record_changes.specs.Numbers.{numbers_of, as_change, row_with, NumbersFit, change_by}
 use Rattle.record_changes.specs.Spots.{spot_of, Named}
+use Rattle.record_changes.proofs.Changing.{numbers_low}
 use Rattle.record_changes.specs.declared.Place.TheVariants.{FirstChild, After}
 use Rattle.record_changes.specs.declared.Listed.{Listed}
 use Rattle.record_changes.specs.declared.Change.{Change}
@@ -42,7 +43,8 @@ module _ (n op x y : ℕ) (l : Listed) (few : n ≤ 2048) (hx : x < n) (hy : y <
   unfolding low
   named_fits =
       let a = each low op x y l (omega arith) (omega arith) (omega arith) (omega arith) (omega arith) (omega arith) in
-      (record { target = a.0; end = a.1 }, record { target = omega arith; end = omega arith; list = a.2; count = a.3 })
+      let b = numbers_low (change_by op x y l) in
+      (record { target = a.0; end = a.1 }, record { operation = b.0; target = omega arith; end = omega arith; list = a.2; count = a.3; rank = b.1 })
 
 -- the words that tell the change
 pub change_read : (w : List ℕ) (n i x y op at k : ℕ) (c : Change) → n ≤ 2048 → x < n → y < n

@@ -67,12 +67,34 @@ pub fn write_words(b: &mut [u8], at: usize, s: &[u32])
     }
 }
 
-// The elements of `src` are written at `at`.
+// The elements of `src` are written at `at`. By hand, as are moves: `copy_from_slice` and `copy_within` call `memmove`, which who links a library for C may not have (DECISIONS 85).
 pub fn copy_in<T: Copy>(s: &mut [T], at: usize, src: &[T])
     requires { at + length src.now ≤ length s.old }
     ensures { s.new ≡ paste s.old at src.now (length src.now) }
 {
-    s[at..at + src.len()].copy_from_slice(src);
+    for (i, x) in src.iter().enumerate() {
+        s[at + i] = *x;
+    }
+}
+
+// The `len` words at `from` are written at a lower place, from the first on: what is still to be read is as it was.
+fn move_down(s: &mut [u32], from: usize, to: usize, len: usize)
+    requires { (to ≤ from) × (from + len ≤ length s.old) }
+    ensures { s.new ≡ paste s.old to (drop from s.old) len }
+{
+    for i in 0..len {
+        s[to + i] = s[from + i];
+    }
+}
+
+// The same to a higher place, from the last on.
+fn move_up(s: &mut [u32], from: usize, to: usize, len: usize)
+    requires { (from ≤ to) × (to + len ≤ length s.old) }
+    ensures { s.new ≡ paste s.old to (drop from s.old) len }
+{
+    for i in (0..len).rev() {
+        s[to + i] = s[from + i];
+    }
 }
 
 // The `len` words at `from` are written at `to`; the two places may overlap.
@@ -81,8 +103,10 @@ pub fn move_words(s: &mut [u32], from: usize, to: usize, len: usize)
     ensures { s.new ≡ paste s.old to (drop from s.old) len }
 {
     // Most splices put in as many words as they take out: then nothing moves.
-    if from != to {
-        s.copy_within(from..from + len, to);
+    if to < from {
+        move_down(s, from, to, len)
+    } else if from < to {
+        move_up(s, from, to, len)
     }
 }
 

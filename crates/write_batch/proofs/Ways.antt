@@ -8,6 +8,7 @@ use native.Mathlib.Nat.{zero-add}
 use native.Mathlib.Omega.{arith}
 use lib.Dec.{ltb}
 use lib.ListN.{length, take, drop, length-append, take-append-drop}
+use lib.Seq.{paste, take-length}
 use borrow.Author.Tests.{lt-ltb, le-ltb, ltb-false, not-true, not-false}
 use Rattle.orders.specs.ListLaws.{either_false}
 use Rattle.definition.specs.Basics.{Answer, ◌>>=◌, refuse, is_refused, any}
@@ -59,9 +60,9 @@ module _ (b held : List ℕ) where
   unfolding fitted answered number left_in ◌>>=◌ refuse
   no_room h = rw (lt-ltb (length held) (length b) h) (record { answer = refl; destination = refl })
 
-  pub copied : (new : List ℕ) → length b ≤ length held → new ≡ b → Told (fitted b (length held)) held (answered (Ok (length b))) (new ++ drop (length b) held)
+  pub copied : (holds : List ℕ) → length b ≤ length held → holds ≡ paste held 0 b (length b) → Told (fitted b (length held)) held (answered (Ok (length b))) holds
   unfolding fitted answered left_in ◌>>=◌ refuse
-  copied new h e = rw (le-ltb (length held) (length b) h) (record { answer = refl; destination = ap (λ (l : List ℕ). l ++ drop (length b) held) e })
+  copied holds h e = rw (le-ltb (length held) (length b) h) (record { answer = refl; destination = e ∙ rw (take-length b, zero-add (length b)) refl })
 
   module _ {t₀ s₀ t s : List ℕ} {o : Result Layout Refusal} (j : Judged b t₀ s₀ t s o) where
     pub laid_wrong : (x : Bool) → x ≡ is_err o → x ≡ true → Told (handed b (length held)) held (answered (Err NoLists)) held

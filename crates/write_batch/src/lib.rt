@@ -50,7 +50,7 @@ fn copy_out(batch: &[u8], destination: &mut [u8]) -> Result<usize, Refusal>
     if destination.len() < batch.len() {
         return Err(Refusal::ShortDestination);
     }
-    destination[..batch.len()].copy_from_slice(batch);
+    words::copy_in(destination, 0, batch);
     Ok(batch.len())
 }
 
